@@ -2,14 +2,14 @@
 
 use Rattle.std.proofs.Common.{◌≡◌, ℕ, ◌<◌, ◌≤◌, ◌⊎◌, ◌+◌, ◌-◌, ℤ, Option, Some, None, Ok, inl, inr, refl, ap, ◌∙◌, subst, sym, false, arith}
 use Rattle.ert_c.specs.HubCalls.{OpensHub}
-use Rattle.ert_c.specs.Opened.{IsRead}
+use Rattle.ert_c.specs.Opened.{ReadsSettings}
 use Rattle.ert_c.specs.Places.{is_there}
 use Rattle.ert_c.specs.ShardCalls.{HasShard, HasBack, IsRefused, CutsShard, OpensShard, IfHome}
 use Rattle.ert_c.specs.Through.{Through}
 use Rattle.ert_c.specs.declared.opening.ErtSettings.{ErtSettings}
 use Rattle.ert_c.specs.declared.status.TheConstants.{OK, NO_MEMORY, NO_SHARD}
 use Rattle.ert_defs.specs.declared.settings.Settings.{Settings}
-use Rattle.ert_shard.specs.Hubs.{Rest, IsFresh, GivesShard, TakesBack, IsNext}
+use Rattle.ert_shard.specs.Hubs.{Rest, IsFresh, GivesShard, TakesBack, IsLastOut}
 use Rattle.ert_shard.specs.Shards.{Share, Owned}
 use Rattle.ert_world.proofs.Given.{longer_same}
 use Rattle.ert_world.specs.Openings.{IsOpened}
@@ -41,7 +41,7 @@ at_home call refused s p from to low from_is high to_is made = record {
 }
 
 -- for want of memory a closed handle of a hub stays closed
-pub opens_no_hub : (c : ErtSettings) (o : Option Rest) (g : Settings) → is_there o ≡ false → IsRead c (Ok g) → g.schedulers < g.callers
+pub opens_no_hub : (c : ErtSettings) (o : Option Rest) (g : Settings) → is_there o ≡ false → ReadsSettings c (Ok g) → g.schedulers < g.callers
     → OpensHub c o NO_MEMORY o
 opens_no_hub c None g h read few = record {
   read = Ok g;
@@ -51,7 +51,7 @@ opens_no_hub c None g h read few = record {
 opens_no_hub c (Some r) g h read few = cc
 
 -- and a hub of a service that was opened stands behind it
-pub opens_new_hub : (c : ErtSettings) (o : Option Rest) (g : Settings) (w : Seen) (h : Rest) (new : Option Rest) → is_there o ≡ false → IsRead c (Ok g)
+pub opens_new_hub : (c : ErtSettings) (o : Option Rest) (g : Settings) (w : Seen) (h : Rest) (new : Option Rest) → is_there o ≡ false → ReadsSettings c (Ok g)
     → g.schedulers < g.callers → IsOpened g w → IsFresh w h → new ≡ Some h → OpensHub c o OK new
 opens_new_hub c None g w h new closed read few opened fresh is = record {
   read = Ok g;
@@ -117,7 +117,7 @@ taken_back processes old mid again shard some gives takes =
     refl
 
 -- such a shard is the next
-pub given_next : (processes : ℕ) (old mid : Rest) (shard : Owned) → GivesShard old processes mid shard → IsNext mid shard
+pub given_next : (processes : ℕ) (old mid : Rest) (shard : Owned) → GivesShard old processes mid shard → IsLastOut mid shard
 given_next processes old mid shard gives = (
   ap (λ (s : Share). s.number) gives.share ∙ sym (ap (λ (r : Rest). r.left) gives.rest),
   ap (λ (s : Share). s.from) gives.share ∙ sym (ap (λ (r : Rest). r.first) gives.rest),

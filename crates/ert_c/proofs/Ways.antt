@@ -1,7 +1,7 @@
 -- How a call through a handle is shown.
 
 use Rattle.std.proofs.Common.{◌≡◌, ℤ, Option, Some, None, Ok, inr, refl, subst, sym, false}
-use Rattle.ert_c.specs.Opened.{IsRead, Opens}
+use Rattle.ert_c.specs.Opened.{ReadsSettings, Opens}
 use Rattle.ert_c.specs.Places.{is_there}
 use Rattle.ert_c.specs.Through.{Through}
 use Rattle.ert_c.specs.declared.opening.ErtSettings.{ErtSettings}
@@ -16,6 +16,6 @@ through kept call old new status was now is becomes made =
     subst (λ (o : Option Seen). Through kept call o status new) (sym is) (now, becomes, made)
 
 -- for want of memory a closed handle stays closed
-pub opens_nothing : (c : ErtSettings) (o : Option Seen) (g : Settings) → is_there o ≡ false → IsRead c (Ok g) → Opens c o NO_MEMORY o
+pub opens_nothing : (c : ErtSettings) (o : Option Seen) (g : Settings) → is_there o ≡ false → ReadsSettings c (Ok g) → Opens c o NO_MEMORY o
 opens_nothing c None g h read = record { read = Ok g; meant = read; opens = inr (refl, refl) }
 opens_nothing c (Some w) g h read = cc

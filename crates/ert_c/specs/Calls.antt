@@ -23,24 +23,24 @@ use Rattle.ert_defs.specs.declared.timer.TimerRef.{TimerRef}
 use Rattle.ert_world.specs.Stepping.{Stays}
 use Rattle.ert_world.specs.Worlds.{Seen, Goes, By, HasForgotten, HasPassedAt, IsNextHeldAt, IsNearestAt}
 use Rattle.ert_timers.specs.NextDue.{NoneArmedBefore}
-use Rattle.ert_c.specs.Through.{Through, Answers, IfBelow, IsOutOfRange, IsRefusedAs}
-use Rattle.ert_c.specs.Told.{start_of, request_kind_at, request_of, IsStarted, IsRoomTold, IsAsked}
+use Rattle.ert_c.specs.Through.{Through, AnswersC, IfBelow, IsOutOfRange, IsRefusedAs}
+use Rattle.ert_c.specs.Told.{start_of, request_kind_at, request_of, IsStartTold, IsRoomTold, IsAsked}
 use Rattle.ert_c.specs.declared.mail_calls.ErtRequest.{ErtRequest}
 use Rattle.ert_c.specs.declared.status.TheConstants.{BAD_KIND}
 use Rattle.ert_c.specs.declared.timer_calls.ErtStart.{ErtStart}
 use Rattle.ert_c.specs.declared.timer_calls.ErtTimer.{ErtTimer}
 
 -- a service makes a call that isn't one on the clock
-abbrev pub Makes : (Seen → Way → Growth) → Seen → Seen → Type 0
-Makes call old new = Goes old (call old) new
+abbrev pub MakesCall : (Seen → Way → Growth) → Seen → Seen → Type 0
+MakesCall call old new = Goes old (call old) new
 
 -- a call at a scheduler, which is refused where there is no such one
 abbrev pub AtSched : {A : Type 0} → ℕ → (A → Seen → Seen → Type 0) → (A → Type 0) → ℤ → Type 0 → Seen → Seen → Type 0
-AtSched n call tells status kept old new = IfBelow n old.settings.schedulers (Answers call tells old new) (IsOutOfRange status kept old new)
+AtSched n call tells status kept old new = IfBelow n old.settings.schedulers (AnswersC call tells old new) (IsOutOfRange status kept old new)
 
 -- a call for a process, which is refused where there is no such one
 abbrev pub AtProcess : {A : Type 0} → ℕ → (A → Seen → Seen → Type 0) → (A → Type 0) → ℤ → Type 0 → Seen → Seen → Type 0
-AtProcess n call tells status kept old new = IfBelow n old.settings.processes (Answers call tells old new) (IsOutOfRange status kept old new)
+AtProcess n call tells status kept old new = IfBelow n old.settings.processes (AnswersC call tells old new) (IsOutOfRange status kept old new)
 
 -- a call at a scheduler goes through a handle, and C finds the answer in a place of its own; else that place is
 -- as it was
@@ -57,19 +57,19 @@ AnswersAtProcess n call tells kept found old status new =
 
 -- caller 0 starts a timer, with this answer, which is never want of memory
 pub record StartsBy (wheel : ℕ) (start : Start) (answer : Result TimerRef StartErr) (old new : Seen) : Type 0 where
-  pub makes : Makes (λ w. By w (λ g. Starts g 0 wheel start answer)) old new
+  pub makes : MakesCall (λ w. By w (λ g. Starts g 0 wheel start answer)) old new
   pub memory : answer ≢ Err NoMemory
 
 -- C starts a timer on the wheel of a scheduler, for a process; where there is no such scheduler or process,
 -- nothing has changed
 abbrev pub StartsTimer : ℕ → ErtStart → ErtTimer → ErtTimer → Option Seen → ℤ → Option Seen → Type 0
 StartsTimer sched start kept found old status new = Through (found ≡ kept) (λ was now. IfBelow sched was.settings.schedulers
-    (AtProcess start.dest (StartsBy sched (start_of start)) (λ answer. IsStarted answer kept status found) status (found ≡ kept) was now)
+    (AtProcess start.dest (StartsBy sched (start_of start)) (λ answer. IsStartTold answer kept status found) status (found ≡ kept) was now)
     (IsOutOfRange status (found ≡ kept) was now)) old status new
 
 -- caller 0 looks how much room the wheel of a scheduler has
 abbrev pub TellsRoomBy : ℕ → Room → Seen → Seen → Type 0
-TellsRoomBy sched answer = Makes (λ w. By w (λ g. TellsRoom g 0 sched answer))
+TellsRoomBy sched answer = MakesCall (λ w. By w (λ g. TellsRoom g 0 sched answer))
 
 -- C asks how much room the wheel of a scheduler has; where there is no such one, what C passed is as it was
 abbrev pub AsksRoom : ℕ → Type 0 → ℕ → ℕ → Option Seen → ℤ → Option Seen → Type 0
@@ -78,24 +78,24 @@ AsksRoom sched kept room ready old status new =
 
 -- caller 0 cancels a timer: what was left of it, where it was armed, and then its wheel holds no row of it
 pub record CancelsBy (timer : TimerRef) (answer : Option ℕ) (old new : Seen) : Type 0 where
-  pub makes : Makes (λ w. By w (λ g. Cancels g (Caller 0) timer answer)) old new
+  pub makes : MakesCall (λ w. By w (λ g. Cancels g (Caller 0) timer answer)) old new
   pub forgotten : OnSome answer (HasForgotten new timer)
 
 -- caller 0 reads a timer: what is left of it, where it is armed
 abbrev pub ReadsBy : TimerRef → Option ℕ → Seen → Seen → Type 0
-ReadsBy timer answer = Makes (λ w. By w (λ g. Reads g (Caller 0) timer answer))
+ReadsBy timer answer = MakesCall (λ w. By w (λ g. Reads g (Caller 0) timer answer))
 
 -- caller 0 sees whether a process is alive
 abbrev pub TellsAliveBy : ℕ → Bool → Seen → Seen → Type 0
-TellsAliveBy process answer = Makes (λ w. By w (λ g. TellsAlive g (Caller 0) process answer))
+TellsAliveBy process answer = MakesCall (λ w. By w (λ g. TellsAlive g (Caller 0) process answer))
 
 -- caller 0 lets a process exit: whether it was alive, and then every wheel is swept
 abbrev pub ExitsBy : ℕ → Bool → Seen → Seen → Type 0
-ExitsBy process answer = Makes (λ w way. Exits w.settings way 0 process answer)
+ExitsBy process answer = MakesCall (λ w way. Exits w.settings way 0 process answer)
 
 -- caller 0 puts a request into the inbox of its scheduler, or there is no memory
 abbrev pub AsksBy : Request → Result (Unit {0}) WantOfMemory → Seen → Seen → Type 0
-AsksBy request answer = Makes (λ w. By w (λ g. Asks g 0 (inbox_for g request) request answer))
+AsksBy request answer = MakesCall (λ w. By w (λ g. Asks g 0 (inbox_for g request) request answer))
 
 -- C puts a request; where no request has its kind, or there is no process to reply to, nothing has changed
 abbrev pub PutsRequest : ErtRequest → Option Seen → ℤ → Option Seen → Type 0
@@ -104,45 +104,45 @@ PutsRequest request old status new = Through ⊤ (λ was now. MatchOption (reque
 
 -- caller 0 takes the first message of a process, if there is one and the process is alive
 abbrev pub TakesBy : ℕ → Taken → Seen → Seen → Type 0
-TakesBy process answer = Makes (λ w. By w (λ g. Takes g 0 process answer))
+TakesBy process answer = MakesCall (λ w. By w (λ g. Takes g 0 process answer))
 
 -- caller 0 makes a monitor of the time offset for a process: its number, or why there is none
 abbrev pub MonitorsBy : ℕ → Result ℕ MonitorErr → Seen → Seen → Type 0
-MonitorsBy process answer = Makes (λ w. By w (λ g. Monitors g 0 process answer))
+MonitorsBy process answer = MakesCall (λ w. By w (λ g. Monitors g 0 process answer))
 
 -- caller 0 removes a monitor of a process: whether it stood
 abbrev pub DemonitorsBy : ℕ → ℕ → Bool → Seen → Seen → Type 0
-DemonitorsBy process monitor answer = Makes (λ w. By w (λ g. Demonitors g 0 process monitor answer))
+DemonitorsBy process monitor answer = MakesCall (λ w. By w (λ g. Demonitors g 0 process monitor answer))
 
 -- caller 0 has the monitors of a process told the offset: how many messages are put, or want of memory
 abbrev pub TellsBy : ℕ → Result ℕ WantOfMemory → Seen → Seen → Type 0
-TellsBy process answer = Makes (λ w. By w (λ g. Tells g 0 process answer))
+TellsBy process answer = MakesCall (λ w. By w (λ g. Tells g 0 process answer))
 
 -- a scheduler answers a request: whether there was one, or want of memory. Its wheels forget what it cancelled
 pub record ServesBy (sched : ℕ) (answer : Result Bool WantOfMemory) (old new : Seen) : Type 0 where
-  pub makes : Makes (λ w way. Serves w.settings way sched answer) old new
+  pub makes : MakesCall (λ w way. Serves w.settings way sched answer) old new
   pub stays : Stays old new
 
 -- a scheduler advances its wheel: to which millisecond and how many timers expired, or want of memory. Then each row
 -- of the wheel is due later
 pub record AdvancesBy (sched : ℕ) (answer : Result (ℕ × ℕ) WantOfMemory) (old new : Seen) : Type 0 where
-  pub makes : Makes (λ w way. AdvancesWheel w.settings way sched answer) old new
+  pub makes : MakesCall (λ w way. AdvancesWheel w.settings way sched answer) old new
   pub passed : IfOk answer (λ advanced. HasPassedAt new sched advanced.0)
 
 -- a scheduler hands its expired timers over: how many were put and dropped, or want of memory
 abbrev pub DeliversBy : ℕ → Result (ℕ × ℕ) WantOfMemory → Seen → Seen → Type 0
-DeliversBy sched answer = Makes (λ w way. Delivers w.settings way sched answer)
+DeliversBy sched answer = MakesCall (λ w way. Delivers w.settings way sched answer)
 
 -- a scheduler makes a turn: what it did, or want of memory. The wheels forget what it cancelled, and each row of its
 -- own is due later than the time of the advance
 pub record TurnsBy (sched : ℕ) (answer : Result Turned WantOfMemory) (old new : Seen) : Type 0 where
-  pub makes : Makes (λ w way. Turns w.settings way sched answer) old new
+  pub makes : MakesCall (λ w way. Turns w.settings way sched answer) old new
   pub stays : Stays old new
   pub passed : IfOk answer (λ turned. HasPassedAt new sched turned.to)
 
 -- what is told is how early a row of the wheel is due, or where the window begins in which it is; no armed timer is due
 -- before it, and nothing has changed
-pub record LooksAhead (sched : ℕ) (answer : Option ℕ) (old new : Seen) : Type 0 where
+pub record LooksAheadForC (sched : ℕ) (answer : Option ℕ) (old new : Seen) : Type 0 where
   pub held : IsNextHeldAt old sched answer
   pub armed : NoneArmedBefore (state old.settings old.history) sched answer
   pub nearest : IsNearestAt old sched answer

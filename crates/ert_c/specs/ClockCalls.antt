@@ -2,7 +2,7 @@
 
 use Rattle.std.specs.Prelude.{◌≡◌, ℕ, ℤ, ◌+ℤ◌, pos, Bool, not, nat_eq, Option, Some, None, Result, Ok, Err}
 use Rattle.ert_effects.specs.ClockCalls.{Ticks, Finalizes, TellsTime, TellsOffset, TellsSystemTime}
-use Rattle.ert_clock.specs.Ticks.{act_of, Gives, FinalizesFrom}
+use Rattle.ert_clock.specs.Ticks.{act_of, Gives, ClockFinalizesFrom}
 use Rattle.ert_clock.specs.declared.clock.ClockErr.{ClockErr}
 use Rattle.ert_clock.specs.declared.clock.ClockErr.TheVariants.{BadReading, OffsetWide}
 use Rattle.ert_clock.specs.declared.clock.Moved.{Moved}
@@ -53,7 +53,7 @@ pub record TicksBy (r : Reading) (force : Bool) (answer : Result Moved ClockErr)
 
 -- a service makes a finalization
 pub record FinalizesBy (r : Reading) (answer : Result (OffsetState × Moved) ClockErr) (old new : Seen) : Type 0 where
-  pub gives : FinalizesFrom old.clock.face.state old.clock r answer new.clock
+  pub gives : ClockFinalizesFrom old.clock.face.state old.clock r answer new.clock
   pub goes : GoesOnClock old (By old (λ g. Finalizes g 0 r answer)) new
 
 -- C is told monotonic time, as the clock of a service shows it

@@ -1,13 +1,13 @@
 -- What C is told of a hub.
 
 use Rattle.std.specs.Prelude.{◌≡◌, ◌⊎◌, ℕ, ◌<◌, ◌≤◌, ℤ, Bool, Option, Some, None, Result, Ok, Err}
-use Rattle.ert_clock.specs.Ticks.{act_of, Gives, FinalizesFrom}
+use Rattle.ert_clock.specs.Ticks.{act_of, Gives, ClockFinalizesFrom}
 use Rattle.ert_clock.specs.declared.clock.ClockErr.{ClockErr}
 use Rattle.ert_clock.specs.declared.clock.Moved.{Moved}
 use Rattle.ert_effects.specs.ClockCalls.{Ticks, Finalizes, TellsTime, TellsOffset, TellsSystemTime}
 use Rattle.ert_effects.specs.TimerCalls.{Reads, Cancels}
 use Rattle.ert_c.specs.ClockCalls.{state_as}
-use Rattle.ert_c.specs.Opened.{IsRead}
+use Rattle.ert_c.specs.Opened.{ReadsSettings}
 use Rattle.ert_c.specs.Through.{IfBelow}
 use Rattle.ert_c.specs.declared.clock_calls.ErtOffset.{ErtOffset}
 use Rattle.ert_c.specs.declared.opening.ErtSettings.{ErtSettings}
@@ -17,7 +17,7 @@ use Rattle.ert_defs.specs.declared.settings.OffsetState.{OffsetState}
 use Rattle.ert_defs.specs.declared.settings.Reading.{Reading}
 use Rattle.ert_defs.specs.declared.settings.Settings.{Settings}
 use Rattle.ert_defs.specs.declared.timer.TimerRef.{TimerRef}
-use Rattle.ert_shard.specs.Hubs.{Rest, IsFresh, GivesSeat, HubGoes, HubSteps, By}
+use Rattle.ert_shard.specs.Hubs.{Rest, IsFresh, HubGivesSeat, HubGoes, HubSteps, HubBy}
 use Rattle.ert_world.specs.Openings.{IsOpened}
 use Rattle.ert_world.specs.Seats.{Seated}
 use Rattle.ert_world.specs.Worlds.{Seen}
@@ -41,7 +41,7 @@ OpensHubBy (Err why) status new = (status ≡ why) × (new ≡ None)
 -- behind a closed handle a hub is opened with what C passed, or isn't
 pub record OpensNewHub (c : ErtSettings) (status : ℤ) (new : Option Rest) : Type 0 where
   pub read : Result Settings ℤ
-  pub meant : IsRead c read
+  pub meant : ReadsSettings c read
   pub opens : OpensHubBy read status new
 
 -- a closed handle is opened or stays closed, and an open one is left as it was
@@ -55,50 +55,50 @@ pub record HasHubSeat (old : Rest) (status : ℤ) (hub : Option Rest) (seat : Op
   pub given : Seated
   pub hub_is : hub ≡ Some left
   pub seat_is : seat ≡ Some given
-  pub gives : GivesSeat old left given
+  pub gives : HubGivesSeat old left given
   pub told : status ≡ OK
 
 -- why a hub gives no seat: every caller after those of the schedulers has one, or there is no memory
-abbrev pub IsSeatless : Rest → ℤ → Type 0
-IsSeatless old status = ((status ≡ NO_SEAT) × (old.settings.callers ≤ old.next)) ⊎ ((status ≡ NO_MEMORY) × (old.next < old.settings.callers))
+abbrev pub IsHubSeatless : Rest → ℤ → Type 0
+IsHubSeatless old status = ((status ≡ NO_SEAT) × (old.settings.callers ≤ old.next)) ⊎ ((status ≡ NO_MEMORY) × (old.next < old.settings.callers))
 
 -- a seat of a hub is opened, or nothing has changed: neither what stands behind the one handle nor behind the other
 abbrev pub OpensHubSeat : Option Rest → Option Seated → ℤ → Option Rest → Option Seated → Type 0
 OpensHubSeat hub (Some s) status left given = (status ≡ OPEN) × (left ≡ hub) × (given ≡ Some s)
 OpensHubSeat None None status left given = (status ≡ CLOSED) × (left ≡ None) × (given ≡ None)
-OpensHubSeat (Some old) None status left given = HasHubSeat old status left given ⊎ (IsSeatless old status × (left ≡ Some old) × (given ≡ None))
+OpensHubSeat (Some old) None status left given = HasHubSeat old status left given ⊎ (IsHubSeatless old status × (left ≡ Some old) × (given ≡ None))
 
 -- a hub makes a tick
 pub record HubTicksBy (r : Reading) (force : Bool) (answer : Result Moved ClockErr) (old new : Rest) : Type 0 where
   pub gives : Gives old.clock r (act_of force) answer new.clock
-  pub goes : HubGoes old (By old (λ g. Ticks g 0 r force answer)) new
+  pub goes : HubGoes old (HubBy old (λ g. Ticks g 0 r force answer)) new
 
 -- a hub makes a finalization
 pub record HubFinalizesBy (r : Reading) (answer : Result (OffsetState × Moved) ClockErr) (old new : Rest) : Type 0 where
-  pub gives : FinalizesFrom old.clock.face.state old.clock r answer new.clock
-  pub goes : HubGoes old (By old (λ g. Finalizes g 0 r answer)) new
+  pub gives : ClockFinalizesFrom old.clock.face.state old.clock r answer new.clock
+  pub goes : HubGoes old (HubBy old (λ g. Finalizes g 0 r answer)) new
 
 -- a hub looks up monotonic time as caller 0, and C is told it
 pub record HubReadsTime (status time : ℤ) (old new : Rest) : Type 0 where
   pub told : status ≡ OK
-  pub steps : HubSteps old (By old (λ g. TellsTime g (Caller 0) time)) new
+  pub steps : HubSteps old (HubBy old (λ g. TellsTime g (Caller 0) time)) new
 
 -- a hub looks up system time as caller 0, and C is told it
 pub record HubReadsSystemTime (status time : ℤ) (old new : Rest) : Type 0 where
   pub told : status ≡ OK
-  pub steps : HubSteps old (By old (λ g. TellsSystemTime g (Caller 0) time)) new
+  pub steps : HubSteps old (HubBy old (λ g. TellsSystemTime g (Caller 0) time)) new
 
 -- a hub looks up the time offset and its state as caller 0, and C is told them
 pub record HubReadsOffset (status : ℤ) (offset : ErtOffset) (old new : Rest) : Type 0 where
   pub told : status ≡ OK
   pub offset_state : OffsetState
   pub state : offset.state ≡ state_as offset_state
-  pub steps : HubSteps old (By old (λ g. TellsOffset g (Caller 0) (offset.offset, offset_state))) new
+  pub steps : HubSteps old (HubBy old (λ g. TellsOffset g (Caller 0) (offset.offset, offset_state))) new
 
 -- a hub cancels a timer as caller 0: what was left of it, where it was armed
 abbrev pub HubCancelsBy : TimerRef → Option ℕ → Rest → Rest → Type 0
-HubCancelsBy timer answer old new = HubSteps old (By old (λ g. Cancels g (Caller 0) timer answer)) new
+HubCancelsBy timer answer old new = HubSteps old (HubBy old (λ g. Cancels g (Caller 0) timer answer)) new
 
 -- a hub reads a timer as caller 0: what is left of it, where it is armed
 abbrev pub HubReadsBy : TimerRef → Option ℕ → Rest → Rest → Type 0
-HubReadsBy timer answer old new = HubSteps old (By old (λ g. Reads g (Caller 0) timer answer)) new
+HubReadsBy timer answer old new = HubSteps old (HubBy old (λ g. Reads g (Caller 0) timer answer)) new

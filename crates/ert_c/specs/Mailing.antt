@@ -10,7 +10,7 @@ use Rattle.ert_world.specs.Stepping.{Stays}
 use Rattle.ert_world.specs.Worlds.{Seen}
 use Rattle.ert_world.specs.declared.mailing.TakeEnd.{TakeEnd}
 use Rattle.ert_world.specs.declared.mailing.TakeEnd.TheVariants.{Most, Empty, Exited}
-use Rattle.ert_c.specs.Calls.{Makes}
+use Rattle.ert_c.specs.Calls.{MakesCall}
 use Rattle.ert_c.specs.Told.{mail_as}
 use Rattle.ert_c.specs.declared.mail_calls.ErtMail.{ErtMail}
 use Rattle.ert_c.specs.declared.status.TheConstants.{OK, NO_MEMORY, EMPTY, EXITED}
@@ -28,7 +28,7 @@ IsNextTold (Err e) old status new = (status ≡ NO_MEMORY) × (new ≡ old)
 
 -- caller 0 takes messages of a process, so many at most: these, and how that ended
 abbrev pub TakesSomeBy : ℕ → ℕ → List Mail × TakeEnd → Seen → Seen → Type 0
-TakesSomeBy process most answer = Makes (λ w way. TakesSome w.settings way process most answer.0 answer.1)
+TakesSomeBy process most answer = MakesCall (λ w way. TakesSome w.settings way process most answer.0 answer.1)
 
 -- how a take of several messages ended, for C
 abbrev pub end_as : TakeEnd → ℤ
@@ -53,5 +53,5 @@ pub record TakesPlaces (process : ℕ) (old : Seen) (kept found : List ErtMail) 
 
 -- caller 0 cancels all timers of a process: so many were cancelled
 pub record CancelsAllBy (process answer : ℕ) (old new : Seen) : Type 0 where
-  pub makes : Makes (λ w way. CancelsAll w.settings way process answer) old new
+  pub makes : MakesCall (λ w way. CancelsAll w.settings way process answer) old new
   pub stays : Stays old new

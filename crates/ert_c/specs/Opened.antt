@@ -52,9 +52,9 @@ pub record HasFault (c : ErtSettings) (status : ℤ) : Type 0 where
 
 -- what C passed means these settings, which a service can be opened with; or it is refused, by the status of
 -- its first cause: the size, the mode, and then what the service finds
-abbrev pub IsRead : ErtSettings → Result Settings ℤ → Type 0
-IsRead c (Ok g) = (c.size ≡ SETTINGS_SIZE) × (mode_at c.mode ≡ Some g.mode) × (g ≡ settings_as c g.mode) × IsChecked g
-IsRead c (Err status) =
+abbrev pub ReadsSettings : ErtSettings → Result Settings ℤ → Type 0
+ReadsSettings c (Ok g) = (c.size ≡ SETTINGS_SIZE) × (mode_at c.mode ≡ Some g.mode) × (g ≡ settings_as c g.mode) × IsChecked g
+ReadsSettings c (Err status) =
     ((c.size ≢ SETTINGS_SIZE) × (status ≡ BAD_SIZE))
     ⊎ ((c.size ≡ SETTINGS_SIZE) × (((mode_at c.mode ≡ None) × (status ≡ BAD_MODE)) ⊎ HasFault c status))
 
@@ -73,7 +73,7 @@ OpensBy (Err why) status new = (status ≡ why) × (new ≡ None)
 -- behind a closed handle a service is opened with what C passed, or isn't
 pub record OpensNew (c : ErtSettings) (status : ℤ) (new : Option Seen) : Type 0 where
   pub read : Result Settings ℤ
-  pub meant : IsRead c read
+  pub meant : ReadsSettings c read
   pub opens : OpensBy read status new
 
 -- a closed handle is opened or stays closed, and an open one is left as it was
@@ -82,6 +82,6 @@ Opens c None status new = OpensNew c status new
 Opens c (Some w) status new = (status ≡ OPEN) × (new ≡ Some w)
 
 -- an open handle is closed, and a closed one stays so
-abbrev pub Closes : {W : Type 0} → Option W → ℤ → Option W → Type 0
-Closes None status new = (status ≡ CLOSED) × (new ≡ None)
-Closes (Some w) status new = (status ≡ OK) × (new ≡ None)
+abbrev pub ClosesHandle : {W : Type 0} → Option W → ℤ → Option W → Type 0
+ClosesHandle None status new = (status ≡ CLOSED) × (new ≡ None)
+ClosesHandle (Some w) status new = (status ≡ OK) × (new ≡ None)

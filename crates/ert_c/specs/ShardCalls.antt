@@ -12,8 +12,8 @@ use Rattle.ert_effects.specs.declared.answers.StartErr.{StartErr}
 use Rattle.ert_effects.specs.declared.answers.StartErr.TheVariants.{NoMemory}
 use Rattle.ert_effects.specs.declared.answers.Taken.{Taken}
 use Rattle.ert_c.specs.ClockCalls.{state_as}
-use Rattle.ert_c.specs.Through.{Through, Answers, IfBelow, IsOutOfRange}
-use Rattle.ert_c.specs.Told.{flag, start_of, timer_of, IsStarted, IsFlag, IsGiven, IsDemonitored}
+use Rattle.ert_c.specs.Through.{Through, AnswersC, IfBelow, IsOutOfRange}
+use Rattle.ert_c.specs.Told.{flag, start_of, timer_from_c, IsStartTold, IsFlag, IsGiven, IsDemonitored}
 use Rattle.ert_c.specs.Waiting.{IsRestarted}
 use Rattle.ert_c.specs.declared.clock_calls.ErtOffset.{ErtOffset}
 use Rattle.ert_c.specs.declared.status.TheConstants.{OK, CLOSED, OPEN, NO_MEMORY, RANGE, NO_SHARD}
@@ -29,8 +29,8 @@ use Rattle.ert_defs.specs.declared.timer.Start.{Start}
 use Rattle.ert_defs.specs.declared.timer.TimerRef.{TimerRef}
 use Rattle.ert_shard.specs.Hubs.{Rest, GivesShard}
 use Rattle.ert_shard.specs.Renewing.{RestartsOn, LetsGo}
-use Rattle.ert_shard.specs.Shards.{Share, IsHome, Owned, Goes, Steps, By, HasForgotten}
-use Rattle.ert_shard.specs.Turning.{fired_of, HasTurnedMost, Turns, TurnsUpTo, Exits}
+use Rattle.ert_shard.specs.Shards.{Share, IsHome, Owned, ShardGoes, ShardSteps, ShardBy, ShardHasForgotten}
+use Rattle.ert_shard.specs.Turning.{fired_of, HasTurnedMost, ShardTurns, TurnsUpTo, ShardExits}
 use Rattle.ert_shard.specs.declared.turns.Turn.{Turn}
 use Rattle.ert_timers.specs.NextDue.{NoneArmedBefore, IsNextHeld}
 use Rattle.ert_timers.specs.Passed.{HasPassed}
@@ -87,7 +87,7 @@ pub record IfHome (share : Share) (process : ℕ) (call refused : Type 0) : Type
 
 -- a call for a process of a shard, which is refused where the process isn't of it
 abbrev pub AtHome : {A : Type 0} → ℕ → (A → Owned → Owned → Type 0) → (A → Type 0) → ℤ → Type 0 → Owned → Owned → Type 0
-AtHome process call tells status kept old new = IfHome old.share process (Answers call tells old new) (IsOutOfRange status kept old new)
+AtHome process call tells status kept old new = IfHome old.share process (AnswersC call tells old new) (IsOutOfRange status kept old new)
 
 -- such a call goes through a handle, and C finds the answer in a place of its own; else that place is as it was
 abbrev pub AnswersAtHome : {A P : Type 0} → ℕ → (A → Owned → Owned → Type 0) → (A → P → ℤ → P → Type 0) → P → P
@@ -98,72 +98,72 @@ AnswersAtHome process call tells kept found old status new =
 -- a shard looks up monotonic time as its caller, and C is told it
 pub record ShardReadsTime (status time : ℤ) (old new : Owned) : Type 0 where
   pub told : status ≡ OK
-  pub steps : Steps old (By old (λ g. TellsTime g (Caller (old.share.number + 1)) time)) new
+  pub steps : ShardSteps old (ShardBy old (λ g. TellsTime g (Caller (old.share.number + 1)) time)) new
 
 -- a shard looks up system time as its caller, and C is told it
 pub record ShardReadsSystemTime (status time : ℤ) (old new : Owned) : Type 0 where
   pub told : status ≡ OK
-  pub steps : Steps old (By old (λ g. TellsSystemTime g (Caller (old.share.number + 1)) time)) new
+  pub steps : ShardSteps old (ShardBy old (λ g. TellsSystemTime g (Caller (old.share.number + 1)) time)) new
 
 -- a shard looks up the time offset and its state as its caller, and C is told them
 pub record ShardReadsOffset (status : ℤ) (offset : ErtOffset) (old new : Owned) : Type 0 where
   pub told : status ≡ OK
   pub offset_state : OffsetState
   pub state : offset.state ≡ state_as offset_state
-  pub steps : Steps old (By old (λ g. TellsOffset g (Caller (old.share.number + 1)) (offset.offset, offset_state))) new
+  pub steps : ShardSteps old (ShardBy old (λ g. TellsOffset g (Caller (old.share.number + 1)) (offset.offset, offset_state))) new
 
 -- a shard starts a timer on its wheel as its caller, with this answer, which is never want of memory
 pub record ShardStartsBy (start : Start) (answer : Result TimerRef StartErr) (old new : Owned) : Type 0 where
-  pub goes : Goes old (By old (λ g. Starts g (old.share.number + 1) old.share.number start answer)) new
+  pub goes : ShardGoes old (ShardBy old (λ g. Starts g (old.share.number + 1) old.share.number start answer)) new
   pub memory : answer ≢ Err NoMemory
 
 -- C starts a timer on the wheel of a shard; where the process isn't of the shard, nothing has changed
 abbrev pub ShardStarts : ErtStart → ErtTimer → ErtTimer → Option Owned → ℤ → Option Owned → Type 0
-ShardStarts start = AnswersAtHome start.dest (ShardStartsBy (start_of start)) IsStarted
+ShardStarts start = AnswersAtHome start.dest (ShardStartsBy (start_of start)) IsStartTold
 
 -- a shard gives an armed timer a new deadline as its caller: the name of the next, or why there is none; where it was
 -- cancelled, the shard's wheel holds no row of it
 pub record ShardRestartsBy (timer : TimerRef) (start : Start) (answer : Result TimerRef RestartErr) (old new : Owned) : Type 0 where
-  pub goes : Goes old (λ way. RestartsOn old.settings way old.share.number timer start answer) new
+  pub goes : ShardGoes old (λ way. RestartsOn old.settings way old.share.number timer start answer) new
   pub forgotten : LetsGo timer answer new
 
 -- C gives a timer a new deadline; where the process isn't of the shard, nothing has changed
 abbrev pub ShardRestarts : ErtStart → ErtTimer → ErtTimer → Option Owned → ℤ → Option Owned → Type 0
-ShardRestarts start timer = AnswersAtHome start.dest (ShardRestartsBy (timer_of timer) (start_of start)) IsRestarted timer
+ShardRestarts start timer = AnswersAtHome start.dest (ShardRestartsBy (timer_from_c timer) (start_of start)) IsRestarted timer
 
 -- a shard cancels a timer as its caller: what was left of it, where it was armed, and then its own wheel holds no row of it
 pub record ShardCancelsBy (timer : TimerRef) (answer : Option ℕ) (old new : Owned) : Type 0 where
-  pub steps : Steps old (By old (λ g. Cancels g (Caller (old.share.number + 1)) timer answer)) new
-  pub forgotten : OnSome answer (HasForgotten new timer)
+  pub steps : ShardSteps old (ShardBy old (λ g. Cancels g (Caller (old.share.number + 1)) timer answer)) new
+  pub forgotten : OnSome answer (ShardHasForgotten new timer)
 
 -- a shard reads a timer as its caller: what is left of it, where it is armed
 abbrev pub ShardReadsBy : TimerRef → Option ℕ → Owned → Owned → Type 0
-ShardReadsBy timer answer old new = Steps old (By old (λ g. Reads g (Caller (old.share.number + 1)) timer answer)) new
+ShardReadsBy timer answer old new = ShardSteps old (ShardBy old (λ g. Reads g (Caller (old.share.number + 1)) timer answer)) new
 
 -- a shard sees as its caller whether a process is alive
 abbrev pub ShardTellsAliveBy : ℕ → Bool → Owned → Owned → Type 0
-ShardTellsAliveBy process answer old new = Steps old (By old (λ g. TellsAlive g (Caller (old.share.number + 1)) process answer)) new
+ShardTellsAliveBy process answer old new = ShardSteps old (ShardBy old (λ g. TellsAlive g (Caller (old.share.number + 1)) process answer)) new
 
 -- C is told by a shard whether a process is alive; where there is no such one, nothing has changed
 abbrev pub ShardTellsAlive : ℕ → ℕ → ℤ → ℕ → Owned → Owned → Type 0
 ShardTellsAlive process kept status found old new = IfBelow process old.settings.processes
-    (Answers (ShardTellsAliveBy process) (λ answer. IsFlag answer status found) old new) (IsOutOfRange status (found ≡ kept) old new)
+    (AnswersC (ShardTellsAliveBy process) (λ answer. IsFlag answer status found) old new) (IsOutOfRange status (found ≡ kept) old new)
 
 -- a shard lets a process of its own exit: whether it was alive, and then its wheel is swept
 abbrev pub ShardExitsBy : ℕ → Bool → Owned → Owned → Type 0
-ShardExitsBy process answer old new = Steps old (λ way. Exits old.settings way old.share.number process answer) new
+ShardExitsBy process answer old new = ShardSteps old (λ way. ShardExits old.settings way old.share.number process answer) new
 
 -- a shard takes the first message of a process as its caller, if there is one and the process is alive
 abbrev pub ShardTakesBy : ℕ → Taken → Owned → Owned → Type 0
-ShardTakesBy process answer old new = Steps old (By old (λ g. Takes g (old.share.number + 1) process answer)) new
+ShardTakesBy process answer old new = ShardSteps old (ShardBy old (λ g. Takes g (old.share.number + 1) process answer)) new
 
 -- a shard makes a monitor of the time offset for a process: its number, or why there is none
 abbrev pub ShardMonitorsBy : ℕ → Result ℕ MonitorErr → Owned → Owned → Type 0
-ShardMonitorsBy process answer old new = Steps old (By old (λ g. Monitors g (old.share.number + 1) process answer)) new
+ShardMonitorsBy process answer old new = ShardSteps old (ShardBy old (λ g. Monitors g (old.share.number + 1) process answer)) new
 
 -- a shard removes a monitor of a process: whether it stood
 abbrev pub ShardDemonitorsBy : ℕ → ℕ → Bool → Owned → Owned → Type 0
-ShardDemonitorsBy process monitor answer old new = Steps old (By old (λ g. Demonitors g (old.share.number + 1) process monitor answer)) new
+ShardDemonitorsBy process monitor answer old new = ShardSteps old (ShardBy old (λ g. Demonitors g (old.share.number + 1) process monitor answer)) new
 
 -- C removes a monitor of a process of a shard; where the process isn't of the shard, nothing has changed
 abbrev pub ShardDemonitors : ℕ → ℕ → Option Owned → ℤ → Option Owned → Type 0
@@ -171,21 +171,21 @@ ShardDemonitors process monitor old status new = Through ⊤ (AtHome process (Sh
 
 -- a shard has the monitors of a process told the offset: how many messages are put, or want of memory
 abbrev pub ShardTellsBy : ℕ → Result ℕ WantOfMemory → Owned → Owned → Type 0
-ShardTellsBy process answer old new = Steps old (By old (λ g. Tells g (old.share.number + 1) process answer)) new
+ShardTellsBy process answer old new = ShardSteps old (ShardBy old (λ g. Tells g (old.share.number + 1) process answer)) new
 
 -- a shard advances its wheel: to which millisecond and how many timers expired, or want of memory. Then each row of the
 -- wheel is due later
 pub record ShardAdvancesBy (answer : Result (ℕ × ℕ) WantOfMemory) (old new : Owned) : Type 0 where
-  pub steps : Steps old (λ way. AdvancesWheel old.settings way old.share.number answer) new
+  pub steps : ShardSteps old (λ way. AdvancesWheel old.settings way old.share.number answer) new
   pub passed : IfOk answer (λ advanced. HasPassed new.wheel advanced.0)
 
 -- a shard hands its expired timers over: how many were put and dropped, or want of memory
 abbrev pub ShardDeliversBy : Result (ℕ × ℕ) WantOfMemory → Owned → Owned → Type 0
-ShardDeliversBy answer old new = Steps old (λ way. Delivers old.settings way old.share.number answer) new
+ShardDeliversBy answer old new = ShardSteps old (λ way. Delivers old.settings way old.share.number answer) new
 
 -- a shard makes a turn: what it did, or want of memory. Then each row of its wheel is due later than the time of the advance
 pub record ShardTurnsBy (answer : Result Turn WantOfMemory) (old new : Owned) : Type 0 where
-  pub steps : Steps old (λ way. Turns old.settings way old.share.number answer) new
+  pub steps : ShardSteps old (λ way. ShardTurns old.settings way old.share.number answer) new
   pub passed : IfOk answer (λ turned. HasPassed new.wheel turned.to)
 
 -- what a turn of a shard did, which serves no requests, or want of memory
@@ -196,7 +196,7 @@ IsTurnTold = IsGiven (λ t. record { to = t.to; served = 0; fired = t.fired; put
 -- or want of memory. Where there are no more each row of its wheel is due later than the time of the advance; where there
 -- are, it has done as much as it may
 pub record ShardTurnsSomeBy (most : ℕ) (answer : Result (Turn × Bool) WantOfMemory) (old new : Owned) : Type 0 where
-  pub steps : Steps old (λ way. TurnsUpTo old.settings way old.share.number most answer) new
+  pub steps : ShardSteps old (λ way. TurnsUpTo old.settings way old.share.number most answer) new
   pub passed : IfOk answer (λ done. done.1 ≡ false → HasPassed new.wheel done.0.to)
   pub done : IfOk answer (λ turned. turned.1 ≡ true → HasTurnedMost old.wheel new.wheel most turned.0)
 

@@ -42,8 +42,8 @@ abbrev pub timer_as : TimerRef → ErtTimer
 timer_as r = record { wheel = r.wheel; slot = r.slot; generation = r.generation }
 
 -- the reference of a timer, from C
-abbrev pub timer_of : ErtTimer → TimerRef
-timer_of r = record { wheel = r.wheel; slot = r.slot; generation = r.generation }
+abbrev pub timer_from_c : ErtTimer → TimerRef
+timer_from_c r = record { wheel = r.wheel; slot = r.slot; generation = r.generation }
 
 -- when a timer is due, from C: at a time, or so many milliseconds after its start
 abbrev pub when_of : ErtStart → When
@@ -58,11 +58,11 @@ abbrev pub start_of : ErtStart → Start
 start_of s = record { when = when_of s; dest = s.dest; msg = s.msg; kind = kind_of s }
 
 -- the timer that was started, or why none was
-abbrev pub IsStarted : Result TimerRef StartErr → ErtTimer → ℤ → ErtTimer → Type 0
-IsStarted (Ok timer) old status new = (status ≡ OK) × (new ≡ timer_as timer)
-IsStarted (Err BadArg) old status new = (status ≡ BAD_TIME) × (new ≡ old)
-IsStarted (Err Full) old status new = (status ≡ FULL) × (new ≡ old)
-IsStarted (Err NoMemory) old status new = (status ≡ NO_MEMORY) × (new ≡ old)
+abbrev pub IsStartTold : Result TimerRef StartErr → ErtTimer → ℤ → ErtTimer → Type 0
+IsStartTold (Ok timer) old status new = (status ≡ OK) × (new ≡ timer_as timer)
+IsStartTold (Err BadArg) old status new = (status ≡ BAD_TIME) × (new ≡ old)
+IsStartTold (Err Full) old status new = (status ≡ FULL) × (new ≡ old)
+IsStartTold (Err NoMemory) old status new = (status ≡ NO_MEMORY) × (new ≡ old)
 
 -- when a slot that rests can be used again, for C: 0 where none rests
 abbrev pub ready_as : Option ℕ → ℕ
@@ -74,9 +74,9 @@ abbrev pub IsRoomTold : Room → ℤ → ℕ → ℕ → Type 0
 IsRoomTold answer status room ready = (status ≡ OK) × (room ≡ answer.free) × (ready ≡ ready_as answer.ready)
 
 -- the milliseconds that were left of a timer
-abbrev pub IsLeft : Option ℕ → ℕ → ℤ → ℕ → Type 0
-IsLeft (Some left) old status new = (status ≡ OK) × (new ≡ left)
-IsLeft None old status new = (status ≡ NO_TIMER) × (new ≡ old)
+abbrev pub IsLeftTold : Option ℕ → ℕ → ℤ → ℕ → Type 0
+IsLeftTold (Some left) old status new = (status ≡ OK) × (new ≡ left)
+IsLeftTold None old status new = (status ≡ NO_TIMER) × (new ≡ old)
 
 -- an answer that is yes or no
 abbrev pub IsFlag : Bool → ℤ → ℕ → Type 0
@@ -96,8 +96,8 @@ abbrev pub IsServed : Result Bool WantOfMemory → ℕ → ℤ → ℕ → Type 
 IsServed = IsGiven flag
 
 -- to which millisecond a wheel was advanced and how many timers expired, or want of memory
-abbrev pub IsAdvanced : Result (ℕ × ℕ) WantOfMemory → ErtAdvanced → ℤ → ErtAdvanced → Type 0
-IsAdvanced = IsGiven (λ p. record { to = p.0; fired = p.1 })
+abbrev pub IsAdvanceTold : Result (ℕ × ℕ) WantOfMemory → ErtAdvanced → ℤ → ErtAdvanced → Type 0
+IsAdvanceTold = IsGiven (λ p. record { to = p.0; fired = p.1 })
 
 -- how many messages were put and dropped, or want of memory
 abbrev pub IsDelivered : Result (ℕ × ℕ) WantOfMemory → ErtDelivered → ℤ → ErtDelivered → Type 0
@@ -117,24 +117,24 @@ no_timer = record { wheel = 0; slot = 0; generation = 0 }
 
 -- a message with this number of its kind, reference and value, and what was left where that is told; the other
 -- fields are 0
-abbrev pub mail_of : ℕ → ErtTimer → ℕ → Option ℕ → ErtMail
-mail_of tag timer msg (Some left) = record { tag = tag; timer = timer; has_left = 1; monitor = 0; msg = msg; left = left; offset = pos 0 }
-mail_of tag timer msg None = record { tag = tag; timer = timer; has_left = 0; monitor = 0; msg = msg; left = 0; offset = pos 0 }
+abbrev pub c_mail_of : ℕ → ErtTimer → ℕ → Option ℕ → ErtMail
+c_mail_of tag timer msg (Some left) = record { tag = tag; timer = timer; has_left = 1; monitor = 0; msg = msg; left = left; offset = pos 0 }
+c_mail_of tag timer msg None = record { tag = tag; timer = timer; has_left = 0; monitor = 0; msg = msg; left = 0; offset = pos 0 }
 
 -- a message, for C: the number of its kind, with its fields; the others are 0
 abbrev pub mail_as : Mail → ErtMail
-mail_as (Timeout timer msg) = mail_of 1 (timer_as timer) msg None
-mail_as (BareMail msg) = mail_of 2 no_timer msg None
-mail_as (CancelDone timer left) = mail_of 3 (timer_as timer) 0 left
-mail_as (ReadDone timer left) = mail_of 4 (timer_as timer) 0 left
+mail_as (Timeout timer msg) = c_mail_of 1 (timer_as timer) msg None
+mail_as (BareMail msg) = c_mail_of 2 no_timer msg None
+mail_as (CancelDone timer left) = c_mail_of 3 (timer_as timer) 0 left
+mail_as (ReadDone timer left) = c_mail_of 4 (timer_as timer) 0 left
 mail_as (Change monitor offset) =
     record { tag = 5; timer = no_timer; has_left = 0; monitor = monitor; msg = 0; left = 0; offset = offset }
 
 -- the message that was taken, or that there is none, or that the process has exited
-abbrev pub IsTaken : Taken → ErtMail → ℤ → ErtMail → Type 0
-IsTaken (Took m) old status new = (status ≡ OK) × (new ≡ mail_as m)
-IsTaken Empty old status new = (status ≡ EMPTY) × (new ≡ old)
-IsTaken Exited old status new = (status ≡ EXITED) × (new ≡ old)
+abbrev pub IsTakeTold : Taken → ErtMail → ℤ → ErtMail → Type 0
+IsTakeTold (Took m) old status new = (status ≡ OK) × (new ≡ mail_as m)
+IsTakeTold Empty old status new = (status ≡ EMPTY) × (new ≡ old)
+IsTakeTold Exited old status new = (status ≡ EXITED) × (new ≡ old)
 
 -- what a number asks for
 abbrev pub request_kind_at : ℕ → Option RequestKind
@@ -142,7 +142,7 @@ request_kind_at n = cond (nat_eq n 0) (Some Cancel) (cond (nat_eq n 1) (Some Rea
 
 -- a request of this kind, from C
 abbrev pub request_of : ErtRequest → RequestKind → Request
-request_of r kind = record { kind = kind; timer = timer_of r.timer; reply_to = r.reply_to; info = is_on r.info }
+request_of r kind = record { kind = kind; timer = timer_from_c r.timer; reply_to = r.reply_to; info = is_on r.info }
 
 -- a request was put, or want of memory
 abbrev pub IsAsked : Result (Unit {0}) WantOfMemory → ℤ → Type 0
@@ -150,10 +150,10 @@ IsAsked (Ok _) status = status ≡ OK
 IsAsked (Err e) status = status ≡ NO_MEMORY
 
 -- the number of the monitor that was made, or why none was
-abbrev pub IsMonitored : Result ℕ MonitorErr → ℕ → ℤ → ℕ → Type 0
-IsMonitored (Ok n) old status new = (status ≡ OK) × (new ≡ n)
-IsMonitored (Err NoPlace) old status new = (status ≡ FULL) × (new ≡ old)
-IsMonitored (Err MonitorNoMemory) old status new = (status ≡ NO_MEMORY) × (new ≡ old)
+abbrev pub IsMonitorTold : Result ℕ MonitorErr → ℕ → ℤ → ℕ → Type 0
+IsMonitorTold (Ok n) old status new = (status ≡ OK) × (new ≡ n)
+IsMonitorTold (Err NoPlace) old status new = (status ≡ FULL) × (new ≡ old)
+IsMonitorTold (Err MonitorNoMemory) old status new = (status ≡ NO_MEMORY) × (new ≡ old)
 
 -- whether the monitor stood that was to be removed
 abbrev pub IsDemonitored : Bool → ℤ → Type 0

@@ -8,13 +8,13 @@ use Rattle.ert_defs.specs.declared.timer.Start.{Start}
 use Rattle.ert_defs.specs.declared.timer.TimerRef.{TimerRef}
 use Rattle.ert_effects.specs.declared.answers.Turned.{Turned}
 use Rattle.ert_world.specs.Bounded.{HasDoneMost, TurnsSome}
-use Rattle.ert_world.specs.Held.{HoldsRows, AreArmed}
+use Rattle.ert_world.specs.Held.{HoldsSoManyRows, AreArmed}
 use Rattle.ert_world.specs.Restarts.{Restarts}
 use Rattle.ert_world.specs.Stepping.{Stays}
-use Rattle.ert_world.specs.Worlds.{Seen, HasPassedAt, sched_of}
+use Rattle.ert_world.specs.Worlds.{Seen, HasPassedAt, world_sched}
 use Rattle.ert_world.specs.declared.restart.RestartErr.{RestartErr}
 use Rattle.ert_world.specs.declared.restart.RestartErr.TheVariants.{BadArg, NotArmed, Full}
-use Rattle.ert_c.specs.Calls.{Makes}
+use Rattle.ert_c.specs.Calls.{MakesCall}
 use Rattle.ert_c.specs.Told.{flag, timer_as, IsGiven}
 use Rattle.ert_c.specs.declared.status.TheConstants.{OK, BAD_TIME, FULL, NO_TIMER}
 use Rattle.ert_c.specs.declared.timer_calls.ErtTimer.{ErtTimer}
@@ -22,7 +22,7 @@ use Rattle.ert_c.specs.declared.waiting_calls.ErtTurnedSome.{ErtTurnedSome}
 
 -- caller 0 gives an armed timer a new deadline: the name of the next, or why there is none
 abbrev pub RestartsBy : TimerRef → Start → Result TimerRef RestartErr → Seen → Seen → Type 0
-RestartsBy timer start answer = Makes (λ w. Restarts w timer start answer)
+RestartsBy timer start answer = MakesCall (λ w. Restarts w timer start answer)
 
 -- the timer that was started in its place, or why none was
 abbrev pub IsRestarted : Result TimerRef RestartErr → ErtTimer → ℤ → ErtTimer → Type 0
@@ -37,13 +37,13 @@ IsCount answer status new = (status ≡ OK) × (new ≡ answer)
 
 -- what is told is how many rows a wheel holds: those of the armed timers where no seat was given out; nothing has changed
 pub record TellsHeld (sched answer : ℕ) (old new : Seen) : Type 0 where
-  pub rows : HoldsRows old sched answer
+  pub rows : HoldsSoManyRows old sched answer
   pub armed : AreArmed old sched answer
   pub unchanged : new ≡ old
 
 -- what is told is how many expired timers wait at a scheduler; nothing has changed
 pub record TellsExpired (sched answer : ℕ) (old new : Seen) : Type 0 where
-  pub waiting : answer ≡ length (sched_of old sched).fired
+  pub waiting : answer ≡ length (world_sched old sched).fired
   pub unchanged : new ≡ old
 
 -- what is told is how many messages wait in a mailbox; nothing has changed
@@ -54,7 +54,7 @@ pub record TellsMail (process answer : ℕ) (old new : Seen) : Type 0 where
 -- a scheduler makes a turn in which so many timers at most expire and are handed over: what it did and whether there are
 -- more, or want of memory
 pub record TurnsSomeBy (sched most : ℕ) (answer : Result (Turned × Bool) WantOfMemory) (old new : Seen) : Type 0 where
-  pub makes : Makes (λ w way. TurnsSome w.settings way sched most answer) old new
+  pub makes : MakesCall (λ w way. TurnsSome w.settings way sched most answer) old new
   pub stays : Stays old new
   pub passed : IfOk answer (λ done. done.1 ≡ false → HasPassedAt new sched done.0.to)
   pub done : IfOk answer (λ turned. turned.1 ≡ true → HasDoneMost old new sched most turned.0)

@@ -1,8 +1,8 @@
 //! The exported calls that open and close a service, and those on its clock.
 ghost use Rattle.std.specs.Prelude.{◌≡◌};
 ghost use Rattle.ert_c.specs.ClockCalls.{is_on, TicksBy, FinalizesBy, ReadsTime, ReadsSystemTime, ReadsOffset, IsMoved, IsFinalized};
-ghost use Rattle.ert_c.specs.Opened.{reading_as, Opens, Closes};
-ghost use Rattle.ert_c.specs.Through.{Through, Answers, AnswersThrough};
+ghost use Rattle.ert_c.specs.Opened.{reading_as, Opens, ClosesHandle};
+ghost use Rattle.ert_c.specs.Through.{Through, AnswersC, AnswersThrough};
 
 use crate::clock_calls::{ErtMoved, ErtOffset, state_as, tell_finalized, tell_moved};
 use crate::handle::{ErtWorld, opened};
@@ -37,7 +37,7 @@ pub extern "C" fn ert_world_open(alloc: Global, world: &mut ErtWorld, settings: 
 /// Closes a service, and gives its memory back.
 #[unsafe(no_mangle)]
 pub extern "C" fn ert_world_close(alloc: Global, world: &mut ErtWorld) -> i32
-    ensures { Closes world.old.place.value result world.new.place.value }
+    ensures { ClosesHandle world.old.place.value result world.new.place.value }
 {
     if !world.live {
         return CLOSED;
@@ -70,7 +70,7 @@ pub extern "C" fn ert_world_finalize(
     moved: &mut ErtMoved,
 ) -> i32
     ensures { Through ((before.new ≡ before.old) × (moved.new ≡ moved.old))
-        (Answers (FinalizesBy (reading_as reading.now)) (λ answer. IsFinalized answer before.old moved.old result before.new moved.new))
+        (AnswersC (FinalizesBy (reading_as reading.now)) (λ answer. IsFinalized answer before.old moved.old result before.new moved.new))
         world.old.place.value result world.new.place.value }
 {
     let answer = opened!(world).finalize(reading.read());

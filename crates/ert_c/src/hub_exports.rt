@@ -2,10 +2,10 @@
 ghost use Rattle.std.specs.Prelude.{◌≡◌};
 ghost use Rattle.ert_c.specs.ClockCalls.{is_on, IsMoved, IsFinalized};
 ghost use Rattle.ert_c.specs.HubCalls.{OpensHub, OpensHubSeat, HubTicksBy, HubFinalizesBy, HubReadsTime, HubReadsSystemTime, HubReadsOffset, HubCancelsBy, HubReadsBy};
-ghost use Rattle.ert_c.specs.Opened.{reading_as, Closes};
+ghost use Rattle.ert_c.specs.Opened.{reading_as, ClosesHandle};
 ghost use Rattle.ert_c.specs.ShardCalls.{OpensShard};
-ghost use Rattle.ert_c.specs.Through.{Through, Answers, AnswersThrough};
-ghost use Rattle.ert_c.specs.Told.{timer_of, IsLeft};
+ghost use Rattle.ert_c.specs.Through.{Through, AnswersC, AnswersThrough};
+ghost use Rattle.ert_c.specs.Told.{timer_from_c, IsLeftTold};
 
 use crate::clock_calls::{ErtMoved, ErtOffset, state_as, tell_finalized, tell_moved};
 use crate::handle::{ErtSeat, opened};
@@ -46,7 +46,7 @@ pub extern "C" fn ert_hub_open(alloc: Global, hub: &mut ErtHub, settings: &ErtSe
 /// Closes a hub, and gives its memory back.
 #[unsafe(no_mangle)]
 pub extern "C" fn ert_hub_close(alloc: Global, hub: &mut ErtHub) -> i32
-    ensures { Closes hub.old.place.value result hub.new.place.value }
+    ensures { ClosesHandle hub.old.place.value result hub.new.place.value }
 {
     if !hub.live {
         return CLOSED;
@@ -135,7 +135,7 @@ pub extern "C" fn ert_hub_finalize(
     moved: &mut ErtMoved,
 ) -> i32
     ensures { Through ((before.new ≡ before.old) × (moved.new ≡ moved.old))
-        (Answers (HubFinalizesBy (reading_as reading.now)) (λ answer. IsFinalized answer before.old moved.old result before.new moved.new))
+        (AnswersC (HubFinalizesBy (reading_as reading.now)) (λ answer. IsFinalized answer before.old moved.old result before.new moved.new))
         hub.old.place.value result hub.new.place.value }
 {
     let answer = opened!(hub).finalize(reading.read());
@@ -176,7 +176,7 @@ pub extern "C" fn ert_hub_time_offset(hub: &mut ErtHub, offset: &mut ErtOffset) 
 /// Cancels a timer, and tells how much was left of it.
 #[unsafe(no_mangle)]
 pub extern "C" fn ert_hub_cancel(hub: &mut ErtHub, timer: &ErtTimer, left: &mut u64) -> i32
-    ensures { AnswersThrough (HubCancelsBy (timer_of timer.now)) IsLeft left.old left.new hub.old.place.value result hub.new.place.value }
+    ensures { AnswersThrough (HubCancelsBy (timer_from_c timer.now)) IsLeftTold left.old left.new hub.old.place.value result hub.new.place.value }
 {
     let answer = opened!(hub).cancel_timer(timer.read());
     tell_left(answer, left)
@@ -185,7 +185,7 @@ pub extern "C" fn ert_hub_cancel(hub: &mut ErtHub, timer: &ErtTimer, left: &mut 
 /// Tells how much is left of a timer.
 #[unsafe(no_mangle)]
 pub extern "C" fn ert_hub_read(hub: &mut ErtHub, timer: &ErtTimer, left: &mut u64) -> i32
-    ensures { AnswersThrough (HubReadsBy (timer_of timer.now)) IsLeft left.old left.new hub.old.place.value result hub.new.place.value }
+    ensures { AnswersThrough (HubReadsBy (timer_from_c timer.now)) IsLeftTold left.old left.new hub.old.place.value result hub.new.place.value }
 {
     let answer = opened!(hub).read_timer(timer.read());
     tell_left(answer, left)

@@ -2,7 +2,7 @@
 ghost use Rattle.std.specs.Prelude.{◌≡◌, ◌<◌};
 ghost use Rattle.ert_defs.specs.Legal.{Legal};
 ghost use Rattle.ert_c.specs.Mailing.{end_as, IsNextTold, TakesPlaces};
-ghost use Rattle.ert_c.specs.Told.{no_timer, mail_of, mail_as, request_of, request_kind_at, IsTaken, IsAsked, IsMonitored, IsDemonitored};
+ghost use Rattle.ert_c.specs.Told.{no_timer, c_mail_of, mail_as, request_of, request_kind_at, IsTakeTold, IsAsked, IsMonitorTold, IsDemonitored};
 
 use crate::status::{EMPTY, EXITED, FULL, NO_MEMORY, NO_MONITOR, OK};
 use crate::timer_calls::ErtTimer;
@@ -76,7 +76,7 @@ fn no_timer() -> ErtTimer
 }
 
 fn mail_of(tag: u32, timer: ErtTimer, msg: u64, left: Option<u64>) -> ErtMail
-    ensures { result ≡ mail_of tag timer msg left }
+    ensures { result ≡ c_mail_of tag timer msg left }
 {
     let has_left = match left {
         Some(_) => 1,
@@ -115,7 +115,7 @@ fn mail_as(mail: Mail) -> ErtMail
 
 /// Tells C the first message.
 pub(crate) fn tell_taken(answer: Taken, mail: &mut ErtMail) -> i32
-    ensures { IsTaken answer mail.old result mail.new }
+    ensures { IsTakeTold answer mail.old result mail.new }
 {
     match answer {
         Taken::Mail(first) => {
@@ -139,7 +139,7 @@ pub(crate) fn tell_asked(answer: Result<(), NoMemory>) -> i32
 
 /// Tells C the number of a monitor.
 pub(crate) fn tell_monitored(answer: Result<u32, MonitorErr>, monitor: &mut u32) -> i32
-    ensures { IsMonitored answer monitor.old result monitor.new }
+    ensures { IsMonitorTold answer monitor.old result monitor.new }
 {
     match answer {
         Ok(number) => {

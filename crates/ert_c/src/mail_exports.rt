@@ -1,7 +1,7 @@
 //! The exported calls on mailboxes, requests and monitors.
 ghost use Rattle.std.specs.Prelude.{⊤, length};
 ghost use Rattle.ert_c.specs.Calls.{AtProcess, AnswersAtProcess, PutsRequest, TakesBy, MonitorsBy, DemonitorsBy, TellsBy};
-ghost use Rattle.ert_c.specs.Told.{IsTaken, IsMonitored, IsDemonitored, IsNumber};
+ghost use Rattle.ert_c.specs.Told.{IsTakeTold, IsMonitorTold, IsDemonitored, IsNumber};
 ghost use Rattle.ert_c.specs.Mailing.{FindsMailBy, IsNextTold, TakesSomeBy, IsTookSome};
 ghost use Rattle.ert_c.specs.Through.{Through, AnswersThrough};
 
@@ -32,7 +32,7 @@ pub extern "C" fn ert_world_ask(world: &mut ErtWorld, request: &ErtRequest) -> i
 /// Takes the first message of a process.
 #[unsafe(no_mangle)]
 pub extern "C" fn ert_world_take(world: &mut ErtWorld, process: u32, mail: &mut ErtMail) -> i32
-    ensures { AnswersAtProcess process (TakesBy process) IsTaken mail.old mail.new world.old.place.value result world.new.place.value }
+    ensures { AnswersAtProcess process (TakesBy process) IsTakeTold mail.old mail.new world.old.place.value result world.new.place.value }
 {
     let service = at_process!(world, process);
     let answer = service.take(process);
@@ -68,7 +68,7 @@ pub extern "C" fn ert_world_next_mail(world: &mut ErtWorld, process: &mut u32) -
 /// Makes a monitor of the time offset for a process.
 #[unsafe(no_mangle)]
 pub extern "C" fn ert_world_monitor(world: &mut ErtWorld, process: u32, monitor: &mut u32) -> i32
-    ensures { AnswersAtProcess process (MonitorsBy process) IsMonitored monitor.old monitor.new world.old.place.value result world.new.place.value }
+    ensures { AnswersAtProcess process (MonitorsBy process) IsMonitorTold monitor.old monitor.new world.old.place.value result world.new.place.value }
 {
     let service = at_process!(world, process);
     let answer = service.monitor(process);

@@ -1,6 +1,6 @@
 //! A service is opened and closed.
 ghost use Rattle.std.specs.Prelude.{◌≡◌};
-ghost use Rattle.ert_c.specs.Opened.{reading_as, mode_at, IsRead, settings_as, status_of};
+ghost use Rattle.ert_c.specs.Opened.{reading_as, mode_at, ReadsSettings, settings_as, status_of};
 
 use crate::status::{BAD_COUNT, BAD_MODE, BAD_READING, BAD_SIZE, BAD_START};
 use ert_defs::{Mode, Reading, Settings, SettingsFault};
@@ -50,7 +50,7 @@ impl ErtReading {
 impl ErtSettings {
     /// The settings of a service, or why they are refused.
     pub(crate) fn read(&self) -> Result<Settings, i32>
-        ensures { IsRead self.now result }
+        ensures { ReadsSettings self.now result }
     {
         if self.size != SETTINGS_SIZE {
             return Err(BAD_SIZE);

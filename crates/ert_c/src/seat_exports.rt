@@ -1,9 +1,9 @@
 //! The exported calls of seats.
 ghost use Rattle.std.specs.Prelude.{◌≡◌};
-ghost use Rattle.ert_c.specs.Opened.{Closes};
+ghost use Rattle.ert_c.specs.Opened.{ClosesHandle};
 ghost use Rattle.ert_c.specs.SeatCalls.{OpensSeat, SeatReadsTime, SeatReadsSystemTime, SeatReadsOffset, SeatCancelsBy, SeatReadsBy, SeatTellsAlive};
 ghost use Rattle.ert_c.specs.Through.{Through, AnswersThrough};
-ghost use Rattle.ert_c.specs.Told.{timer_of, IsLeft};
+ghost use Rattle.ert_c.specs.Told.{timer_from_c, IsLeftTold};
 
 use crate::clock_calls::{ErtOffset, state_as};
 use crate::handle::{ErtSeat, ErtWorld, opened};
@@ -34,7 +34,7 @@ pub extern "C" fn ert_seat_open(alloc: Global, seat: &mut ErtSeat, world: &mut E
 /// Closes a seat, and gives its memory back.
 #[unsafe(no_mangle)]
 pub extern "C" fn ert_seat_close(alloc: Global, seat: &mut ErtSeat) -> i32
-    ensures { Closes seat.old.place.value result seat.new.place.value }
+    ensures { ClosesHandle seat.old.place.value result seat.new.place.value }
 {
     if !seat.live {
         return CLOSED;
@@ -78,7 +78,7 @@ pub extern "C" fn ert_seat_time_offset(seat: &mut ErtSeat, offset: &mut ErtOffse
 /// Cancels a timer, and tells how much was left of it.
 #[unsafe(no_mangle)]
 pub extern "C" fn ert_seat_cancel(seat: &mut ErtSeat, timer: &ErtTimer, left: &mut u64) -> i32
-    ensures { AnswersThrough (SeatCancelsBy (timer_of timer.now)) IsLeft left.old left.new seat.old.place.value result seat.new.place.value }
+    ensures { AnswersThrough (SeatCancelsBy (timer_from_c timer.now)) IsLeftTold left.old left.new seat.old.place.value result seat.new.place.value }
 {
     let answer = opened!(seat).cancel_timer(timer.read());
     tell_left(answer, left)
@@ -87,7 +87,7 @@ pub extern "C" fn ert_seat_cancel(seat: &mut ErtSeat, timer: &ErtTimer, left: &m
 /// Tells how much is left of a timer.
 #[unsafe(no_mangle)]
 pub extern "C" fn ert_seat_read(seat: &mut ErtSeat, timer: &ErtTimer, left: &mut u64) -> i32
-    ensures { AnswersThrough (SeatReadsBy (timer_of timer.now)) IsLeft left.old left.new seat.old.place.value result seat.new.place.value }
+    ensures { AnswersThrough (SeatReadsBy (timer_from_c timer.now)) IsLeftTold left.old left.new seat.old.place.value result seat.new.place.value }
 {
     let answer = opened!(seat).read_timer(timer.read());
     tell_left(answer, left)

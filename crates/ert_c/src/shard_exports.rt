@@ -1,9 +1,9 @@
 //! The exported calls of a shard: its close, and those on the clock, on timers and on exits.
 ghost use Rattle.std.specs.Prelude.{◌≡◌};
-ghost use Rattle.ert_c.specs.Opened.{Closes};
+ghost use Rattle.ert_c.specs.Opened.{ClosesHandle};
 ghost use Rattle.ert_c.specs.ShardCalls.{TellsProcesses, ShardReadsTime, ShardReadsSystemTime, ShardReadsOffset, ShardStarts, ShardCancelsBy, ShardReadsBy, ShardTellsAlive, AnswersAtHome, ShardExitsBy};
 ghost use Rattle.ert_c.specs.Through.{Through, AnswersThrough};
-ghost use Rattle.ert_c.specs.Told.{timer_of, IsFlag, IsLeft};
+ghost use Rattle.ert_c.specs.Told.{timer_from_c, IsFlag, IsLeftTold};
 
 use crate::clock_calls::{ErtOffset, state_as};
 use crate::handle::opened;
@@ -15,7 +15,7 @@ use std::alloc::Global;
 /// Closes a shard, and gives its memory back.
 #[unsafe(no_mangle)]
 pub extern "C" fn ert_shard_close(alloc: Global, shard: &mut ErtShard) -> i32
-    ensures { Closes shard.old.place.value result shard.new.place.value }
+    ensures { ClosesHandle shard.old.place.value result shard.new.place.value }
 {
     if !shard.live {
         return CLOSED;
@@ -85,7 +85,7 @@ pub extern "C" fn ert_shard_start(
 /// Cancels a timer, and tells how much was left of it.
 #[unsafe(no_mangle)]
 pub extern "C" fn ert_shard_cancel(shard: &mut ErtShard, timer: &ErtTimer, left: &mut u64) -> i32
-    ensures { AnswersThrough (ShardCancelsBy (timer_of timer.now)) IsLeft left.old left.new shard.old.place.value result shard.new.place.value }
+    ensures { AnswersThrough (ShardCancelsBy (timer_from_c timer.now)) IsLeftTold left.old left.new shard.old.place.value result shard.new.place.value }
 {
     let answer = opened!(shard).cancel_timer(timer.read());
     tell_left(answer, left)
@@ -94,7 +94,7 @@ pub extern "C" fn ert_shard_cancel(shard: &mut ErtShard, timer: &ErtTimer, left:
 /// Tells how much is left of a timer.
 #[unsafe(no_mangle)]
 pub extern "C" fn ert_shard_read(shard: &mut ErtShard, timer: &ErtTimer, left: &mut u64) -> i32
-    ensures { AnswersThrough (ShardReadsBy (timer_of timer.now)) IsLeft left.old left.new shard.old.place.value result shard.new.place.value }
+    ensures { AnswersThrough (ShardReadsBy (timer_from_c timer.now)) IsLeftTold left.old left.new shard.old.place.value result shard.new.place.value }
 {
     let answer = opened!(shard).read_timer(timer.read());
     tell_left(answer, left)

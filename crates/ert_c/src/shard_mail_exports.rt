@@ -1,6 +1,6 @@
 //! The exported calls of a shard on mailboxes and monitors.
 ghost use Rattle.ert_c.specs.ShardCalls.{AnswersAtHome, ShardDemonitors, ShardTakesBy, ShardMonitorsBy, ShardTellsBy};
-ghost use Rattle.ert_c.specs.Told.{IsTaken, IsMonitored, IsNumber};
+ghost use Rattle.ert_c.specs.Told.{IsTakeTold, IsMonitorTold, IsNumber};
 
 use crate::handle::opened;
 use crate::mail_calls::{ErtMail, tell_demonitored, tell_monitored, tell_taken};
@@ -11,7 +11,7 @@ use crate::turn_calls::tell;
 /// Takes the first message of a process of a shard.
 #[unsafe(no_mangle)]
 pub extern "C" fn ert_shard_take(shard: &mut ErtShard, process: u32, mail: &mut ErtMail) -> i32
-    ensures { AnswersAtHome process (ShardTakesBy process) IsTaken mail.old mail.new shard.old.place.value result shard.new.place.value }
+    ensures { AnswersAtHome process (ShardTakesBy process) IsTakeTold mail.old mail.new shard.old.place.value result shard.new.place.value }
 {
     let own = at_home!(shard, process);
     let answer = own.take(process);
@@ -21,7 +21,7 @@ pub extern "C" fn ert_shard_take(shard: &mut ErtShard, process: u32, mail: &mut 
 /// Makes a monitor of the time offset for a process of a shard.
 #[unsafe(no_mangle)]
 pub extern "C" fn ert_shard_monitor(shard: &mut ErtShard, process: u32, monitor: &mut u32) -> i32
-    ensures { AnswersAtHome process (ShardMonitorsBy process) IsMonitored monitor.old monitor.new shard.old.place.value result shard.new.place.value }
+    ensures { AnswersAtHome process (ShardMonitorsBy process) IsMonitorTold monitor.old monitor.new shard.old.place.value result shard.new.place.value }
 {
     let own = at_home!(shard, process);
     let answer = own.monitor(process);

@@ -1,7 +1,7 @@
 //! The exported calls of a shard's scheduler.
 ghost use Rattle.ert_c.specs.ShardCalls.{ShardAdvancesBy, ShardDeliversBy, ShardTurnsBy, ShardLooksAhead, IsTurnTold};
 ghost use Rattle.ert_c.specs.Through.{AnswersThrough};
-ghost use Rattle.ert_c.specs.Told.{IsAdvanced, IsDelivered, IsDueTold};
+ghost use Rattle.ert_c.specs.Told.{IsAdvanceTold, IsDelivered, IsDueTold};
 
 use crate::handle::opened;
 use crate::shard_handle::ErtShard;
@@ -15,7 +15,7 @@ use ert_shard::Turn;
 /// Lets the due timers of a shard expire.
 #[unsafe(no_mangle)]
 pub extern "C" fn ert_shard_advance(shard: &mut ErtShard, advanced: &mut ErtAdvanced) -> i32
-    ensures { AnswersThrough ShardAdvancesBy IsAdvanced advanced.old advanced.new shard.old.place.value result shard.new.place.value }
+    ensures { AnswersThrough ShardAdvancesBy IsAdvanceTold advanced.old advanced.new shard.old.place.value result shard.new.place.value }
 {
     let answer = opened!(shard).advance();
     tell_advanced(answer, advanced)

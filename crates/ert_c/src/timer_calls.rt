@@ -1,6 +1,6 @@
 //! Timers, as C passes and is told them.
 ghost use Rattle.std.specs.Prelude.{◌≡◌};
-ghost use Rattle.ert_c.specs.Told.{timer_as, timer_of, start_of, flag, IsStarted, IsRoomTold, IsLeft, IsFlag};
+ghost use Rattle.ert_c.specs.Told.{timer_as, timer_from_c, start_of, flag, IsStartTold, IsRoomTold, IsLeftTold, IsFlag};
 
 use crate::status::{BAD_TIME, FULL, NO_MEMORY, NO_TIMER, OK};
 use ert_defs::{Kind, Start, TimerRef, When};
@@ -46,7 +46,7 @@ impl ErtTimer {
 
     /// The name of a timer, as a service takes it.
     pub(crate) fn read(&self) -> TimerRef
-        ensures { result ≡ timer_of self.now }
+        ensures { result ≡ timer_from_c self.now }
     {
         TimerRef {
             wheel: self.wheel,
@@ -82,7 +82,7 @@ impl ErtStart {
 
 /// Tells C the answer of a start.
 pub(crate) fn tell_started(answer: Result<TimerRef, StartErr>, timer: &mut ErtTimer) -> i32
-    ensures { IsStarted answer timer.old result timer.new }
+    ensures { IsStartTold answer timer.old result timer.new }
 {
     match answer {
         Ok(started) => {
@@ -109,7 +109,7 @@ pub(crate) fn tell_room(answer: Room, room: &mut u32, ready: &mut u64) -> i32
 
 /// Tells C how much was left of a timer.
 pub(crate) fn tell_left(answer: Option<u64>, left: &mut u64) -> i32
-    ensures { IsLeft answer left.old result left.new }
+    ensures { IsLeftTold answer left.old result left.new }
 {
     match answer {
         Some(rest) => {

@@ -2,7 +2,7 @@
 ghost use Rattle.std.specs.Prelude.{◌≡◌};
 ghost use Rattle.ert_c.specs.Calls.{AnswersAtProcess, StartsTimer, AsksRoom, CancelsBy, ReadsBy, TellsAliveBy, ExitsBy};
 ghost use Rattle.ert_c.specs.Mailing.{CancelsAllBy};
-ghost use Rattle.ert_c.specs.Told.{timer_of, IsLeft, IsFlag};
+ghost use Rattle.ert_c.specs.Told.{timer_from_c, IsLeftTold, IsFlag};
 ghost use Rattle.ert_c.specs.Waiting.{IsCount};
 ghost use Rattle.ert_c.specs.Through.{AnswersThrough};
 
@@ -47,7 +47,7 @@ pub extern "C" fn ert_world_ready(
 /// Cancels a timer, and tells how much was left of it.
 #[unsafe(no_mangle)]
 pub extern "C" fn ert_world_cancel(world: &mut ErtWorld, timer: &ErtTimer, left: &mut u64) -> i32
-    ensures { AnswersThrough (CancelsBy (timer_of timer.now)) IsLeft left.old left.new world.old.place.value result world.new.place.value }
+    ensures { AnswersThrough (CancelsBy (timer_from_c timer.now)) IsLeftTold left.old left.new world.old.place.value result world.new.place.value }
 {
     let answer = opened!(world).cancel_timer(timer.read());
     tell_left(answer, left)
@@ -56,7 +56,7 @@ pub extern "C" fn ert_world_cancel(world: &mut ErtWorld, timer: &ErtTimer, left:
 /// Tells how much is left of a timer.
 #[unsafe(no_mangle)]
 pub extern "C" fn ert_world_read(world: &mut ErtWorld, timer: &ErtTimer, left: &mut u64) -> i32
-    ensures { AnswersThrough (ReadsBy (timer_of timer.now)) IsLeft left.old left.new world.old.place.value result world.new.place.value }
+    ensures { AnswersThrough (ReadsBy (timer_from_c timer.now)) IsLeftTold left.old left.new world.old.place.value result world.new.place.value }
 {
     let answer = opened!(world).read_timer(timer.read());
     tell_left(answer, left)

@@ -1,6 +1,6 @@
 //! What schedulers did, as C is told it.
 ghost use Rattle.std.specs.Prelude.{◌≡◌};
-ghost use Rattle.ert_c.specs.Told.{turned_as, IsGiven, IsServed, IsAdvanced, IsDelivered, IsTurned, IsDueTold};
+ghost use Rattle.ert_c.specs.Told.{turned_as, IsGiven, IsServed, IsAdvanceTold, IsDelivered, IsTurned, IsDueTold};
 
 use crate::status::{EMPTY, NO_MEMORY, OK};
 use ert_defs::NoMemory;
@@ -60,7 +60,7 @@ pub(crate) fn tell_served(answer: Result<bool, NoMemory>, served: &mut u32) -> i
 
 /// Tells C how far a wheel was advanced.
 pub(crate) fn tell_advanced(answer: Result<(u64, u32), NoMemory>, advanced: &mut ErtAdvanced) -> i32
-    ensures { IsAdvanced answer advanced.old result advanced.new }
+    ensures { IsAdvanceTold answer advanced.old result advanced.new }
 {
     tell(
         answer.map(|(to, fired)| ErtAdvanced { to, fired }),

@@ -1,6 +1,6 @@
 //! The exported calls of schedulers.
-ghost use Rattle.ert_c.specs.Calls.{AnswersAtSched, ServesBy, AdvancesBy, DeliversBy, TurnsBy, LooksAhead};
-ghost use Rattle.ert_c.specs.Told.{IsServed, IsAdvanced, IsDelivered, IsTurned, IsDueTold};
+ghost use Rattle.ert_c.specs.Calls.{AnswersAtSched, ServesBy, AdvancesBy, DeliversBy, TurnsBy, LooksAheadForC};
+ghost use Rattle.ert_c.specs.Told.{IsServed, IsAdvanceTold, IsDelivered, IsTurned, IsDueTold};
 
 use crate::handle::{ErtWorld, at_sched, opened};
 use crate::status::{CLOSED, RANGE};
@@ -26,7 +26,7 @@ pub extern "C" fn ert_world_advance(
     sched: u32,
     advanced: &mut ErtAdvanced,
 ) -> i32
-    ensures { AnswersAtSched sched (AdvancesBy sched) IsAdvanced advanced.old advanced.new world.old.place.value result world.new.place.value }
+    ensures { AnswersAtSched sched (AdvancesBy sched) IsAdvanceTold advanced.old advanced.new world.old.place.value result world.new.place.value }
 {
     let service = at_sched!(world, sched);
     let answer = service.advance(sched);
@@ -60,7 +60,7 @@ pub extern "C" fn ert_world_turn(world: &mut ErtWorld, sched: u32, turned: &mut 
 /// Tells how early a timer of a scheduler may be due.
 #[unsafe(no_mangle)]
 pub extern "C" fn ert_world_next_due(world: &mut ErtWorld, sched: u32, due: &mut u64) -> i32
-    ensures { AnswersAtSched sched (LooksAhead sched) IsDueTold due.old due.new world.old.place.value result world.new.place.value }
+    ensures { AnswersAtSched sched (LooksAheadForC sched) IsDueTold due.old due.new world.old.place.value result world.new.place.value }
 {
     let service = at_sched!(world, sched);
     let answer = service.next_due(sched);

@@ -1,7 +1,7 @@
 //! The exported calls that give a timer a new deadline, tell how much waits, and hand over so much at most.
 ghost use Rattle.std.specs.Prelude.{◌≡◌};
 ghost use Rattle.ert_c.specs.Calls.{AnswersAtProcess, AnswersAtSched};
-ghost use Rattle.ert_c.specs.Told.{timer_of, start_of};
+ghost use Rattle.ert_c.specs.Told.{timer_from_c, start_of};
 ghost use Rattle.ert_c.specs.Waiting.{RestartsBy, TellsHeld, TellsExpired, TellsMail, TurnsSomeBy, IsRestarted, IsCount, IsTurnedSome};
 
 use crate::handle::{ErtWorld, at_process, at_sched, opened};
@@ -16,7 +16,7 @@ pub extern "C" fn ert_world_restart(
     timer: &mut ErtTimer,
     start: &ErtStart,
 ) -> i32
-    ensures { AnswersAtProcess start.now.dest (RestartsBy (timer_of timer.old) (start_of start.now)) IsRestarted timer.old timer.new
+    ensures { AnswersAtProcess start.now.dest (RestartsBy (timer_from_c timer.old) (start_of start.now)) IsRestarted timer.old timer.new
         world.old.place.value result world.new.place.value }
 {
     let process = start.dest;

@@ -2,10 +2,11 @@
 
 use Rattle.std.proofs.Common.{◌≡◌, ℕ, ℤ, Bool, true, false, List, [], ◌∷◌, ◌++◌, Option, Some, None, refl, sym, subst, ap, ◌∙◌}
 use Rattle.std.specs.Prelude.{option_map, Err}
-use Rattle.ert_effects.specs.ClockCalls.{RefusesTick, Acts, Finalizes}
+use Rattle.ert_effects.specs.ClockCalls.{RefusesTick, TakesReading, Finalizes}
 use Rattle.ert_clock.proofs.Stand.{shown_is, owed, stands_none, stands_some, stands_kept}
-use Rattle.ert_clock.specs.Shown.{Shown, Stands}
-use Rattle.ert_clock.specs.Ticks.{act_of, state_by, keeper_entry, tick_entry, tick_entries, due_of, IsWide, Gives, FinalizesFrom}
+use Rattle.ert_clock.specs.Shown.{Shown, ClockStands}
+use Rattle.ert_defs.specs.Entries.{keeper_entry, tick_entry}
+use Rattle.ert_clock.specs.Ticks.{act_of, state_by, tick_entries, due_of, IsWide, Gives, ClockFinalizesFrom}
 use Rattle.ert_clock.specs.declared.clock.ClockErr.{ClockErr}
 use Rattle.ert_clock.specs.declared.clock.ClockErr.TheVariants.{BadReading, OffsetWide}
 use Rattle.ert_clock.specs.declared.clock.Moved.{Moved}
@@ -68,7 +69,7 @@ may_store_offset g v w n r act m new offset holds ahead some step =
 -- a call took place with these entries, and the clock stands for the front that it left
 pub record Published (g : Settings) (v : View) (es : List Entry) (w : View) (now : Shown) : Type 0 where
   pub takes : TakesPlace g v es w
-  pub stands : Stands g w.front now
+  pub stands : ClockStands g w.front now
 
 -- a tick without a shift was published
 pub tick_published : (g : Settings) (v w : View) (n : ℕ) (r : Reading) (act : Act) (m : Moved) (new : Shown)
@@ -109,7 +110,7 @@ off_published g v w n now offset s holds still step offset_is state_is =
     subst (λ (least : Option ℕ). Appends g v (record { by = Keeper; with = option_map Caller least; event = Off offset s }) w)
     still.least step in
     let same = keeper_front g v w n (Off offset s) holds.keeper by in
-    let stands : Stands g w.front now = stands_kept g v.front w.front now still.stands by.legal same in
+    let stands : ClockStands g w.front now = stands_kept g v.front w.front now still.stands by.legal same in
     let offset_same : offset ≡ now.face.offset = offset_is ∙ sym (ap (λ (f : Face). f.offset) stands.face) in
     let state_same : s ≡ now.face.state = state_is ∙ sym (ap (λ (f : Face). f.state) stands.face) in
     record {
@@ -120,7 +121,7 @@ off_published g v w n now offset s holds still step offset_is state_is =
     }
 
 -- an act is refused where the clock refuses it
-refuses : (g : Settings) (h : List Entry) (r : Reading) (act : Act) (e : ClockErr) (old new : Shown) → Stands g h old
+refuses : (g : Settings) (h : List Entry) (r : Reading) (act : Act) (e : ClockErr) (old new : Shown) → ClockStands g h old
     → MayAct act old.face.state → Gives old r act (Err e) new → RefusesTick g r act e (state g h) []
 refuses g h r act BadReading old new stands may gives = record { invalid = gives.invalid; none = refl }
 refuses g h r act (OffsetWide value) old new stands may gives = record {
@@ -134,15 +135,15 @@ may_force : (force : Bool) (s : OffsetState) → MayAct (act_of force) s
 may_force true s = tt
 may_force false s = tt
 
-pub tick_refused : (g : Settings) (v w : View) (n : ℕ) (r : Reading) (force : Bool) (e : ClockErr) (old new : Shown) → Stands g v.front old
-    → Gives old r (act_of force) (Err e) new → w ≡ v → IsMade g v (Acts g n r (act_of force) (Err e)) w
+pub tick_refused : (g : Settings) (v w : View) (n : ℕ) (r : Reading) (force : Bool) (e : ClockErr) (old new : Shown) → ClockStands g v.front old
+    → Gives old r (act_of force) (Err e) new → w ≡ v → IsMade g v (TakesReading g n r (act_of force) (Err e)) w
 tick_refused g v w n r force e old new stands gives same =
-    none_made g v w (Acts g n r (act_of force) (Err e)) stands.legal
+    none_made g v w (TakesReading g n r (act_of force) (Err e)) stands.legal
     (refuses g v.front r (act_of force) e old new stands (may_force force old.face.state) gives) same
 
 -- a finalization is refused where the clock refuses it
 refuses_final : (g : Settings) (h : List Entry) (r : Reading) (e : ClockErr) (old new : Shown) (s : OffsetState) → s ≡ old.face.state
-    → FinalizesFrom s old r (Err e) new → Stands g h old → RefusesTick g r Finalize e (state g h) []
+    → ClockFinalizesFrom s old r (Err e) new → ClockStands g h old → RefusesTick g r Finalize e (state g h) []
 refuses_final g h r e old new Preliminary is from stands = refuses g h r Finalize e old new stands (sym is) from
 refuses_final g h r BadReading old new Final is from stands = record { invalid = from.invalid; none = refl }
 refuses_final g h r (OffsetWide value) old new Final is from stands = absurd from
@@ -150,7 +151,7 @@ refuses_final g h r BadReading old new Volatile is from stands = record { invali
 refuses_final g h r (OffsetWide value) old new Volatile is from stands = absurd from
 
 pub final_refused : (g : Settings) (v w : View) (n : ℕ) (r : Reading) (e : ClockErr) (old new : Shown)
-    → FinalizesFrom old.face.state old r (Err e) new → Stands g v.front old → w ≡ v → IsMade g v (Finalizes g n r (Err e)) w
+    → ClockFinalizesFrom old.face.state old r (Err e) new → ClockStands g v.front old → w ≡ v → IsMade g v (Finalizes g n r (Err e)) w
 final_refused g v w n r e old new from stands same =
     none_made g v w (Finalizes g n r (Err e)) stands.legal
     (refuses_final g v.front r e old new old.face.state refl from stands) same

@@ -23,7 +23,7 @@ use Rattle.ert_table.specs.declared.carry.Settle.TheVariants.{Cancel as ToCancel
 use Rattle.ert_table.specs.declared.view.View.{View}
 use Rattle.ert_table.proofs.Calls.{step_takes_place, takes_place_then}
 use Rattle.ert_table.proofs.SlotFacts.{slots_kept}
-use Rattle.ert_calls.specs.Left.{AtLastStep, IsLeft, TellsLeft, Tells}
+use Rattle.ert_calls.specs.Left.{AtLastStep, IsLeftByLook, TellsLeft, CallTells}
 use Rattle.ert_calls.specs.Deadlines.{Peeks}
 use Rattle.ert_calls.proofs.Looks.{can_step, look_stepped}
 
@@ -53,7 +53,7 @@ each_armed g h timer look legal is =
     (subst (λ x. IsSome (left_by g look (Some Armed) x)) (sym stands.is) refl)
 
 is_left : (g : Settings) (h : List Entry) (by : Actor) (timer : TimerRef) (answer : Option ℕ) → Legal g h → answer ≡ left_of g (state g h) by timer
-    → IsLeft g by timer answer (state g h)
+    → IsLeftByLook g by timer answer (state g h)
 is_left g h by timer answer legal told =
     let look : ℤ = (state g h).looked by in
     record {
@@ -67,7 +67,7 @@ is_left g h by timer answer legal told =
 -- what a step finds left by the last look of its maker
 left_found : (g : Settings) (v : View) (e : Entry) (w : View) (timer : TimerRef) (answer : Option ℕ) (step : Appends g v e w)
     → answer ≡ left_of g (state g (v.front ++ step.between)) e.by timer
-    → AtLastStep g w.front (IsLeft g e.by timer answer)
+    → AtLastStep g w.front (IsLeftByLook g e.by timer answer)
 left_found g v e w timer answer step found =
     let before : List Entry = v.front ++ step.between in
     record {
@@ -91,7 +91,7 @@ looked g v by now u held step = record {
 
 -- a read of a reference out of range
 pub reads_none : (g : Settings) (v : View) (by : Actor) (timer : TimerRef) (now : ℤ) (u : View) → names_timer g timer ≡ false
-    → Appends g v (look_entry by now) u → Tells g v by timer None (Reads g by timer None) u
+    → Appends g v (look_entry by now) u → CallTells g v by timer None (Reads g by timer None) u
 reads_none g v by timer now u out step = record {
   call = record {
     entries = look_entry by now ∷ read_entries (names_timer g timer) by timer None;
@@ -105,7 +105,7 @@ reads_none g v by timer now u out step = record {
 -- a timer that was read, by the look before
 record Peeked (g : Settings) (v : View) (by : Actor) (timer : TimerRef) (now : ℤ) (answer : Option ℕ) (w : View) : Type 0 where
   call : TakesPlace g v (look_entry by now ∷ (peek_entry by timer answer ∷ [])) w
-  left : AtLastStep g w.front (IsLeft g by timer answer)
+  left : AtLastStep g w.front (IsLeftByLook g by timer answer)
   look : (state g w.front).looked by ≡ now
 
 peeked : (g : Settings) (v : View) (by : Actor) (timer : TimerRef) (now : ℤ) (u : View) (deadline : Option ℕ) (w : View)
@@ -132,7 +132,7 @@ in_or_out false is other = absurd cc
 -- a read of one in range
 reads : (g : Settings) (v : View) (by : Actor) (timer : TimerRef) (now : ℤ) (u : View) (deadline : Option ℕ) (w : View)
     → is_held v.actors by ≡ true → names_timer g timer ≡ true → Appends g v (look_entry by now) u → Peeks g u by timer deadline w
-    → Tells g v by timer (option_map (λ d. left g d now) deadline) (Reads g by timer (option_map (λ d. left g d now) deadline)) w
+    → CallTells g v by timer (option_map (λ d. left g d now) deadline) (Reads g by timer (option_map (λ d. left g d now) deadline)) w
 reads g v by timer now u deadline w held within step peek =
     let answer : Option ℕ = option_map (λ d. left g d now) deadline in
     let read = peeked g v by timer now u deadline w held step peek in
@@ -148,22 +148,22 @@ reads g v by timer now u deadline w held within step peek =
 -- where it isn't armed
 pub reads_unarmed : (g : Settings) (v : View) (by : Actor) (timer : TimerRef) (now : ℤ) (u : View) (found answer : Option ℕ) (w : View)
     → found ≡ None → answer ≡ None → is_held v.actors by ≡ true → names_timer g timer ≡ true → Appends g v (look_entry by now) u
-    → Peeks g u by timer found w → Tells g v by timer answer (Reads g by timer answer) w
+    → Peeks g u by timer found w → CallTells g v by timer answer (Reads g by timer answer) w
 reads_unarmed g v by timer now u found answer w none nothing held within step peek =
-    subst (λ x. Tells g v by timer x (Reads g by timer x) w) (sym nothing)
+    subst (λ x. CallTells g v by timer x (Reads g by timer x) w) (sym nothing)
     (reads g v by timer now u None w held within step (subst (λ x. Peeks g u by timer x w) none peek))
 
 -- and where it is
 pub reads_armed : (g : Settings) (v : View) (by : Actor) (timer : TimerRef) (now : ℤ) (u : View) (found : Option ℕ) (deadline told : ℕ) (w : View)
     → found ≡ Some deadline → told ≡ left g deadline now → is_held v.actors by ≡ true → names_timer g timer ≡ true
-    → Appends g v (look_entry by now) u → Peeks g u by timer found w → Tells g v by timer (Some told) (Reads g by timer (Some told)) w
+    → Appends g v (look_entry by now) u → Peeks g u by timer found w → CallTells g v by timer (Some told) (Reads g by timer (Some told)) w
 reads_armed g v by timer now u found deadline told w some is held within step peek =
-    subst (λ n. Tells g v by timer (Some n) (Reads g by timer (Some n)) w) (sym is)
+    subst (λ n. CallTells g v by timer (Some n) (Reads g by timer (Some n)) w) (sym is)
     (reads g v by timer now u (Some deadline) w held within step (subst (λ x. Peeks g u by timer x w) some peek))
 
 -- a cancel of a reference out of range
 pub cancels_none : (g : Settings) (v : View) (by : Actor) (timer : TimerRef) (now : ℤ) (u : View) → names_timer g timer ≡ false
-    → Appends g v (look_entry by now) u → Tells g v by timer None (Cancels g by timer None) u
+    → Appends g v (look_entry by now) u → CallTells g v by timer None (Cancels g by timer None) u
 cancels_none g v by timer now u out step = record {
   call = record {
     entries = look_entry by now ∷ cancel_entries (names_timer g timer) by timer None None;
@@ -177,10 +177,10 @@ cancels_none g v by timer now u out step = record {
 -- a cancel of a timer that isn't armed when it is read
 pub cancels_unarmed : (g : Settings) (v : View) (by : Actor) (timer : TimerRef) (now : ℤ) (u : View) (found answer : Option ℕ) (w : View)
     → found ≡ None → answer ≡ None → is_held v.actors by ≡ true → names_timer g timer ≡ true → Appends g v (look_entry by now) u
-    → Peeks g u by timer found w → Tells g v by timer answer (Cancels g by timer answer) w
+    → Peeks g u by timer found w → CallTells g v by timer answer (Cancels g by timer answer) w
 cancels_unarmed g v by timer now u found answer w none nothing held within step peek =
     let read = peeked g v by timer now u None w held step (subst (λ x. Peeks g u by timer x w) none peek) in
-    subst (λ x. Tells g v by timer x (Cancels g by timer x) w) (sym nothing)
+    subst (λ x. CallTells g v by timer x (Cancels g by timer x) w) (sym nothing)
     (record {
       call = record {
         entries = look_entry by now ∷ cancel_entries (names_timer g timer) by timer None None;
@@ -201,7 +201,7 @@ cancelled g v by timer deadline false w step = step
 cancels : (g : Settings) (v : View) (by : Actor) (timer : TimerRef) (now : ℤ) (u : View) (deadline : ℕ) (w : View) (hit : Bool) (x : View)
     → is_held v.actors by ≡ true → names_timer g timer ≡ true → Appends g v (look_entry by now) u → Peeks g u by timer (Some deadline) w
     → Settles g w by timer deadline ToCancel hit x
-    → Tells g v by timer (cond hit (Some (left g deadline now)) None) (Cancels g by timer (cond hit (Some (left g deadline now)) None)) x
+    → CallTells g v by timer (cond hit (Some (left g deadline now)) None) (Cancels g by timer (cond hit (Some (left g deadline now)) None)) x
 cancels g v by timer now u deadline w hit x held within step peek settled =
     let found : ℕ = left g deadline now in
     let answer : Option ℕ = cond hit (Some found) None in
@@ -232,14 +232,14 @@ cancels g v by timer now u deadline w hit x held within step peek settled =
 pub cancels_hit : (g : Settings) (v : View) (by : Actor) (timer : TimerRef) (now : ℤ) (u : View) (found : Option ℕ) (deadline told : ℕ) (w x : View)
     → found ≡ Some deadline → told ≡ left g deadline now → is_held v.actors by ≡ true → names_timer g timer ≡ true
     → Appends g v (look_entry by now) u → Peeks g u by timer found w → Settles g w by timer deadline ToCancel true x
-    → Tells g v by timer (Some told) (Cancels g by timer (Some told)) x
+    → CallTells g v by timer (Some told) (Cancels g by timer (Some told)) x
 cancels_hit g v by timer now u found deadline told w x some is held within step peek settled =
-    subst (λ n. Tells g v by timer (Some n) (Cancels g by timer (Some n)) x) (sym is)
+    subst (λ n. CallTells g v by timer (Some n) (Cancels g by timer (Some n)) x) (sym is)
     (cancels g v by timer now u deadline w true x held within step (subst (λ y. Peeks g u by timer y w) some peek) settled)
 
 -- and where it wasn't
 pub cancels_missed : (g : Settings) (v : View) (by : Actor) (timer : TimerRef) (now : ℤ) (u : View) (found : Option ℕ) (deadline : ℕ) (w x : View)
     → found ≡ Some deadline → is_held v.actors by ≡ true → names_timer g timer ≡ true → Appends g v (look_entry by now) u
-    → Peeks g u by timer found w → Settles g w by timer deadline ToCancel false x → Tells g v by timer None (Cancels g by timer None) x
+    → Peeks g u by timer found w → Settles g w by timer deadline ToCancel false x → CallTells g v by timer None (Cancels g by timer None) x
 cancels_missed g v by timer now u found deadline w x some held within step peek settled =
     cancels g v by timer now u deadline w false x held within step (subst (λ y. Peeks g u by timer y w) some peek) settled

@@ -9,19 +9,19 @@ use Rattle.ert_defs.specs.declared.settings.Settings.{Settings}
 use Rattle.ert_defs.specs.declared.timer.Status.{Status}
 use Rattle.ert_defs.specs.declared.timer.Status.TheVariants.{Armed}
 use Rattle.ert_defs.specs.declared.timer.TimerRef.{TimerRef}
-use Rattle.ert_table.specs.Settlings.{Shown, HasRow}
+use Rattle.ert_table.specs.Settlings.{ShownWord, HasRow}
 use Rattle.ert_table.specs.Takes.{Appends}
 use Rattle.ert_table.specs.declared.view.View.{View}
 
 -- the deadline where the last timer of a slot is armed and of the generation that is wanted
-abbrev pub deadline_at : ℕ → Status → ℕ → ℕ → Option ℕ
-deadline_at wanted Armed deadline generation = cond (nat_eq generation wanted) (Some deadline) None
-deadline_at wanted _ deadline generation = None
+abbrev pub deadline_if_armed : ℕ → Status → ℕ → ℕ → Option ℕ
+deadline_if_armed wanted Armed deadline generation = cond (nat_eq generation wanted) (Some deadline) None
+deadline_if_armed wanted _ deadline generation = None
 
 -- the same by what is shown of the slot
-abbrev pub deadline_shown : ℕ → Option Shown → Option ℕ
+abbrev pub deadline_shown : ℕ → Option ShownWord → Option ℕ
 deadline_shown wanted None = None
-deadline_shown wanted (Some shown) = deadline_at wanted shown.0 shown.1 shown.2
+deadline_shown wanted (Some shown) = deadline_if_armed wanted shown.0 shown.1 shown.2
 
 -- a deadline that was read is that of the timer
 abbrev pub HasDeadline : State → TimerRef → Option ℕ → Type 0

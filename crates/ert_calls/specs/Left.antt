@@ -19,7 +19,7 @@ pub record AtLastStep (g : Settings) (front : List Entry) (holds : State → Typ
   pub held : holds (state g before)
 
 -- this is left of a timer by the last look of an actor, in a state: something exactly where it is armed
-pub record IsLeft (g : Settings) (by : Actor) (timer : TimerRef) (answer : Option ℕ) (s : State) : Type 0 where
+pub record IsLeftByLook (g : Settings) (by : Actor) (timer : TimerRef) (answer : Option ℕ) (s : State) : Type 0 where
   pub told : answer ≡ left_of g s by timer
   pub armed : IsSome answer ↔ (s.status timer ≡ Some Armed)
 
@@ -27,9 +27,9 @@ pub record IsLeft (g : Settings) (by : Actor) (timer : TimerRef) (answer : Optio
 -- range
 abbrev pub TellsLeft : Bool → Settings → Actor → TimerRef → Option ℕ → View → Type 0
 TellsLeft false g by timer answer w = answer ≡ None
-TellsLeft true g by timer answer w = AtLastStep g w.front (IsLeft g by timer answer)
+TellsLeft true g by timer answer w = AtLastStep g w.front (IsLeftByLook g by timer answer)
 
 -- a call on a timer took place with entries that it may make, and its answer is what was left
-pub record Tells (g : Settings) (v : View) (by : Actor) (timer : TimerRef) (answer : Option ℕ) (allows : State → List Entry → Type 0) (w : View) : Type 0 where
+pub record CallTells (g : Settings) (v : View) (by : Actor) (timer : TimerRef) (answer : Option ℕ) (allows : State → List Entry → Type 0) (w : View) : Type 0 where
   pub call : IsMade g v allows w
   pub left : TellsLeft (names_timer g timer) g by timer answer w

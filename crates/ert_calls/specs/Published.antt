@@ -1,8 +1,9 @@
 -- What the clock's part publishes on a desk.
 
 use Rattle.std.specs.Prelude.{◌≡◌, ℕ, ◌<◌, true, List, [], ◌∷◌, Some, Ok}
-use Rattle.ert_clock.specs.Shown.{Shown, Stands}
-use Rattle.ert_clock.specs.Ticks.{Gives, keeper_entry}
+use Rattle.ert_clock.specs.Shown.{Shown, ClockStands}
+use Rattle.ert_defs.specs.Entries.{keeper_entry}
+use Rattle.ert_clock.specs.Ticks.{Gives}
 use Rattle.ert_clock.specs.declared.clock.Moved.{Moved}
 use Rattle.ert_defs.specs.Lines.{MayAct}
 use Rattle.ert_defs.specs.declared.entry.Act.{Act}
@@ -23,23 +24,23 @@ pub record HoldsKeeper (g : Settings) (v : View) (by : ℕ) : Type 0 where
   pub below : by < g.callers
 
 -- where the offset isn't preliminary, a finalization only reads it: with the least caller that the pass holds
-abbrev pub ReadsBy : OffsetState → Settings → View → ℕ → Type 0
-ReadsBy Preliminary g v by = Unit {0}
-ReadsBy Final g v by = least_caller v.actors g.callers ≡ Some by
-ReadsBy Volatile g v by = least_caller v.actors g.callers ≡ Some by
+abbrev pub ReadsOffsetBy : OffsetState → Settings → View → ℕ → Type 0
+ReadsOffsetBy Preliminary g v by = Unit {0}
+ReadsOffsetBy Final g v by = least_caller v.actors g.callers ≡ Some by
+ReadsOffsetBy Volatile g v by = least_caller v.actors g.callers ≡ Some by
 
 -- the one entry of a finalization that only reads the offset: the offset and its state, as the clock shows them
-abbrev pub read_entries : ℕ → Shown → List Entry
-read_entries by now = keeper_entry by (Off now.face.offset now.face.state) ∷ []
+abbrev pub offset_entries : ℕ → Shown → List Entry
+offset_entries by now = keeper_entry by (Off now.face.offset now.face.state) ∷ []
 
 -- a clock has done a tick that the history it stood for doesn't have yet
 pub record IsAhead (g : Settings) (h : List Entry) (r : Reading) (act : Act) (m : Moved) (new : Shown) : Type 0 where
   pub old : Shown
-  pub stands : Stands g h old
+  pub stands : ClockStands g h old
   pub may : MayAct act old.face.state
   pub gives : Gives old r act (Ok m) new
 
 -- a clock stood for a history, and a finalization left it as it was, since its offset wasn't preliminary
 pub record IsStill (g : Settings) (v : View) (by : ℕ) (now : Shown) : Type 0 where
-  pub stands : Stands g v.front now
+  pub stands : ClockStands g v.front now
   pub least : least_caller v.actors g.callers ≡ Some by

@@ -38,17 +38,17 @@ impl KeeperPart {
     ghost use Rattle.ert_effects.specs.ClockCalls.{Ticks, Finalizes};
     ghost use Rattle.ert_table.specs.Calls.{IsMade};
     ghost use Rattle.ert_defs.specs.Settings.{IsChecked};
-    ghost use Rattle.ert_clock.specs.Shown.{Stands, opening_shown};
-    ghost use Rattle.ert_clock.specs.Ticks.{act_of, Gives, FinalizesFrom, tick_entries};
+    ghost use Rattle.ert_clock.specs.Shown.{ClockStands, opening_shown};
+    ghost use Rattle.ert_clock.specs.Ticks.{act_of, Gives, ClockFinalizesFrom, tick_entries};
     ghost use Rattle.ert_table.specs.Desks.{settings_of, view_of, front_of, Belongs};
     ghost use Rattle.ert_table.specs.Takes.{TakesPlace};
-    ghost use Rattle.ert_calls.specs.Published.{HoldsKeeper, ReadsBy, IsAhead, IsStill, read_entries};
+    ghost use Rattle.ert_calls.specs.Published.{HoldsKeeper, ReadsOffsetBy, IsAhead, IsStill, offset_entries};
 
     /// The part of a desk that has just been opened: its clock is that of the opening.
     pub fn open(settings: &Settings) -> KeeperPart
         requires checked { IsChecked settings.now }
         ensures opens { result ≡ opening_shown settings.now }
-        ensures stands { Stands settings.now [] result }
+        ensures stands { ClockStands settings.now [] result }
     {
         KeeperPart {
             clock: Clock::new(settings),
@@ -76,12 +76,12 @@ impl KeeperPart {
     ) -> Result<Moved, ClockErr>
         requires belongs { Belongs desk.now pass.old }
         requires holds { HoldsKeeper (settings_of desk.now) (view_of pass.old) by }
-        requires stands { Stands (settings_of desk.now) (front_of pass.old) self.old }
+        requires stands { ClockStands (settings_of desk.now) (front_of pass.old) self.old }
         ensures belongs { Belongs desk.now pass.new }
         ensures gives { Gives self.old reading (act_of force) result self.new }
         ensures call { IsMade (settings_of desk.now) (view_of pass.old) (Ticks (settings_of desk.now) by reading force result) (view_of pass.new) }
         ensures refused { IfErr result (λ e. view_of pass.new ≡ view_of pass.old) }
-        ensures stands { Stands (settings_of desk.now) (front_of pass.new) self.new }
+        ensures stands { ClockStands (settings_of desk.now) (front_of pass.new) self.new }
     {
         let moved = self.clock.tick(reading, force)?;
         let act = if force { Act::Force } else { Act::Plain };
@@ -103,13 +103,13 @@ impl KeeperPart {
     ) -> Result<(OffsetState, Moved), ClockErr>
         requires belongs { Belongs desk.now pass.old }
         requires holds { HoldsKeeper (settings_of desk.now) (view_of pass.old) by }
-        requires least { ReadsBy self.old.face.state (settings_of desk.now) (view_of pass.old) by }
-        requires stands { Stands (settings_of desk.now) (front_of pass.old) self.old }
+        requires least { ReadsOffsetBy self.old.face.state (settings_of desk.now) (view_of pass.old) by }
+        requires stands { ClockStands (settings_of desk.now) (front_of pass.old) self.old }
         ensures belongs { Belongs desk.now pass.new }
-        ensures gives { FinalizesFrom self.old.face.state self.old reading result self.new }
+        ensures gives { ClockFinalizesFrom self.old.face.state self.old reading result self.new }
         ensures call { IsMade (settings_of desk.now) (view_of pass.old) (Finalizes (settings_of desk.now) by reading result) (view_of pass.new) }
         ensures refused { IfErr result (λ e. view_of pass.new ≡ view_of pass.old) }
-        ensures stands { Stands (settings_of desk.now) (front_of pass.new) self.new }
+        ensures stands { ClockStands (settings_of desk.now) (front_of pass.new) self.new }
     {
         let (state, moved) = self.clock.finalize(reading)?;
         if state == OffsetState::Preliminary {
@@ -135,7 +135,7 @@ impl KeeperPart {
         requires ahead { IsAhead (settings_of desk.now) (front_of pass.old) reading act moved self.now }
         ensures belongs { Belongs desk.now pass.new }
         ensures takes { TakesPlace (settings_of desk.now) (view_of pass.old) (tick_entries by reading act moved.now moved.shift) (view_of pass.new) }
-        ensures stands { Stands (settings_of desk.now) (front_of pass.new) self.now }
+        ensures stands { ClockStands (settings_of desk.now) (front_of pass.new) self.now }
     {
         pass.store_time(desk, by, reading, act, moved.now);
         if let Some(offset) = moved.shift {
@@ -149,8 +149,8 @@ impl KeeperPart {
         requires holds { HoldsKeeper (settings_of desk.now) (view_of pass.old) by }
         requires still { IsStill (settings_of desk.now) (view_of pass.old) by self.now }
         ensures belongs { Belongs desk.now pass.new }
-        ensures takes { TakesPlace (settings_of desk.now) (view_of pass.old) (read_entries by self.now) (view_of pass.new) }
-        ensures stands { Stands (settings_of desk.now) (front_of pass.new) self.now }
+        ensures takes { TakesPlace (settings_of desk.now) (view_of pass.old) (offset_entries by self.now) (view_of pass.new) }
+        ensures stands { ClockStands (settings_of desk.now) (front_of pass.new) self.now }
     {
         pass.load_offset(desk, Actor::Keeper, &OffsetCarry::Off);
     }

@@ -22,9 +22,10 @@ use Rattle.ert_defs.specs.declared.settings.OffsetState.{OffsetState}
 use Rattle.ert_defs.specs.declared.settings.OffsetState.TheVariants.{Preliminary, Final, Volatile}
 use Rattle.ert_defs.specs.declared.settings.Reading.{Reading}
 use Rattle.ert_defs.specs.declared.settings.Settings.{Settings}
-use Rattle.ert_clock.specs.Shown.{Shown, Stands}
-use Rattle.ert_clock.specs.Ticks.{act_of, offset_of, IsDone, Gives, state_by, keeper_entry, tick_entry, tick_entries, Ticks}
-use Rattle.ert_clock.specs.Ticks.{final_entries, Finalizes}
+use Rattle.ert_clock.specs.Shown.{Shown, ClockStands}
+use Rattle.ert_defs.specs.Entries.{keeper_entry, tick_entry}
+use Rattle.ert_clock.specs.Ticks.{act_of, offset_of, IsDone, Gives, state_by, tick_entries, ClockTicks}
+use Rattle.ert_clock.specs.Ticks.{final_entries, ClockFinalizes}
 use Rattle.ert_clock.specs.declared.clock.ClockErr.{ClockErr}
 use Rattle.ert_clock.specs.declared.clock.ClockErr.TheVariants.{BadReading, OffsetWide}
 use Rattle.ert_clock.specs.declared.clock.Moved.{Moved}
@@ -34,14 +35,14 @@ abbrev pub shown_at : Settings → Clock → Shown
 shown_at g c = record { settings = g; face = face g c }
 
 -- a clock that stands for a history shows what the clock of that shows
-pub shown_is : (g : Settings) (h : List Entry) (v : Shown) → Stands g h v → v ≡ shown_at g (state g h).clock
+pub shown_is : (g : Settings) (h : List Entry) (v : Shown) → ClockStands g h v → v ≡ shown_at g (state g h).clock
 shown_is g h v st =
     ap (λ (k : Settings). record { settings = k; face = v.face }) st.settings
     ∙ ap (λ (f : Face). record { settings = g; face = f }) st.face
 
 -- entries that leave the clock of the history as it was leave a clock standing
-pub stands_kept : (g : Settings) (h after : List Entry) (v : Shown) → Stands g h v → Legal g after
-    → (state g after).clock ≡ (state g h).clock → Stands g after v
+pub stands_kept : (g : Settings) (h after : List Entry) (v : Shown) → ClockStands g h v → Legal g after
+    → (state g after).clock ≡ (state g h).clock → ClockStands g after v
 stands_kept g h after v st legal same = record {
   legal = legal;
   settings = st.settings;
@@ -50,8 +51,8 @@ stands_kept g h after v st legal same = record {
 }
 
 -- so do entries without the actor Keeper
-pub stands_on : (g : Settings) (h m : List Entry) (v : Shown) → Stands g h v → Legal g (h ++ m)
-    → IsFree m Keeper → Stands g (h ++ m) v
+pub stands_on : (g : Settings) (h m : List Entry) (v : Shown) → ClockStands g h v → Legal g (h ++ m)
+    → IsFree m Keeper → ClockStands g (h ++ m) v
 stands_on g h m v st legal free =
     stands_kept g h (h ++ m) v st legal
     (ap (λ (s : State). s.clock) (state-append g h m) ∙ clock_stays g (state g h) m free)
@@ -67,7 +68,7 @@ pub record TickOf (g : Settings) (c : Clock) (r : Reading) (act : Act) (m : Move
 
 -- it is one by what it gives
 pub tick_of : (g : Settings) (h : List Entry) (v : Shown) (r : Reading) (act : Act) (m : Moved) (new : Shown)
-    → Stands g h v → Gives v r act (Ok m) new → TickOf g (state g h).clock r act m new
+    → ClockStands g h v → Gives v r act (Ok m) new → TickOf g (state g h).clock r act m new
 tick_of g h v r act m new st gives =
     let c : Clock = (state g h).clock in
     let f : Face = face g c in
@@ -131,7 +132,7 @@ due_told g c r act m new offset t some =
 
 -- the maker of the tick's entry knows what it must, after a history that the clock stood for
 pub may_tick : (g : Settings) (h : List Entry) (v : Shown) (r : Reading) (act : Act) (m : Moved) (new : Shown)
-    (by : Actor) (with : Option Actor) → Stands g h v → MayAct act v.face.state → Gives v r act (Ok m) new
+    (by : Actor) (with : Option Actor) → ClockStands g h v → MayAct act v.face.state → Gives v r act (Ok m) new
     → Known g (state g h) by with (Tick r act m.now)
 may_tick g h v r act m new by with st may gives =
     let t : TickOf g (state g h).clock r act m new = tick_of g h v r act m new st gives in
@@ -141,7 +142,7 @@ may_tick g h v r act m new by with st may gives =
 -- where a shift was told, the maker of its entry knows what it must, in each state whose clock has done the
 -- tick and no more
 pub owed : (g : Settings) (h : List Entry) (v : Shown) (r : Reading) (act : Act) (m : Moved) (new : Shown)
-    (offset : ℤ) (s : State) (by : Actor) (with : Option Actor) → Stands g h v → Gives v r act (Ok m) new
+    (offset : ℤ) (s : State) (by : Actor) (with : Option Actor) → ClockStands g h v → Gives v r act (Ok m) new
     → m.shift ≡ Some offset → s.clock ≡ clock_after g (state g h).clock (Tick r act m.now)
     → Known g s by with (Shift offset (state_by act))
 owed g h v r act m new offset s by with st gives some is =
@@ -150,8 +151,8 @@ owed g h v r act m new offset s by with st gives some is =
 
 -- where no shift was told, the clock stands for each legal history whose clock has done the tick and no more
 pub stands_none : (g : Settings) (h after : List Entry) (v : Shown) (r : Reading) (act : Act) (m : Moved)
-    (new : Shown) → Stands g h v → Gives v r act (Ok m) new → m.shift ≡ None → Legal g after
-    → (state g after).clock ≡ clock_after g (state g h).clock (Tick r act m.now) → Stands g after new
+    (new : Shown) → ClockStands g h v → Gives v r act (Ok m) new → m.shift ≡ None → Legal g after
+    → (state g after).clock ≡ clock_after g (state g h).clock (Tick r act m.now) → ClockStands g after new
 stands_none g h after v r act m new st gives none legal is =
     let f : Face = face g (state g h).clock in
     let t : TickOf g (state g h).clock r act m new = tick_of g h v r act m new st gives in
@@ -166,10 +167,10 @@ stands_none g h after v r act m new st gives none legal is =
 -- where a shift was told, it stands for each legal history whose clock has done the tick and the shift and
 -- no more
 pub stands_some : (g : Settings) (h after : List Entry) (v : Shown) (r : Reading) (act : Act) (m : Moved)
-    (new : Shown) (offset : ℤ) → Stands g h v → Gives v r act (Ok m) new → m.shift ≡ Some offset → Legal g after
+    (new : Shown) (offset : ℤ) → ClockStands g h v → Gives v r act (Ok m) new → m.shift ≡ Some offset → Legal g after
     → (state g after).clock
     ≡ clock_after g (clock_after g (state g h).clock (Tick r act m.now)) (Shift offset (state_by act))
-    → Stands g after new
+    → ClockStands g after new
 stands_some g h after v r act m new offset st gives some legal is =
     let f : Face = face g (state g h).clock in
     let t : TickOf g (state g h).clock r act m new = tick_of g h v r act m new st gives in
@@ -183,8 +184,8 @@ stands_some g h after v r act m new offset st gives some legal is =
 
 -- the clock stands for the history with the entries of the tick last
 ticks_with : (g : Settings) (h : List Entry) (n : ℕ) (v : Shown) (r : Reading) (act : Act) (m : Moved)
-    (new : Shown) (shift : Option ℤ) → n < g.callers → Stands g h v → MayAct act v.face.state
-    → Gives v r act (Ok m) new → m.shift ≡ shift → Stands g (h ++ tick_entries n r act m.now shift) new
+    (new : Shown) (shift : Option ℤ) → n < g.callers → ClockStands g h v → MayAct act v.face.state
+    → Gives v r act (Ok m) new → m.shift ≡ shift → ClockStands g (h ++ tick_entries n r act m.now shift) new
 ticks_with g h n v r act m new None below st may gives none =
     let e : Entry = tick_entry n r act m.now in
     let known = may_tick g h v r act m new Keeper (Some (Caller n)) st may gives in
@@ -205,11 +206,11 @@ ticks_with g h n v r act m new (Some offset) below st may gives some =
 
 -- what a tick gives, it gives for each history that the clock stood for
 pub ticks_by : (v : Shown) (r : Reading) (act : Act) (result : Result Moved ClockErr) (new : Shown)
-    → MayAct act v.face.state → Gives v r act result new → Ticks v r act result new
+    → MayAct act v.face.state → Gives v r act result new → ClockTicks v r act result new
 ticks_by v r act (Ok m) new may gives = λ g h n below st.
     ticks_with g h n v r act m new m.shift below st may gives refl
-ticks_by v r act (Err BadReading) new may gives = λ g h n below st. subst (Stands g h) (sym gives.unchanged) st
-ticks_by v r act (Err (OffsetWide value)) new may gives = λ g h n below st. subst (Stands g h) (sym gives.unchanged) st
+ticks_by v r act (Err BadReading) new may gives = λ g h n below st. subst (ClockStands g h) (sym gives.unchanged) st
+ticks_by v r act (Err (OffsetWide value)) new may gives = λ g h n below st. subst (ClockStands g h) (sym gives.unchanged) st
 
 -- a tick may be made in each state of the offset
 pub may_act : (force : Bool) (s : OffsetState) → MayAct (act_of force) s
@@ -218,7 +219,7 @@ may_act false s = tt
 
 -- a finalization from preliminary has the entries of a tick
 pub final_from : (v : Shown) (r : Reading) (s : OffsetState) (m : Moved) (new : Shown) → s ≡ v.face.state
-    → s ≡ Preliminary → Gives v r Finalize (Ok m) new → Finalizes v r (Ok (s, m)) new
+    → s ≡ Preliminary → Gives v r Finalize (Ok m) new → ClockFinalizes v r (Ok (s, m)) new
 final_from v r s m new is from gives = λ g h n below st.
-    subst (λ (s : OffsetState). Stands g (h ++ final_entries s n r m) new) (sym from)
+    subst (λ (s : OffsetState). ClockStands g (h ++ final_entries s n r m) new) (sym from)
     (ticks_with g h n v r Finalize m new m.shift below st (sym is ∙ from) gives refl)

@@ -21,7 +21,7 @@ abbrev pub opening_shown : Settings → Shown
 opening_shown g = record { settings = g; face = face g (first_clock g) }
 
 -- a clock stands for a history: it shows what the clock shows after it, and no shift is due
-pub record Stands (g : Settings) (h : List Entry) (v : Shown) : Type 0 where
+pub record ClockStands (g : Settings) (h : List Entry) (v : Shown) : Type 0 where
   pub legal : Legal g h
   pub settings : v.settings ≡ g
   pub face : v.face ≡ face g (state g h).clock

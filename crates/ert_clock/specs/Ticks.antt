@@ -2,18 +2,16 @@
 
 use Rattle.std.specs.Prelude.{◌≡◌, ℕ, ◌<◌, ℤ, Bool, true, false, List, [], ◌∷◌, ◌++◌}
 use Rattle.std.specs.Prelude.{Option, Some, None, Result, Ok, Err}
+use Rattle.ert_defs.specs.Entries.{tick_entry, shift_entry}
 use Rattle.ert_defs.specs.Lines.{Due, IsOffset, IsInRange, time_after, due_after, ticked, shifted}
 use Rattle.ert_defs.specs.Readings.{IsValid}
-use Rattle.ert_clock.specs.Shown.{Shown, Stands}
+use Rattle.ert_clock.specs.Shown.{Shown, ClockStands}
 use Rattle.ert_clock.specs.declared.clock.ClockErr.{ClockErr}
 use Rattle.ert_clock.specs.declared.clock.ClockErr.TheVariants.{BadReading, OffsetWide}
 use Rattle.ert_clock.specs.declared.clock.Moved.{Moved}
 use Rattle.ert_defs.specs.declared.entry.Act.{Act}
 use Rattle.ert_defs.specs.declared.entry.Act.TheVariants.{Plain, Force, Finalize}
-use Rattle.ert_defs.specs.declared.entry.Actor.TheVariants.{Keeper, Caller}
 use Rattle.ert_defs.specs.declared.entry.Entry.{Entry}
-use Rattle.ert_defs.specs.declared.entry.Event.{Event}
-use Rattle.ert_defs.specs.declared.entry.Event.TheVariants.{Tick, Shift}
 use Rattle.ert_defs.specs.declared.settings.OffsetState.{OffsetState}
 use Rattle.ert_defs.specs.declared.settings.OffsetState.TheVariants.{Preliminary, Final, Volatile}
 use Rattle.ert_defs.specs.declared.settings.Reading.{Reading}
@@ -67,7 +65,7 @@ pub record IsBad (v : Shown) (r : Reading) (new : Shown) : Type 0 where
   pub unchanged : new ≡ v
 
 -- the reading is valid, the shift that is due has this offset outside its limits, and nothing changes
-pub record IsTooWide (v : Shown) (r : Reading) (act : Act) (value : ℤ) (new : Shown) : Type 0 where
+pub record IsShiftTooWide (v : Shown) (r : Reading) (act : Act) (value : ℤ) (new : Shown) : Type 0 where
   pub valid : IsValid r
   pub wide : IsWide (due_of v r act) value
   pub unchanged : new ≡ v
@@ -76,15 +74,7 @@ pub record IsTooWide (v : Shown) (r : Reading) (act : Act) (value : ℤ) (new : 
 abbrev pub Gives : Shown → Reading → Act → Result Moved ClockErr → Shown → Type 0
 Gives v r act (Ok m) new = IsDone v r act m new
 Gives v r act (Err BadReading) new = IsBad v r new
-Gives v r act (Err (OffsetWide value)) new = IsTooWide v r act value new
-
--- an entry of the clock, made with a caller
-abbrev pub keeper_entry : ℕ → Event → Entry
-keeper_entry n event = record { by = Keeper; with = Some (Caller n); event = event }
-
--- the entry of a tick
-abbrev pub tick_entry : ℕ → Reading → Act → ℤ → Entry
-tick_entry n r act now = keeper_entry n (Tick r act now)
+Gives v r act (Err (OffsetWide value)) new = IsShiftTooWide v r act value new
 
 -- the state to which a shift sets the offset: final by a finalization, and else volatile
 abbrev pub state_by : Act → OffsetState
@@ -95,7 +85,7 @@ state_by Force = Volatile
 -- the entry of the shift, where the tick made one due
 abbrev pub shift_entries : ℕ → Act → Option ℤ → List Entry
 shift_entries n act None = []
-shift_entries n act (Some offset) = keeper_entry n (Shift offset (state_by act)) ∷ []
+shift_entries n act (Some offset) = shift_entry n offset (state_by act) ∷ []
 
 -- the entries of a tick: its own, and then that of the shift
 abbrev pub tick_entries : ℕ → Reading → Act → ℤ → Option ℤ → List Entry
@@ -104,13 +94,13 @@ tick_entries n r act now shift = tick_entry n r act now ∷ shift_entries n act 
 -- the clock then stands for the history with the entries of the tick last
 abbrev pub TicksFor : Settings → ℕ → List Entry → Reading → Act
     → Result Moved ClockErr → Shown → Type 0
-TicksFor g n h r act (Ok m) new = Stands g (h ++ tick_entries n r act m.now m.shift) new
-TicksFor g n h r act (Err e) new = Stands g h new
+TicksFor g n h r act (Ok m) new = ClockStands g (h ++ tick_entries n r act m.now m.shift) new
+TicksFor g n h r act (Err e) new = ClockStands g h new
 
 -- whichever history it stood for
-abbrev pub Ticks : Shown → Reading → Act → Result Moved ClockErr → Shown → Type 0
-Ticks v r act result new =
-    (g : Settings) (h : List Entry) (n : ℕ) → n < g.callers → Stands g h v → TicksFor g n h r act result new
+abbrev pub ClockTicks : Shown → Reading → Act → Result Moved ClockErr → Shown → Type 0
+ClockTicks v r act result new =
+    (g : Settings) (h : List Entry) (n : ℕ) → n < g.callers → ClockStands g h v → TicksFor g n h r act result new
 
 -- a finalization had nothing to finalize: it answers the old state and time and no shift, and nothing
 -- changes. The reading must be valid all the same
@@ -133,10 +123,10 @@ GivesFinal v r (Ok p) new = (p.0 ≡ Preliminary) × Gives v r Finalize (Ok p.1)
 GivesFinal v r (Err e) new = Gives v r Finalize (Err e) new
 
 -- what a finalization answers and leaves, by the state before it
-abbrev pub FinalizesFrom : OffsetState → Shown → Reading → Result (OffsetState × Moved) ClockErr → Shown → Type 0
-FinalizesFrom Preliminary v r result new = GivesFinal v r result new
-FinalizesFrom Final v r result new = GivesOld v r result new
-FinalizesFrom Volatile v r result new = GivesOld v r result new
+abbrev pub ClockFinalizesFrom : OffsetState → Shown → Reading → Result (OffsetState × Moved) ClockErr → Shown → Type 0
+ClockFinalizesFrom Preliminary v r result new = GivesFinal v r result new
+ClockFinalizesFrom Final v r result new = GivesOld v r result new
+ClockFinalizesFrom Volatile v r result new = GivesOld v r result new
 
 -- the entries of a finalization, by the state before it: those of a tick, or none
 abbrev pub final_entries : OffsetState → ℕ → Reading → Moved → List Entry
@@ -147,10 +137,10 @@ final_entries Volatile n r m = []
 -- the clock then stands for the history with these entries last
 abbrev pub FinalizesFor : Settings → ℕ → List Entry → Reading
     → Result (OffsetState × Moved) ClockErr → Shown → Type 0
-FinalizesFor g n h r (Ok p) new = Stands g (h ++ final_entries p.0 n r p.1) new
-FinalizesFor g n h r (Err e) new = Stands g h new
+FinalizesFor g n h r (Ok p) new = ClockStands g (h ++ final_entries p.0 n r p.1) new
+FinalizesFor g n h r (Err e) new = ClockStands g h new
 
 -- whichever history it stood for
-abbrev pub Finalizes : Shown → Reading → Result (OffsetState × Moved) ClockErr → Shown → Type 0
-Finalizes v r result new =
-    (g : Settings) (h : List Entry) (n : ℕ) → n < g.callers → Stands g h v → FinalizesFor g n h r result new
+abbrev pub ClockFinalizes : Shown → Reading → Result (OffsetState × Moved) ClockErr → Shown → Type 0
+ClockFinalizes v r result new =
+    (g : Settings) (h : List Entry) (n : ℕ) → n < g.callers → ClockStands g h v → FinalizesFor g n h r result new

@@ -50,8 +50,8 @@ impl Clock {
     ghost use Rattle.std.specs.Prelude.{◌≡◌, ◌+ℤ◌, [], FitsSigned};
     ghost use Rattle.std.specs.Int.{w64};
     ghost use Rattle.ert_defs.specs.Settings.{IsChecked};
-    ghost use Rattle.ert_clock.specs.Shown.{Stands, opening_shown};
-    ghost use Rattle.ert_clock.specs.Ticks.{Limits, act_of, Gives, Ticks, FinalizesFrom, Finalizes};
+    ghost use Rattle.ert_clock.specs.Shown.{ClockStands, opening_shown};
+    ghost use Rattle.ert_clock.specs.Ticks.{Limits, act_of, Gives, ClockTicks, ClockFinalizesFrom, ClockFinalizes};
 
     /// A clock that has just been opened: monotonic time is the start time, and system time that of the
     /// first reading. The offset is final in no time warp mode, preliminary in single and volatile in multi
@@ -59,7 +59,7 @@ impl Clock {
     pub fn new(settings: &Settings) -> Clock
         requires checked { IsChecked settings.now }
         ensures opens { result ≡ opening_shown settings.now }
-        ensures stands { Stands settings.now [] result }
+        ensures stands { ClockStands settings.now [] result }
     {
         Clock {
             settings: *settings,
@@ -95,7 +95,7 @@ impl Clock {
     /// the offset, where that is more than a millisecond off ("Time Warp Modes").
     pub fn tick(&mut self, reading: Reading, force: bool) -> Result<Moved, ClockErr>
         ensures gives { Gives self.old reading (act_of force) result self.new }
-        ensures stands { Ticks self.old reading (act_of force) result self.new }
+        ensures stands { ClockTicks self.old reading (act_of force) result self.new }
     {
         self.step(reading, if force { Act::Force } else { Act::Plain })
     }
@@ -104,8 +104,8 @@ impl Clock {
     /// `time_offset`). From preliminary it is a tick that sets the offset so that system time is the
     /// reading's, and makes it final. From another state it changes nothing, and only tests the reading.
     pub fn finalize(&mut self, reading: Reading) -> Result<(OffsetState, Moved), ClockErr>
-        ensures gives { FinalizesFrom self.old.face.state self.old reading result self.new }
-        ensures stands { Finalizes self.old reading result self.new }
+        ensures gives { ClockFinalizesFrom self.old.face.state self.old reading result self.new }
+        ensures stands { ClockFinalizes self.old reading result self.new }
     {
         let state = self.state();
         if state == OffsetState::Preliminary {

@@ -3,14 +3,16 @@
 use Rattle.std.specs.Prelude.{ℕ, ℤ, Bool, Option, Some, None, List}
 use Rattle.std.specs.List.{list_any}
 use Rattle.ert_defs.specs.Actors.{has_actor}
+use Rattle.ert_defs.specs.declared.entry.Act.{Act}
 use Rattle.ert_defs.specs.declared.entry.Actor.{Actor}
-use Rattle.ert_defs.specs.declared.entry.Actor.TheVariants.{Wheel, Inbox, Sched, MailOf, Caller}
+use Rattle.ert_defs.specs.declared.entry.Actor.TheVariants.{Keeper, Wheel, Inbox, Sched, MailOf, Caller}
 use Rattle.ert_defs.specs.declared.entry.Entry.{Entry}
 use Rattle.ert_defs.specs.declared.entry.Event.{Event}
-use Rattle.ert_defs.specs.declared.entry.Event.TheVariants.{Look, Off, Arm, Probe, Peek, Cancel, Expire, Orphan, Deliver, Drop, Mark, Advanced, Ask, Pick, Answer, Take, Unwatch, Watch, Tell}
+use Rattle.ert_defs.specs.declared.entry.Event.TheVariants.{Tick, Shift, Look, Off, Arm, Probe, Peek, Cancel, Expire, Orphan, Deliver, Drop, Mark, Advanced, Ask, Pick, Answer, Take, Unwatch, Watch, Tell}
 use Rattle.ert_defs.specs.declared.mail.Mail.{Mail}
 use Rattle.ert_defs.specs.declared.mail.Request.{Request}
 use Rattle.ert_defs.specs.declared.settings.OffsetState.{OffsetState}
+use Rattle.ert_defs.specs.declared.settings.Reading.{Reading}
 use Rattle.ert_defs.specs.declared.timer.Start.{Start}
 use Rattle.ert_defs.specs.declared.timer.Status.{Status}
 use Rattle.ert_defs.specs.declared.timer.TimerRef.{TimerRef}
@@ -22,6 +24,18 @@ is_ours actors e = list_any (λ a. has_actor e a) actors
 -- an entry
 abbrev pub entry_by : Actor → Option Actor → Event → Entry
 entry_by by with event = record { by = by; with = with; event = event }
+
+-- an entry of the clock, made with a caller
+abbrev pub keeper_entry : ℕ → Event → Entry
+keeper_entry n event = entry_by Keeper (Some (Caller n)) event
+
+-- the clock takes a reading
+abbrev pub tick_entry : ℕ → Reading → Act → ℤ → Entry
+tick_entry n r act now = keeper_entry n (Tick r act now)
+
+-- the offset is shifted, and gets a state
+abbrev pub shift_entry : ℕ → ℤ → OffsetState → Entry
+shift_entry n offset state = keeper_entry n (Shift offset state)
 
 -- the time is read
 abbrev pub look_entry : Actor → ℤ → Entry

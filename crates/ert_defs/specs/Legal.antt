@@ -102,7 +102,7 @@ pub record IsNext (g : Settings) (s : State) (by : Actor) (timer : TimerRef) : T
   pub first_behind : AllSettled s.status (λ d. nat_lt d row.deadline) behind
 
 -- the row of a timer stands, and its destination has exited
-pub record HasExited (s : State) (timer : TimerRef) : Type 0 where
+pub record HasDestExited (s : State) (timer : TimerRef) : Type 0 where
   pub row : Row
   pub stands : row_of (s.rows timer.wheel) timer ≡ Some row
   pub exited : s.exited row.dest ≡ true
@@ -153,7 +153,7 @@ Known g s by with (Tick reading act now) = (s.clock.due ≡ None) × CanTick g (
 Known g s by with (Shift offset state) = s.clock.due ≡ Some (offset, state)
 Known g s by with (Arm timer start) = CanArm g s by timer (deadline_of g start (s.looked by))
 Known g s by with (Expire timer) = IsNext g s by timer
-Known g s by with (Orphan timer) = HasExited s timer
+Known g s by with (Orphan timer) = HasDestExited s timer
 Known g s by with (Deliver timer) = (first : IsFirst (s.scheds timer.wheel).fired timer) × (with ≡ Some (MailOf first.row.dest))
 Known g s by with (Drop timer) = (first : IsFirst (s.scheds timer.wheel).fired timer) × (s.exited first.row.dest ≡ true)
 Known g s by with (Advanced wheel to) = (pos to ≡ down g (s.looked by)) × AllSettled s.status (λ d. nat_le d to) (s.rows wheel)

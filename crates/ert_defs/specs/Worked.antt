@@ -130,8 +130,8 @@ abbrev pub answered : List Entry
 answered = asked ++ answer
 
 -- OS system time comes to 10 seconds and leaps back to 5: the time stays, and the offset falls by 5 seconds
-abbrev pub shifted : List Entry
-shifted =
+abbrev pub leapt_back : List Entry
+leapt_back =
     by_caller (Some (MailOf 0)) (Watch 0 0 (pos 0))
     ∷ tick Force (pos 10000000000) (pos 10000000000)
     ∷ tick Force (pos 5000000000) (pos 10000000000)
@@ -140,7 +140,7 @@ shifted =
 
 -- the monitor is told
 abbrev pub told : List Entry
-told = shifted ++ by_caller (Some (MailOf 0)) (Tell 0 (negsuc 4999999999)) ∷ []
+told = leapt_back ++ by_caller (Some (MailOf 0)) (Tell 0 (negsuc 4999999999)) ∷ []
 
 -- and told again
 abbrev pub told_twice : List Entry

@@ -5,7 +5,7 @@ use Rattle.ert_shard.specs.Hubs.{Rest}
 use Rattle.ert_shard.specs.Shards.{Owned}
 
 -- a shard is of the same desk, with the same share
-pub record IsSame (old new : Owned) : Type 0 where
+pub record IsSameShard (old new : Owned) : Type 0 where
   pub table : new.table ≡ old.table
   pub settings : new.settings ≡ old.settings
   pub share : new.share ≡ old.share

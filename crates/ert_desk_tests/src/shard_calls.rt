@@ -1,7 +1,7 @@
 //! The calls of a hub and of a shard. What a caller has to know is looked up first.
 ghost use Rattle.std.specs.Prelude.{◌≡◌};
 ghost use Rattle.ert_shard.specs.Shards.{IsHome};
-ghost use Rattle.ert_desk_tests.specs.Kept.{IsSame, IsCut};
+ghost use Rattle.ert_desk_tests.specs.Kept.{IsSameShard, IsCut};
 
 use ert_defs::{Kind, Mode, NoMemory, Reading, Settings, Start, TimerRef, When};
 use ert_shard::{Hub, Shard};
@@ -74,7 +74,7 @@ fn is_home(rt: &impl Abort, shard: &Shard, process: u32)
 
 /// A timer of so many milliseconds.
 pub(crate) fn start(rt: &impl Abort, shard: &mut Shard, dest: u32, wait: i64) -> TimerRef
-    ensures { IsSame shard.old shard.new }
+    ensures { IsSameShard shard.old shard.new }
 {
     is_home(rt, shard, dest);
     let start = Start {

@@ -3,7 +3,7 @@
 use Rattle.std.proofs.Common.{◌≡◌, ◌≢◌, ℕ, zero, suc, ◌+◌, ◌<◌, ◌≤◌, ℤ, Bool, true, false, cond, nat_eq, List, [], ◌∷◌, ◌++◌, length, Contains, slice_index_or, Option, Some, refl, sym, ap, subst, ◌∙◌, arith, append_assoc, eqb-true, eq-eqb}
 use Rattle.std.proofs.lemmas.List.Elements.{Contains-append_left}
 use Rattle.ert_effects.specs.Chains.{SweepsWheel, SweepsWheels}
-use Rattle.ert_effects.specs.Laws.{Settles, LawOfExits}
+use Rattle.ert_effects.specs.Laws.{ExitSettles, LawOfExits}
 use Rattle.ert_effects.specs.Ways.{Way, alone, beside}
 use Rattle.ert_effects.specs.WheelCalls.{AreSwept}
 use Rattle.ert_defs.specs.Actors.{has_actor}
@@ -80,7 +80,7 @@ sweeps_settle g way by process wheel row w (suc n) h m after legal sweeps low hi
         let apart : w ≢ wheel = λ same. (let own : nat_eq w wheel ≡ true = eq-eqb w wheel same in cc) in
         rest (omega arith)
 
-exits_settle : (g : Settings) (way : Way) → Settles g way
+exits_settle : (g : Settings) (way : Way) → ExitSettles g way
 exits_settle g way by process wheel row h m after legal call high among dest =
     let place : h ++ (m ++ after) ≡ (h ++ call.before) ++ (call.after ++ after) =
     ap (λ l. h ++ (l ++ after)) call.joined

@@ -24,34 +24,34 @@ HoldsBy (Some request) way g w got h m = (got ≡ Some request) × (m ≡ [])
 HoldsBy None way g w got h m = way (Inbox w ∷ []) (Picks g w got) h m
 
 -- so a scheduler has a request in its hand, by what was there after a history
-abbrev pub Holds : Settings → Way → ℕ → Option Request → Growth
-Holds g way w got h m = HoldsBy ((state g h).scheds w).hand way g w got h m
+abbrev pub HoldsRequest : Settings → Way → ℕ → Option Request → Growth
+HoldsRequest g way w got h m = HoldsBy ((state g h).scheds w).hand way g w got h m
 
 -- a request is held and answered
 pub record HasServed (g : Settings) (way : Way) (w : ℕ) (h m : List Entry) : Type 0 where
   pub request : Request
   pub left : Option ℕ
-  pub steps : Then (Holds g way w (Some request)) (way (MailOf request.reply_to ∷ []) (Answers g w request (Ok left))) h m
+  pub steps : Then (HoldsRequest g way w (Some request)) (way (MailOf request.reply_to ∷ []) (Answers g w request (Ok left))) h m
 
 -- a request is held, and there is no memory to answer it: it stays in the hand
 pub record CannotServe (g : Settings) (way : Way) (w : ℕ) (e : NoMemory) (h m : List Entry) : Type 0 where
   pub request : Request
-  pub steps : Then (Holds g way w (Some request)) (way (MailOf request.reply_to ∷ []) (Answers g w request (Err e))) h m
+  pub steps : Then (HoldsRequest g way w (Some request)) (way (MailOf request.reply_to ∷ []) (Answers g w request (Err e))) h m
 
 -- `serve`: false where the hand was empty and nothing was picked
 abbrev pub Serves : Settings → Way → ℕ → Result Bool NoMemory → Growth
 Serves g way w (Ok true) h m = HasServed g way w h m
-Serves g way w (Ok false) h m = Holds g way w None h m
+Serves g way w (Ok false) h m = HoldsRequest g way w None h m
 Serves g way w (Err e) h m = CannotServe g way w e h m
 
 -- so many
-abbrev pub times : ℕ → List (Unit {0})
-times zero = []
-times (suc n) = tt ∷ times n
+abbrev pub so_many_steps : ℕ → List (Unit {0})
+so_many_steps zero = []
+so_many_steps (suc n) = tt ∷ so_many_steps n
 
 -- so many requests are served
 abbrev pub ServesMany : Settings → Way → ℕ → ℕ → Growth
-ServesMany g way w n h m = Many (λ (one : Unit {0}). Serves g way w (Ok true)) (times n) h m
+ServesMany g way w n h m = Many (λ (one : Unit {0}). Serves g way w (Ok true)) (so_many_steps n) h m
 
 -- requests are served until there is none, 64 at most
 abbrev pub ServesAll : Settings → Way → ℕ → Result ℕ NoMemory → Growth

@@ -2,12 +2,12 @@
 -- `system_time`, `system_flag`).
 
 use Rattle.std.specs.Prelude.{◌≡◌, ℕ, ℤ, ◌+ℤ◌, Bool, List, [], ◌∷◌, None, Result, Ok, Err}
-use Rattle.ert_clock.specs.Ticks.{act_of, keeper_entry, tick_entries, offset_of, IsWide}
+use Rattle.ert_clock.specs.Ticks.{act_of, tick_entries, offset_of, IsWide}
 use Rattle.ert_clock.specs.declared.clock.ClockErr.{ClockErr}
 use Rattle.ert_clock.specs.declared.clock.ClockErr.TheVariants.{BadReading, OffsetWide}
 use Rattle.ert_clock.specs.declared.clock.Moved.{Moved}
 use Rattle.ert_defs.specs.Clocks.{face}
-use Rattle.ert_defs.specs.Entries.{look_entry, off_entry}
+use Rattle.ert_defs.specs.Entries.{look_entry, off_entry, keeper_entry}
 use Rattle.ert_defs.specs.Lines.{MayAct, time_after, due_after}
 use Rattle.ert_defs.specs.Readings.{IsValid}
 use Rattle.ert_defs.specs.States.{State}
@@ -23,7 +23,7 @@ use Rattle.ert_defs.specs.declared.settings.Settings.{Settings}
 
 -- a tick moves the clock: its own entry, and that of the shift where it made one due; the answer is the time
 -- of the one and the offset of the other
-pub record Moves (g : Settings) (by : ℕ) (r : Reading) (act : Act) (m : Moved) (s : State) (es : List Entry) : Type 0 where
+pub record MovesClock (g : Settings) (by : ℕ) (r : Reading) (act : Act) (m : Moved) (s : State) (es : List Entry) : Type 0 where
   pub shift : m.shift ≡ offset_of (due_after g (face g s.clock) r act m.now)
   pub entries : es ≡ tick_entries by r act m.now m.shift
 
@@ -45,16 +45,16 @@ RefusesTick g r act BadReading s es = IsBadReading r es
 RefusesTick g r act (OffsetWide value) s es = IsTooWide g r act value s es
 
 -- a reading is taken for one of the three acts
-abbrev pub Acts : Settings → ℕ → Reading → Act → Result Moved ClockErr → State → List Entry → Type 0
-Acts g by r act (Ok m) s es = Moves g by r act m s es
-Acts g by r act (Err e) s es = RefusesTick g r act e s es
+abbrev pub TakesReading : Settings → ℕ → Reading → Act → Result Moved ClockErr → State → List Entry → Type 0
+TakesReading g by r act (Ok m) s es = MovesClock g by r act m s es
+TakesReading g by r act (Err e) s es = RefusesTick g r act e s es
 
 -- `tick`, for a caller, forced or not
 abbrev pub Ticks : Settings → ℕ → Reading → Bool → Result Moved ClockErr → State → List Entry → Type 0
-Ticks g by r force answer s es = Acts g by r (act_of force) answer s es
+Ticks g by r force answer s es = TakesReading g by r (act_of force) answer s es
 
 -- a finalization finds nothing preliminary: the clock's part looks at the offset, and nothing moves
-pub record Stays (by : ℕ) (r : Reading) (old : OffsetState) (m : Moved) (s : State) (es : List Entry) : Type 0 where
+pub record OffsetStays (by : ℕ) (r : Reading) (old : OffsetState) (m : Moved) (s : State) (es : List Entry) : Type 0 where
   pub offset : ℤ
   pub valid : IsValid r
   pub time : m.now ≡ s.clock.now
@@ -63,9 +63,9 @@ pub record Stays (by : ℕ) (r : Reading) (old : OffsetState) (m : Moved) (s : S
 
 -- a finalization by the state before it
 abbrev pub FinalizesFrom : OffsetState → Settings → ℕ → Reading → Moved → State → List Entry → Type 0
-FinalizesFrom Preliminary g by r m s es = Moves g by r Finalize m s es
-FinalizesFrom Final g by r m s es = Stays by r Final m s es
-FinalizesFrom Volatile g by r m s es = Stays by r Volatile m s es
+FinalizesFrom Preliminary g by r m s es = MovesClock g by r Finalize m s es
+FinalizesFrom Final g by r m s es = OffsetStays by r Final m s es
+FinalizesFrom Volatile g by r m s es = OffsetStays by r Volatile m s es
 
 -- `finalize`, for a caller: the answer has the state before it
 abbrev pub Finalizes : Settings → ℕ → Reading → Result (OffsetState × Moved) ClockErr → State → List Entry → Type 0

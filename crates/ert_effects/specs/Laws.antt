@@ -102,15 +102,15 @@ LawOfAnswers = (g : Settings) (w : ℕ) (request : Request) → IsRead (λ (left
 
 -- after an exit that was made in a way, no timer of the process that was armed before it is armed: `call`
 -- begins with the Mark by which it exits
-abbrev pub Settles : Settings → Way → Type 0
-Settles g way = (by process wheel : ℕ) (row : Row) (h m after : List Entry) → Legal g (h ++ (m ++ after))
+abbrev pub ExitSettles : Settings → Way → Type 0
+ExitSettles g way = (by process wheel : ℕ) (row : Row) (h m after : List Entry) → Legal g (h ++ (m ++ after))
     → (call : Exits g way by process true h m) → wheel < g.schedulers
     → Contains ((state g (h ++ call.before)).rows wheel) row → row.dest ≡ process
     → (state g (h ++ (m ++ after))).status row.timer ≢ Some Armed
 
 -- an exit settles the timers of its process, alone and beside others
 abbrev pub LawOfExits : Type 0
-LawOfExits = (g : Settings) → Settles g (alone g) × ((a : Actor) → Settles g (beside g a))
+LawOfExits = (g : Settings) → ExitSettles g (alone g) × ((a : Actor) → ExitSettles g (beside g a))
 
 -- a turn that was made in a way served 64 at most, and leaves no expired timer to hand over
 abbrev pub EndsTurn : Settings → Way → Type 0

@@ -8,7 +8,7 @@ use Rattle.ert_defs.specs.declared.entry.Entry.{Entry}
 use Rattle.ert_defs.specs.declared.memory.NoMemory.{NoMemory}
 use Rattle.ert_defs.specs.declared.settings.Settings.{Settings}
 use Rattle.ert_effects.specs.Ways.{Growth, Way}
-use Rattle.ert_effects.specs.WheelCalls.{Try, expiry_entries, hits, AllSettled, AllDue, AreOnce, Advances}
+use Rattle.ert_effects.specs.WheelCalls.{Try, expiry_entries, hits, AllMissesSettled, AllDue, AreOnce, Advances}
 
 -- the record of an advance, which there is only where it has come to its end
 abbrev pub end_entries : ℕ → ℕ → Bool → List Entry
@@ -28,7 +28,7 @@ pub record HasAdvancedSome (w most : ℕ) (answer : ℕ × ℕ × Bool) (s : Sta
   pub now : ℤ
   pub tries : List Try
   pub fired : answer.1 ≡ hits tries
-  pub settled : AllSettled tries
+  pub settled : AllMissesSettled tries
   pub due : AllDue (s.rows w) answer.0 tries
   pub once : AreOnce tries
   pub tried : AreTried answer.2 most (length tries)

@@ -43,9 +43,9 @@ IsSettled None = Unit {0}
 IsSettled (Some found) = found ≢ Some Armed
 
 -- each of these tries that missed did
-abbrev pub AllSettled : List Try → Type 0
-AllSettled [] = Unit {0}
-AllSettled (t ∷ tries) = IsSettled t.missed × AllSettled tries
+abbrev pub AllMissesSettled : List Try → Type 0
+AllMissesSettled [] = Unit {0}
+AllMissesSettled (t ∷ tries) = IsSettled t.missed × AllMissesSettled tries
 
 -- among these rows the timer has one that is due at a time
 pub record IsDueBy (rows : List Row) (to : ℕ) (timer : TimerRef) : Type 0 where
@@ -75,7 +75,7 @@ pub record HasAdvanced (w : ℕ) (answer : ℕ × ℕ) (s : State) (es : List En
   pub now : ℤ
   pub tries : List Try
   pub fired : answer.1 ≡ hits tries
-  pub settled : AllSettled tries
+  pub settled : AllMissesSettled tries
   pub due : AllDue (s.rows w) answer.0 tries
   pub once : AreOnce tries
   pub entries : es ≡ look_entry (Sched w) now ∷ (expiry_entries w tries ++ advanced_entry w answer.0 ∷ [])

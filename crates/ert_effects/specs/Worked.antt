@@ -45,8 +45,8 @@ abbrev pub starting : Bool → List Entry → List Entry
 starting was closing = look ∷ (arm_entry 0 timer (start_after 5) ∷ (by_caller None (Mark 0 false was) ∷ closing))
 
 -- the timer is cancelled for an exit
-abbrev pub orphaned : List Entry
-orphaned = orphan_entry 0 0 timer ∷ []
+abbrev pub orphaned_by_exit : List Entry
+orphaned_by_exit = orphan_entry 0 0 timer ∷ []
 
 -- its slot is looked at by the caller
 abbrev pub probed : Option Status → List Entry
@@ -78,8 +78,8 @@ two = record {
 }
 
 -- the first timer of a wheel
-abbrev pub timer_of : ℕ → TimerRef
-timer_of w = record { wheel = w; slot = 0; generation = 1 }
+abbrev pub first_timer_of : ℕ → TimerRef
+first_timer_of w = record { wheel = w; slot = 0; generation = 1 }
 
 -- a start for a process, of a timer of 5 milliseconds
 abbrev pub start_for : ℕ → Start
@@ -87,24 +87,24 @@ start_for process = record { when = After (pos 5); dest = process; msg = 7; kind
 
 -- each wheel has a timer: for process 0 and for this process
 abbrev pub both_armed : ℕ → List Entry
-both_armed process = arm_entry 0 (timer_of 0) (start_for 0) ∷ (arm_entry 0 (timer_of 1) (start_for process) ∷ [])
+both_armed process = arm_entry 0 (first_timer_of 0) (start_for 0) ∷ (arm_entry 0 (first_timer_of 1) (start_for process) ∷ [])
 
 -- process 0 exits, and these timers are cancelled for that
 abbrev pub exiting : List Entry → List Entry
 exiting orphans = by_caller None (Mark 0 true false) ∷ orphans
 
 -- an asynchronous read of the timer
-abbrev pub request : Request
-request = record { kind = Read; timer = timer; reply_to = 0; info = true }
+abbrev pub request_to_read : Request
+request_to_read = record { kind = Read; timer = timer; reply_to = 0; info = true }
 
 -- a timer of no time is started, and the caller asks for what is left of it
-abbrev pub asked : List Entry
-asked = begun 0 ++ by_caller (Some (Inbox 0)) (Ask 0 request) ∷ []
+abbrev pub asked_at_once : List Entry
+asked_at_once = begun 0 ++ by_caller (Some (Inbox 0)) (Ask 0 request_to_read) ∷ []
 
 -- the scheduler takes the request, reads the timer, and answers
 abbrev pub serving : List Entry
 serving =
-    by_sched (Some (Inbox 0)) (Pick 0 (Some request))
+    by_sched (Some (Inbox 0)) (Pick 0 (Some request_to_read))
     ∷ (by_sched None (Look (pos 1000000))
     ∷ (by_sched None (Peek timer (Some 0))
     ∷ (by_sched (Some (MailOf 0)) (Answer 0 (Some 0)) ∷ [])))
@@ -144,8 +144,8 @@ abbrev pub turning : List Entry
 turning = (serving ++ idling) ++ advancing
 
 -- what a turn did: so many requests and messages
-abbrev pub turned : ℕ → ℕ → Turned
-turned served put = record { served = served; to = 1; fired = 1; put = put; dropped = 0 }
+abbrev pub turn_of : ℕ → ℕ → Turned
+turn_of served put = record { served = served; to = 1; fired = 1; put = put; dropped = 0 }
 
 -- the process is told that the offset fell by 5 seconds
 abbrev pub telling : List Entry

@@ -3,7 +3,7 @@
 ghost use Rattle.std.specs.Prelude.{pos, Bool, true, false, [], ◌∷◌, ◌++◌, Some, None, Ok, Err};
 ghost use Rattle.ert_defs.specs.Entries.{off_entry, orphan_entry, mark_entry, take_entry, watch_entry};
 ghost use Rattle.ert_defs.specs.States.{state};
-ghost use Rattle.ert_defs.specs.Worked.{small, timer, start_after, shifted, told};
+ghost use Rattle.ert_defs.specs.Worked.{small, timer, start_after, leapt_back, told};
 ghost use Rattle.ert_defs.specs.declared.settings.Mode.TheVariants.{Multi};
 ghost use Rattle.ert_defs.specs.declared.settings.OffsetState.TheVariants.{Final};
 ghost use Rattle.ert_defs.specs.declared.entry.Actor.TheVariants.{Caller};
@@ -16,15 +16,15 @@ ghost use Rattle.ert_effects.specs.MailCalls.{Takes, Monitors, Tells};
 ghost use Rattle.ert_effects.specs.declared.answers.MonitorErr.TheVariants.{Full as MonitorsFull};
 ghost use Rattle.ert_effects.specs.declared.answers.Taken.TheVariants.{Empty, Exited};
 ghost use Rattle.ert_effects.specs.declared.answers.StartErr.TheVariants.{BadArg, Full};
-ghost use Rattle.ert_effects.specs.Worked.{one, idle, armed, start_before, look, starting, orphaned, probed, reading, cancelling};
-ghost use Rattle.ert_effects.specs.Worked.{unbound, two, timer_of, both_armed, exiting, asked, turning, advancing};
-ghost use Rattle.ert_effects.specs.Worked.{missing, missing_twice, delivering, turned, telling};
+ghost use Rattle.ert_effects.specs.Worked.{one, idle, armed, start_before, look, starting, orphaned_by_exit, probed, reading, cancelling};
+ghost use Rattle.ert_effects.specs.Worked.{unbound, two, first_timer_of, both_armed, exiting, asked_at_once, turning, advancing};
+ghost use Rattle.ert_effects.specs.Worked.{missing, missing_twice, delivering, turn_of, telling};
 
 /// A start of a timer for a process that had exited cancels it, or finds it settled: it doesn't leave it
 /// armed.
 pub fn starts_are_judged()
     ensures ok { Starts one 0 0 (start_after 5) (Ok timer) idle (starting false []) }
-    ensures orphaned { Starts one 0 0 (start_after 5) (Ok timer) idle (starting true orphaned) }
+    ensures orphaned { Starts one 0 0 (start_after 5) (Ok timer) idle (starting true orphaned_by_exit) }
     ensures missed { Starts one 0 0 (start_after 5) (Ok timer) idle (starting true (probed (Some Cancelled))) }
     ensures left_armed { Starts one 0 0 (start_after 5) (Ok timer) idle (starting true []) → ⊥ }
     ensures found_armed { Starts one 0 0 (start_after 5) (Ok timer) idle (starting true (probed (Some Armed))) → ⊥ }
@@ -54,37 +54,37 @@ pub fn cancels_are_judged()
 
 /// An exit cancels the timers of its process on every wheel, and no others. It looks at no other slot.
 pub fn exits_are_judged()
-    ensures all { Exits two (alone two) 0 0 true (both_armed 0) (exiting (orphan_entry 0 0 (timer_of 0) ∷ (orphan_entry 0 1 (timer_of 1) ∷ []))) }
-    ensures one_wheel { Exits two (alone two) 0 0 true (both_armed 0) (exiting (orphan_entry 0 0 (timer_of 0) ∷ [])) → ⊥ }
-    ensures own { Exits two (alone two) 0 0 true (both_armed 1) (exiting (orphan_entry 0 0 (timer_of 0) ∷ [])) }
-    ensures other_process { Sweeps two 0 1 0 (state two (both_armed 1)) (orphan_entry 0 1 (timer_of 1) ∷ []) → ⊥ }
+    ensures all { Exits two (alone two) 0 0 true (both_armed 0) (exiting (orphan_entry 0 0 (first_timer_of 0) ∷ (orphan_entry 0 1 (first_timer_of 1) ∷ []))) }
+    ensures one_wheel { Exits two (alone two) 0 0 true (both_armed 0) (exiting (orphan_entry 0 0 (first_timer_of 0) ∷ [])) → ⊥ }
+    ensures own { Exits two (alone two) 0 0 true (both_armed 1) (exiting (orphan_entry 0 0 (first_timer_of 0) ∷ [])) }
+    ensures other_process { Sweeps two 0 1 0 (state two (both_armed 1)) (orphan_entry 0 1 (first_timer_of 1) ∷ []) → ⊥ }
     ensures stray { Sweeps one 0 0 0 idle (probed (Some Cancelled)) → ⊥ }
 {}
 
 /// A turn serves, advances and delivers, until nothing is left to deliver.
 pub fn turns_are_judged()
-    ensures done { Turns one (alone one) 0 (Ok (turned 1 1)) asked (turning ++ delivering) }
-    ensures undelivered { Turns one (alone one) 0 (Ok (turned 1 0)) asked turning → ⊥ }
+    ensures done { Turns one (alone one) 0 (Ok (turn_of 1 1)) asked_at_once (turning ++ delivering) }
+    ensures undelivered { Turns one (alone one) 0 (Ok (turn_of 1 0)) asked_at_once turning → ⊥ }
 {}
 
 /// An advance answers how many timers expired, and not how many it tried. It tries timers that are due, each once. A
 /// try that missed found its timer settled.
 pub fn advances_are_judged()
-    ensures expired { Advances one 0 (Ok (1, 1)) (state one asked) advancing }
-    ensures missed { Advances one 0 (Ok (1, 0)) (state one asked) (missing Cancelled) }
-    ensures miscounted { Advances one 0 (Ok (1, 1)) (state one asked) (missing Cancelled) → ⊥ }
-    ensures unsettled { Advances one 0 (Ok (1, 0)) (state one asked) (missing Armed) → ⊥ }
+    ensures expired { Advances one 0 (Ok (1, 1)) (state one asked_at_once) advancing }
+    ensures missed { Advances one 0 (Ok (1, 0)) (state one asked_at_once) (missing Cancelled) }
+    ensures miscounted { Advances one 0 (Ok (1, 1)) (state one asked_at_once) (missing Cancelled) → ⊥ }
+    ensures unsettled { Advances one 0 (Ok (1, 0)) (state one asked_at_once) (missing Armed) → ⊥ }
     ensures stray { Advances one 0 (Ok (1, 0)) idle (missing Cancelled) → ⊥ }
     ensures early { Advances one 0 (Ok (1, 0)) armed (missing Cancelled) → ⊥ }
-    ensures tried_twice { Advances one 0 (Ok (1, 0)) (state one asked) (missing_twice Cancelled) → ⊥ }
+    ensures tried_twice { Advances one 0 (Ok (1, 0)) (state one asked_at_once) (missing_twice Cancelled) → ⊥ }
 {}
 
 /// A process is told an offset once for each monitor that it is new to. A monitor's number has 32 bits, and
 /// none is refused while fewer than 64 stand.
 pub fn monitors_are_judged()
-    ensures told { Tells (small Multi) 0 0 (Ok 1) (state (small Multi) shifted) telling }
+    ensures told { Tells (small Multi) 0 0 (Ok 1) (state (small Multi) leapt_back) telling }
     ensures not_again { Tells (small Multi) 0 0 (Ok 0) (state (small Multi) told) telling }
-    ensures untold { Tells (small Multi) 0 0 (Ok 0) (state (small Multi) shifted) telling → ⊥ }
+    ensures untold { Tells (small Multi) 0 0 (Ok 0) (state (small Multi) leapt_back) telling → ⊥ }
     ensures first { Monitors one 0 0 (Ok 0) idle (watch_entry 0 0 0 (pos 0) ∷ []) }
     ensures beyond { Monitors one 0 0 (Ok 4294967296) idle (watch_entry 0 0 4294967296 (pos 0) ∷ []) → ⊥ }
     ensures refused { Monitors one 0 0 (Err MonitorsFull) idle (off_entry (Caller 0) (pos 0) Final ∷ []) → ⊥ }

@@ -7,7 +7,7 @@ use Rattle.ert_defs.specs.Legal.{Legal}
 use Rattle.ert_defs.specs.declared.memory.NoMemory.{NoMemory}
 use Rattle.ert_interval.specs.Calls.{Still, IsTurnedBy, Passed, PassedBy, PassesOne, PassesSome, Unmoved, timers, CountsTimers}
 use Rattle.ert_interval.specs.Going.{one_if}
-use Rattle.ert_interval.specs.Intervals.{IsIntervalOf, AreKept}
+use Rattle.ert_interval.specs.Intervals.{IsIntervalOf, AreIntervalsKept}
 use Rattle.ert_interval.specs.declared.interval.Interval.{Interval}
 use Rattle.ert_interval.proofs.Onward.{ends_stay}
 use Rattle.ert_world.specs.Worlds.{Seen}
@@ -31,7 +31,7 @@ passed_stays a b i j armed still legal_a legal kept passed = record {
 
 -- those that were passed have been so still after a step of another, and those of other wheels have not moved
 passed_before : (answer : Result Bool NoMemory) (w n : ℕ) (a b : Seen) (is js ks : List Interval) (armed : ℕ) → PassesTo w n a is js armed
-    → PassesOne answer n w b js ks → Still a b → AreKept a js → Legal b.settings b.history → (m : ℕ) (d : Interval) → m < n → m < length is
+    → PassesOne answer n w b js ks → Still a b → AreIntervalsKept a js → Legal b.settings b.history → (m : ℕ) (d : Interval) → m < n → m < length is
     → IsTurnedBy w (slice_index_or is m d) → (o : Bool) × Passed b (slice_index_or is m d) (slice_index_or ks m d) o
 passed_before answer w n a b is js ks armed to step still kept legal m d low high of_wheel =
     let p = to.passed m d low high of_wheel in
@@ -55,7 +55,7 @@ others_stay answer w n a b is js ks armed to step m d high other =
 
 -- one more
 pub passes_more : (w n : ℕ) (a b : Seen) (is js ks : List Interval) (armed next : ℕ) (one : Bool) → PassesTo w n a is js armed
-    → PassesOne (Ok one) n w b js ks → Still a b → AreKept a js → Legal b.settings b.history → timers ks ≡ timers js + one_if one
+    → PassesOne (Ok one) n w b js ks → Still a b → AreIntervalsKept a js → Legal b.settings b.history → timers ks ≡ timers js + one_if one
     → next ≡ armed + one_if one → PassesTo w (n + 1) b is ks next
 passes_more w n a b is js ks armed next one to step still kept legal count sum = record {
   counted = step.counted ∙ to.counted;
@@ -74,7 +74,7 @@ passes_more w n a b is js ks armed next one to step still kept legal count sum =
 
 -- or no memory for the next
 pub passes_some : (w n : ℕ) (a b : Seen) (is js ks : List Interval) (armed : ℕ) (e : NoMemory) → PassesTo w n a is js armed
-    → PassesOne (Err e) n w b js ks → Still a b → AreKept a js → Legal b.settings b.history → PassesSome w b is ks
+    → PassesOne (Err e) n w b js ks → Still a b → AreIntervalsKept a js → Legal b.settings b.history → PassesSome w b is ks
 passes_some w n a b is js ks armed e to step still kept legal = record {
   counted = step.counted ∙ to.counted;
   passed = λ m d high of_wheel. elim (cases_eq m n) [

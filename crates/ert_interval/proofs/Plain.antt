@@ -1,7 +1,7 @@
 -- The calls on intervals cancel no timer but by a stop, and ask nothing.
 
 use Rattle.std.proofs.Common.{◌≡◌, ℕ, zero, suc, ℤ, Bool, true, false, cond, nat_lt, List, [], ◌∷◌, ◌++◌, Option, Some, None, Result, Ok, Err, refl, sym, ap, subst, ◌∙◌, inl, inr}
-use Rattle.ert_effects.specs.Chains.{Holds, HoldsBy, Serves, ServesMany, ServesAll, times, AdvancesWheel, Hands, HandsMany, Delivers, Turns, SweepsWheels, Exits}
+use Rattle.ert_effects.specs.Chains.{HoldsRequest, HoldsBy, Serves, ServesMany, ServesAll, so_many_steps, AdvancesWheel, Hands, HandsMany, Delivers, Turns, SweepsWheels, Exits}
 use Rattle.ert_effects.specs.ClockCalls.{RefusesTick, Ticks}
 use Rattle.ert_effects.specs.MailCalls.{Takes}
 use Rattle.ert_effects.proofs.Told.{round_probes}
@@ -186,7 +186,7 @@ advances_plain g w (Err e) h m (inr look) = plain_as m _ look.1 (refl, tt)
 
 -- with no request, nothing is held but by a pick that finds none
 pub held_none : (g : Settings) (w : ℕ) (request : Request) (h m : List Entry) → HasNoRequests (state g h) → LegalFrom g (state g h) m
-    → Holds g (alone g) w (Some request) h m → ⊥
+    → HoldsRequest g (alone g) w (Some request) h m → ⊥
 held_none g w request h m idle legal holds =
     let hand : Option Request = ((state g h).scheds w).hand in
     let none : hand ≡ None = (idle w).1 in
@@ -195,7 +195,7 @@ held_none g w request h m idle legal holds =
     let first : Some request ≡ None = one.0.known.1 ∙ ap first_of (idle w).0 in
     absurd cc
 
-nothing_plain : (g : Settings) (w : ℕ) (h m : List Entry) → HasNoRequests (state g h) → Holds g (alone g) w None h m → ArePlain m
+nothing_plain : (g : Settings) (w : ℕ) (h m : List Entry) → HasNoRequests (state g h) → HoldsRequest g (alone g) w None h m → ArePlain m
 nothing_plain g w h m idle holds =
     let hand : Option Request = ((state g h).scheds w).hand in
     let none : hand ≡ None = (idle w).1 in
@@ -234,16 +234,16 @@ served_plain g w (one ∷ ones) h m idle legal many =
 all_served : (g : Settings) (w n : ℕ) (b : Bool) (h m : List Entry) → HasNoRequests (state g h) → LegalFrom g (state g h) m
     → cond b (Then (ServesMany g (alone g) w n) (Serves g (alone g) w (Ok false)) h m) (ServesMany g (alone g) w n h m) → ArePlain m
 all_served g w n true h m idle legal steps =
-    then_plain g h m steps.before steps.after steps.joined idle legal (λ l. served_plain g w (times n) h steps.before idle l steps.one)
+    then_plain g h m steps.before steps.after steps.joined idle legal (λ l. served_plain g w (so_many_steps n) h steps.before idle l steps.one)
     (λ i l. serves_plain g w (Ok false) (h ++ steps.before) steps.after i l steps.other)
-all_served g w n false h m idle legal steps = served_plain g w (times n) h m idle legal steps
+all_served g w n false h m idle legal steps = served_plain g w (so_many_steps n) h m idle legal steps
 
 serves_all_plain : (g : Settings) (w : ℕ) (answer : Result ℕ WantOfMemory) (h m : List Entry) → HasNoRequests (state g h) → LegalFrom g (state g h) m
     → ServesAll g (alone g) w answer h m → ArePlain m
 serves_all_plain g w (Ok n) h m idle legal serves = all_served g w n (nat_lt n 64) h m idle legal serves.1
 serves_all_plain g w (Err e) h m idle legal serves =
     let steps = serves.2 in
-    then_plain g h m steps.before steps.after steps.joined idle legal (λ l. served_plain g w (times serves.0) h steps.before idle l steps.one)
+    then_plain g h m steps.before steps.after steps.joined idle legal (λ l. served_plain g w (so_many_steps serves.0) h steps.before idle l steps.one)
     (λ i l. serves_plain g w (Err e) (h ++ steps.before) steps.after i l steps.other)
 
 -- a turn with no request

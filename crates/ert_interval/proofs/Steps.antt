@@ -3,7 +3,7 @@
 use Rattle.std.proofs.Common.{◌≡◌, ◌≢◌, ℕ, Bool, true, false, cond, ◌&&◌, ◌||◌, nat_eq, List, [], ◌∷◌, Option, Some, None, refl, sym, subst, inl, inr}
 use Rattle.ert_defs.specs.Actors.{has_actor}
 use Rattle.ert_defs.specs.Laws.{MayMove}
-use Rattle.ert_defs.specs.Legal.{Known, LegalFrom, HasExited}
+use Rattle.ert_defs.specs.Legal.{Known, LegalFrom, HasDestExited}
 use Rattle.ert_defs.specs.Mails.{SchedState, inbox_after, sched_after}
 use Rattle.ert_defs.specs.States.{State, next, run, exited_after}
 use Rattle.ert_defs.specs.Timers.{Row, row_of, same_timer, status_after, settled_as, handed_as}
@@ -151,7 +151,7 @@ going_cond true x y exited other h = other refl
 going_cond false x y exited other h = h
 
 -- an orphan is of a process that has exited
-orphan_exited : (s : State) (timer r : TimerRef) (row : Row) → HasExited s timer → row_of (s.rows r.wheel) r ≡ Some row
+orphan_exited : (s : State) (timer r : TimerRef) (row : Row) → HasDestExited s timer → row_of (s.rows r.wheel) r ≡ Some row
     → same_timer timer r ≡ true → s.exited row.dest ≡ true
 orphan_exited s timer r row has is same =
     let one : timer ≡ r = same_timer-true timer r same in

@@ -13,7 +13,7 @@ use Rattle.ert_defs.specs.declared.settings.Settings.{Settings}
 use Rattle.ert_defs.specs.declared.timer.TimerRef.{TimerRef}
 use Rattle.ert_defs.proofs.Runs.{state-append}
 use Rattle.ert_interval.specs.Calls.{Still, IsNewOrSame}
-use Rattle.ert_interval.specs.Intervals.{HasNoRequests, IsIntervalOf, AreKept}
+use Rattle.ert_interval.specs.Intervals.{HasNoRequests, IsIntervalOf, AreIntervalsKept}
 use Rattle.ert_interval.specs.declared.interval.Interval.{Interval}
 use Rattle.ert_interval.specs.Spared.{Spares}
 use Rattle.ert_interval.proofs.Stopping.{cancel_spares, cancel_asks}
@@ -32,8 +32,8 @@ idle_then a b piece settings grown none idle =
     (subst HasNoRequests (sym (state-append g a.history piece)) (idle_stays g (state g a.history) piece none idle)))
 
 -- all stay in order by a call that cancels nothing
-pub all_kept : (a b : Seen) (call : Way → Growth) (is : List Interval) (goes : Goes a call b) (kept : AreKept a is)
-    → ArePlain (goes.lone kept.lone).piece → Legal b.settings b.history → AreKept b is
+pub all_kept : (a b : Seen) (call : Way → Growth) (is : List Interval) (goes : Goes a call b) (kept : AreIntervalsKept a is)
+    → ArePlain (goes.lone kept.lone).piece → Legal b.settings b.history → AreIntervalsKept b is
 all_kept a b call is goes kept plain legal =
     let grows = goes.lone kept.lone in
     record {
@@ -55,7 +55,7 @@ either x y differ = lt_or x y differ (cases_eq (x - y) 0)
     lt_or x y differ (inr some) = inr (omega (arith, some))
 
 -- a list with another interval at one place
-module _ (a b : Seen) (is : List Interval) (n : ℕ) (j : Interval) (kept : AreKept a is) (low : n < length is) (next : b.next ≡ a.next)
+module _ (a b : Seen) (is : List Interval) (n : ℕ) (j : Interval) (kept : AreIntervalsKept a is) (low : n < length is) (next : b.next ≡ a.next)
     (legal : Legal b.settings b.history) (idle : HasNoRequests (state b.settings b.history))
     (others : (m : ℕ) (d : Interval) → m ≢ n → m < length is → IsIntervalOf b.settings b.history (slice_index_or is m d))
     (one : IsIntervalOf b.settings b.history j) (last : (d : Interval) → IsNewOrSame (state a.settings a.history) (slice_index_or is n d) j) where
@@ -78,7 +78,7 @@ module _ (a b : Seen) (is : List Interval) (n : ℕ) (j : Interval) (kept : AreK
         | inr more ↦ kept.apart n m d more high (sym is_same)
       ]
 
-  pub set_kept : AreKept b (set is n j)
+  pub set_kept : AreIntervalsKept b (set is n j)
   set_kept = record {
     lone = next ∙ kept.lone;
     legal = legal;
@@ -119,7 +119,7 @@ any_default (x ∷ xs) zero d e low = refl
 any_default (x ∷ xs) (suc n) d e low = any_default xs n d e (omega (arith, low))
 
 -- all but one stay in order where only the timer of that may be cancelled
-pub spared_kept : (a b : Seen) (is : List Interval) (n : ℕ) (i : Interval) → AreKept a is → n < length is → i ≡ slice_index_or is n i
+pub spared_kept : (a b : Seen) (is : List Interval) (n : ℕ) (i : Interval) → AreIntervalsKept a is → n < length is → i ≡ slice_index_or is n i
     → Spares i.last a b → Legal b.settings b.history → (m : ℕ) (d : Interval) → m ≢ n → m < length is
     → IsIntervalOf b.settings b.history (slice_index_or is m d)
 spared_kept a b is n i kept low here spares legal m d not high =
@@ -139,9 +139,9 @@ pub spared_idle : (a b : Seen) (r : TimerRef) → Spares r a b → HasNoRequests
 spared_idle a b r spares idle = idle_then a b spares.piece spares.settings spares.grown (cancel_asks r spares.piece spares.spares) idle
 
 -- one interval more
-pub pushed_kept : (a b : Seen) (call : Way → Growth) (is : List Interval) (j : Interval) (goes : Goes a call b) (kept : AreKept a is)
+pub pushed_kept : (a b : Seen) (call : Way → Growth) (is : List Interval) (j : Interval) (goes : Goes a call b) (kept : AreIntervalsKept a is)
     → ArePlain (goes.lone kept.lone).piece → Legal b.settings b.history → length is < 4294967295 → IsIntervalOf b.settings b.history j
-    → (state a.settings a.history).status j.last ≡ None → AreKept b (is ++ j ∷ [])
+    → (state a.settings a.history).status j.last ≡ None → AreIntervalsKept b (is ++ j ∷ [])
 pushed_kept a b call is j goes kept plain legal few one new =
     let all = all_kept a b call is goes kept plain legal in
     let size : length (is ++ j ∷ []) ≡ length is + 1 = length-append is (j ∷ []) in

@@ -116,7 +116,7 @@ abbrev pub HasNoRequests : State → Type 0
 HasNoRequests s = (w : ℕ) → (s.inboxes w ≡ []) × ((s.scheds w).hand ≡ None)
 
 -- the intervals of a world that gave out no seat
-pub record AreKept (w : Seen) (is : List Interval) : Type 0 where
+pub record AreIntervalsKept (w : Seen) (is : List Interval) : Type 0 where
   pub lone : w.next ≡ 1
   pub legal : Legal w.settings w.history
   pub idle : HasNoRequests (state w.settings w.history)

@@ -34,7 +34,7 @@ impl IntervalWorld {
     ghost use Rattle.ert_effects.specs.ClockCalls.{Ticks};
     ghost use Rattle.ert_effects.specs.MailCalls.{Takes};
     ghost use Rattle.ert_defs.specs.Settings.{IsChecked};
-    ghost use Rattle.ert_interval.specs.Intervals.{AreKept};
+    ghost use Rattle.ert_interval.specs.Intervals.{AreIntervalsKept};
     ghost use Rattle.ert_interval.specs.Calls.{FiringsAre, Every, Stops, StateIs};
     ghost use Rattle.ert_world.specs.Openings.{IsOpened};
     ghost use Rattle.ert_world.specs.Worlds.{Goes, GoesOnClock, By};
@@ -44,7 +44,7 @@ impl IntervalWorld {
         requires { IsChecked settings.now }
         ensures world { IfOk result (λ w. IsOpened settings.now w.world) }
         ensures none { IfOk result (λ w. w.intervals.items ≡ []) }
-        ensures kept { IfOk result (λ w. AreKept w.world w.intervals.items) }
+        ensures kept { IfOk result (λ w. AreIntervalsKept w.world w.intervals.items) }
     {
         let world = World::open(alloc, settings)?;
         Ok(IntervalWorld {
@@ -70,11 +70,11 @@ impl IntervalWorld {
         dest: u32,
         msg: u64,
     ) -> Result<u32, IntervalErr>
-        requires kept { AreKept self.old.world self.old.intervals.items }
+        requires kept { AreIntervalsKept self.old.world self.old.intervals.items }
         requires wheel { wheel < self.old.world.settings.schedulers }
         requires dest { dest < self.old.world.settings.processes }
         requires few { length self.old.intervals.items < 4294967295 }
-        ensures kept { AreKept self.new.world self.new.intervals.items }
+        ensures kept { AreIntervalsKept self.new.world self.new.intervals.items }
         ensures made { Every wheel first period dest msg self.old.world self.old.intervals.items result self.new.world self.new.intervals.items }
     {
         let settings = *self.world.settings();
@@ -128,8 +128,8 @@ impl IntervalWorld {
 
     /// Stops an interval.
     pub fn stop(&mut self, interval: u32) -> Option<u64>
-        requires kept { AreKept self.old.world self.old.intervals.items }
-        ensures kept { AreKept self.new.world self.new.intervals.items }
+        requires kept { AreIntervalsKept self.old.world self.old.intervals.items }
+        ensures kept { AreIntervalsKept self.new.world self.new.intervals.items }
         ensures stops { Stops interval self.old.world self.old.intervals.items result self.new.world self.new.intervals.items }
     {
         if interval as usize >= self.intervals.len() {
@@ -140,9 +140,9 @@ impl IntervalWorld {
 
     /// Takes one reading of the OS clocks (`World::tick`).
     pub fn tick(&mut self, reading: Reading, force: bool) -> Result<Moved, ClockErr>
-        requires kept { AreKept self.old.world self.old.intervals.items }
+        requires kept { AreIntervalsKept self.old.world self.old.intervals.items }
         ensures call { GoesOnClock self.old.world (By self.old.world (λ g. Ticks g 0 reading force result)) self.new.world }
-        ensures kept { AreKept self.new.world self.new.intervals.items }
+        ensures kept { AreIntervalsKept self.new.world self.new.intervals.items }
         ensures same { self.new.intervals.items ≡ self.old.intervals.items }
     {
         self.world.tick(reading, force)
@@ -150,10 +150,10 @@ impl IntervalWorld {
 
     /// Lets a process exit (`World::exit`). The next turn ends the intervals that go to it.
     pub fn exit(&mut self, process: u32) -> bool
-        requires kept { AreKept self.old.world self.old.intervals.items }
+        requires kept { AreIntervalsKept self.old.world self.old.intervals.items }
         requires process { process < self.old.world.settings.processes }
         ensures call { Goes self.old.world (λ way. Exits self.old.world.settings way 0 process result) self.new.world }
-        ensures kept { AreKept self.new.world self.new.intervals.items }
+        ensures kept { AreIntervalsKept self.new.world self.new.intervals.items }
         ensures same { self.new.intervals.items ≡ self.old.intervals.items }
     {
         self.world.exit(process)
@@ -161,10 +161,10 @@ impl IntervalWorld {
 
     /// Takes the first message of a process (`World::take`).
     pub fn take(&mut self, process: u32) -> Taken
-        requires kept { AreKept self.old.world self.old.intervals.items }
+        requires kept { AreIntervalsKept self.old.world self.old.intervals.items }
         requires process { process < self.old.world.settings.processes }
         ensures call { Goes self.old.world (By self.old.world (λ g. Takes g 0 process result)) self.new.world }
-        ensures kept { AreKept self.new.world self.new.intervals.items }
+        ensures kept { AreIntervalsKept self.new.world self.new.intervals.items }
         ensures same { self.new.intervals.items ≡ self.old.intervals.items }
     {
         self.world.take(process)

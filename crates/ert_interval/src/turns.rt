@@ -18,7 +18,7 @@ impl IntervalWorld {
     ghost use Rattle.ert_effects.specs.Chains.{Turns};
     ghost use Rattle.ert_interval.specs.Calls.{Still, PassesBy, PassesOne, CountsTimers};
     ghost use Rattle.ert_interval.specs.Going.{KeepsSeats, StepsAll, StepsOne};
-    ghost use Rattle.ert_interval.specs.Intervals.{AreKept};
+    ghost use Rattle.ert_interval.specs.Intervals.{AreIntervalsKept};
     ghost use Rattle.ert_interval.specs.Turns.{TurnsIntervals};
     ghost use Rattle.ert_world.specs.Worlds.{Goes};
 
@@ -28,9 +28,9 @@ impl IntervalWorld {
     /// After want of memory what was done stays done: the interval in hand has read its last timer and looked
     /// at its destination, and has started none. A later turn goes on from there.
     pub fn turn(&mut self, sched: u32) -> Result<IntervalTurn, NoMemory>
-        requires kept { AreKept self.old.world self.old.intervals.items }
+        requires kept { AreIntervalsKept self.old.world self.old.intervals.items }
         requires sched { sched < self.old.world.settings.schedulers }
-        ensures kept { AreKept self.new.world self.new.intervals.items }
+        ensures kept { AreIntervalsKept self.new.world self.new.intervals.items }
         ensures turns { TurnsIntervals sched result self.old.world self.old.intervals.items self.new.world self.new.intervals.items }
     {
         let turned = self.turn_world(sched)?;
@@ -40,10 +40,10 @@ impl IntervalWorld {
 
     /// The world's turn.
     fn turn_world(&mut self, sched: u32) -> Result<Turned, NoMemory>
-        requires kept { AreKept self.old.world self.old.intervals.items }
+        requires kept { AreIntervalsKept self.old.world self.old.intervals.items }
         requires sched { sched < self.old.world.settings.schedulers }
         ensures turn { Goes self.old.world (λ way. Turns self.old.world.settings way sched result) self.new.world }
-        ensures kept { AreKept self.new.world self.new.intervals.items }
+        ensures kept { AreIntervalsKept self.new.world self.new.intervals.items }
         ensures same { self.new.intervals.items ≡ self.old.intervals.items }
     {
         self.world.turn(sched)
@@ -51,8 +51,8 @@ impl IntervalWorld {
 
     /// Goes on with the intervals of a wheel, and answers how many started their next timer.
     fn go_on_all(&mut self, sched: u32) -> Result<u32, NoMemory>
-        requires kept { AreKept self.old.world self.old.intervals.items }
-        ensures kept { AreKept self.new.world self.new.intervals.items }
+        requires kept { AreIntervalsKept self.old.world self.old.intervals.items }
+        ensures kept { AreIntervalsKept self.new.world self.new.intervals.items }
         ensures still { Still self.old.world self.new.world }
         ensures stays { KeepsSeats self.old.world self.new.world }
         ensures steps { StepsAll sched result self.old.world self.old.intervals.items self.new.world self.new.intervals.items }
@@ -69,9 +69,9 @@ impl IntervalWorld {
 
     /// Goes on with an interval where it is of a wheel and is Running or Waiting.
     fn go_on_one(&mut self, number: usize, sched: u32) -> Result<bool, NoMemory>
-        requires kept { AreKept self.old.world self.old.intervals.items }
+        requires kept { AreIntervalsKept self.old.world self.old.intervals.items }
         requires number { number < length self.old.intervals.items }
-        ensures kept { AreKept self.new.world self.new.intervals.items }
+        ensures kept { AreIntervalsKept self.new.world self.new.intervals.items }
         ensures still { Still self.old.world self.new.world }
         ensures stays { KeepsSeats self.old.world self.new.world }
         ensures step { StepsOne result sched number self.old.world self.old.intervals.items self.new.world self.new.intervals.items }

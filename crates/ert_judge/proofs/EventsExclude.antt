@@ -4,7 +4,7 @@ use Rattle.std.proofs.Common.{◌≡◌, ◌≢◌, ◌<◌, ◌≤◌, ◌⊎�
 use Rattle.std.proofs.lemmas.Bool.{cases_Bool, le-leb}
 use Rattle.ert_defs.proofs.Slots.{same_timer-true}
 use Rattle.ert_defs.specs.Clocks.{face}
-use Rattle.ert_defs.specs.Legal.{Known, Found, Can, CanTick, CanArm, CanAnswer, IsNext, IsFirst, HasExited, IsResult, AllSettled, names_timer, left_of, stands_in}
+use Rattle.ert_defs.specs.Legal.{Known, Found, Can, CanTick, CanArm, CanAnswer, IsNext, IsFirst, HasDestExited, IsResult, AllSettled, names_timer, left_of, stands_in}
 use Rattle.ert_defs.specs.Lines.{Face, Due, IsInRange}
 use Rattle.ert_defs.specs.Mails.{MailState, SchedState, first_of}
 use Rattle.ert_defs.specs.Milliseconds.{down, deadline_of}
@@ -132,7 +132,7 @@ stays_alive : (exited : ℕ → Bool) (a b : Row) (dest : ℕ) → a ≡ b → d
 stays_alive exited a b dest same is alive gone =
     true_is_false (exited dest) (ap exited (is ∙ ap (λ (r : Row). r.dest) same) ∙ gone) alive
 
-orphan_excludes : (s : State) (timer : TimerRef) (reason : Reason) → OrphanBreaks s timer reason → HasExited s timer
+orphan_excludes : (s : State) (timer : TimerRef) (reason : Reason) → OrphanBreaks s timer reason → HasDestExited s timer
     → s.status timer ≡ Some Armed → ⊥
 orphan_excludes s timer (NotArmed status) h is found = h.1 (h.0 ∙ found)
 orphan_excludes s timer (NotExited dest) h is found =

@@ -19,7 +19,7 @@ pub const TIMERS_OF_WHEEL: usize = 1 << 53;
 impl Judge {
     ghost use Rattle.std.specs.Prelude.{Some, true};
     ghost use Rattle.ert_defs.specs.Clocks as clocks;
-    ghost use Rattle.ert_defs.specs.Legal.{Known, Found, HasExited, CanAnswer, CanArm, IsFirst, left_of};
+    ghost use Rattle.ert_defs.specs.Legal.{Known, Found, HasDestExited, CanAnswer, CanArm, IsFirst, left_of};
     ghost use Rattle.ert_defs.specs.Milliseconds as milliseconds;
     ghost use Rattle.ert_defs.specs.declared.entry.Actor.TheVariants.{MailOf};
     ghost use Rattle.ert_state.specs.Parts.{sched_at, exited_at};
@@ -142,7 +142,7 @@ impl Judge {
 
     /// Whether the row of a timer stands, and its destination has exited.
     fn has_exited(&self, timer: TimerRef) -> bool
-        ensures { (c : clocks.Clock) → IsTrue result ↔ HasExited (shown c self.now) timer }
+        ensures { (c : clocks.Clock) → IsTrue result ↔ HasDestExited (shown c self.now) timer }
     {
         match self.timers.row(timer) {
             Some(row) => self.exits.has_exited(row.dest),

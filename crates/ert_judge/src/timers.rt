@@ -6,7 +6,7 @@ ghost use Rattle.ert_defs.specs.Milliseconds as milliseconds;
 ghost use Rattle.ert_judge.specs.Shown.{shown, last_look, last_status, OwnTimers};
 ghost use Rattle.ert_judge.specs.Breaks.{ArmBreaks, UseBreaks, ProbeBreaks, LeftBreaks, ExpireBreaks, OrphanBreaks, AdvancedBreaks, MarkBreaks, IsUse};
 ghost use Rattle.ert_state.specs.Parts.{status_at, rows_in, exited_at};
-ghost use Rattle.ert_defs.specs.Legal.{CanArm, IsNext, HasExited, AllSettled, left_of};
+ghost use Rattle.ert_defs.specs.Legal.{CanArm, IsNext, HasDestExited, AllSettled, left_of};
 ghost use Rattle.ert_defs.specs.Timers.{turned, is_taken};
 ghost use Rattle.ert_defs.specs.Timers as timers;
 ghost use Rattle.ert_state.specs.Uses.{uses_of};
@@ -184,7 +184,7 @@ fn is_early(deadline: u64, looked: i128) -> bool
 /// Why the destination of a timer can't have been found to have exited.
 pub fn of_orphan(judge: &Judge, timer: TimerRef) -> Option<Reason>
     ensures some { (c : Clock) → IfSome result (OrphanBreaks (shown c judge.now) timer) }
-    ensures none { (c : Clock) → IfNone result (HasExited (shown c judge.now) timer
+    ensures none { (c : Clock) → IfNone result (HasDestExited (shown c judge.now) timer
         × (status_at judge.now.timers timer ≡ Some Status.Armed)) }
 {
     let Some(found) = judge.timers.find(timer) else {

@@ -21,7 +21,7 @@ use Rattle.ert_defs.specs.declared.mail.Mail.{Mail}
 use Rattle.ert_defs.specs.declared.settings.Settings.{Settings}
 use Rattle.ert_defs.specs.declared.timer.Status.TheVariants.{Expired, Delivered, Dropped}
 use Rattle.ert_defs.specs.declared.timer.TimerRef.{TimerRef}
-use Rattle.ert_laws.specs.MailOrder.{Sent, sent_by_row, sent_by_none, sent_at, sent_to, expired_in, expired_of, is_delivered, is_handed_over, is_from, is_delivered_to, LawOfTurns, LawOfOrder}
+use Rattle.ert_laws.specs.MailOrder.{Sent, sent_by_row, sent_by_none, sent_at, sent_to, expired_in, expired_of, is_delivered, is_handed_over, is_from, is_delivered_to, LawOfExpiryOrder, LawOfOrder}
 use Rattle.ert_laws.proofs.Histories.{by_entries, state-more, gathered-more}
 use Rattle.ert_laws.proofs.Mailboxes.{mail_has, first_row}
 use Rattle.ert_laws.proofs.Handing.{HandsOver, none_pass, none_handed, one_handed}
@@ -198,7 +198,7 @@ hands_over g h w p legal =
     (gathered-more g (λ s (e : Entry). expired_in w s e.event) h e) more)))
     (record { handed = []; all = refl; over = All-nil (λ row. is_handed_over None ≡ true); order = refl }) h legal
 
-pub in_turn : LawOfTurns
+pub in_turn : LawOfExpiryOrder
 in_turn g h w legal =
     let over = hands_over g h w 0 legal in
     record { handed = over.handed; all = over.all; over = over.over }

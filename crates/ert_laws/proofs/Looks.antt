@@ -18,7 +18,7 @@ use Rattle.ert_defs.specs.declared.timer.TimerRef.{TimerRef}
 use Rattle.ert_defs.proofs.Numbers.{floor_rises}
 use Rattle.ert_defs.proofs.Runs.{legal_first, legal_then}
 use Rattle.ert_defs.proofs.Times.{KeepsBounds, kept_opening, kept_next, time_next}
-use Rattle.ert_laws.specs.ClockLaws.{IsDueBy}
+use Rattle.ert_laws.specs.ClockLaws.{HasDeadlineCome}
 
 -- a look is of no time to come, and of none before the start time
 pub record IsLook (g : Settings) (s : State) (look : ℤ) : Type 0 where
@@ -59,7 +59,7 @@ looks g h a checked legal =
 
 -- a timer that is due by a look is due by each later time
 pub due_later : (g : Settings) (s : State) (by : Actor) (timer : TimerRef) → IsLook g s (s.looked by)
-    → IsNext g s by timer → IsDueBy g (s.rows timer.wheel) timer s.clock.now
+    → IsNext g s by timer → HasDeadlineCome g (s.rows timer.wheel) timer s.clock.now
 due_later g s by timer look n =
     let later : (s.looked by -ℤ g.start) ≤ℤ (s.clock.now -ℤ g.start) = omega (arith, ints, look.high) in
     let rises : down g (s.looked by) ≤ℤ down g s.clock.now = floor_rises _ _ later in
@@ -73,7 +73,7 @@ due_later g s by timer look n =
 
 -- no timer expires early
 pub due_by_now : (g : Settings) (f : List Entry) (e : Entry) (timer : TimerRef) → IsChecked g → Legal g (f ++ e ∷ [])
-    → e.event ≡ Expire timer → IsDueBy g ((state g f).rows timer.wheel) timer (state g f).clock.now
+    → e.event ≡ Expire timer → HasDeadlineCome g ((state g f).rows timer.wheel) timer (state g f).clock.now
 due_by_now g f e timer checked legal is =
     let front = legal_first g (opening g) f (e ∷ []) legal in
     let can = legal_then g (opening g) f (e ∷ []) legal in

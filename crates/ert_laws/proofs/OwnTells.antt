@@ -28,7 +28,7 @@ use Rattle.ert_defs.specs.declared.settings.Settings.{Settings}
 use Rattle.ert_defs.specs.declared.timer.Kind.{Kind}
 use Rattle.ert_defs.specs.declared.timer.Kind.TheVariants.{Wrapped, Bare}
 use Rattle.ert_defs.specs.declared.timer.TimerRef.{TimerRef}
-use Rattle.ert_laws.specs.Changes.{LastTold, TellsTruly, IsTold, LawOfChanges, LawOfTold}
+use Rattle.ert_laws.specs.Changes.{LastTold, TellsTruly, IsTold, LawOfChanges, LawOfChangesTold}
 use Rattle.ert_laws.specs.MailOrder.{Sent, sent_by_row, sent_by_none, sent_in, sent_at, sent_to}
 use Rattle.ert_laws.proofs.Histories.{by_entries, gathered-more}
 use Rattle.ert_laws.proofs.Mailboxes.{mail_has, caller_no_mail, mail_in, mailboxes}
@@ -133,7 +133,7 @@ sent_are_told g h p legal =
     (changes_are_told g h e p (legal_more g h e legal can)))))
     (All-nil (λ (x : Sent). IsTold g [] p x.mail)) h legal
 
-pub messages_are_told : LawOfTold
+pub messages_are_told : LawOfChangesTold
 messages_are_told g h p legal =
     subst (All (IsTold g h p)) (mailboxes g h p legal)
     (All-map (IsTold g h p) mail_in (sent_to g p h) (sent_are_told g h p legal))

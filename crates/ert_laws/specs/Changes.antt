@@ -62,6 +62,6 @@ IsTold g h p (Change n offset) = HasTell g h p n offset
 IsTold g h p _ = Unit {0}
 
 -- so each Change that was taken from a mailbox, or stands in it, comes from such a Tell
-abbrev pub LawOfTold : Type 0
-LawOfTold = (g : Settings) (h : List Entry) (p : ℕ) → Legal g h
+abbrev pub LawOfChangesTold : Type 0
+LawOfChangesTold = (g : Settings) (h : List Entry) (p : ℕ) → Legal g h
     → All (IsTold g h p) (taken_from p h ++ ((state g h).mails p).queue)

@@ -33,7 +33,7 @@ LawOfLastLooks = (g : Settings) (h : List Entry) (a : Actor) → IsChecked g →
     → (state g h).looked a ≤ℤ (state g h).clock.now
 
 -- among these rows the timer has one, whose deadline has come at a time
-pub record IsDueBy (g : Settings) (rows : List Row) (timer : TimerRef) (now : ℤ) : Type 0 where
+pub record HasDeadlineCome (g : Settings) (rows : List Row) (timer : TimerRef) (now : ℤ) : Type 0 where
   pub row : Row
   pub stands : Contains rows row
   pub named : row.timer ≡ timer
@@ -43,7 +43,7 @@ pub record IsDueBy (g : Settings) (rows : List Row) (timer : TimerRef) (now : �
 abbrev pub LawOfExpiry : Type 0
 LawOfExpiry = (g : Settings) (f : List Entry) (e : Entry) (timer : TimerRef) → IsChecked g
     → Legal g (f ++ e ∷ []) → e.event ≡ Expire timer
-    → IsDueBy g ((state g f).rows timer.wheel) timer (state g f).clock.now
+    → HasDeadlineCome g ((state g f).rows timer.wheel) timer (state g f).clock.now
 
 -- each legal history is permitted
 abbrev pub LawOfPermission : Type 0

@@ -19,8 +19,8 @@ abbrev pub Refuses : List Entry → Entry → Type 0
 Refuses h e = Legal (small No) h × (Legal (small No) (h ++ e ∷ []) → ⊥)
 
 -- the status of the timer after a history
-abbrev pub status_of : List Entry → Option Status
-status_of h = (state (small No) h).status timer
+abbrev pub judged_status : List Entry → Option Status
+judged_status h = (state (small No) h).status timer
 
 -- a timer of 5 milliseconds that is started at 1 is due at 6: at 1 the scheduler has none to settle
 abbrev pub TimerWaits : Type 0
@@ -32,11 +32,11 @@ EarlyExpiryIsRefused = Refuses (started 5) (by_sched (Some (Wheel 0)) (Expire ti
 
 -- the timer is delivered then
 abbrev pub TimerIsDelivered : Type 0
-TimerIsDelivered = Legal (small No) delivered × (status_of delivered ≡ Some Delivered)
+TimerIsDelivered = Legal (small No) delivered × (judged_status delivered ≡ Some Delivered)
 
 -- the timer is cancelled then
 abbrev pub TimerIsCancelled : Type 0
-TimerIsCancelled = Legal (small No) cancelled × (status_of cancelled ≡ Some Cancelled)
+TimerIsCancelled = Legal (small No) cancelled × (judged_status cancelled ≡ Some Cancelled)
 
 -- a cancel can't tell another number
 abbrev pub OtherCancelIsRefused : Type 0
@@ -44,7 +44,7 @@ OtherCancelIsRefused = Refuses read (by_caller None (Cancel timer (Some 4)))
 
 -- the timer is orphaned then
 abbrev pub TimerIsOrphaned : Type 0
-TimerIsOrphaned = Legal (small No) orphaned × (status_of orphaned ≡ Some Orphaned)
+TimerIsOrphaned = Legal (small No) orphaned × (judged_status orphaned ≡ Some Orphaned)
 
 -- a timer isn't cancelled so while its destination stands
 abbrev pub EarlyOrphanIsRefused : Type 0
@@ -52,7 +52,7 @@ EarlyOrphanIsRefused = Refuses (begun 5) (by_caller (Some (Wheel 0)) (Orphan tim
 
 -- the timer is cancelled then
 abbrev pub RequestIsAnswered : Type 0
-RequestIsAnswered = Legal (small No) answered × (status_of answered ≡ Some Cancelled)
+RequestIsAnswered = Legal (small No) answered × (judged_status answered ≡ Some Cancelled)
 
 -- the scheduler can't tell another number
 abbrev pub OtherAnswerIsRefused : Type 0

@@ -9,7 +9,7 @@ use Rattle.ert_defs.specs.declared.entry.Event.TheVariants.{Expire}
 use Rattle.ert_defs.specs.declared.settings.Settings.{Settings}
 use Rattle.ert_defs.specs.declared.timer.TimerRef.{TimerRef}
 use Rattle.ert_laws.specs.Changes.{IsTold}
-use Rattle.ert_laws.specs.ClockLaws.{IsDueBy}
+use Rattle.ert_laws.specs.ClockLaws.{HasDeadlineCome}
 use Rattle.ert_laws.specs.Lives.{life, life_to}
 use Rattle.ert_laws.specs.MailOrder.{sent_to, taken_from, is_from, is_delivered_to, expired_of, sent_by_row}
 use Rattle.ert_laws.specs.Permitted.{Permitted}
@@ -23,7 +23,7 @@ pub record KeepsLaws (g : Settings) (h : List Entry) : Type 0 where
   pub clock : Permitted g h
   -- no timer expires before its deadline
   pub expiry : (f m : List Entry) (e : Entry) (timer : TimerRef) → h ≡ (f ++ e ∷ []) ++ m → e.event ≡ Expire timer
-      → IsDueBy g ((state g f).rows timer.wheel) timer (state g f).clock.now
+      → HasDeadlineCome g ((state g f).rows timer.wheel) timer (state g f).clock.now
   -- each timer settles once at most: its life is that of its status, one of six
   pub lives : (r : TimerRef) → life r h ≡ life_to ((state g h).status r)
   -- what was put into a mailbox is, in order, what was taken from it and then what stands in it

@@ -95,8 +95,8 @@ pub record InTurn (g : Settings) (h : List Entry) (w : ℕ) : Type 0 where
   pub over : All (λ row. is_handed_over ((state g h).status row.timer) ≡ true) handed
 
 -- in each legal history each scheduler does so
-abbrev pub LawOfTurns : Type 0
-LawOfTurns = (g : Settings) (h : List Entry) (w : ℕ) → Legal g h → InTurn g h w
+abbrev pub LawOfExpiryOrder : Type 0
+LawOfExpiryOrder = (g : Settings) (h : List Entry) (w : ℕ) → Legal g h → InTurn g h w
 
 -- a timer, where there is one, is of a wheel
 abbrev pub is_of_wheel : ℕ → Option TimerRef → Bool

@@ -25,8 +25,8 @@ abbrev pub next_timer : TimerRef
 next_timer = record { wheel = 0; slot = 0; generation = 2 }
 
 -- the timer expires, its process exits, and so its message is dropped
-abbrev pub dropped : List Entry
-dropped = started 0
+abbrev pub worked_drop : List Entry
+worked_drop = started 0
     ++ by_sched (Some (Wheel 0)) (Expire timer)
     ∷ by_caller None (Mark 0 true false)
     ∷ by_sched None (Mark 0 false true)
@@ -39,7 +39,7 @@ pub record LivesAreRead : Type 0 where
   pub arrives : life timer delivered ≡ Armed ∷ Expired ∷ Delivered ∷ []
   pub is_cancelled : life timer cancelled ≡ Armed ∷ Cancelled ∷ []
   pub is_orphaned : life timer orphaned ≡ Armed ∷ Orphaned ∷ []
-  pub is_dropped : life timer dropped ≡ Armed ∷ Expired ∷ Dropped ∷ []
+  pub is_dropped : life timer worked_drop ≡ Armed ∷ Expired ∷ Dropped ∷ []
   pub never_armed : life next_timer delivered ≡ []
 
 -- the message of the timer
@@ -60,7 +60,7 @@ pub record MailIsRead : Type 0 where
   pub timer_taken : taken_from 0 delivered ≡ Timeout timer 7 ∷ []
   pub answer_sent : sent_to (small No) 0 answered ≡ sent_as_answer ∷ []
   pub answer_taken : taken_from 0 answered ≡ CancelDone timer (Some 5) ∷ []
-  pub none_sent : sent_to (small No) 0 dropped ≡ []
+  pub none_sent : sent_to (small No) 0 worked_drop ≡ []
   pub change_sent : sent_to (small Multi) 0 taken ≡ sent_as_change ∷ []
   pub change_taken : taken_from 0 taken ≡ Change 0 (negsuc 4999999999) ∷ []
 
@@ -107,15 +107,15 @@ both_expired =
     ∷ []
 
 -- the history of all that
-abbrev pub both : List Entry
-both = both_started ++ both_expired
+abbrev pub worked_mail : List Entry
+worked_mail = both_started ++ both_expired
 
 -- the one with the earlier deadline expires first, and so its message is first
 pub record ExpiryIsInOrder : Type 0 where
-  pub legal : Legal wide both
-  pub expired : expired_of wide 0 both ≡ fast ∷ slow ∷ []
-  pub sent : sent_to wide 0 both
+  pub legal : Legal wide worked_mail
+  pub expired : expired_of wide 0 worked_mail ≡ fast ∷ slow ∷ []
+  pub sent : sent_to wide 0 worked_mail
       ≡ (record { timer = Some fast.timer; mail = Timeout fast.timer 8 })
       ∷ (record { timer = Some slow.timer; mail = Timeout slow.timer 7 }) ∷ []
-  pub first_taken : taken_from 0 both ≡ Timeout fast.timer 8 ∷ []
-  pub other_stands : ((state wide both).mails 0).queue ≡ Timeout slow.timer 7 ∷ []
+  pub first_taken : taken_from 0 worked_mail ≡ Timeout fast.timer 8 ∷ []
+  pub other_stands : ((state wide worked_mail).mails 0).queue ≡ Timeout slow.timer 7 ∷ []

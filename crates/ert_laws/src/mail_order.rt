@@ -1,6 +1,6 @@
 //! The order of messages.
 
-ghost use Rattle.ert_laws.specs.MailOrder.{LawOfMailboxes, LawOfTurns, LawOfOrder};
+ghost use Rattle.ert_laws.specs.MailOrder.{LawOfMailboxes, LawOfExpiryOrder, LawOfOrder};
 
 /// What was put into a mailbox is, in order, what was taken from it and then what stands in it.
 pub fn mailboxes_keep_order()
@@ -10,6 +10,6 @@ pub fn mailboxes_keep_order()
 /// A scheduler hands its timers over in order of expiry. So the messages of its timers stand in each mailbox,
 /// and are taken, in that order: those of its delivered timers for that process, each once, and no others.
 pub fn timer_messages_come_in_order()
-    ensures turns { LawOfTurns }
+    ensures turns { LawOfExpiryOrder }
     ensures order { LawOfOrder }
 {}

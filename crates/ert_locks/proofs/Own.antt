@@ -1,7 +1,7 @@
 -- Each entry of a call has the actor that makes the call.
 
 use Rattle.std.proofs.Common.{◌≡◌, ℕ, zero, suc, Bool, true, false, List, [], ◌∷◌, ◌++◌, Option, Some, None, Result, Ok, Err, inl, inr, refl, sym, subst}
-use Rattle.ert_effects.specs.ClockCalls.{Ticks, Finalizes, FinalizesFrom, Acts}
+use Rattle.ert_effects.specs.ClockCalls.{Ticks, Finalizes, FinalizesFrom, TakesReading}
 use Rattle.ert_effects.specs.MailCalls.{HandsOver, Takes, Monitors, Demonitors, Tells}
 use Rattle.ert_effects.specs.RequestCalls.{Asks, Picks, Answers, DoesAsked}
 use Rattle.ert_effects.proofs.Told.{round_probes}
@@ -54,7 +54,7 @@ shifts_have by act None = tt
 shifts_have by act (Some offset) = (same_actor_self (Caller by), tt)
 
 acts_have : (g : Settings) (by : ℕ) (r : Reading) (act : Act) (answer : Result Moved ClockErr) (s : State) (es : List Entry)
-    → Acts g by r act answer s es → AllHave (Caller by) es
+    → TakesReading g by r act answer s es → AllHave (Caller by) es
 acts_have g by r act (Ok m) s es acts = as_these (Caller by) es _ acts.entries (same_actor_self (Caller by), shifts_have by act m.shift)
 acts_have g by r act (Err BadReading) s es acts = as_these (Caller by) es _ acts.none tt
 acts_have g by r act (Err (OffsetWide value)) s es acts = as_these (Caller by) es _ acts.none tt

@@ -25,7 +25,7 @@ use Rattle.ert_locks.specs.Hands.{hand_left, rows_left, counted}
 use Rattle.ert_locks.specs.Kinds.{PartFits, scheds}
 use Rattle.ert_locks.specs.Names.{IsDesk}
 use Rattle.ert_locks.specs.Passes.{PartMeets}
-use Rattle.ert_mail.specs.Mailboxes.{handed, answered}
+use Rattle.ert_mail.specs.Mailboxes.{handed, after_answer}
 use Rattle.ert_world.proofs.Advances.{advance_hand, advance_still, advance_fits, difference}
 use Rattle.ert_world.proofs.SchedCalls.{sched_stands}
 use Rattle.ert_world.specs.Parts.{SchedStands}
@@ -51,11 +51,11 @@ seat_after {table} {g} {x} {p} {h} d after desk belongs actors front low made ha
     }
 
 -- an answer empties the hand, or leaves what the scheduler has
-pub answered_hand : (left : Result (Option ℕ) NoMemory) (s : SchedState) (hand : Option Request) → hand ≡ s.hand → hand_left left hand ≡ (answered left s).hand
+pub answered_hand : (left : Result (Option ℕ) NoMemory) (s : SchedState) (hand : Option Request) → hand ≡ s.hand → hand_left left hand ≡ (after_answer left s).hand
 answered_hand (Ok left) s hand is = refl
 answered_hand (Err e) s hand is = is
 
-pub answered_fired : (left : Result (Option ℕ) NoMemory) (s : SchedState) (rows : List Row) → rows ≡ s.fired → rows ≡ (answered left s).fired
+pub answered_fired : (left : Result (Option ℕ) NoMemory) (s : SchedState) (rows : List Row) → rows ≡ s.fired → rows ≡ (after_answer left s).fired
 answered_fired (Ok left) s rows is = is
 answered_fired (Err e) s rows is = is
 

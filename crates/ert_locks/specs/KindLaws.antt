@@ -5,7 +5,7 @@ use Rattle.std.proofs.Math.Arith.{lt-one}
 use Rattle.std.proofs.Math.Nat.{zero-lt-suc}
 use Rattle.std.specs.Prelude.{nat_eq, false}
 use Rattle.ert_clock.proofs.Stand.{stands_on}
-use Rattle.ert_clock.specs.Shown.{Shown, Stands as ClockStands}
+use Rattle.ert_clock.specs.Shown.{Shown, ClockStands}
 use Rattle.ert_defs.proofs.Runs.{state-append, sched_stays}
 use Rattle.ert_defs.specs.Actors.{of}
 use Rattle.ert_defs.specs.Legal.{Legal}

@@ -22,7 +22,7 @@ use Rattle.ert_table.proofs.Calls.{step_takes_place, takes_place_then}
 use Rattle.ert_table.proofs.Parts.{AreByThemselves, mail_own, sched_own, own_after, stepped}
 use Rattle.ert_table.specs.declared.view.View.{View}
 use Rattle.ert_laws.specs.Counts.{deliveries}
-use Rattle.ert_mail.specs.Mailboxes.{IsScheds, answered}
+use Rattle.ert_mail.specs.Mailboxes.{HoldsMailbox, after_answer}
 use Rattle.ert_mail.specs.Steps.{IsReplied, with_answer}
 use Rattle.ert_mail.proofs.Standing.{deliveries_after, mails_before}
 use Rattle.ert_mail.proofs.Handings.{scheds_before}
@@ -154,13 +154,13 @@ sched_asked g n request left es (inr (inr are)) =
 
 -- what a pass knows once the request in the hand of its scheduler is done
 record IsAnswerable (g : Settings) (v : View) (n : ℕ) (request : Request) (left : Option ℕ) (u : View) : Type 0 where
-  holds : IsScheds g u n request.reply_to
+  holds : HoldsMailbox g u n request.reply_to
   sched : IsDone g request left ((state g v.front).scheds n) ((state g u.front).scheds n)
   hand : ((state g u.front).scheds n).hand ≡ Some request
   mails : (state g u.front).mails request.reply_to ≡ (state g v.front).mails request.reply_to
   undelivered : deliveries request.reply_to u.front ≡ deliveries request.reply_to v.front
 
-answerable : (g : Settings) (v : View) (n : ℕ) (request : Request) (left : Option ℕ) (u : View) → IsScheds g v n request.reply_to
+answerable : (g : Settings) (v : View) (n : ℕ) (request : Request) (left : Option ℕ) (u : View) → HoldsMailbox g v n request.reply_to
     → ((state g v.front).scheds n).hand ≡ Some request → IsMade g v (DoesAsked request.kind g n request.timer left) u
     → IsAnswerable g v n request left u
 answerable g v n request left u holds hand does =
@@ -184,7 +184,7 @@ answerable g v n request left u holds hand does =
           ∙ (ap (λ d. deliveries p v.front + d) mail.2 ∙ add-zero (deliveries p v.front));
     }
 
-pub may_answer : (g : Settings) (v : View) (n : ℕ) (request : Request) (left : Option ℕ) (u : View) → IsScheds g v n request.reply_to
+pub may_answer : (g : Settings) (v : View) (n : ℕ) (request : Request) (left : Option ℕ) (u : View) → HoldsMailbox g v n request.reply_to
     → request.reply_to < g.processes → ((state g v.front).scheds n).hand ≡ Some request
     → IsMade g v (DoesAsked request.kind g n request.timer left) u → MayStep g u (answer_entry n request.reply_to left)
 may_answer g v n request left u holds in_range hand does =
@@ -195,7 +195,7 @@ may_answer g v n request left u holds in_range hand does =
       known = record { request = request; hand = now.hand; asker = refl; result = now.sched.result };
     }
 
-pub replied : (g : Settings) (v : View) (n : ℕ) (request : Request) (left : Option ℕ) (u x : View) → IsScheds g v n request.reply_to
+pub replied : (g : Settings) (v : View) (n : ℕ) (request : Request) (left : Option ℕ) (u x : View) → HoldsMailbox g v n request.reply_to
     → ((state g v.front).scheds n).hand ≡ Some request → IsMade g v (DoesAsked request.kind g n request.timer left) u
     → Appends g u (answer_entry n request.reply_to left) x → IsReplied g v n request left x
 replied g v n request left u x holds hand does step =
@@ -207,7 +207,7 @@ replied g v n request left u x holds hand does step =
     let mail_at = mails_before g u e x p now.holds.mail step in
     let hand_at : (at.scheds n).hand ≡ Some request = ap (λ (s : SchedState). s.hand) sched_at ∙ now.hand in
     let fired_at : (at.scheds n).fired ≡ ((state g v.front).scheds n).fired = ap (λ (s : SchedState). s.fired) sched_at ∙ now.sched.fired in
-    let sched_is : (s : State) → (next g s e).scheds n ≡ answered (Ok left) (s.scheds n) = λ s. rw (eq-eqb n n refl) refl in
+    let sched_is : (s : State) → (next g s e).scheds n ≡ after_answer (Ok left) (s.scheds n) = λ s. rw (eq-eqb n n refl) refl in
     let mail_is : (s : State) → (next g s e).mails p ≡ record { queue = (s.mails p).queue ++ answer_in (s.scheds n).hand left; monitors = (s.mails p).monitors; next = (s.mails p).next } =
     λ s. rw (eq-eqb p p refl) refl in
     let none : deliveries p (e ∷ []) ≡ 0 = rw (eq-eqb p p refl) refl in

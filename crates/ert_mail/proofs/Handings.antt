@@ -20,13 +20,13 @@ use Rattle.ert_effects.specs.declared.answers.Handed.{Handed}
 use Rattle.ert_effects.specs.declared.answers.Handed.TheVariants.{Put, Dropped}
 use Rattle.ert_laws.proofs.RowRanges.{first_placed}
 use Rattle.ert_table.specs.Held.{is_held}
-use Rattle.ert_table.specs.Settlings.{HasRow, hit_entry, mail_of, Settles}
+use Rattle.ert_table.specs.Settlings.{HasRow, hit_entry, mailbox_of, Settles}
 use Rattle.ert_table.specs.Takes.{MayStep, Appends}
 use Rattle.ert_table.proofs.Parts.{part_before, stepped, two_steps, held_on}
 use Rattle.ert_table.specs.declared.carry.Settle.TheVariants.{Deliver as ToDeliver, Drop as ToDrop}
 use Rattle.ert_table.specs.declared.view.View.{View}
 use Rattle.ert_laws.specs.Counts.{deliveries}
-use Rattle.ert_mail.specs.Mailboxes.{Mailbox, Stands, IsScheds, handed}
+use Rattle.ert_mail.specs.Mailboxes.{Mailbox, MailboxStands, HoldsMailbox, handed}
 use Rattle.ert_mail.specs.Steps.{IsHanded, with_fired}
 use Rattle.ert_mail.proofs.Counts.{deliveries_few}
 use Rattle.ert_mail.proofs.Standing.{deliveries_after, mails_before}
@@ -61,13 +61,13 @@ exit_seen g v u by p step =
 
 -- what is so of the first expired timer of a scheduler, where a pass that holds the scheduler knows it
 pub record IsReady (g : Settings) (u : View) (fired : Row) : Type 0 where
-  pub holds : IsScheds g u fired.timer.wheel fired.dest
+  pub holds : HoldsMailbox g u fired.timer.wheel fired.dest
   pub first : first_of ((state g u.front).scheds fired.timer.wheel).fired ≡ Some fired
   pub waits : IsFired (state g u.front) fired.timer.wheel fired
   pub place : IsSlot g fired.timer.wheel fired.timer.slot
   pub dest : fired.dest < g.processes
 
-pub ready : (g : Settings) (v u : View) (fired : Row) (was : Bool) → IsScheds g v fired.timer.wheel fired.dest
+pub ready : (g : Settings) (v u : View) (fired : Row) (was : Bool) → HoldsMailbox g v fired.timer.wheel fired.dest
     → first_of ((state g v.front).scheds fired.timer.wheel).fired ≡ Some fired
     → Appends g v (mark_entry (Sched fired.timer.wheel) fired.dest false was) u → IsReady g u fired
 ready g v u fired was holds first step =
@@ -95,7 +95,7 @@ has_row g u fired ready = record { row = fired; stands = ready.waits.stands; due
 delivery : (g : Settings) (u : View) (fired : Row) → IsReady g u fired
     → hit_entry g (state g u.front) (Sched fired.timer.wheel) fired.timer fired.deadline ToDeliver ≡ deliver_entry fired.timer.wheel fired.dest fired.timer
 delivery g u fired ready =
-    ap (λ row. record { by = Sched fired.timer.wheel; with = mail_of row; event = Deliver fired.timer }) ready.waits.stands
+    ap (λ row. record { by = Sched fired.timer.wheel; with = mailbox_of row; event = Deliver fired.timer }) ready.waits.stands
 
 pub may_deliver : (g : Settings) (u : View) (fired : Row) → IsReady g u fired
     → MayStep g u (hit_entry g (state g u.front) (Sched fired.timer.wheel) fired.timer fired.deadline ToDeliver)
@@ -130,7 +130,7 @@ message_first : (rows : List Row) (row : Row) → first_of rows ≡ Some row →
 message_first [] row is = absurd cc
 message_first (r ∷ rows) row is = let same : r ≡ row = cc in ap (λ r. message_of r ∷ []) same
 
-pub put_handed : (g : Settings) (v u w : View) (fired : Row) (hit : Bool) → IsScheds g v fired.timer.wheel fired.dest
+pub put_handed : (g : Settings) (v u w : View) (fired : Row) (hit : Bool) → HoldsMailbox g v fired.timer.wheel fired.dest
     → first_of ((state g v.front).scheds fired.timer.wheel).fired ≡ Some fired
     → Appends g v (mark_entry (Sched fired.timer.wheel) fired.dest false false) u
     → Settles g u (Sched fired.timer.wheel) fired.timer fired.deadline ToDeliver hit w → IsHanded g v fired Put w
@@ -159,7 +159,7 @@ put_handed g v u w fired hit holds first mark settled =
           ∙ ap (with_fired Put fired) (mail_at ∙ mails_marked g v u n p false holds.mail mark)));
     }
 
-pub drop_handed : (g : Settings) (v u w : View) (fired : Row) (hit : Bool) → IsScheds g v fired.timer.wheel fired.dest
+pub drop_handed : (g : Settings) (v u w : View) (fired : Row) (hit : Bool) → HoldsMailbox g v fired.timer.wheel fired.dest
     → Appends g v (mark_entry (Sched fired.timer.wheel) fired.dest false true) u
     → Settles g u (Sched fired.timer.wheel) fired.timer fired.deadline ToDrop hit w → IsHanded g v fired Dropped w
 drop_handed g v u w fired hit holds mark settled =
@@ -189,12 +189,12 @@ handed_count n p fired Put same = rw same (rw (eq-eqb p p refl) refl)
 handed_count n p fired Dropped same = refl
 
 pub stands_handed : (g : Settings) (v w : View) (fired : Row) (how : Handed) (m n now : Mailbox) → m ≡ now → fired.dest ≡ now.process
-    → is_held v.actors (MailOf now.process) ≡ true → Stands g v.front now → IsHanded g v fired how w → n.process ≡ m.process
-    → n.held ≡ with_fired how fired m.held → n.delivered ≡ m.delivered + counted how → Stands g w.front n
+    → is_held v.actors (MailOf now.process) ≡ true → MailboxStands g v.front now → IsHanded g v fired how w → n.process ≡ m.process
+    → n.held ≡ with_fired how fired m.held → n.delivered ≡ m.delivered + counted how → MailboxStands g w.front n
 stands_handed g v w fired how m n now is same held standing steps process has delivered =
     let p = m.process in
     let dest : fired.dest ≡ p = subst (λ (m : Mailbox). fired.dest ≡ m.process) (sym is) same in
-    let stands = subst (Stands g v.front) (sym is) standing in
+    let stands = subst (MailboxStands g v.front) (sym is) standing in
     let mails : (state g w.front).mails p ≡ with_fired how fired ((state g v.front).mails p) =
     subst (λ p. (state g w.front).mails p ≡ with_fired how fired ((state g v.front).mails p)) dest steps.mails in
     let count = deliveries_after g v (handed_entries fired.timer.wheel fired how) w p
@@ -210,7 +210,7 @@ stands_handed g v w fired how m n now is same held standing steps process has de
 
 -- one more is counted in 64 bits
 pub count_fits : (g : Settings) (v w : View) (fired : Row) (m : Mailbox) → IsChecked g → fired.dest ≡ m.process
-    → is_held v.actors (MailOf m.process) ≡ true → Stands g v.front m → IsHanded g v fired Put w → m.delivered + 1 ≤ 2 ^ 63
+    → is_held v.actors (MailOf m.process) ≡ true → MailboxStands g v.front m → IsHanded g v fired Put w → m.delivered + 1 ≤ 2 ^ 63
 count_fits g v w fired m checked dest held stands steps =
     let p = m.process in
     let count = deliveries_after g v (handed_entries fired.timer.wheel fired Put) w p held steps.call in

@@ -15,15 +15,15 @@ use Rattle.ert_table.specs.Takes.{Appends}
 use Rattle.ert_table.proofs.Makings.{step_made}
 use Rattle.ert_table.proofs.Parts.{part_before, stepped}
 use Rattle.ert_table.specs.declared.view.View.{View}
-use Rattle.ert_mail.specs.Inboxes.{Waiting, Stands, picked}
+use Rattle.ert_mail.specs.Inboxes.{Waiting, InboxStands, after_pick}
 
 -- an entry makes this of the requests that wait for a scheduler
 abbrev Turns : Settings → ℕ → Entry → (List Request → List Request) → Type 0
 Turns g w e f = (s : State) → (next g s e).inboxes w ≡ f (s.inboxes w)
 
 stands_step : (g : Settings) (v : View) (e : Entry) (w : View) (q r : Waiting) (f : List Request → List Request)
-    → is_held v.actors (Inbox q.wheel) ≡ true → Stands g v.front q → Appends g v e w → Turns g q.wheel e f
-    → r.wheel ≡ q.wheel → r.requests ≡ f q.requests → Stands g w.front r
+    → is_held v.actors (Inbox q.wheel) ≡ true → InboxStands g v.front q → Appends g v e w → Turns g q.wheel e f
+    → r.wheel ≡ q.wheel → r.requests ≡ f q.requests → InboxStands g w.front r
 stands_step g v e w q r f held stands step makes wheel requests =
     let before = part_before g v e w (Inbox q.wheel) (λ (s : State). s.inboxes q.wheel) (λ s e none. rw none refl) held step in
     let after = ap (λ (s : State). s.inboxes q.wheel) (stepped g v e w step) in
@@ -38,8 +38,8 @@ pub ask_made : (g : Settings) (v w : View) (by n : ℕ) (request : Request) (don
 ask_made g v w by n request done step = step_made g v (ask_entry by n request) w (Asks g by n request (Ok done)) refl step
 
 pub stands_asked : (g : Settings) (v w : View) (by : ℕ) (request : Request) (q r : Waiting) → is_held v.actors (Inbox q.wheel) ≡ true
-    → Stands g v.front q → Appends g v (ask_entry by q.wheel request) w → r.wheel ≡ q.wheel → r.requests ≡ q.requests ++ request ∷ []
-    → Stands g w.front r
+    → InboxStands g v.front q → Appends g v (ask_entry by q.wheel request) w → r.wheel ≡ q.wheel → r.requests ≡ q.requests ++ request ∷ []
+    → InboxStands g w.front r
 stands_asked g v w by request q r held stands step wheel requests =
     stands_step g v (ask_entry by q.wheel request) w q r (λ xs. xs ++ request ∷ []) held stands step
     (λ s. rw (eq-eqb q.wheel q.wheel refl) refl) wheel requests
@@ -48,18 +48,18 @@ pub pick_made : (g : Settings) (v w : View) (n : ℕ) (got : Option Request) →
 pick_made g v w n got step = step_made g v (pick_entry n got) w (Picks g n got) refl step
 
 pub stands_picked : (g : Settings) (v w : View) (got : Option Request) (q r : Waiting) → is_held v.actors (Inbox q.wheel) ≡ true
-    → Stands g v.front q → Appends g v (pick_entry q.wheel got) w → r.wheel ≡ q.wheel → r.requests ≡ others_of q.requests
-    → Stands g w.front r
+    → InboxStands g v.front q → Appends g v (pick_entry q.wheel got) w → r.wheel ≡ q.wheel → r.requests ≡ others_of q.requests
+    → InboxStands g w.front r
 stands_picked g v w got q r held stands step wheel requests =
     stands_step g v (pick_entry q.wheel got) w q r others_of held stands step
     (λ s. rw (eq-eqb q.wheel q.wheel refl) refl) wheel requests
 
 -- what the scheduler has then
 pub sched_picked : (g : Settings) (v w : View) (n : ℕ) (got : Option Request) → is_held v.actors (Sched n) ≡ true
-    → Appends g v (pick_entry n got) w → (state g w.front).scheds n ≡ picked got ((state g v.front).scheds n)
+    → Appends g v (pick_entry n got) w → (state g w.front).scheds n ≡ after_pick got ((state g v.front).scheds n)
 sched_picked g v w n got held step =
     let e : Entry = pick_entry n got in
     let before = part_before g v e w (Sched n) (λ (s : State). s.scheds n) (λ s e none. rw none refl) held step in
     let after = ap (λ (s : State). s.scheds n) (stepped g v e w step) in
-    let made : (s : State) → (next g s e).scheds n ≡ picked got (s.scheds n) = λ s. rw (eq-eqb n n refl) refl in
-    after ∙ (made (state g (v.front ++ step.between)) ∙ ap (picked got) before)
+    let made : (s : State) → (next g s e).scheds n ≡ after_pick got (s.scheds n) = λ s. rw (eq-eqb n n refl) refl in
+    after ∙ (made (state g (v.front ++ step.between)) ∙ ap (after_pick got) before)

@@ -15,7 +15,7 @@ use Rattle.ert_effects.specs.declared.answers.MonitorErr.TheVariants.{Full, NoMe
 use Rattle.ert_effects.specs.declared.answers.Taken.TheVariants.{Mail, Empty, Exited}
 use Rattle.ert_table.specs.Calls.{AreOnlyOf}
 use Rattle.ert_table.proofs.Parts.{free_later, of_one, of_both}
-use Rattle.ert_mail.specs.Laws.{AreWithMail, LawOfMailboxes, LawOfInboxes, LawOfTakes, LawOfMonitors, LawOfDemonitors, LawOfTells, LawOfHandingOver, LawOfAnswers, LawOfAsks, LawOfPicks}
+use Rattle.ert_mail.specs.Laws.{AreWithMail, LawOfStandingMailboxes, LawOfWaitingAskers, LawOfTakes, LawOfMonitorEntries, LawOfDemonitorEntries, LawOfTells, LawOfHandingOver, LawOfAnswerEntries, LawOfAsks, LawOfPickEntries}
 use Rattle.ert_laws.specs.Counts.{delivers_to, deliveries}
 use Rattle.ert_mail.proofs.AnswerSteps.{AreAsked, asked}
 use Rattle.ert_mail.proofs.Standing.{undelivered}
@@ -26,7 +26,7 @@ none_delivered p (e ∷ m) free =
     let none : delivers_to p e ≡ false = undelivered p e (free_first (MailOf p) e m free) in
     rw none (none_delivered p m (free_rest (MailOf p) e m free))
 
-pub mail_on : LawOfMailboxes
+pub mail_on : LawOfStandingMailboxes
 mail_on g f h m longer same stands =
     let p = m.process in
     let free : IsFree longer.later (MailOf p) = free_later (MailOf p) f h longer same in
@@ -39,7 +39,7 @@ mail_on g f h m longer same stands =
     ∙ (ap (λ l. filter (delivers_to p) f ++ l) (none_delivered p longer.later free) ∙ append-nil (filter (delivers_to p) f))) in
     record { in_range = stands.in_range; held = stands.held ∙ sym mails; delivered = stands.delivered ∙ sym count }
 
-pub inbox_on : LawOfInboxes
+pub inbox_on : LawOfWaitingAskers
 inbox_on g f h q longer same stands =
     let w = q.wheel in
     let requests : (state g h).inboxes w ≡ (state g f).inboxes w =
@@ -57,12 +57,12 @@ takes_only g by p Exited s es takes = same_only (Caller by) p es _ takes (of_one
 takes_only g by p Empty s es takes = same_only (Caller by) p es _ takes (of_one (Caller by) (MailOf p ∷ []), (of_both (Caller by) (MailOf p), tt))
 takes_only g by p (Mail mail) s es takes = same_only (Caller by) p es _ takes (of_one (Caller by) (MailOf p ∷ []), (of_both (Caller by) (MailOf p), tt))
 
-pub monitors_only : LawOfMonitors
+pub monitors_only : LawOfMonitorEntries
 monitors_only g by p (Ok number) s es monitors = same_only (Caller by) p es _ monitors.entries (of_both (Caller by) (MailOf p), tt)
 monitors_only g by p (Err Full) s es monitors = same_only (Caller by) p es _ monitors.entries (of_one (Caller by) (MailOf p ∷ []), tt)
 monitors_only g by p (Err NoMemory) s es monitors = same_only (Caller by) p es _ monitors tt
 
-pub demonitors_only : LawOfDemonitors
+pub demonitors_only : LawOfDemonitorEntries
 demonitors_only g by p monitor answer s es demonitors = same_only (Caller by) p es _ demonitors (of_both (Caller by) (MailOf p), tt)
 
 pub tells_only : LawOfTells
@@ -89,7 +89,7 @@ asked_only g n p timer left es (inr (inr are)) =
     let mine = of_one (Sched n) (MailOf p ∷ []) in
     same_only (Sched n) p es _ are.3 (mine, (mine, (mine, tt)))
 
-pub answers_only : LawOfAnswers
+pub answers_only : LawOfAnswerEntries
 answers_only g w q (Ok left) s es answers =
     same_only (Sched w) q.reply_to es _ answers.entries
     (only-append (Sched w ∷ (MailOf q.reply_to ∷ [])) answers.steps _
@@ -102,5 +102,5 @@ asks_only g by w request (Ok done) s es asks =
     subst (AreOnlyOf (Caller by ∷ (Inbox w ∷ []))) (sym asks) (of_both (Caller by) (Inbox w), tt)
 asks_only g by w request (Err e) s es asks = subst (AreOnlyOf (Caller by ∷ (Inbox w ∷ []))) (sym asks) tt
 
-pub picks_only : LawOfPicks
+pub picks_only : LawOfPickEntries
 picks_only g w got s es picks = subst (AreOnlyOf (Sched w ∷ (Inbox w ∷ []))) (sym picks) (of_both (Sched w) (Inbox w), tt)

@@ -14,7 +14,7 @@ use Rattle.ert_table.proofs.Holders.{or_false}
 use Rattle.ert_table.proofs.Parts.{not_of, entries_after, part_before, stepped}
 use Rattle.ert_table.specs.declared.view.View.{View}
 use Rattle.ert_laws.specs.Counts.{deliveries, delivers_to}
-use Rattle.ert_mail.specs.Mailboxes.{Mailbox, Stands}
+use Rattle.ert_mail.specs.Mailboxes.{Mailbox, MailboxStands}
 
 -- what isn't of a process's mailbox isn't delivered to it
 pub undelivered : (p : ℕ) (e : Entry) → has_actor e (MailOf p) ≡ false → delivers_to p e ≡ false
@@ -34,9 +34,9 @@ pub mails_before : (g : Settings) (v : View) (e : Entry) (w : View) (p : ℕ) �
 mails_before g v e w p held step = part_before g v e w (MailOf p) (λ (s : State). s.mails p) (λ s e none. rw none refl) held step
 
 pub stands_at : (g : Settings) (v : View) (e : Entry) (w : View) (m n : Mailbox) → is_held v.actors (MailOf m.process) ≡ true
-    → Stands g v.front m → (step : Appends g v e w) → n.process ≡ m.process
+    → MailboxStands g v.front m → (step : Appends g v e w) → n.process ≡ m.process
     → n.held ≡ (next g (state g (v.front ++ step.between)) e).mails m.process
-    → n.delivered ≡ m.delivered + deliveries m.process (e ∷ []) → Stands g w.front n
+    → n.delivered ≡ m.delivered + deliveries m.process (e ∷ []) → MailboxStands g w.front n
 stands_at g v e w m n held stands step process has delivered =
     let after = ap (λ (s : State). s.mails m.process) (stepped g v e w step) in
     let count = deliveries_after g v (e ∷ []) w m.process held (step_takes_place g v e w step) in
@@ -57,9 +57,9 @@ same_mail a b queue monitors next =
     ∙ ap (λ x. record { queue = b.queue; monitors = b.monitors; next = x }) next)
 
 pub stands_step : (g : Settings) (v : View) (e : Entry) (w : View) (m n : Mailbox) (f : MailState → MailState)
-    → is_held v.actors (MailOf m.process) ≡ true → Stands g v.front m → Appends g v e w → Turns g m.process e f
+    → is_held v.actors (MailOf m.process) ≡ true → MailboxStands g v.front m → Appends g v e w → Turns g m.process e f
     → delivers_to m.process e ≡ false → n.process ≡ m.process → n.held.queue ≡ (f m.held).queue → n.held.monitors ≡ (f m.held).monitors
-    → n.held.next ≡ (f m.held).next → n.delivered ≡ m.delivered → Stands g w.front n
+    → n.held.next ≡ (f m.held).next → n.delivered ≡ m.delivered → MailboxStands g w.front n
 stands_step g v e w m n f held stands step makes none process queue monitors next delivered =
     let before = mails_before g v e w m.process held step in
     let count : deliveries m.process (e ∷ []) ≡ 0 = rw none refl in
@@ -69,6 +69,6 @@ stands_step g v e w m n f held stands step makes none process queue monitors nex
 
 -- an entry with another actor than a mailbox leaves it
 pub stands_apart : (g : Settings) (v : View) (e : Entry) (w : View) (m : Mailbox) → is_held v.actors (MailOf m.process) ≡ true
-    → has_actor e (MailOf m.process) ≡ false → Stands g v.front m → Appends g v e w → Stands g w.front m
+    → has_actor e (MailOf m.process) ≡ false → MailboxStands g v.front m → Appends g v e w → MailboxStands g w.front m
 stands_apart g v e w m held none stands step =
     stands_step g v e w m m (λ has. has) held stands step (λ s. rw none refl) (undelivered m.process e none) refl refl refl refl refl

@@ -15,15 +15,15 @@ use Rattle.ert_table.specs.Takes.{MayStep, Appends}
 use Rattle.ert_table.proofs.Makings.{step_made}
 use Rattle.ert_table.proofs.Parts.{two_steps, held_on}
 use Rattle.ert_table.specs.declared.view.View.{View}
-use Rattle.ert_mail.specs.Mailboxes.{Mailbox, Stands, IsCallers}
+use Rattle.ert_mail.specs.Mailboxes.{Mailbox, MailboxStands, IsCallers}
 use Rattle.ert_mail.proofs.Standing.{stands_step, stands_apart}
 
 -- what a take knows once it looked at the process, of the mailbox as it is kept
 pub record IsMarked (g : Settings) (u : View) (by : ℕ) (m : Mailbox) : Type 0 where
   pub holds : IsCallers g u by m.process
-  pub stands : Stands g u.front m
+  pub stands : MailboxStands g u.front m
 
-pub marked : (g : Settings) (v u : View) (by : ℕ) (was : Bool) (m now : Mailbox) → m ≡ now → IsCallers g v by now.process → Stands g v.front now
+pub marked : (g : Settings) (v u : View) (by : ℕ) (was : Bool) (m now : Mailbox) → m ≡ now → IsCallers g v by now.process → MailboxStands g v.front now
     → Appends g v (mark_entry (Caller by) m.process false was) u → IsMarked g u by m
 marked g v u by was m now is holds stands step =
     let e : Entry = mark_entry (Caller by) m.process false was in
@@ -34,7 +34,7 @@ marked g v u by was m now is holds stands step =
         below = held.below;
         mail = held_on g v e u (MailOf m.process) step held.mail;
       };
-      stands = stands_apart g v e u m held.mail refl (subst (Stands g v.front) (sym is) stands) step;
+      stands = stands_apart g v e u m held.mail refl (subst (MailboxStands g v.front) (sym is) stands) step;
     }
 
 pub exited_made : (g : Settings) (v u : View) (by p : ℕ) → Appends g v (mark_entry (Caller by) p false true) u → IsMade g v (Takes g by p Exited) u
@@ -84,7 +84,7 @@ without_first has = record { queue = others_of has.queue; monitors = has.monitor
 pub stands_taken : (g : Settings) (u w : View) (by : ℕ) (m n : Mailbox) (got : Option Mail) → IsMarked g u by m
     → Appends g u (take_entry by m.process got) w → n.process ≡ m.process
     → n.held.queue ≡ others_of m.held.queue → n.held.monitors ≡ m.held.monitors → n.held.next ≡ m.held.next → n.delivered ≡ m.delivered
-    → Stands g w.front n
+    → MailboxStands g w.front n
 stands_taken g u w by m n got at step process queue monitors next delivered =
     stands_step g u (take_entry by m.process got) w m n without_first at.holds.mail at.stands step
     (λ s. rw (eq-eqb m.process m.process refl) refl) (rw (eq-eqb m.process m.process refl) refl) process

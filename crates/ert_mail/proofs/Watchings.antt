@@ -15,7 +15,7 @@ use Rattle.ert_table.specs.Held.{is_held}
 use Rattle.ert_table.specs.Takes.{Appends}
 use Rattle.ert_table.proofs.Makings.{step_made}
 use Rattle.ert_table.specs.declared.view.View.{View}
-use Rattle.ert_mail.specs.Mailboxes.{Mailbox, Stands, AreMany}
+use Rattle.ert_mail.specs.Mailboxes.{Mailbox, MailboxStands, AreMany}
 use Rattle.ert_mail.proofs.Standing.{stands_step, stands_apart}
 
 pub unwatch_made : (g : Settings) (v w : View) (by p monitor : ℕ) (was : Bool) → Appends g v (unwatch_entry by p monitor was) w
@@ -27,21 +27,21 @@ abbrev unwatched : ℕ → MailState → MailState
 unwatched monitor has = record { queue = has.queue; monitors = without monitor has.monitors; next = has.next }
 
 pub stands_unwatched : (g : Settings) (v w : View) (by monitor : ℕ) (was : Bool) (m n : Mailbox) → is_held v.actors (MailOf m.process) ≡ true
-    → Stands g v.front m → Appends g v (unwatch_entry by m.process monitor was) w → n.process ≡ m.process
+    → MailboxStands g v.front m → Appends g v (unwatch_entry by m.process monitor was) w → n.process ≡ m.process
     → n.held.queue ≡ m.held.queue → n.held.monitors ≡ without monitor m.held.monitors → n.held.next ≡ m.held.next → n.delivered ≡ m.delivered
-    → Stands g w.front n
+    → MailboxStands g w.front n
 stands_unwatched g v w by monitor was m n held stands step process queue monitors next delivered =
     stands_step g v (unwatch_entry by m.process monitor was) w m n (unwatched monitor) held stands step
     (λ s. rw (eq-eqb m.process m.process refl) refl) (rw (eq-eqb m.process m.process refl) refl) process queue monitors next delivered
 
-pub full_made : (g : Settings) (v w : View) (by : ℕ) (m : Mailbox) (offset : ℤ) (offset_state : OffsetState) → Stands g v.front m → AreMany m.held
+pub full_made : (g : Settings) (v w : View) (by : ℕ) (m : Mailbox) (offset : ℤ) (offset_state : OffsetState) → MailboxStands g v.front m → AreMany m.held
     → Appends g v (off_entry (Caller by) offset offset_state) w → IsMade g v (Monitors g by m.process (Err Full)) w
 full_made g v w by m offset offset_state stands many step =
     step_made g v (off_entry (Caller by) offset offset_state) w (Monitors g by m.process (Err Full))
     (record { offset = offset; offset_state = offset_state; full = subst AreMany stands.held many; entries = refl }) step
 
 pub stands_full : (g : Settings) (v w : View) (by : ℕ) (m : Mailbox) (offset : ℤ) (offset_state : OffsetState) → is_held v.actors (MailOf m.process) ≡ true
-    → Stands g v.front m → Appends g v (off_entry (Caller by) offset offset_state) w → Stands g w.front m
+    → MailboxStands g v.front m → Appends g v (off_entry (Caller by) offset offset_state) w → MailboxStands g w.front m
 stands_full g v w by m offset offset_state held stands step = stands_apart g v (off_entry (Caller by) offset offset_state) w m held refl stands step
 
 pub not_many : (m : MailState) → (AreMany m → ⊥) → m.next ≤ 4294967295
@@ -63,15 +63,15 @@ watched number offset has = record {
 }
 
 pub stands_watched : (g : Settings) (v w : View) (by : ℕ) (made : Monitor) (m n : Mailbox) → is_held v.actors (MailOf m.process) ≡ true
-    → Stands g v.front m → Appends g v (watch_entry by m.process made.number made.told) w → n.process ≡ m.process
+    → MailboxStands g v.front m → Appends g v (watch_entry by m.process made.number made.told) w → n.process ≡ m.process
     → n.held.monitors ≡ m.held.monitors ++ made ∷ []
     → n.held.queue ≡ m.held.queue → n.held.next ≡ made.number + 1 → n.delivered ≡ m.delivered
-    → Stands g w.front n
+    → MailboxStands g w.front n
 stands_watched g v w by made m n held stands step process one_more queue next delivered =
     stands_step g v (watch_entry by m.process made.number made.told) w m n (watched made.number made.told) held stands step
     (λ s. rw (eq-eqb m.process m.process refl) refl) (rw (eq-eqb m.process m.process refl) refl) process queue one_more next delivered
 
-pub tell_made : (g : Settings) (v w : View) (by put : ℕ) (m : Mailbox) (offset : ℤ) → Stands g v.front m → put ≡ length (changes_of offset m.held.monitors)
+pub tell_made : (g : Settings) (v w : View) (by put : ℕ) (m : Mailbox) (offset : ℤ) → MailboxStands g v.front m → put ≡ length (changes_of offset m.held.monitors)
     → Appends g v (tell_entry by m.process offset) w → IsMade g v (Tells g by m.process (Ok put)) w
 tell_made g v w by put m offset stands put_is step =
     step_made g v (tell_entry by m.process offset) w (Tells g by m.process (Ok put))
@@ -86,10 +86,10 @@ told_all offset has =
     record { queue = has.queue ++ changes_of offset has.monitors; monitors = told_of offset has.monitors; next = has.next }
 
 pub stands_told : (g : Settings) (v w : View) (by : ℕ) (offset : ℤ) (m n : Mailbox) → is_held v.actors (MailOf m.process) ≡ true
-    → Stands g v.front m → Appends g v (tell_entry by m.process offset) w → n.process ≡ m.process
+    → MailboxStands g v.front m → Appends g v (tell_entry by m.process offset) w → n.process ≡ m.process
     → n.held.queue ≡ m.held.queue ++ changes_of offset m.held.monitors → n.held.monitors ≡ told_of offset m.held.monitors
     → n.held.next ≡ m.held.next → n.delivered ≡ m.delivered
-    → Stands g w.front n
+    → MailboxStands g w.front n
 stands_told g v w by offset m n held stands step process queue monitors next delivered =
     stands_step g v (tell_entry by m.process offset) w m n (told_all offset) held stands step
     (λ s. rw (eq-eqb m.process m.process refl) refl) (rw (eq-eqb m.process m.process refl) refl) process queue monitors next delivered

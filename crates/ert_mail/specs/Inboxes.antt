@@ -16,7 +16,7 @@ pub record Waiting : Type 0 where
   pub requests : List Request
 
 -- an inbox stands for a history
-pub record Stands (g : Settings) (h : List Entry) (q : Waiting) : Type 0 where
+pub record InboxStands (g : Settings) (h : List Entry) (q : Waiting) : Type 0 where
   pub in_range : q.wheel < g.schedulers
   pub requests : q.requests ≡ (state g h).inboxes q.wheel
 
@@ -27,10 +27,10 @@ pub record IsAskers (g : Settings) (v : View) (by w : ℕ) : Type 0 where
   pub inbox : is_held v.actors (Inbox w) ≡ true
 
 -- a pass holds the inbox of a scheduler, and the scheduler itself
-pub record IsScheds (g : Settings) (v : View) (w : ℕ) : Type 0 where
+pub record HoldsInbox (g : Settings) (v : View) (w : ℕ) : Type 0 where
   pub sched : is_held v.actors (Sched w) ≡ true
   pub inbox : is_held v.actors (Inbox w) ≡ true
 
 -- what a scheduler has after it took this into its hand
-abbrev pub picked : Option Request → SchedState → SchedState
-picked got s = record { hand = got; result = None; fired = s.fired }
+abbrev pub after_pick : Option Request → SchedState → SchedState
+after_pick got s = record { hand = got; result = None; fired = s.fired }

@@ -17,18 +17,18 @@ use Rattle.ert_effects.specs.declared.answers.MonitorErr.{MonitorErr}
 use Rattle.ert_effects.specs.declared.answers.Taken.{Taken}
 use Rattle.ert_table.specs.Calls.{AreOnlyOf}
 use Rattle.ert_table.specs.Views.{Begins}
-use Rattle.ert_mail.specs.Inboxes.{Waiting, Stands as InboxStands}
-use Rattle.ert_mail.specs.Mailboxes.{Mailbox, Stands}
+use Rattle.ert_mail.specs.Inboxes.{Waiting, InboxStands}
+use Rattle.ert_mail.specs.Mailboxes.{Mailbox, MailboxStands}
 
 -- a mailbox that stands for a history stands for each longer one that has no more entries of the mailbox:
 -- where others have made theirs, and where a pass that holds it was joined to another
-abbrev pub LawOfMailboxes : Type 0
-LawOfMailboxes = (g : Settings) (f h : List Entry) (m : Mailbox) → Begins f h → of h (MailOf m.process) ≡ of f (MailOf m.process)
-    → Stands g f m → Stands g h m
+abbrev pub LawOfStandingMailboxes : Type 0
+LawOfStandingMailboxes = (g : Settings) (f h : List Entry) (m : Mailbox) → Begins f h → of h (MailOf m.process) ≡ of f (MailOf m.process)
+    → MailboxStands g f m → MailboxStands g h m
 
 -- and so does an inbox
-abbrev pub LawOfInboxes : Type 0
-LawOfInboxes = (g : Settings) (f h : List Entry) (q : Waiting) → Begins f h → of h (Inbox q.wheel) ≡ of f (Inbox q.wheel)
+abbrev pub LawOfWaitingAskers : Type 0
+LawOfWaitingAskers = (g : Settings) (f h : List Entry) (q : Waiting) → Begins f h → of h (Inbox q.wheel) ≡ of f (Inbox q.wheel)
     → InboxStands g f q → InboxStands g h q
 
 -- these entries are of an actor and of the mailbox of a process alone
@@ -41,13 +41,13 @@ LawOfTakes = (g : Settings) (by process : ℕ) (answer : Taken) (s : State) (es 
     → AreWithMail (Caller by) process es
 
 -- so are those of the making of a monitor
-abbrev pub LawOfMonitors : Type 0
-LawOfMonitors = (g : Settings) (by process : ℕ) (answer : Result ℕ MonitorErr) (s : State) (es : List Entry) → Monitors g by process answer s es
+abbrev pub LawOfMonitorEntries : Type 0
+LawOfMonitorEntries = (g : Settings) (by process : ℕ) (answer : Result ℕ MonitorErr) (s : State) (es : List Entry) → Monitors g by process answer s es
     → AreWithMail (Caller by) process es
 
 -- so are those of the removal of a monitor
-abbrev pub LawOfDemonitors : Type 0
-LawOfDemonitors = (g : Settings) (by process monitor : ℕ) (answer : Bool) (s : State) (es : List Entry) → Demonitors g by process monitor answer s es
+abbrev pub LawOfDemonitorEntries : Type 0
+LawOfDemonitorEntries = (g : Settings) (by process monitor : ℕ) (answer : Bool) (s : State) (es : List Entry) → Demonitors g by process monitor answer s es
     → AreWithMail (Caller by) process es
 
 -- so are those by which monitors are told the offset
@@ -61,8 +61,8 @@ LawOfHandingOver = (g : Settings) (w : ℕ) (fired : Row) (answer : Result Hande
     → HandsOver g w fired answer s es → AreWithMail (Sched w) fired.dest es
 
 -- those by which a request is answered are of the scheduler and the asker's mailbox alone
-abbrev pub LawOfAnswers : Type 0
-LawOfAnswers = (g : Settings) (w : ℕ) (request : Request) (answer : Result (Option ℕ) NoMemory) (s : State) (es : List Entry)
+abbrev pub LawOfAnswerEntries : Type 0
+LawOfAnswerEntries = (g : Settings) (w : ℕ) (request : Request) (answer : Result (Option ℕ) NoMemory) (s : State) (es : List Entry)
     → Answers g w request answer s es → AreWithMail (Sched w) request.reply_to es
 
 -- the entries of a request that is put are of its caller and of the inbox alone
@@ -71,6 +71,6 @@ LawOfAsks = (g : Settings) (by w : ℕ) (request : Request) (answer : Result (Un
     → Asks g by w request answer s es → AreOnlyOf (Caller by ∷ (Inbox w ∷ [])) es
 
 -- those of a request that is taken are of the scheduler and of its inbox alone
-abbrev pub LawOfPicks : Type 0
-LawOfPicks = (g : Settings) (w : ℕ) (got : Option Request) (s : State) (es : List Entry) → Picks g w got s es
+abbrev pub LawOfPickEntries : Type 0
+LawOfPickEntries = (g : Settings) (w : ℕ) (got : Option Request) (s : State) (es : List Entry) → Picks g w got s es
     → AreOnlyOf (Sched w ∷ (Inbox w ∷ [])) es

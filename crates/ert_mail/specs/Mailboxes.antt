@@ -29,8 +29,8 @@ pub record Mailbox : Type 0 where
   pub room : ℕ
 
 -- a mailbox of which this is kept
-abbrev pub seen : ℕ → List Mail → List Monitor → ℕ → ℕ → ℕ → Mailbox
-seen process queue monitors next delivered room = record {
+abbrev pub mailbox_seen : ℕ → List Mail → List Monitor → ℕ → ℕ → ℕ → Mailbox
+mailbox_seen process queue monitors next delivered room = record {
   process = process;
   held = record { queue = queue; monitors = monitors; next = next };
   delivered = delivered;
@@ -38,7 +38,7 @@ seen process queue monitors next delivered room = record {
 }
 
 -- a mailbox stands for a history
-pub record Stands (g : Settings) (h : List Entry) (m : Mailbox) : Type 0 where
+pub record MailboxStands (g : Settings) (h : List Entry) (m : Mailbox) : Type 0 where
   pub in_range : m.process < g.processes
   pub held : m.held ≡ (state g h).mails m.process
   pub delivered : m.delivered ≡ deliveries m.process h
@@ -62,7 +62,7 @@ pub record IsCallers (g : Settings) (v : View) (by process : ℕ) : Type 0 where
   pub mail : is_held v.actors (MailOf process) ≡ true
 
 -- a pass holds the mailbox of a process, and a scheduler in range
-pub record IsScheds (g : Settings) (v : View) (w process : ℕ) : Type 0 where
+pub record HoldsMailbox (g : Settings) (v : View) (w process : ℕ) : Type 0 where
   pub sched : is_held v.actors (Sched w) ≡ true
   pub below : w < g.schedulers
   pub mail : is_held v.actors (MailOf process) ≡ true
@@ -90,6 +90,6 @@ handed (Ok how) s = record { hand = s.hand; result = s.result; fired = others_of
 handed (Err e) s = s
 
 -- and after the request in its hand was answered, or wasn't
-abbrev pub answered : Result (Option ℕ) NoMemory → SchedState → SchedState
-answered (Ok left) s = record { hand = None; result = None; fired = s.fired }
-answered (Err e) s = s
+abbrev pub after_answer : Result (Option ℕ) NoMemory → SchedState → SchedState
+after_answer (Ok left) s = record { hand = None; result = None; fired = s.fired }
+after_answer (Err e) s = s

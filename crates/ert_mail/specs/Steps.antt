@@ -14,7 +14,7 @@ use Rattle.ert_table.specs.Calls.{IsMade}
 use Rattle.ert_table.specs.Takes.{TakesPlace}
 use Rattle.ert_table.specs.declared.view.View.{View}
 use Rattle.ert_laws.specs.Counts.{deliveries}
-use Rattle.ert_mail.specs.Mailboxes.{handed, answered}
+use Rattle.ert_mail.specs.Mailboxes.{handed, after_answer}
 
 -- what a process has after an expired timer was handed over to it
 abbrev pub with_fired : Handed → Row → MailState → MailState
@@ -34,6 +34,6 @@ with_answer request left m = record { queue = m.queue ++ answer_of request left;
 -- a request was answered by a scheduler, and so changed what that and the asker have
 pub record IsReplied (g : Settings) (v : View) (n : ℕ) (request : Request) (left : Option ℕ) (w : View) : Type 0 where
   pub call : IsMade g v (HasAnswered g n request left) w
-  pub sched : (state g w.front).scheds n ≡ answered (Ok left) ((state g v.front).scheds n)
+  pub sched : (state g w.front).scheds n ≡ after_answer (Ok left) ((state g v.front).scheds n)
   pub mails : (state g w.front).mails request.reply_to ≡ with_answer request left ((state g v.front).mails request.reply_to)
   pub undelivered : deliveries request.reply_to w.front ≡ deliveries request.reply_to v.front

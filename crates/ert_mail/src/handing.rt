@@ -2,7 +2,7 @@
 ghost use Rattle.std.specs.Prelude.{◌≡◌, ◌<◌, Some};
 ghost use Rattle.ert_defs.specs.Mails.{first_of};
 ghost use Rattle.ert_table.specs.Desks.{settings_of, view_of, state_of, Belongs};
-ghost use Rattle.ert_mail.specs.Mailboxes.{IsScheds};
+ghost use Rattle.ert_mail.specs.Mailboxes.{HoldsMailbox};
 ghost use Rattle.ert_mail.specs.Steps.{IsHanded};
 
 use ert_defs::{Actor, Fired};
@@ -14,7 +14,7 @@ use ert_table::{Desk, Pass, Settle};
 #[inline(always)]
 pub(crate) fn hand_over(desk: &Desk, pass: &mut Pass, fired: &Fired) -> Handed
     requires belongs { Belongs desk.now pass.old }
-    requires holds { IsScheds (settings_of desk.now) (view_of pass.old) fired.now.timer.wheel fired.now.dest }
+    requires holds { HoldsMailbox (settings_of desk.now) (view_of pass.old) fired.now.timer.wheel fired.now.dest }
     requires in_range { fired.now.dest < (settings_of desk.now).processes }
     requires first { first_of ((state_of desk.now pass.old).scheds fired.now.timer.wheel).fired ≡ Some fired.now }
     ensures belongs { Belongs desk.now pass.new }

@@ -27,7 +27,7 @@ impl InboxPart {
     ghost use Rattle.ert_defs.specs.Mails.{first_of, others_of};
     ghost use Rattle.ert_table.specs.Calls.{IsMade, IsMadeIfOk};
     ghost use Rattle.ert_table.specs.Desks.{settings_of, view_of, front_of, state_of, Belongs};
-    ghost use Rattle.ert_mail.specs.Inboxes.{IsAskers, IsScheds, Stands, picked};
+    ghost use Rattle.ert_mail.specs.Inboxes.{IsAskers, HoldsInbox, InboxStands, after_pick};
 
     /// The inbox of a scheduler on a desk that has just been opened. It is empty.
     pub fn open(alloc: Global, wheel: u32) -> InboxPart
@@ -59,13 +59,13 @@ impl InboxPart {
         requires belongs { Belongs desk.now pass.old }
         requires holds { IsAskers (settings_of desk.now) (view_of pass.old) by self.old.wheel }
         requires in_range { request.reply_to < (settings_of desk.now).processes }
-        requires stands { Stands (settings_of desk.now) (front_of pass.old) self.old }
+        requires stands { InboxStands (settings_of desk.now) (front_of pass.old) self.old }
         ensures belongs { Belongs desk.now pass.new }
         ensures call { IsMadeIfOk (settings_of desk.now) (view_of pass.old) (Asks (settings_of desk.now) by self.old.wheel request) result (view_of pass.new) }
         ensures last { OnOk result (self.new.requests ≡ self.old.requests ++ request ∷ []) }
         ensures err { OnErr result (self.new ≡ self.old) }
         ensures wheel { self.new.wheel ≡ self.old.wheel }
-        ensures stands { Stands (settings_of desk.now) (front_of pass.new) self.new }
+        ensures stands { InboxStands (settings_of desk.now) (front_of pass.new) self.new }
     {
         self.queue.reserve(1)?;
         let wheel = self.wheel;
@@ -77,16 +77,16 @@ impl InboxPart {
     /// Takes the first request, for the scheduler whose hand is empty. None comes exactly where none waits.
     pub fn pick(&mut self, desk: &Desk, pass: &mut Pass) -> Option<Request>
         requires belongs { Belongs desk.now pass.old }
-        requires holds { IsScheds (settings_of desk.now) (view_of pass.old) self.old.wheel }
+        requires holds { HoldsInbox (settings_of desk.now) (view_of pass.old) self.old.wheel }
         requires empty { ((state_of desk.now pass.old).scheds self.old.wheel).hand ≡ None }
-        requires stands { Stands (settings_of desk.now) (front_of pass.old) self.old }
+        requires stands { InboxStands (settings_of desk.now) (front_of pass.old) self.old }
         ensures belongs { Belongs desk.now pass.new }
         ensures call { IsMade (settings_of desk.now) (view_of pass.old) (Picks (settings_of desk.now) self.old.wheel result) (view_of pass.new) }
         ensures first { result ≡ first_of self.old.requests }
         ensures others { self.new.requests ≡ others_of self.old.requests }
-        ensures sched { (state_of desk.now pass.new).scheds self.old.wheel ≡ picked result ((state_of desk.now pass.old).scheds self.old.wheel) }
+        ensures sched { (state_of desk.now pass.new).scheds self.old.wheel ≡ after_pick result ((state_of desk.now pass.old).scheds self.old.wheel) }
         ensures wheel { self.new.wheel ≡ self.old.wheel }
-        ensures stands { Stands (settings_of desk.now) (front_of pass.new) self.new }
+        ensures stands { InboxStands (settings_of desk.now) (front_of pass.new) self.new }
     {
         let got = self.queue.pop_front();
         pass.load_time(desk, Actor::Sched(self.wheel), &TimeCarry::Pick { got });

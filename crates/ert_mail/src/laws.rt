@@ -1,27 +1,27 @@
 //! Laws of mailboxes and inboxes, each the contract of a function that does nothing.
 
-ghost use Rattle.ert_mail.specs.Laws.{LawOfMailboxes, LawOfInboxes, LawOfTakes, LawOfMonitors, LawOfDemonitors, LawOfTells};
-ghost use Rattle.ert_mail.specs.Laws.{LawOfHandingOver, LawOfAnswers, LawOfAsks, LawOfPicks};
+ghost use Rattle.ert_mail.specs.Laws.{LawOfStandingMailboxes, LawOfWaitingAskers, LawOfTakes, LawOfMonitorEntries, LawOfDemonitorEntries, LawOfTells};
+ghost use Rattle.ert_mail.specs.Laws.{LawOfHandingOver, LawOfAnswerEntries, LawOfAsks, LawOfPickEntries};
 
 /// A mailbox stands on while its process's mailbox has no more entries, whatever others do meanwhile.
 pub fn mailboxes_stand_on()
-    ensures { LawOfMailboxes }
+    ensures { LawOfStandingMailboxes }
 {}
 
 /// An inbox stands on while it has no more entries, whatever others do meanwhile.
 pub fn inboxes_stand_on()
-    ensures { LawOfInboxes }
+    ensures { LawOfWaitingAskers }
 {}
 
 /// Each call on a mailbox or an inbox makes entries of the caller or scheduler and of that one alone. So every
 /// other part of the service stands on.
 pub fn calls_leave_other_parts()
     ensures takes { LawOfTakes }
-    ensures monitors { LawOfMonitors }
-    ensures demonitors { LawOfDemonitors }
+    ensures monitors { LawOfMonitorEntries }
+    ensures demonitors { LawOfDemonitorEntries }
     ensures tells { LawOfTells }
     ensures hands_over { LawOfHandingOver }
-    ensures answers { LawOfAnswers }
+    ensures answers { LawOfAnswerEntries }
     ensures asks { LawOfAsks }
-    ensures picks { LawOfPicks }
+    ensures picks { LawOfPickEntries }
 {}

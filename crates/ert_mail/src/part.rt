@@ -26,11 +26,11 @@ pub struct MailPart {
 impl Model for MailPart {
     ghost use Rattle.std.specs.Prelude.{◌≤◌, ◌-◌, vec_len};
     ghost use Rattle.std.specs.VecDeque.{deque_len, deque_capacity};
-    ghost use Rattle.ert_mail.specs.Mailboxes.{Mailbox, seen};
+    ghost use Rattle.ert_mail.specs.Mailboxes.{Mailbox, mailbox_seen};
 
     ghost Value = { Mailbox };
 
-    ghost view = { λ p. seen p.process p.queue.items p.monitors.items p.next p.delivered (deque_capacity p.queue - deque_len p.queue) };
+    ghost view = { λ p. mailbox_seen p.process p.queue.items p.monitors.items p.next p.delivered (deque_capacity p.queue - deque_len p.queue) };
 
     ghost invariant = { λ p. vec_len p.monitors ≤ 64 };
 }
@@ -42,7 +42,7 @@ impl MailPart {
     ghost use Rattle.ert_effects.specs.RequestCalls.{Answers};
     ghost use Rattle.ert_table.specs.Calls.{IsMade, IsMadeIfOk};
     ghost use Rattle.ert_table.specs.Desks.{settings_of, view_of, front_of, state_of, Belongs};
-    ghost use Rattle.ert_mail.specs.Mailboxes.{IsEmpty, IsSame, IsCallers, IsScheds, IsTaken, Stands, handed, answered};
+    ghost use Rattle.ert_mail.specs.Mailboxes.{IsEmpty, IsSame, IsCallers, HoldsMailbox, IsTaken, MailboxStands, handed, after_answer};
 
     /// The mailbox of a process on a desk that has just been opened. It is empty.
     pub fn open(alloc: Global, process: u32) -> MailPart
@@ -92,12 +92,12 @@ impl MailPart {
     pub fn take(&mut self, desk: &Desk, pass: &mut Pass, by: u32) -> Taken
         requires belongs { Belongs desk.now pass.old }
         requires holds { IsCallers (settings_of desk.now) (view_of pass.old) by self.old.process }
-        requires stands { Stands (settings_of desk.now) (front_of pass.old) self.old }
+        requires stands { MailboxStands (settings_of desk.now) (front_of pass.old) self.old }
         ensures belongs { Belongs desk.now pass.new }
         ensures call { IsMade (settings_of desk.now) (view_of pass.old) (Takes (settings_of desk.now) by self.old.process result) (view_of pass.new) }
         ensures taken { IsTaken self.old.held.queue result self.new.held.queue }
         ensures process { self.new.process ≡ self.old.process }
-        ensures stands { Stands (settings_of desk.now) (front_of pass.new) self.new }
+        ensures stands { MailboxStands (settings_of desk.now) (front_of pass.new) self.new }
     {
         let by = Actor::Caller(by);
         let process = self.process;
@@ -124,10 +124,10 @@ impl MailPart {
         fired: &Fired,
     ) -> Result<Handed, NoMemory>
         requires belongs { Belongs desk.now pass.old }
-        requires holds { IsScheds (settings_of desk.now) (view_of pass.old) fired.now.timer.wheel self.old.process }
+        requires holds { HoldsMailbox (settings_of desk.now) (view_of pass.old) fired.now.timer.wheel self.old.process }
         requires dest { fired.now.dest ≡ self.old.process }
         requires first { first_of ((state_of desk.now pass.old).scheds fired.now.timer.wheel).fired ≡ Some fired.now }
-        requires stands { Stands (settings_of desk.now) (front_of pass.old) self.old }
+        requires stands { MailboxStands (settings_of desk.now) (front_of pass.old) self.old }
         ensures belongs { Belongs desk.now pass.new }
         ensures call { IsMadeIfOk (settings_of desk.now) (view_of pass.old)
             (HandsOver (settings_of desk.now) fired.now.timer.wheel fired.now) result (view_of pass.new) }
@@ -135,7 +135,7 @@ impl MailPart {
         ensures memory { OnErr result (self.old.room ≡ 0) }
         ensures err { OnErr result (IsSame self.old self.new) }
         ensures process { self.new.process ≡ self.old.process }
-        ensures stands { Stands (settings_of desk.now) (front_of pass.new) self.new }
+        ensures stands { MailboxStands (settings_of desk.now) (front_of pass.new) self.new }
     {
         self.queue.reserve(1)?;
         if let Handed::Dropped = hand_over(desk, pass, fired) {
@@ -159,15 +159,15 @@ impl MailPart {
         request: &Request,
     ) -> Result<Option<u64>, NoMemory>
         requires belongs { Belongs desk.now pass.old }
-        requires holds { IsScheds (settings_of desk.now) (view_of pass.old) sched self.old.process }
+        requires holds { HoldsMailbox (settings_of desk.now) (view_of pass.old) sched self.old.process }
         requires asker { request.now.reply_to ≡ self.old.process }
         requires hand { ((state_of desk.now pass.old).scheds sched).hand ≡ Some request.now }
-        requires stands { Stands (settings_of desk.now) (front_of pass.old) self.old }
+        requires stands { MailboxStands (settings_of desk.now) (front_of pass.old) self.old }
         ensures belongs { Belongs desk.now pass.new }
         ensures call { IsMadeIfOk (settings_of desk.now) (view_of pass.old) (Answers (settings_of desk.now) sched request.now) result (view_of pass.new) }
-        ensures sched { (state_of desk.now pass.new).scheds sched ≡ answered result ((state_of desk.now pass.old).scheds sched) }
+        ensures sched { (state_of desk.now pass.new).scheds sched ≡ after_answer result ((state_of desk.now pass.old).scheds sched) }
         ensures process { self.new.process ≡ self.old.process }
-        ensures stands { Stands (settings_of desk.now) (front_of pass.new) self.new }
+        ensures stands { MailboxStands (settings_of desk.now) (front_of pass.new) self.new }
         ensures memory { OnErr result (self.old.room ≡ 0) }
         ensures err { OnErr result (IsSame self.old self.new) }
     {

@@ -16,7 +16,7 @@ impl MailPart {
     ghost use Rattle.ert_effects.specs.declared.answers.MonitorErr.TheVariants.{Full};
     ghost use Rattle.ert_table.specs.Calls.{IsMade, IsMadeIfOk};
     ghost use Rattle.ert_table.specs.Desks.{settings_of, view_of, front_of, Belongs};
-    ghost use Rattle.ert_mail.specs.Mailboxes.{AreMany, IsCallers, IsMonitor, IsSame, Stands};
+    ghost use Rattle.ert_mail.specs.Mailboxes.{AreMany, IsCallers, IsMonitor, IsSame, MailboxStands};
 
     /// Makes a monitor of the time offset, which counts the offset of now as told, and answers its number.
     ///
@@ -25,7 +25,7 @@ impl MailPart {
     pub fn monitor(&mut self, desk: &Desk, pass: &mut Pass, by: u32) -> Result<u32, MonitorErr>
         requires belongs { Belongs desk.now pass.old }
         requires holds { IsCallers (settings_of desk.now) (view_of pass.old) by self.old.process }
-        requires stands { Stands (settings_of desk.now) (front_of pass.old) self.old }
+        requires stands { MailboxStands (settings_of desk.now) (front_of pass.old) self.old }
         ensures belongs { Belongs desk.now pass.new }
         ensures call { IsMonitor (settings_of desk.now) (view_of pass.old) by self.old.process result (view_of pass.new) }
         ensures number { IfOk result (λ number. number ≡ self.old.held.next) }
@@ -33,7 +33,7 @@ impl MailPart {
         ensures err { OnErr result (IsSame self.old self.new) }
         ensures queue { self.new.held.queue ≡ self.old.held.queue }
         ensures process { self.new.process ≡ self.old.process }
-        ensures stands { Stands (settings_of desk.now) (front_of pass.new) self.new }
+        ensures stands { MailboxStands (settings_of desk.now) (front_of pass.new) self.new }
     {
         let by = Actor::Caller(by);
         if self.has_many() {
@@ -66,14 +66,14 @@ impl MailPart {
     pub fn demonitor(&mut self, desk: &Desk, pass: &mut Pass, by: u32, monitor: u32) -> bool
         requires belongs { Belongs desk.now pass.old }
         requires holds { IsCallers (settings_of desk.now) (view_of pass.old) by self.old.process }
-        requires stands { Stands (settings_of desk.now) (front_of pass.old) self.old }
+        requires stands { MailboxStands (settings_of desk.now) (front_of pass.old) self.old }
         ensures belongs { Belongs desk.now pass.new }
         ensures call { IsMade (settings_of desk.now) (view_of pass.old)
             (Demonitors (settings_of desk.now) by self.old.process monitor result) (view_of pass.new) }
         ensures was { result ≡ stands_in monitor self.old.held.monitors }
         ensures queue { self.new.held.queue ≡ self.old.held.queue }
         ensures process { self.new.process ≡ self.old.process }
-        ensures stands { Stands (settings_of desk.now) (front_of pass.new) self.new }
+        ensures stands { MailboxStands (settings_of desk.now) (front_of pass.new) self.new }
     {
         let was = has_monitor(&self.monitors, monitor);
         let process = self.process;
@@ -93,12 +93,12 @@ impl MailPart {
     pub fn tell(&mut self, desk: &Desk, pass: &mut Pass, by: u32) -> Result<u32, NoMemory>
         requires belongs { Belongs desk.now pass.old }
         requires holds { IsCallers (settings_of desk.now) (view_of pass.old) by self.old.process }
-        requires stands { Stands (settings_of desk.now) (front_of pass.old) self.old }
+        requires stands { MailboxStands (settings_of desk.now) (front_of pass.old) self.old }
         ensures belongs { Belongs desk.now pass.new }
         ensures call { IsMadeIfOk (settings_of desk.now) (view_of pass.old) (Tells (settings_of desk.now) by self.old.process) result (view_of pass.new) }
         ensures err { OnErr result (IsSame self.old self.new) }
         ensures process { self.new.process ≡ self.old.process }
-        ensures stands { Stands (settings_of desk.now) (front_of pass.new) self.new }
+        ensures stands { MailboxStands (settings_of desk.now) (front_of pass.new) self.new }
     {
         self.queue.reserve(self.monitors.len())?;
         let process = self.process;

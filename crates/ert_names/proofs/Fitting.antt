@@ -1,8 +1,8 @@
 -- What the calls of a world of names record fits its rows.
 
 use Rattle.std.proofs.Common.{◌≡◌, ◌≢◌, ℕ, zero, suc, ℤ, ◌<◌, ◌≤◌, Bool, true, false, cond, nat_lt, List, [], ◌∷◌, ◌++◌, Option, Some, None, Result, Ok, Err, inl, inr, refl, sym, subst, ◌∙◌, arith}
-use Rattle.ert_effects.specs.Chains.{HoldsBy, Holds, Serves, ServesMany, ServesAll, times, AdvancesWheel, Hands, HandsMany, Delivers, Turns, SweepsWheel, SweepsWheels, Exits}
-use Rattle.ert_effects.specs.ClockCalls.{RefusesTick, Acts}
+use Rattle.ert_effects.specs.Chains.{HoldsBy, HoldsRequest, Serves, ServesMany, ServesAll, so_many_steps, AdvancesWheel, Hands, HandsMany, Delivers, Turns, SweepsWheel, SweepsWheels, Exits}
+use Rattle.ert_effects.specs.ClockCalls.{RefusesTick, TakesReading}
 use Rattle.ert_effects.specs.MailCalls.{HandsOver, Takes}
 use Rattle.ert_effects.specs.RequestCalls.{Answers, DoesAsked}
 use Rattle.ert_effects.proofs.Told.{round_probes}
@@ -88,7 +88,7 @@ refused_fits n q g r act BadReading s es refused = fit_as n q es [] refused.none
 refused_fits n q g r act (OffsetWide value) s es refused = fit_as n q es [] refused.none tt
 
 pub acts_fit : (n q : ℕ) (g : Settings) (by : ℕ) (r : Reading) (act : Act) (answer : Result Moved ClockErr) (s : State) (es : List Entry)
-    → Acts g by r act answer s es → AllFit n q es
+    → TakesReading g by r act answer s es → AllFit n q es
 acts_fit n q g by r act (Ok m) s es acts = fit_as n q es _ acts.entries (moves_fit n q by r act m.now m.shift)
 acts_fit n q g by r act (Err e) s es acts = refused_fits n q g r act e s es acts
 
@@ -184,7 +184,7 @@ holds_fit : (n q : ℕ) (hand : Option Request) (g : Settings) (w : ℕ) (got : 
 holds_fit n q (Some request) g w got h m holds = fit_as n q m [] holds.1 tt
 holds_fit n q None g w got h m holds = fit_as n q m _ holds (tt, tt)
 
-hold_fits : (n q : ℕ) (g : Settings) (w : ℕ) (got : Option Request) → AreFitting n q (Holds g (alone g) w got)
+hold_fits : (n q : ℕ) (g : Settings) (w : ℕ) (got : Option Request) → AreFitting n q (HoldsRequest g (alone g) w got)
 hold_fits n q g w got h m holds = holds_fit n q ((state g h).scheds w).hand g w got h m holds
 
 asked_fits : (n q : ℕ) (kind : RequestKind) (g : Settings) (w : ℕ) (timer : TimerRef) (left : Option ℕ) (s : State) (es : List Entry)
@@ -200,15 +200,15 @@ answers_fit n q g w request (Err e) s es answers = fit_as n q es [] answers tt
 
 serves_fit : (n q : ℕ) (g : Settings) (w : ℕ) (answer : Result Bool WantOfMemory) → AreFitting n q (Serves g (alone g) w answer)
 serves_fit n q g w (Ok true) h m served =
-    then_fits n q (Holds g (alone g) w (Some served.request)) (λ h m. Answers g w served.request (Ok served.left) (state g h) m)
+    then_fits n q (HoldsRequest g (alone g) w (Some served.request)) (λ h m. Answers g w served.request (Ok served.left) (state g h) m)
     (hold_fits n q g w (Some served.request)) (λ h m. answers_fit n q g w served.request (Ok served.left) (state g h) m) h m served.steps
 serves_fit n q g w (Ok false) h m held = hold_fits n q g w None h m held
 serves_fit n q g w (Err e) h m served =
-    then_fits n q (Holds g (alone g) w (Some served.request)) (λ h m. Answers g w served.request (Err e) (state g h) m)
+    then_fits n q (HoldsRequest g (alone g) w (Some served.request)) (λ h m. Answers g w served.request (Err e) (state g h) m)
     (hold_fits n q g w (Some served.request)) (λ h m. answers_fit n q g w served.request (Err e) (state g h) m) h m served.steps
 
 many_served_fit : (n q : ℕ) (g : Settings) (w k : ℕ) → AreFitting n q (ServesMany g (alone g) w k)
-many_served_fit n q g w k = many_fits n q (λ (one : Unit {0}). Serves g (alone g) w (Ok true)) (times k) (λ one. serves_fit n q g w (Ok true))
+many_served_fit n q g w k = many_fits n q (λ (one : Unit {0}). Serves g (alone g) w (Ok true)) (so_many_steps k) (λ one. serves_fit n q g w (Ok true))
 
 all_served_fit : (n q : ℕ) (g : Settings) (w : ℕ) (answer : Result ℕ WantOfMemory) → AreFitting n q (ServesAll g (alone g) w answer)
 all_served_fit n q g w (Ok k) h m served = at (nat_lt k 64) served.1

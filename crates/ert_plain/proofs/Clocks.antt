@@ -4,7 +4,7 @@ use Rattle.std.proofs.Common.{◌≡◌, ℕ, ℤ, ◌≤ℤ◌, ◌<ℤ◌, Boo
 use Rattle.std.proofs.lemmas.Int.{ints}
 use Rattle.std.specs.Bool.{Decides}
 use Rattle.std.proofs.lemmas.Bool.Decides.{Decides-and, Decides-like}
-use Rattle.ert_effects.specs.ClockCalls.{Moves, IsTooWide}
+use Rattle.ert_effects.specs.ClockCalls.{MovesClock, IsTooWide}
 use Rattle.ert_clock.specs.Ticks.{tick_entries, shift_entries, offset_of, IsWide, state_by}
 use Rattle.ert_clock.specs.declared.clock.Moved.{Moved}
 use Rattle.ert_defs.specs.Clocks.{Clock, face}
@@ -72,7 +72,7 @@ moved_piece r act moved wide now (Some d) fits =
 pub moves_done : (g : Settings) (n : ℕ) (ls : Labels) (s c : State) (r : Reading) (act : Act) (moved : ℤ → Option ℤ → Reply) (wide : ℤ → Reply)
     (m : Moved) (es : List Entry) → Meets g n ls s c → LegalFrom g s es
     → ((now : ℤ) (shift : Option ℤ) → line_of (label_of ls) (moved now shift) ≡ line_of slot_of (moved now shift))
-    → Moves g 0 r act m s es → IsDone g n ls s c (moved m.now m.shift) es (clocked g c r act moved wide)
+    → MovesClock g 0 r act m s es → IsDone g n ls s c (moved m.now m.shift) es (clocked g c r act moved wide)
 moves_done g n ls s c r act moved wide m es h legal plain does =
     let lawful = subst (λ (x : List Entry). LegalFrom g s x) does.entries legal in
     let clock = h.shows.clock in

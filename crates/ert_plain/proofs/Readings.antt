@@ -6,11 +6,10 @@ use Rattle.std.specs.Prelude.{FitsSigned}
 use Rattle.std.specs.Int.{w64}
 use Rattle.std.specs.Bool.{Decides}
 use Rattle.std.proofs.lemmas.Bool.Decides.{Decides-and, Decides-like}
-use Rattle.ert_effects.specs.ClockCalls.{Stays, FinalizesFrom, IsTooWide, TellsSystemTime}
-use Rattle.ert_clock.specs.Ticks.{keeper_entry}
+use Rattle.ert_effects.specs.ClockCalls.{OffsetStays, FinalizesFrom, IsTooWide, TellsSystemTime}
 use Rattle.ert_clock.specs.declared.clock.Moved.{Moved}
 use Rattle.ert_defs.specs.Clocks.{Clock}
-use Rattle.ert_defs.specs.Entries.{look_entry, off_entry}
+use Rattle.ert_defs.specs.Entries.{look_entry, off_entry, keeper_entry}
 use Rattle.ert_defs.specs.Legal.{LegalFrom}
 use Rattle.ert_defs.specs.Lines.{end_time}
 use Rattle.ert_defs.specs.States.{State}
@@ -48,7 +47,7 @@ stays_piece s old now offset shift time same state none =
     ∙ ap (λ (x : Option ℤ). record { entries = keeper_entry 0 (Off offset old) ∷ []; reply = Finalize old now x }) (sym none)
 
 stays_done : (g : Settings) (n : ℕ) (ls : Labels) (s c : State) (r : Reading) (old : OffsetState) (m : Moved) (es : List Entry) → Meets g n ls s c
-    → LegalFrom g s es → Stays 0 r old m s es
+    → LegalFrom g s es → OffsetStays 0 r old m s es
     → IsDone g n ls s c (Finalize old m.now m.shift) es (record { entries = keeper_entry 0 (Off c.clock.offset c.clock.state) ∷ []; reply = Finalize old c.clock.now None })
 stays_done g n ls s c r old m es h legal does =
     let lawful = subst (λ (x : List Entry). LegalFrom g s x) does.entries legal in

@@ -1,9 +1,9 @@
 -- The plain service: the ops of the clock.
 
 use Rattle.std.specs.Prelude.{ℕ, ℤ, pos, negsuc, ◌+ℤ◌, Bool, cond, ◌&&◌, int_lt, int_le, [], ◌∷◌, Option, Some, None}
-use Rattle.ert_clock.specs.Ticks.{keeper_entry, tick_entries}
+use Rattle.ert_clock.specs.Ticks.{tick_entries}
 use Rattle.ert_defs.specs.Clocks.{face}
-use Rattle.ert_defs.specs.Entries.{look_entry, off_entry}
+use Rattle.ert_defs.specs.Entries.{look_entry, off_entry, keeper_entry}
 use Rattle.ert_defs.specs.Lines.{Due, end_time, time_after, due_after}
 use Rattle.ert_defs.specs.States.{State}
 use Rattle.ert_defs.specs.declared.entry.Act.{Act}

@@ -4,7 +4,7 @@ use Rattle.std.proofs.Common.{◌≡◌, ℕ, suc, ◌+◌, Bool, true, false, c
 use Rattle.std.specs.Prelude.{nat_lt}
 use Rattle.std.proofs.lemmas.List.Elements.{filter-append}
 use Rattle.ert_effects.proofs.Growing.{whole_own}
-use Rattle.ert_effects.specs.Chains.{HoldsBy, Serves, ServesAll, ServesMany, AdvancesWheel, Hands, Delivers, HasTurned, Turns, times}
+use Rattle.ert_effects.specs.Chains.{HoldsBy, Serves, ServesAll, ServesMany, AdvancesWheel, Hands, Delivers, HasTurned, Turns, so_many_steps}
 use Rattle.ert_effects.specs.MailCalls.{handed_entries, HandsOver}
 use Rattle.ert_effects.specs.RequestCalls.{Picks, Answers, DoesAsked, HasAnswered}
 use Rattle.ert_effects.specs.TimerCalls.{read_entries, cancel_entries}
@@ -119,7 +119,7 @@ module _ (g : Settings) (w : ℕ) (way : Way) (count : List Entry → ℕ) (is :
 
   serves_many_none : (n : ℕ) (h m : List Entry) → ServesMany g way w n h m → count m ≡ 0
   serves_many_none n h m made =
-      many_none way count is (λ (one : Unit {0}). Serves g way w (Ok true)) (times n) h m (λ one h m served. serves_none h m served) made
+      many_none way count is (λ (one : Unit {0}). Serves g way w (Ok true)) (so_many_steps n) h m (λ one h m served. serves_none h m served) made
 
   serves_all_none : (n : ℕ) (h m : List Entry) → ServesAll g way w (Ok n) h m → count m ≡ 0
   serves_all_none n h m served = at (nat_lt n 64) served.1

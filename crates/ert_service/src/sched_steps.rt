@@ -12,7 +12,7 @@ use std::sync::Wait;
 
 impl<L: DeskName> Service<L> {
     ghost use Rattle.std.specs.Prelude.{◌≡◌, ◌<◌, Some, None, IfOk, OnOk};
-    ghost use Rattle.ert_effects.specs.Chains.{Holds, AdvancesWheel, Hands};
+    ghost use Rattle.ert_effects.specs.Chains.{HoldsRequest, AdvancesWheel, Hands};
     ghost use Rattle.ert_effects.specs.RequestCalls.{Picks, Answers};
     ghost use Rattle.ert_effects.specs.Ways.{beside};
     ghost use Rattle.ert_defs.specs.Mails.{first_of, others_of};
@@ -26,7 +26,7 @@ impl<L: DeskName> Service<L> {
     /// The request in a scheduler's hand. Where the hand is empty, the first of the inbox is taken into it.
     pub(crate) fn hold<R: Wait>(&self, rt: &R, seat: &mut SchedSeat<L>) -> Option<Request>
         ensures hand { seat.new.part.hand ≡ result }
-        ensures call { FrontGrows (Holds L.settings (beside L.settings (Sched seat.old.part.wheel)) seat.old.part.wheel result) seat.old.pass seat.new.pass }
+        ensures call { FrontGrows (HoldsRequest L.settings (beside L.settings (Sched seat.old.part.wheel)) seat.old.part.wheel result) seat.old.pass seat.new.pass }
         ensures number { seat.new.part.wheel ≡ seat.old.part.wheel }
     {
         match seat.part.hand {

@@ -12,8 +12,8 @@ use Rattle.ert_defs.specs.declared.entry.Actor.TheVariants.{Wheel, MailOf, Calle
 use Rattle.ert_defs.specs.declared.entry.Entry.{Entry}
 use Rattle.ert_defs.specs.declared.settings.Settings.{Settings}
 use Rattle.ert_effects.specs.Ways.{Growth, Way}
-use Rattle.ert_mail.specs.Mailboxes.{Mailbox, Stands as MailStands}
-use Rattle.ert_shard.specs.Shards.{Share, IsHome, AreMails, is_by, Owned, owned, way_of, Goes, Steps, By, HoldsShare, ShardParts, Stand, AreHome, AreFit}
+use Rattle.ert_mail.specs.Mailboxes.{Mailbox, MailboxStands as MailStands}
+use Rattle.ert_shard.specs.Shards.{Share, IsHome, AreMails, is_by, Owned, owned, shard_way, ShardGoes, ShardSteps, ShardBy, HoldsShare, ShardParts, ShardPartsStand, AreHome, AreShardPartsFit}
 use Rattle.ert_shard.proofs.Home.{home_on}
 use Rattle.ert_shard.proofs.Kept.{AreOwn, own_by, same_of, others_stand, self_own, home_own}
 use Rattle.ert_table.specs.Calls.{AreOnlyOf, IsMade}
@@ -22,19 +22,19 @@ use Rattle.ert_table.specs.Held.{is_held}
 use Rattle.ert_table.specs.Takes.{TakesPlace}
 use Rattle.ert_table.specs.declared.desk.Desk.{Desk}
 use Rattle.ert_table.specs.declared.desk.Pass.{Pass}
-use Rattle.ert_timers.specs.Parts.{Part, Stands as WheelStands}
+use Rattle.ert_timers.specs.Parts.{Part, PartStands as WheelStands}
 use Rattle.ert_timers.specs.Passed.{LosesRows}
 use Rattle.ert_world.proofs.Returned.{at_place}
 
 -- the parts of a shard after a call: they fit, and what callers see of it goes on by the call
 pub record Does (before : Owned) (d : Desk) (q : Pass) (s : Share) (new : ShardParts) (call : Owned → Way → Growth) : Type 0 where
-  pub fit : AreFit d q s new
-  pub goes : Goes before (call before) (owned d q s new.wheel)
+  pub fit : AreShardPartsFit d q s new
+  pub goes : ShardGoes before (call before) (owned d q s new.wheel)
 
 -- the same of a call that starts no timer
 pub record Did (before : Owned) (d : Desk) (q : Pass) (s : Share) (new : ShardParts) (call : Owned → Way → Growth) : Type 0 where
-  pub fit : AreFit d q s new
-  pub steps : Steps before (call before) (owned d q s new.wheel)
+  pub fit : AreShardPartsFit d q s new
+  pub steps : ShardSteps before (call before) (owned d q s new.wheel)
 
 pub does_at : {before : Owned} {d e : Desk} {q : Pass} {s : Share} {new : ShardParts} {call : Owned → Way → Growth} → d ≡ e
     → Does before d q s new call → Does before e q s new call
@@ -49,8 +49,8 @@ pub same_rows : (p : Part) → LosesRows p p
 same_rows p = record { number = refl; slots = refl; left = λ k key is. is; time = le_refl p.passed }
 
 -- a call went on so, and the wheel lost rows
-pub lost : (before o : Owned) (call : Way → Growth) (old new : Part) → before.wheel ≡ old → Goes before call o → LosesRows old new
-    → Steps before call (record o { wheel = new })
+pub lost : (before o : Owned) (call : Way → Growth) (old new : Part) → before.wheel ≡ old → ShardGoes before call o → LosesRows old new
+    → ShardSteps before call (record o { wheel = new })
 lost before o call old new is goes rows = record {
   goes = record { grows = goes.grows; legal = goes.legal; table = goes.table; settings = goes.settings; share = goes.share };
   rows = subst (λ (p : Part). LosesRows p new) (sym is) rows;
@@ -59,21 +59,21 @@ lost before o call old new is goes rows = record {
 -- what a shard has at a desk before a call
 pub record Has (before : Owned) (d : Desk) (p : Pass) (s : Share) (parts : ShardParts) : Type 0 where
   pub is : owned d p s parts.wheel ≡ before
-  pub fit : AreFit d p s parts
+  pub fit : AreShardPartsFit d p s parts
 
 pub has_at : {before : Owned} {d e : Desk} {p : Pass} {s : Share} {parts : ShardParts} → d ≡ e → owned e p s parts.wheel ≡ before
-    → AreFit e p s parts → Has before d p s parts
+    → AreShardPartsFit e p s parts → Has before d p s parts
 has_at {before} {d} {e} {p} {s} {parts} same is fit = subst (λ x. Has before x p s parts) (sym same) (record { is = is; fit = fit })
 
 -- what a call may record, of a piece of the history in which these entries are the share's
 abbrev pub Makes : Desk → Pass → Pass → Share → Part → List Entry → (Owned → Way → Growth) → Type 0
 Makes d p q s wheel es call =
-    (m : List Entry) → front_of q ≡ front_of p ++ m → filter (is_by s) m ≡ es → call (owned d p s wheel) (way_of (owned d p s wheel)) (front_of p) m
+    (m : List Entry) → front_of q ≡ front_of p ++ m → filter (is_by s) m ≡ es → call (owned d p s wheel) (shard_way (owned d p s wheel)) (front_of p) m
 
 pub finish : (before : Owned) (d : Desk) (p q : Pass) (s : Share) (old new : ShardParts) (es : List Entry) (lent : List Actor) (call : Owned → Way → Growth)
     → Has before d p s old → Belongs d q → TakesPlace (settings_of d) (view_of p) es (view_of q) → AreOnlyOf lent es → AreOwn s lent
     → AreHome s (of (front_of q) (Wheel s.number))
-    → (Stand (settings_of d) (front_of q) s lent old → Stand (settings_of d) (front_of q) s [] new)
+    → (ShardPartsStand (settings_of d) (front_of q) s lent old → ShardPartsStand (settings_of d) (front_of q) s [] new)
     → Makes d p q s old.wheel es call → Does before d q s new call
 finish before d p q s old new es lent call has belongs takes only own home back allowed =
     let g : Settings = settings_of d in
@@ -84,7 +84,7 @@ finish before d p q s old new es lent call has belongs takes only own home back 
         stand = back (others_stand g (view_of p) es (view_of q) s lent old takes only has.fit.holds has.fit.stand);
         home = home;
       };
-      goes = subst (λ o. Goes o (call o) (owned d q s new.wheel)) has.is (record {
+      goes = subst (λ o. ShardGoes o (call o) (owned d q s new.wheel)) has.is (record {
         grows = record {
           piece = takes.later;
           grown = takes.grown;
@@ -99,7 +99,7 @@ finish before d p q s old new es lent call has belongs takes only own home back 
 
 -- what one step may record
 pub makes : (d : Desk) (p q : Pass) (s : Share) (wheel : Part) (es : List Entry) (allows : ℕ → Settings → State → List Entry → Type 0)
-    → allows s.number (settings_of d) (state (settings_of d) (front_of p)) es → Makes d p q s wheel es (λ o. By o (allows o.share.number))
+    → allows s.number (settings_of d) (state (settings_of d) (front_of p)) es → Makes d p q s wheel es (λ o. ShardBy o (allows o.share.number))
 makes d p q s wheel es allows allowed = λ m grown own. subst (allows s.number (settings_of d) (state (settings_of d) (front_of p))) (sym own) allowed
 
 -- where the wheel isn't lent no timer was started on it
@@ -140,13 +140,13 @@ rows_then p q r one other = record {
 
 -- a call of the shard's caller alone
 pub alone_called : (before : Owned) (d e : Desk) (p q : Pass) (s : Share) (old : ShardParts) (allows : ℕ → Settings → State → List Entry → Type 0) → d ≡ e
-    → owned e p s old.wheel ≡ before → AreFit e p s old → Belongs d q → IsMade (settings_of d) (view_of p) (allows s.number (settings_of d)) (view_of q)
+    → owned e p s old.wheel ≡ before → AreShardPartsFit e p s old → Belongs d q → IsMade (settings_of d) (view_of p) (allows s.number (settings_of d)) (view_of q)
     → ((st : State) (es : List Entry) → allows s.number (settings_of d) st es → AreOnlyOf (Caller (s.number + 1) ∷ []) es)
-    → Did before e q s old (λ o. By o (allows o.share.number))
+    → Did before e q s old (λ o. ShardBy o (allows o.share.number))
 alone_called before d e p q s old allows same is fit belongs made only =
     let it = only (state (settings_of d) (front_of p)) made.entries made.allowed in
     let has : Has before d p s old = has_at same is fit in
-    still p old old same is refl (finish before d p q s old old made.entries (Caller (s.number + 1) ∷ []) (λ o. By o (allows o.share.number)) has belongs made.call it (self_own (s.number + 1), tt)
+    still p old old same is refl (finish before d p q s old old made.entries (Caller (s.number + 1) ∷ []) (λ o. ShardBy o (allows o.share.number)) has belongs made.call it (self_own (s.number + 1), tt)
     (home_kept before d p q s old made.entries (Caller (s.number + 1) ∷ []) has made.call it refl)
     (λ stand. record {
       legal = stand.legal;
@@ -162,11 +162,11 @@ alone_called before d e p q s old allows same is fit belongs made only =
 
 -- a step on the shard's wheel by its caller, whose starts are for its processes
 pub wheel_stepped : (before : Owned) (d e : Desk) (p q : Pass) (s : Share) (old : ShardParts) (new : Part) (allows : ℕ → ℕ → Settings → State → List Entry → Type 0)
-    → d ≡ e → owned e p s old.wheel ≡ before → AreFit e p s old → Belongs d q → new.number ≡ old.wheel.number → WheelStands (settings_of d) (front_of q) new
+    → d ≡ e → owned e p s old.wheel ≡ before → AreShardPartsFit e p s old → Belongs d q → new.number ≡ old.wheel.number → WheelStands (settings_of d) (front_of q) new
     → IsMade (settings_of d) (view_of p) (allows s.number old.wheel.number (settings_of d)) (view_of q)
     → ((n : ℕ) (st : State) (es : List Entry) → allows s.number n (settings_of d) st es → AreOnlyOf (Caller (s.number + 1) ∷ (Wheel n ∷ [])) es)
     → ((n : ℕ) (st : State) (es : List Entry) → allows s.number n (settings_of d) st es → AreHome s es)
-    → Does before e q s (record old { wheel = new }) (λ o. By o (allows o.share.number o.share.number))
+    → Does before e q s (record old { wheel = new }) (λ o. ShardBy o (allows o.share.number o.share.number))
 wheel_stepped before d e p q s old new allows same is fit belongs named stands made only homes =
     let g : Settings = settings_of d in
     let n : ℕ = s.number in
@@ -174,7 +174,7 @@ wheel_stepped before d e p q s old new allows same is fit belongs named stands m
     let one : old.wheel.number ≡ n = has.fit.stand.wheel_is in
     let it : IsMade g (view_of p) (allows n n g) (view_of q) = subst (λ i. IsMade g (view_of p) (allows n i g) (view_of q)) one made in
     let mine = only n (state g (front_of p)) it.entries it.allowed in
-    does_at same (finish before d p q s old (record old { wheel = new }) it.entries (Caller (n + 1) ∷ (Wheel n ∷ [])) (λ o. By o (allows o.share.number o.share.number)) has belongs it.call mine
+    does_at same (finish before d p q s old (record old { wheel = new }) it.entries (Caller (n + 1) ∷ (Wheel n ∷ [])) (λ o. ShardBy o (allows o.share.number o.share.number)) has belongs it.call mine
     (self_own (n + 1), (self_own n, tt))
     (home_on g (view_of p) it.entries (view_of q) s it.call has.fit.holds has.fit.home (homes n (state g (front_of p)) it.entries it.allowed))
     (λ stand. record {
@@ -190,8 +190,8 @@ wheel_stepped before d e p q s old new allows same is fit belongs named stands m
     (makes d p q s old.wheel it.entries (λ m. allows m m) it.allowed))
 
 -- a wheel that was changed without an entry
-pub wheel_replaced : (d : Desk) (q : Pass) (s : Share) (parts : ShardParts) (new : Part) → AreFit d q s parts → new.number ≡ parts.wheel.number
-    → WheelStands (settings_of d) (front_of q) new → AreFit d q s (record parts { wheel = new })
+pub wheel_replaced : (d : Desk) (q : Pass) (s : Share) (parts : ShardParts) (new : Part) → AreShardPartsFit d q s parts → new.number ≡ parts.wheel.number
+    → WheelStands (settings_of d) (front_of q) new → AreShardPartsFit d q s (record parts { wheel = new })
 wheel_replaced d q s parts new fit named stands = record {
   belongs = fit.belongs;
   holds = fit.holds;
@@ -209,7 +209,7 @@ wheel_replaced d q s parts new fit named stands = record {
 }
 
 -- a place among the mailboxes of a share
-pub place_low : {d : Desk} {p : Pass} {s : Share} {parts : ShardParts} → AreFit d p s parts → (process : ℕ) → IsHome s process
+pub place_low : {d : Desk} {p : Pass} {s : Share} {parts : ShardParts} → AreShardPartsFit d p s parts → (process : ℕ) → IsHome s process
     → process - s.from < length parts.mails
 place_low fit process home =
     let counted = fit.stand.mails.counted in
@@ -218,7 +218,7 @@ place_low fit process home =
     omega (arith, counted, low, high)
 
 -- the mailbox at the place of a process is of that
-pub mail_named : {d : Desk} {p : Pass} {s : Share} {parts : ShardParts} → AreFit d p s parts → (process : ℕ) (x : Mailbox) → IsHome s process
+pub mail_named : {d : Desk} {p : Pass} {s : Share} {parts : ShardParts} → AreShardPartsFit d p s parts → (process : ℕ) (x : Mailbox) → IsHome s process
     → x ≡ slice_index_or parts.mails (process - s.from) x → x.process ≡ process
 mail_named {s = s} fit process x home is =
     let low = home.0 in
@@ -248,11 +248,11 @@ mails_back g h s lent mails process x home are named stands =
 
 -- a step on a mailbox by the shard's caller
 pub mail_stepped : (before : Owned) (d e : Desk) (p q : Pass) (s : Share) (parts : ShardParts) (process : ℕ) (old new : Mailbox)
-    (allows : ℕ → ℕ → Settings → State → List Entry → Type 0) → d ≡ e → owned e p s parts.wheel ≡ before → AreFit e p s parts → Belongs d q → IsHome before.share process
+    (allows : ℕ → ℕ → Settings → State → List Entry → Type 0) → d ≡ e → owned e p s parts.wheel ≡ before → AreShardPartsFit e p s parts → Belongs d q → IsHome before.share process
     → old ≡ slice_index_or parts.mails (process - s.from) old → new.process ≡ old.process → MailStands (settings_of d) (front_of q) new
     → (Legal (settings_of d) (front_of p) → IsMade (settings_of d) (view_of p) (allows s.number old.process (settings_of d)) (view_of q))
     → ((n : ℕ) (st : State) (es : List Entry) → allows s.number n (settings_of d) st es → AreOnlyOf (Caller (s.number + 1) ∷ (MailOf n ∷ [])) es)
-    → Did before e q s (record parts { mails = slice_set parts.mails (process - s.from) new }) (λ o. By o (allows o.share.number process))
+    → Did before e q s (record parts { mails = slice_set parts.mails (process - s.from) new }) (λ o. ShardBy o (allows o.share.number process))
 mail_stepped before d e p q s parts process old new allows same is fit belongs home_in lent named stands made only =
     let g : Settings = settings_of d in
     let n : ℕ = s.number in
@@ -264,7 +264,7 @@ mail_stepped before d e p q s parts process old new allows same is fit belongs h
     let mine = only process (state g (front_of p)) it.entries it.allowed in
     still p parts (record parts { mails = slice_set parts.mails (process - s.from) new }) same is refl
     (finish before d p q s parts (record parts { mails = slice_set parts.mails (process - s.from) new }) it.entries lending
-    (λ o. By o (allows o.share.number process)) has belongs it.call mine
+    (λ o. ShardBy o (allows o.share.number process)) has belongs it.call mine
     (self_own (n + 1), (home_own s process home, tt))
     (home_kept before d p q s parts it.entries lending has it.call mine refl)
     (λ stand. record {

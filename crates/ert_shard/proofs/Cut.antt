@@ -21,7 +21,7 @@ use Rattle.ert_shard.specs.declared.hub.Home.{Home}
 use Rattle.ert_table.specs.Desks.{settings_of, front_of}
 use Rattle.ert_table.specs.declared.desk.Desk.{Desk}
 use Rattle.ert_table.specs.declared.desk.Pass.{Pass}
-use Rattle.ert_timers.specs.Parts.{Part, Stands as WheelStands}
+use Rattle.ert_timers.specs.Parts.{Part, PartStands as WheelStands}
 use Rattle.ert_world.specs.Parts.{AllParts}
 
 -- a wheel that has had no timer has none for a process of another share

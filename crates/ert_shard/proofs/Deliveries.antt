@@ -21,9 +21,9 @@ use Rattle.ert_defs.specs.declared.timer.TimerRef.{TimerRef}
 use Rattle.ert_laws.proofs.RowRanges.{first_placed}
 use Rattle.ert_laws.specs.Ranges.{IsPlaced}
 use Rattle.ert_mail.proofs.LawsHold.{handing_only}
-use Rattle.ert_mail.specs.Mailboxes.{Mailbox, IsScheds, handed, Stands as MailStands}
+use Rattle.ert_mail.specs.Mailboxes.{Mailbox, HoldsMailbox, handed, MailboxStands as MailStands}
 use Rattle.ert_shard.specs.Turning.{fired_of}
-use Rattle.ert_shard.specs.Shards.{Share, IsHome, Owned, way_of, Steps, ShardParts, AreFit}
+use Rattle.ert_shard.specs.Shards.{Share, IsHome, Owned, shard_way, ShardSteps, ShardParts, AreShardPartsFit}
 use Rattle.ert_shard.proofs.Home.{first_home}
 use Rattle.ert_shard.proofs.Kept.{self_own, home_own}
 use Rattle.ert_shard.proofs.Called.{Does, Did, Has, Makes, finish, losing, same_rows, rows_then, home_kept, mail_named, mails_back, place_low}
@@ -108,8 +108,8 @@ handed_now before d p q s parts old new fired how x has belongs first lent named
     })
 
 -- a pass of a shard holds its scheduler and the mailbox of a process of its share
-pub sched_holds : (d : Desk) (p : Pass) (s : Share) (parts : ShardParts) (w process m : ℕ) → AreFit d p s parts → w ≡ s.number → IsHome s process → m ≡ process
-    → IsScheds (settings_of d) (view_of p) w m
+pub sched_holds : (d : Desk) (p : Pass) (s : Share) (parts : ShardParts) (w process m : ℕ) → AreShardPartsFit d p s parts → w ≡ s.number → IsHome s process → m ≡ process
+    → HoldsMailbox (settings_of d) (view_of p) w m
 sched_holds d p s parts w process m fit one home named =
     let most = fit.holds.most in
     let high = home.1 in
@@ -121,7 +121,7 @@ sched_holds d p s parts w process m fit one home named =
     }
 
 -- a mailbox at the place of a process stands
-pub mail_stands : (d : Desk) (p : Pass) (s : Share) (parts : ShardParts) (process : ℕ) (x : Mailbox) → AreFit d p s parts → IsHome s process
+pub mail_stands : (d : Desk) (p : Pass) (s : Share) (parts : ShardParts) (process : ℕ) (x : Mailbox) → AreShardPartsFit d p s parts → IsHome s process
     → x ≡ slice_index_or parts.mails (process - s.from) x → MailStands (settings_of d) (front_of p) x
 mail_stands d p s parts process x fit home is =
     subst (MailStands (settings_of d) (front_of p)) (sym is) (fit.stand.mails.stand (process - s.from) x (place_low fit process home) refl)
@@ -209,7 +209,7 @@ step_refused before d p q s parts process old new call has belongs home lent nam
 -- some expired timers were handed over, one after the other
 pub record Handing (old : Owned) (hows : List Handed) (now : Owned) : Type 0 where
   pub rows : LosesRows old.wheel now.wheel
-  pub made : Grows (HandsMany old.settings (way_of old) old.share.number hows) old.history now.history
+  pub made : Grows (HandsMany old.settings (shard_way old) old.share.number hows) old.history now.history
   pub table : now.table ≡ old.table
   pub settings : now.settings ≡ old.settings
   pub share : now.share ≡ old.share
@@ -224,10 +224,10 @@ none_handed o = record {
 }
 
 pub one_handed : (old mid new : Owned) (hows : List Handed) (how : Handed) → Handing old hows mid
-    → Steps mid (λ way. Hands mid.settings way mid.share.number (Ok how)) new → Handing old (hows ++ how ∷ []) new
+    → ShardSteps mid (λ way. Hands mid.settings way mid.share.number (Ok how)) new → Handing old (hows ++ how ∷ []) new
 one_handed old mid new hows how handing steps = record {
   rows = rows_then old.wheel mid.wheel new.wheel handing.rows steps.rows;
-  made = grows_more (λ how. Hands old.settings (way_of old) old.share.number (Ok how)) hows how old.history mid.history new.history handing.made
+  made = grows_more (λ how. Hands old.settings (shard_way old) old.share.number (Ok how)) hows how old.history mid.history new.history handing.made
       (since old mid new (λ g n way. Hands g way n (Ok how)) handing.settings handing.share steps.goes.grows);
   table = steps.goes.table ∙ handing.table;
   settings = steps.goes.settings ∙ handing.settings;
@@ -239,7 +239,7 @@ none_left [] none = refl
 none_left (x ∷ xs) none = absurd cc
 
 pub all_handed : (old new : Owned) (hows : List Handed) (put dropped : ℕ) → Handing old hows new → Legal new.settings new.history → put ≡ puts hows → dropped ≡ drops hows
-    → first_of (fired_of new) ≡ None → Steps old (λ way. Delivers old.settings way old.share.number (Ok (put, dropped))) new
+    → first_of (fired_of new) ≡ None → ShardSteps old (λ way. Delivers old.settings way old.share.number (Ok (put, dropped))) new
 all_handed old new hows put dropped handing legal put_is dropped_is none =
     let made = handing.made in
     let fired : (sched_of new.settings new.history new.share.number).fired ≡ [] = none_left (fired_of new) none in
@@ -270,7 +270,7 @@ all_handed old new hows put dropped handing legal put_is dropped_is none =
 -- how so many timers at most were handed over
 pub some_handed : (old new : Owned) (most put dropped : ℕ) (more : Bool) (hows : List Handed) → Handing old hows new → Legal new.settings new.history
     → put ≡ puts hows → dropped ≡ drops hows → put + dropped ≤ most → AreLeft more most (length hows) (fired_of new)
-    → Steps old (λ way. DeliversSome old.settings way old.share.number most (Ok (put, dropped, more))) new
+    → ShardSteps old (λ way. DeliversSome old.settings way old.share.number most (Ok (put, dropped, more))) new
 some_handed old new most put dropped more hows handing legal put_is dropped_is few left =
     let made = handing.made in
     let at : AreLeft more most (length hows) ((state old.settings new.history).scheds old.share.number).fired =
@@ -300,10 +300,10 @@ some_handed old new most put dropped more hows handing legal put_is dropped_is f
 
 -- fewer were handed over, and there was no memory for the next
 pub some_unhanded : (old mid new : Owned) (most put dropped : ℕ) (e : NoMemory) (hows : List Handed) → Handing old hows mid
-    → put ≡ puts hows → dropped ≡ drops hows → put + dropped < most → Steps mid (λ way. Hands mid.settings way mid.share.number (Err e)) new
-    → Steps old (λ way. DeliversSome old.settings way old.share.number most (Err e)) new
+    → put ≡ puts hows → dropped ≡ drops hows → put + dropped < most → ShardSteps mid (λ way. Hands mid.settings way mid.share.number (Err e)) new
+    → ShardSteps old (λ way. DeliversSome old.settings way old.share.number most (Err e)) new
 some_unhanded old mid new most put dropped e hows handing put_is dropped_is few steps =
-    let both = grows_then (HandsMany old.settings (way_of old) old.share.number hows) (Hands old.settings (way_of old) old.share.number (Err e)) old.history mid.history new.history
+    let both = grows_then (HandsMany old.settings (shard_way old) old.share.number hows) (Hands old.settings (shard_way old) old.share.number (Err e)) old.history mid.history new.history
     handing.made (since old mid new (λ g n way. Hands g way n (Err e)) handing.settings handing.share steps.goes.grows) in
     record {
       rows = rows_then old.wheel mid.wheel new.wheel handing.rows steps.rows;

@@ -15,7 +15,7 @@ use Rattle.ert_defs.specs.declared.settings.Settings.{Settings}
 use Rattle.ert_mail.proofs.LawsHold.{inbox_on, mail_on}
 use Rattle.ert_mail.specs.Mailboxes.{Mailbox}
 use Rattle.ert_shard.proofs.StandOn.{sched_on}
-use Rattle.ert_shard.specs.Shards.{Share, IsHome, is_own, is_by, HoldsShare, ShardParts, Stand}
+use Rattle.ert_shard.specs.Shards.{Share, IsHome, is_own, is_by, HoldsShare, ShardParts, ShardPartsStand}
 use Rattle.ert_table.proofs.Calls.{made_ours}
 use Rattle.ert_table.proofs.Closings.{maker_in_range}
 use Rattle.ert_table.proofs.Holders.{held_maker, same_actor-true}
@@ -84,7 +84,7 @@ pub same_of : (g : Settings) (v : View) (es : List Entry) (w : View) (s : Share)
 same_of g v es w s lent a takes only holds ranged mine apart = own_kept g v es w lent a takes only (holds.own a ranged ∙ mine) apart
 
 pub others_stand : (g : Settings) (v : View) (es : List Entry) (w : View) (s : Share) (lent : List Actor) (parts : ShardParts) → TakesPlace g v es w
-    → AreOnlyOf lent es → HoldsShare g v.actors s → Stand g v.front s [] parts → Stand g w.front s lent parts
+    → AreOnlyOf lent es → HoldsShare g v.actors s → ShardPartsStand g v.front s [] parts → ShardPartsStand g w.front s lent parts
 others_stand g v es w s lent parts takes only holds stand =
     let f : List Entry = v.front in
     let h : List Entry = w.front in

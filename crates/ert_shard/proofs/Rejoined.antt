@@ -12,12 +12,12 @@ use Rattle.ert_defs.specs.declared.entry.Actor.TheVariants.{Keeper, Wheel, Inbox
 use Rattle.ert_defs.specs.declared.entry.Entry.{Entry}
 use Rattle.ert_defs.specs.declared.settings.Settings.{Settings}
 use Rattle.ert_mail.proofs.LawsHold.{inbox_on, mail_on}
-use Rattle.ert_mail.specs.Inboxes.{Waiting, Stands as InboxStands}
-use Rattle.ert_mail.specs.Mailboxes.{Mailbox, Stands as MailStands}
+use Rattle.ert_mail.specs.Inboxes.{Waiting, InboxStands}
+use Rattle.ert_mail.specs.Mailboxes.{Mailbox, MailboxStands as MailStands}
 use Rattle.ert_shard.proofs.Cut.{homes_on}
 use Rattle.ert_shard.proofs.StandOn.{keeper_on, sched_on}
 use Rattle.ert_shard.specs.Hubs.{is_kept, share_at, HaveHomes, IsRest}
-use Rattle.ert_shard.specs.Shards.{Share, share_of, IsHome, is_own, HoldsShare, ShardParts, Stand, AreHome, AreFit}
+use Rattle.ert_shard.specs.Shards.{Share, share_of, IsHome, is_own, HoldsShare, ShardParts, ShardPartsStand, AreHome, AreShardPartsFit}
 use Rattle.ert_shard.specs.declared.hub.Home.{Home}
 use Rattle.ert_shard.proofs.Kept.{self_own, home_own}
 use Rattle.ert_table.specs.Desks.{settings_of, view_of, front_of, actors_of, Belongs}
@@ -26,7 +26,7 @@ use Rattle.ert_table.specs.Views.{Joined, meeting}
 use Rattle.ert_table.specs.declared.desk.Desk.{Desk}
 use Rattle.ert_table.specs.declared.desk.Pass.{Pass}
 use Rattle.ert_timers.proofs.LawsHold.{stand_on as wheel_on}
-use Rattle.ert_timers.specs.Parts.{Part, Stands as WheelStands}
+use Rattle.ert_timers.specs.Parts.{Part, PartStands as WheelStands}
 use Rattle.ert_world.specs.Parts.{AllParts, parts_of, SchedStands, AreOrdered}
 use Rattle.ert_world.specs.declared.sched_part.SchedPart.{SchedPart}
 
@@ -116,7 +116,7 @@ homes_more f h s homes have same home =
         (subst (λ w. AreHome (share_of w s.from s.to) (of h (Wheel w))) place home)
 
 pub rejoined : (e t : Desk) (p q r : Pass) (s : Share) (seat : ℕ) (homes : List Home) (parts : AllParts) (own : ShardParts) → IsRest e p s.number s.from seat homes parts
-    → AreFit t q s own
+    → AreShardPartsFit t q s own
     → settings_of t ≡ settings_of e → Belongs e r → actors_of r ≡ actors_of p ++ actors_of q → Joined (meeting (view_of p) (view_of q)) (front_of r)
     → Legal (settings_of e) (front_of r)
     → IsRest e r (s.number + 1) s.to seat (homes ++ home_of s ∷ []) (parts_of parts.keeper (parts.wheels ++ own.wheel ∷ []) (parts.inboxes ++ own.inbox ∷ []) (parts.mails ++ own.mails) (parts.scheds ++ own.sched ∷ []))
@@ -124,7 +124,7 @@ rejoined e t p q r s seat homes parts own rest fit same belongs actors joined le
     let g : Settings = settings_of e in
     let h : List Entry = front_of r in
     let holds : HoldsShare g (actors_of q) s = subst (λ x. HoldsShare x (actors_of q) s) same fit.holds in
-    let stand : Stand g (front_of q) s [] own = subst (λ x. Stand x (front_of q) s [] own) same fit.stand in
+    let stand : ShardPartsStand g (front_of q) s [] own = subst (λ x. ShardPartsStand x (front_of q) s [] own) same fit.stand in
     let left : (k : Actor) → IsActor g k → is_kept s.number s.from seat k ≡ true → of h k ≡ of (front_of p) k =
     λ k ranged kept. joined.own k (rest.holds.rest k ranged ∙ kept) in
     let back : (k : Actor) → IsActor g k → is_own s k ≡ true → of h k ≡ of (front_of q) k = λ k ranged mine. joined.other_own k (holds.own k ranged ∙ mine) in
@@ -189,7 +189,7 @@ rejoined e t p q r s seat homes parts own rest fit same belongs actors joined le
 
 -- the same, of what a call finds
 pub rejoined_at : (e t : Desk) (p q r : Pass) (left first seat : ℕ) (homes : List Home) (s : Share) (parts : AllParts) (own : ShardParts) (new : AllParts) (after : List Home)
-    → IsRest e p left first seat homes parts → AreFit t q s own → s.number ≡ left → s.from ≡ first
+    → IsRest e p left first seat homes parts → AreShardPartsFit t q s own → s.number ≡ left → s.from ≡ first
     → settings_of t ≡ settings_of e → Belongs e r → actors_of r ≡ actors_of p ++ actors_of q → Joined (meeting (view_of p) (view_of q)) (front_of r)
     → Legal (settings_of e) (front_of r) → new.wheels ≡ parts.wheels ++ own.wheel ∷ [] → new.inboxes ≡ parts.inboxes ++ own.inbox ∷ []
     → new.mails ≡ parts.mails ++ own.mails → new.scheds ≡ parts.scheds ++ own.sched ∷ [] → after ≡ homes ++ home_of s ∷ []

@@ -14,7 +14,7 @@ use Rattle.ert_effects.specs.Ways.{Way, Then}
 use Rattle.ert_effects.specs.declared.answers.StartErr.{StartErr}
 use Rattle.ert_effects.specs.declared.answers.StartErr.TheVariants.{BadArg, Full, NoMemory}
 use Rattle.ert_shard.specs.Renewing.{SeesDeadline, LooksFor, Replaces, CancelsAlone, RestartsOn}
-use Rattle.ert_shard.specs.Shards.{Owned, Goes, Steps, By}
+use Rattle.ert_shard.specs.Shards.{Owned, ShardGoes, ShardSteps, ShardBy}
 use Rattle.ert_shard.proofs.Stepped.{goes_then, goes_as}
 use Rattle.ert_table.specs.Calls.{AreOnlyOf}
 use Rattle.ert_timers.specs.declared.looking.Forecast.{Forecast}
@@ -35,9 +35,9 @@ looks_only g by start None st es looks = (time_quiet g (Caller by) looks.now st 
 
 -- a timer was cancelled, and another was started
 pub replaced : (a b c : Owned) (timer : TimerRef) (start : Start) (left : ℕ) (answer : Result TimerRef StartErr)
-    → Steps a (By a (λ g. Cancels g (Caller (a.share.number + 1)) timer (Some left))) b
-    → Goes b (By b (λ g. Starts g (b.share.number + 1) b.share.number start answer)) c
-    → Goes a (λ way. Replaces a.settings way a.share.number timer start (Some answer)) c
+    → ShardSteps a (ShardBy a (λ g. Cancels g (Caller (a.share.number + 1)) timer (Some left))) b
+    → ShardGoes b (ShardBy b (λ g. Starts g (b.share.number + 1) b.share.number start answer)) c
+    → ShardGoes a (λ way. Replaces a.settings way a.share.number timer start (Some answer)) c
 replaced a b c timer start left answer one other =
     goes_as a c
     (λ (way : Way). Then (way [] (Cancels a.settings (Caller (a.share.number + 1)) timer (Some left))) (way [] (Starts a.settings (a.share.number + 1) a.share.number start answer)))
@@ -50,8 +50,8 @@ abbrev refused : StartErr → Option (Result TimerRef StartErr)
 refused why = Some (Err why)
 
 full : (b c : Owned) (timer : TimerRef) (start : Start) (why : StartErr) → refused why ≢ refused NoMemory
-    → Goes b (λ way. Replaces b.settings way b.share.number timer start (Some (Err why))) c
-    → Goes b (λ way. CancelsAlone b.settings way b.share.number timer start) c
+    → ShardGoes b (λ way. Replaces b.settings way b.share.number timer start (Some (Err why))) c
+    → ShardGoes b (λ way. CancelsAlone b.settings way b.share.number timer start) c
 full b c timer start BadArg memory goes =
     goes_as b c (λ (way : Way). Replaces b.settings way b.share.number timer start (Some (Err BadArg)))
     (λ (way : Way). CancelsAlone b.settings way b.share.number timer start) (λ m made. inr made) goes
@@ -62,9 +62,9 @@ full b c timer start NoMemory memory goes = absurd (memory refl)
 
 -- so after a look the restart ends without a timer
 pub restarts_full : (a b c : Owned) (timer : TimerRef) (start : Start) (why : StartErr) → refused why ≢ refused NoMemory
-    → Steps a (By a (λ g _ es. SeesDeadline g (a.share.number + 1) start es)) b
-    → Goes b (λ way. Replaces b.settings way b.share.number timer start (refused why)) c
-    → Goes a (λ way. RestartsOn a.settings way a.share.number timer start (Err WantsSlot)) c
+    → ShardSteps a (ShardBy a (λ g _ es. SeesDeadline g (a.share.number + 1) start es)) b
+    → ShardGoes b (λ way. Replaces b.settings way b.share.number timer start (refused why)) c
+    → ShardGoes a (λ way. RestartsOn a.settings way a.share.number timer start (Err WantsSlot)) c
 restarts_full a b c timer start why memory one other =
     goes_then a b c (λ (g : Settings) (n : ℕ) (way : Way). way [] (λ (_ : State) (es : List Entry). SeesDeadline g (n + 1) start es))
     (λ (g : Settings) (n : ℕ) (way : Way). CancelsAlone g way n timer start) one.goes (full b c timer start why memory other)

@@ -5,19 +5,19 @@ use Rattle.std.proofs.lemmas.List.Elements.{All-append, All-take, All-drop}
 use Rattle.std.proofs.lemmas.List.{append_assoc}
 use Rattle.std.specs.List.{All, slice_get, remove}
 use Rattle.ert_defs.specs.declared.entry.Entry.{Entry}
-use Rattle.ert_shard.specs.Hubs.{Rest, IsNext, TakesBack, AreOurs, ComeBack}
+use Rattle.ert_shard.specs.Hubs.{Rest, IsLastOut, TakesBack, AreOurs, ComeBack}
 use Rattle.ert_shard.specs.Shards.{Owned}
 use Rattle.ert_table.specs.Views.{Begins}
 
 -- one more came back
 pub come_more : (n : ℕ) (old : Rest) (shards : List Owned) (mid : Rest) (left : List Owned) (i : ℕ) (o : Owned) (new : Rest) → ComeBack n old shards mid left
-    → slice_get left i ≡ Some o → IsNext mid o → TakesBack mid o new → ComeBack (suc n) old shards new (remove left i)
+    → slice_get left i ≡ Some o → IsLastOut mid o → TakesBack mid o new → ComeBack (suc n) old shards new (remove left i)
 come_more zero old shards mid left i o new back at next takes = (
   i,
   o,
   new,
   subst (λ l. slice_get l i ≡ Some o) back.1 at,
-  subst (λ r. IsNext r o) back.0 next,
+  subst (λ r. IsLastOut r o) back.0 next,
   subst (λ r. TakesBack r o new) back.0 takes,
   (refl, subst (λ l. remove left i ≡ remove l i) back.1 refl),
 )

@@ -8,7 +8,7 @@ use Rattle.ert_defs.specs.Actors.{same_actor}
 use Rattle.ert_defs.specs.declared.entry.Actor.{Actor}
 use Rattle.ert_defs.specs.declared.entry.Actor.TheVariants.{Keeper, Wheel, Inbox, Sched, MailOf, Caller}
 use Rattle.ert_defs.specs.declared.settings.Settings.{Settings}
-use Rattle.ert_shard.specs.Hubs.{is_kept, HoldsRest, HaveHomes, StandLeft, IsRest}
+use Rattle.ert_shard.specs.Hubs.{is_kept, HubHoldsRest, HaveHomes, StandLeft, IsRest}
 use Rattle.ert_shard.specs.declared.hub.Home.{Home}
 use Rattle.ert_table.proofs.Holders.{held_but}
 use Rattle.ert_table.specs.Desks.{settings_of, front_of, actors_of, Belongs}
@@ -45,8 +45,8 @@ kept_with left first seat (Sched w) = or_none (nat_lt w left)
 kept_with left first seat (MailOf p) = or_none (nat_lt p first)
 kept_with left first seat (Caller c) = back_caller c left seat
 
-rest_but : (g : Settings) (actors : List Actor) (left first seat : ℕ) → HoldsRest g actors left first seat → seat < g.callers
-    → HoldsRest g (actors_but actors (Caller seat)) left first (seat + 1)
+rest_but : (g : Settings) (actors : List Actor) (left first seat : ℕ) → HubHoldsRest g actors left first seat → seat < g.callers
+    → HubHoldsRest g (actors_but actors (Caller seat)) left first (seat + 1)
 rest_but g actors left first seat holds low =
     let most = holds.most in
     let seats = holds.seats in
@@ -60,8 +60,8 @@ rest_but g actors left first seat holds low =
           ∙ (ap (λ b. not (same_actor a (Caller seat)) && b) (holds.rest a ranged) ∙ kept_but left first seat a (omega (arith, most, seats)));
     }
 
-rest_with : (g : Settings) (actors : List Actor) (left first seat : ℕ) → HoldsRest g actors left first seat → seat < g.callers
-    → HoldsRest g (actors_but actors (Caller seat) ++ Caller seat ∷ []) left first seat
+rest_with : (g : Settings) (actors : List Actor) (left first seat : ℕ) → HubHoldsRest g actors left first seat → seat < g.callers
+    → HubHoldsRest g (actors_but actors (Caller seat) ++ Caller seat ∷ []) left first seat
 rest_with g actors left first seat holds low = record {
   most = holds.most;
   few = holds.few;
@@ -74,7 +74,7 @@ rest_with g actors left first seat holds low = record {
 
 -- the parts fit still
 refit : (e : Desk) (p q : Pass) (left first seat more : ℕ) (homes : List Home) (parts : AllParts) → IsRest e p left first seat homes parts → Belongs e q
-    → HoldsRest (settings_of e) (actors_of q) left first more → front_of q ≡ front_of p → IsRest e q left first more homes parts
+    → HubHoldsRest (settings_of e) (actors_of q) left first more → front_of q ≡ front_of p → IsRest e q left first more homes parts
 refit e p q left first seat more homes parts rest belongs holds front = record {
   belongs = belongs;
   holds = holds;
@@ -87,12 +87,12 @@ pub seated_fit : (d e : Desk) (p q : Pass) (left first seat : ℕ) (homes : List
     → IsRest e q left first (seat + 1) homes parts
 seated_fit d e p q left first seat homes parts same rest belongs actors front low =
     refit e p q left first seat (seat + 1) homes parts rest (subst (λ x. Belongs x q) same belongs)
-    (subst (λ l. HoldsRest (settings_of e) l left first (seat + 1)) (sym actors) (rest_but (settings_of e) (actors_of p) left first seat rest.holds low)) front
+    (subst (λ l. HubHoldsRest (settings_of e) l left first (seat + 1)) (sym actors) (rest_but (settings_of e) (actors_of p) left first seat rest.holds low)) front
 
 pub back_fit : (d e : Desk) (p q r : Pass) (left first seat : ℕ) (homes : List Home) (parts : AllParts) → d ≡ e → IsRest e p left first seat homes parts → Belongs d r
     → actors_of q ≡ actors_but (actors_of p) (Caller seat) → actors_of r ≡ actors_of q ++ Caller seat ∷ [] → front_of r ≡ front_of p
     → seat < (settings_of e).callers → IsRest e r left first seat homes parts
 back_fit d e p q r left first seat homes parts same rest belongs but actors front low =
     refit e p r left first seat seat homes parts rest (subst (λ x. Belongs x r) same belongs)
-    (subst (λ l. HoldsRest (settings_of e) l left first seat) (sym (actors ∙ ap (λ l. l ++ Caller seat ∷ []) but))
+    (subst (λ l. HubHoldsRest (settings_of e) l left first seat) (sym (actors ∙ ap (λ l. l ++ Caller seat ∷ []) but))
     (rest_with (settings_of e) (actors_of p) left first seat rest.holds low)) front

@@ -2,7 +2,7 @@
 
 use Rattle.std.proofs.Common.{◌≡◌, List, sym, ap, subst, ◌∙◌}
 use Rattle.ert_clock.proofs.Stand.{stands_on}
-use Rattle.ert_clock.specs.Shown.{Shown, Stands as ClockStands}
+use Rattle.ert_clock.specs.Shown.{Shown, ClockStands}
 use Rattle.ert_defs.proofs.Runs.{state-append, sched_stays}
 use Rattle.ert_defs.specs.Actors.{of}
 use Rattle.ert_defs.specs.Legal.{Legal}

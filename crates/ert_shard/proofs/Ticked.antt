@@ -2,7 +2,7 @@
 
 use Rattle.std.proofs.Common.{◌≡◌, ℕ, zero, suc, ◌<◌, Bool, true, false, ◌||◌, List, [], ◌∷◌, filter, ℤ, ◌+ℤ◌, Option, Some, None, refl, sym, ap, subst, ◌∙◌, arith}
 use Rattle.std.proofs.lemmas.Bool.{lt-ltb, le-leb}
-use Rattle.ert_clock.specs.Shown.{Shown, Stands as ClockStands}
+use Rattle.ert_clock.specs.Shown.{Shown, ClockStands}
 use Rattle.ert_defs.proofs.Runs.{legal_then}
 use Rattle.ert_defs.specs.Actors.{same_actor, of, IsFree}
 use Rattle.ert_defs.specs.Clocks.{face}
@@ -17,12 +17,12 @@ use Rattle.ert_defs.specs.declared.entry.Entry.{Entry}
 use Rattle.ert_defs.specs.declared.settings.OffsetState.{OffsetState}
 use Rattle.ert_defs.specs.declared.settings.OffsetState.TheVariants.{Preliminary, Final, Volatile}
 use Rattle.ert_defs.specs.declared.settings.Settings.{Settings}
-use Rattle.ert_calls.specs.Published.{ReadsBy}
+use Rattle.ert_calls.specs.Published.{ReadsOffsetBy}
 use Rattle.ert_mail.proofs.LawsHold.{inbox_on, mail_on}
-use Rattle.ert_mail.specs.Inboxes.{Waiting, Stands as InboxStands}
-use Rattle.ert_mail.specs.Mailboxes.{Mailbox, Stands as MailStands}
+use Rattle.ert_mail.specs.Inboxes.{Waiting, InboxStands}
+use Rattle.ert_mail.specs.Mailboxes.{Mailbox, MailboxStands as MailStands}
 use Rattle.ert_shard.proofs.Cut.{homes_on}
-use Rattle.ert_shard.specs.Hubs.{Rest, rest, is_kept, HoldsRest, IsRest, HubGoes, HubSteps, By}
+use Rattle.ert_shard.specs.Hubs.{Rest, rest, is_kept, HubHoldsRest, IsRest, HubGoes, HubSteps, HubBy}
 use Rattle.ert_shard.specs.declared.hub.Home.{Home}
 use Rattle.ert_shard.proofs.Rejoined.{ordered_kept}
 use Rattle.ert_table.proofs.Calls.{made_ours}
@@ -34,7 +34,7 @@ use Rattle.ert_table.specs.Held.{is_held, IsActor, IsOurs, least_caller}
 use Rattle.ert_table.specs.declared.desk.Desk.{Desk}
 use Rattle.ert_table.specs.declared.desk.Pass.{Pass}
 use Rattle.ert_timers.proofs.LawsHold.{stand_on as wheel_on}
-use Rattle.ert_timers.specs.Parts.{Part, Stands as WheelStands}
+use Rattle.ert_timers.specs.Parts.{Part, PartStands as WheelStands}
 use Rattle.ert_shard.proofs.StandOn.{keeper_on, sched_on}
 use Rattle.ert_world.proofs.Standing.{own_kept, free_kept, grown_by}
 use Rattle.ert_world.proofs.Values.{time_seen, offset_seen, system_seen}
@@ -84,7 +84,7 @@ zero_kept left first seat = rw (le-leb 0 left (omega arith)) refl
 
 pub record Does (before : Rest) (d : Desk) (q : Pass) (left first seat : ℕ) (homes : List Home) (new : AllParts) (allows : Settings → State → List Entry → Type 0) : Type 0 where
   pub fit : IsRest d q left first seat homes new
-  pub goes : HubGoes before (By before allows) (rest d q new.keeper left first seat homes)
+  pub goes : HubGoes before (HubBy before allows) (rest d q new.keeper left first seat homes)
 
 pub ticked : (before : Rest) (d e : Desk) (p q : Pass) (left first seat : ℕ) (homes : List Home) (parts : AllParts) (x : Shown) (allows : Settings → State → List Entry → Type 0) → d ≡ e
     → rest e p parts.keeper left first seat homes ≡ before → IsRest e p left first seat homes parts → Belongs d q → ClockStands (settings_of d) (front_of q) x
@@ -112,7 +112,7 @@ ticked before d e p q left first seat homes parts x allows same is fit belongs s
     record {
       fit = record {
         belongs = subst (λ y. Belongs y q) same belongs;
-        holds = subst (λ l. HoldsRest g l left first seat) (sym takes.actors) fit.holds;
+        holds = subst (λ l. HubHoldsRest g l left first seat) (sym takes.actors) fit.holds;
         stand = record {
           legal = takes.legal;
           keeper = subst (λ y. ClockStands (settings_of y) h x) same stands;
@@ -127,7 +127,7 @@ ticked before d e p q left first seat homes parts x allows same is fit belongs s
         };
         home = homes_on (front_of p) h left homes (λ w below. kept (Wheel w) (omega (arith, below, most)) (lt-ltb w left below) refl) fit.home;
       };
-      goes = subst (λ r. HubGoes r (By r allows) (rest e q x left first seat homes)) is (record {
+      goes = subst (λ r. HubGoes r (HubBy r allows) (rest e q x left first seat homes)) is (record {
         grows = record {
           piece = takes.later;
           grown = takes.grown;
@@ -159,7 +159,7 @@ only_more a actors (e ∷ es) only = (ours_more a actors e.by e.with only.0, onl
 -- a call that leaves the clock's part as it is
 pub record Did (before : Rest) (d : Desk) (q : Pass) (left first seat : ℕ) (homes : List Home) (parts : AllParts) (allows : Settings → State → List Entry → Type 0) : Type 0 where
   pub fit : IsRest d q left first seat homes parts
-  pub steps : HubSteps before (By before allows) (rest d q parts.keeper left first seat homes)
+  pub steps : HubSteps before (HubBy before allows) (rest d q parts.keeper left first seat homes)
 
 -- a call of caller 0 alone
 pub alone_made : (before : Rest) (d e : Desk) (p q : Pass) (left first seat : ℕ) (homes : List Home) (parts : AllParts) (allows : Settings → State → List Entry → Type 0) → d ≡ e
@@ -189,7 +189,7 @@ least_held : (actors : List Actor) (n : ℕ) → 0 < n → is_held actors (Calle
 least_held actors zero some held = absurd (omega (arith, some))
 least_held actors (suc n) some held = least_from actors n held
 
-pub reads_by : (s : OffsetState) (d : Desk) (p : Pass) (left first seat : ℕ) (homes : List Home) (parts : AllParts) → IsRest d p left first seat homes parts → ReadsBy s (settings_of d) (view_of p) 0
+pub reads_by : (s : OffsetState) (d : Desk) (p : Pass) (left first seat : ℕ) (homes : List Home) (parts : AllParts) → IsRest d p left first seat homes parts → ReadsOffsetBy s (settings_of d) (view_of p) 0
 reads_by Preliminary d p left first seat homes parts fit = tt
 reads_by Final d p left first seat homes parts fit =
     let some = d.checked.counts.callers_low in

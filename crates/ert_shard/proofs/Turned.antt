@@ -25,7 +25,7 @@ use Rattle.ert_table.specs.declared.desk.Pass.{Pass}
 use Rattle.ert_timers.proofs.LawsHold.{sweeps_only}
 use Rattle.ert_timers.specs.Expiring.{HasExpired, HasNotExpired}
 use Rattle.ert_timers.specs.Trying.{HasExpiredSome, HasRefusedSome, fired_in}
-use Rattle.ert_timers.specs.Parts.{Part, Stands as WheelStands}
+use Rattle.ert_timers.specs.Parts.{Part, PartStands as WheelStands}
 use Rattle.ert_timers.specs.Passed.{LosesRows}
 use Rattle.ert_world.proofs.Advances.{advance_still, difference}
 use Rattle.ert_world.proofs.SchedCalls.{sched_stands}

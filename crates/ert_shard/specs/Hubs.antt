@@ -2,7 +2,7 @@
 
 use Rattle.std.specs.Prelude.{◌≡◌, ℕ, zero, suc, ◌+◌, ◌-◌, ◌<◌, ◌≤◌, ◌⊎◌, Bool, true, false, not, ◌&&◌, ◌||◌, nat_le, nat_lt, List, [], ◌∷◌, ◌++◌, length, take, remove, All, slice_get, Some, slice_index_or}
 use Rattle.atomic_table.specs.Seated.{TableId}
-use Rattle.ert_clock.specs.Shown.{Shown, Stands as ClockStands}
+use Rattle.ert_clock.specs.Shown.{Shown, ClockStands}
 use Rattle.ert_defs.specs.Actors.{of}
 use Rattle.ert_defs.specs.Legal.{Legal}
 use Rattle.ert_defs.specs.States.{State}
@@ -11,8 +11,8 @@ use Rattle.ert_defs.specs.declared.entry.Actor.TheVariants.{Keeper, Wheel, Inbox
 use Rattle.ert_defs.specs.declared.entry.Entry.{Entry}
 use Rattle.ert_defs.specs.declared.settings.Settings.{Settings}
 use Rattle.ert_effects.specs.Ways.{Growth, Way, Grows}
-use Rattle.ert_mail.specs.Inboxes.{Stands as InboxStands}
-use Rattle.ert_mail.specs.Mailboxes.{Stands as MailStands}
+use Rattle.ert_mail.specs.Inboxes.{InboxStands}
+use Rattle.ert_mail.specs.Mailboxes.{MailboxStands as MailStands}
 use Rattle.ert_laws.specs.Counts.{entries_of, is_arm}
 use Rattle.ert_shard.specs.Shards.{Share, share_of, Owned, AreHome}
 use Rattle.ert_shard.specs.declared.dividing.ShardErr.{ShardErr}
@@ -23,7 +23,7 @@ use Rattle.ert_table.specs.Held.{is_held, IsActor, actors_but}
 use Rattle.ert_table.specs.Views.{Begins, longer}
 use Rattle.ert_table.specs.declared.desk.Desk.{Desk}
 use Rattle.ert_table.specs.declared.desk.Pass.{Pass}
-use Rattle.ert_timers.specs.Parts.{Stands as WheelStands}
+use Rattle.ert_timers.specs.Parts.{PartStands as WheelStands}
 use Rattle.ert_world.specs.Parts.{AllParts, SchedStands, AreOrdered}
 use Rattle.ert_world.specs.Seats.{Seated}
 use Rattle.ert_world.specs.Ways.{among}
@@ -66,7 +66,7 @@ is_kept left first next (MailOf p) = nat_lt p first
 is_kept left first next (Caller c) = nat_le c left || nat_le next c
 
 -- of the actors in range a pass holds just those that were given to no shard and to no seat
-pub record HoldsRest (g : Settings) (actors : List Actor) (left first next : ℕ) : Type 0 where
+pub record HubHoldsRest (g : Settings) (actors : List Actor) (left first next : ℕ) : Type 0 where
   pub most : left ≤ g.schedulers
   pub few : first ≤ g.processes
   pub seats : g.schedulers < next
@@ -93,7 +93,7 @@ pub record HaveHomes (h : List Entry) (left : ℕ) (homes : List Home) : Type 0 
   pub home : (i : ℕ) (d : Home) → i < length homes → AreHome (share_at (base + i) (slice_index_or homes i d)) (of h (Wheel (base + i)))
 
 -- there is room for every scheduler and for every process
-pub record HasRoom (g : Settings) (wheels inboxes mails scheds : ℕ) : Type 0 where
+pub record HasRoomForAll (g : Settings) (wheels inboxes mails scheds : ℕ) : Type 0 where
   pub wheels_room : g.schedulers ≤ wheels
   pub inboxes_room : g.schedulers ≤ inboxes
   pub mails_room : g.processes ≤ mails
@@ -102,7 +102,7 @@ pub record HasRoom (g : Settings) (wheels inboxes mails scheds : ℕ) : Type 0 w
 -- the parts of the rest of a world fit
 pub record IsRest (d : Desk) (p : Pass) (left first next : ℕ) (homes : List Home) (parts : AllParts) : Type 0 where
   pub belongs : Belongs d p
-  pub holds : HoldsRest (settings_of d) (actors_of p) left first next
+  pub holds : HubHoldsRest (settings_of d) (actors_of p) left first next
   pub stand : StandLeft (settings_of d) (front_of p) left first parts
   pub home : HaveHomes (front_of p) left homes
 
@@ -121,11 +121,11 @@ pub record IsFresh (w : Seen) (r : Rest) : Type 0 where
 abbrev pub is_rests : Rest → Entry → Bool
 is_rests r e = is_kept r.left r.first r.next e.by
 
-abbrev pub way_of : Rest → Way
-way_of r = among r.settings (is_rests r)
+abbrev pub hub_way : Rest → Way
+hub_way r = among r.settings (is_rests r)
 
 -- the world again, of which nothing is given away
-pub record IsWhole (r : Rest) (w : Seen) : Type 0 where
+pub record IsWorldAgain (r : Rest) (w : Seen) : Type 0 where
   pub table : w.table ≡ r.table
   pub settings : w.settings ≡ r.settings
   pub history : w.history ≡ r.history
@@ -135,7 +135,7 @@ pub record IsWhole (r : Rest) (w : Seen) : Type 0 where
 -- the rest of a world makes a call that may move the clock: its history grows by it and is legal. Its desk, its settings
 -- and what is left stay
 pub record HubGoes (old : Rest) (call : Way → Growth) (new : Rest) : Type 0 where
-  pub grows : Grows (call (way_of old)) old.history new.history
+  pub grows : Grows (call (hub_way old)) old.history new.history
   pub legal : Legal new.settings new.history
   pub table : new.table ≡ old.table
   pub settings : new.settings ≡ old.settings
@@ -149,8 +149,8 @@ pub record HubSteps (old : Rest) (call : Way → Growth) (new : Rest) : Type 0 w
   pub goes : HubGoes old call new
   pub clock : new.clock ≡ old.clock
 
-abbrev pub By : Rest → (Settings → State → List Entry → Type 0) → Way → Growth
-By r allows way = way [] (allows r.settings)
+abbrev pub HubBy : Rest → (Settings → State → List Entry → Type 0) → Way → Growth
+HubBy r allows way = way [] (allows r.settings)
 
 -- the last scheduler that is left and the last processes become a shard, which knows as much
 pub record GivesShard (old : Rest) (processes : ℕ) (new : Rest) (shard : Owned) : Type 0 where
@@ -184,7 +184,7 @@ IsShardRefused r processes Used = IsAtHome r processes → ⊥
 IsShardRefused r processes NoMemory = IsAtHome r processes
 
 -- the next caller gets a seat on the desk, which knows as much; all else stays
-pub record GivesSeat (old new : Rest) (seat : Seated) : Type 0 where
+pub record HubGivesSeat (old new : Rest) (seat : Seated) : Type 0 where
   pub table : seat.table ≡ old.table
   pub settings : seat.settings ≡ old.settings
   pub history : seat.history ≡ old.history
@@ -193,13 +193,13 @@ pub record GivesSeat (old new : Rest) (seat : Seated) : Type 0 where
   pub rest : new ≡ record old { next = old.next + 1 }
 
 -- a seat is refused: every caller after those of the schedulers has one, or there is no memory
-abbrev pub IsSeatRefused : Rest → SeatErr → Type 0
-IsSeatRefused r NoSeat = r.settings.callers ≤ r.next
-IsSeatRefused r NoSeatMemory = r.next < r.settings.callers
+abbrev pub HubRefusesSeat : Rest → SeatErr → Type 0
+HubRefusesSeat r NoSeat = r.settings.callers ≤ r.next
+HubRefusesSeat r NoSeatMemory = r.next < r.settings.callers
 
 -- a shard is the last that was given of those that are out
-abbrev pub IsNext : Rest → Owned → Type 0
-IsNext r o = (o.share.number ≡ r.left) × (o.share.from ≡ r.first)
+abbrev pub IsLastOut : Rest → Owned → Type 0
+IsLastOut r o = (o.share.number ≡ r.left) × (o.share.from ≡ r.first)
 
 -- a shard comes back; the history is the longer of the two, which the other begins
 pub record TakesBack (old : Rest) (shard : Owned) (new : Rest) : Type 0 where
@@ -223,7 +223,7 @@ AreOurs r shards = All (λ o. (o.table ≡ r.table) × (o.settings ≡ r.setting
 abbrev pub ComeBack : ℕ → Rest → List Owned → Rest → List Owned → Type 0
 ComeBack zero old shards new left = (new ≡ old) × (left ≡ shards)
 ComeBack (suc n) old shards new left =
-    (i : ℕ) × (o : Owned) × (mid : Rest) × (slice_get shards i ≡ Some o) × IsNext old o × TakesBack old o mid × ComeBack n mid (remove shards i) new left
+    (i : ℕ) × (o : Owned) × (mid : Rest) × (slice_get shards i ≡ Some o) × IsLastOut old o × TakesBack old o mid × ComeBack n mid (remove shards i) new left
 
 -- shards came back until none of those that are left is the next
 pub record TakesAll (old : Rest) (shards : List Owned) (new : Rest) (left : List Owned) : Type 0 where
@@ -233,10 +233,10 @@ pub record TakesAll (old : Rest) (shards : List Owned) (new : Rest) (left : List
   pub table : new.table ≡ old.table
   pub settings : new.settings ≡ old.settings
   pub ours : AreOurs new left
-  pub none : All (λ o. IsNext new o → ⊥) left
+  pub none : All (λ o. IsLastOut new o → ⊥) left
 
 -- an actor was moved from a pass to another; both know what they knew
-pub record Moves (a : Actor) (from to from_new to_new : Pass) : Type 0 where
+pub record MovesActor (a : Actor) (from to from_new to_new : Pass) : Type 0 where
   pub from_is : actors_of from_new ≡ actors_but (actors_of from) a
   pub to_is : actors_of to_new ≡ actors_of to ++ a ∷ []
   pub from_front : front_of from_new ≡ front_of from

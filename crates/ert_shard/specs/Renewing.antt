@@ -12,7 +12,7 @@ use Rattle.ert_effects.specs.TimerCalls.{Cancels, Starts, IsBadArg}
 use Rattle.ert_effects.specs.Ways.{Growth, Way, Then}
 use Rattle.ert_effects.specs.declared.answers.StartErr.{StartErr}
 use Rattle.ert_effects.specs.declared.answers.StartErr.TheVariants.{BadArg as StartsTooLate, Full as WheelIsFull}
-use Rattle.ert_shard.specs.Shards.{Owned, HasForgotten}
+use Rattle.ert_shard.specs.Shards.{Owned, ShardHasForgotten}
 use Rattle.ert_timers.specs.declared.looking.Forecast.{Forecast}
 use Rattle.ert_world.specs.declared.restart.RestartErr.{RestartErr}
 use Rattle.ert_world.specs.declared.restart.RestartErr.TheVariants.{BadArg, NotArmed, Full}
@@ -57,7 +57,7 @@ RestartsOn g way n timer start (Err Full) h m =
 
 -- the wheel of a shard holds no row of the timer that was restarted, where it was cancelled
 abbrev pub LetsGo : TimerRef → Result TimerRef RestartErr → Owned → Type 0
-LetsGo timer (Ok next) o = HasForgotten o timer
+LetsGo timer (Ok next) o = ShardHasForgotten o timer
 LetsGo timer (Err BadArg) o = Unit {0}
 LetsGo timer (Err NotArmed) o = Unit {0}
-LetsGo timer (Err Full) o = HasForgotten o timer
+LetsGo timer (Err Full) o = ShardHasForgotten o timer

@@ -13,14 +13,14 @@ use Rattle.ert_defs.specs.declared.entry.Event.TheVariants.{Arm}
 use Rattle.ert_defs.specs.declared.settings.Settings.{Settings}
 use Rattle.ert_defs.specs.declared.timer.TimerRef.{TimerRef}
 use Rattle.ert_effects.specs.Ways.{Growth, Way, Grows}
-use Rattle.ert_mail.specs.Inboxes.{Waiting, Stands as InboxStands}
-use Rattle.ert_mail.specs.Mailboxes.{Mailbox, Stands as MailStands}
+use Rattle.ert_mail.specs.Inboxes.{Waiting, InboxStands}
+use Rattle.ert_mail.specs.Mailboxes.{Mailbox, MailboxStands as MailStands}
 use Rattle.ert_table.specs.Desks.{settings_of, front_of, actors_of, Belongs}
 use Rattle.ert_table.specs.Held.{is_held, IsActor}
 use Rattle.ert_table.specs.declared.desk.Desk.{Desk}
 use Rattle.ert_table.specs.declared.desk.Pass.{Pass}
 use Rattle.ert_timers.specs.Freeing.{IsHeld}
-use Rattle.ert_timers.specs.Parts.{Part, Stands as WheelStands}
+use Rattle.ert_timers.specs.Parts.{Part, PartStands as WheelStands}
 use Rattle.ert_timers.specs.Passed.{LosesRows}
 use Rattle.ert_world.specs.Parts.{SchedStands}
 use Rattle.ert_world.specs.Ways.{among}
@@ -76,29 +76,29 @@ owned d p s wheel = record {
 }
 
 -- the steps of a shard come about beside those of all others
-abbrev pub way_of : Owned → Way
-way_of o = as_share o.settings o.share
+abbrev pub shard_way : Owned → Way
+shard_way o = as_share o.settings o.share
 
 -- a shard makes a call: its history grows by it and is legal. Its desk, its settings and its share stay
-pub record Goes (old : Owned) (call : Way → Growth) (new : Owned) : Type 0 where
-  pub grows : Grows (call (way_of old)) old.history new.history
+pub record ShardGoes (old : Owned) (call : Way → Growth) (new : Owned) : Type 0 where
+  pub grows : Grows (call (shard_way old)) old.history new.history
   pub legal : Legal new.settings new.history
   pub table : new.table ≡ old.table
   pub settings : new.settings ≡ old.settings
   pub share : new.share ≡ old.share
 
 -- it makes a call that starts no timer: no row comes to its wheel
-pub record Steps (old : Owned) (call : Way → Growth) (new : Owned) : Type 0 where
-  pub goes : Goes old call new
+pub record ShardSteps (old : Owned) (call : Way → Growth) (new : Owned) : Type 0 where
+  pub goes : ShardGoes old call new
   pub rows : LosesRows old.wheel new.wheel
 
 -- of the entries that its history gains, those of its actors are what is allowed after the history before
-abbrev pub By : Owned → (Settings → State → List Entry → Type 0) → Way → Growth
-By o allows way = way [] (allows o.settings)
+abbrev pub ShardBy : Owned → (Settings → State → List Entry → Type 0) → Way → Growth
+ShardBy o allows way = way [] (allows o.settings)
 
 -- the wheel of a shard holds no row of a timer, if that is of this wheel
-abbrev pub HasForgotten : Owned → TimerRef → Type 0
-HasForgotten o timer = timer.wheel ≡ o.share.number → IsHeld o.wheel timer → ⊥
+abbrev pub ShardHasForgotten : Owned → TimerRef → Type 0
+ShardHasForgotten o timer = timer.wheel ≡ o.share.number → IsHeld o.wheel timer → ⊥
 
 -- of the actors in range a pass holds just those of a share in range
 pub record HoldsShare (g : Settings) (actors : List Actor) (s : Share) : Type 0 where
@@ -115,8 +115,8 @@ pub record ShardParts : Type 0 where
   pub sched : SchedPart
   pub mails : List Mailbox
 
-abbrev pub parts_of : Part → Waiting → SchedPart → List Mailbox → ShardParts
-parts_of wheel inbox sched mails = record { wheel = wheel; inbox = inbox; sched = sched; mails = mails }
+abbrev pub shard_parts_of : Part → Waiting → SchedPart → List Mailbox → ShardParts
+shard_parts_of wheel inbox sched mails = record { wheel = wheel; inbox = inbox; sched = sched; mails = mails }
 
 -- the mailboxes of a share stand in order of number; each stands for the history but those that are lent
 pub record AreMails (g : Settings) (h : List Entry) (s : Share) (lent : List Actor) (mails : List Mailbox) : Type 0 where
@@ -125,7 +125,7 @@ pub record AreMails (g : Settings) (h : List Entry) (s : Share) (lent : List Act
   pub stand : (i : ℕ) (d : Mailbox) → i < length mails → is_held lent (MailOf (s.from + i)) ≡ false → MailStands g h (slice_index_or mails i d)
 
 -- the parts of a shard stand for a history but those that are lent
-pub record Stand (g : Settings) (h : List Entry) (s : Share) (lent : List Actor) (parts : ShardParts) : Type 0 where
+pub record ShardPartsStand (g : Settings) (h : List Entry) (s : Share) (lent : List Actor) (parts : ShardParts) : Type 0 where
   pub legal : Legal g h
   pub wheel_is : parts.wheel.number ≡ s.number
   pub wheel : is_held lent (Wheel s.number) ≡ false → WheelStands g h parts.wheel
@@ -147,8 +147,8 @@ AreHome s (e ∷ es) = IsHomeEvent s e.event × AreHome s es
 
 -- the parts of a shard fit: the pass is of the desk and holds the actors of its share, each part stands for its
 -- front, and all timers of the wheel were started for processes of the share
-pub record AreFit (d : Desk) (p : Pass) (s : Share) (parts : ShardParts) : Type 0 where
+pub record AreShardPartsFit (d : Desk) (p : Pass) (s : Share) (parts : ShardParts) : Type 0 where
   pub belongs : Belongs d p
   pub holds : HoldsShare (settings_of d) (actors_of p) s
-  pub stand : Stand (settings_of d) (front_of p) s [] parts
+  pub stand : ShardPartsStand (settings_of d) (front_of p) s [] parts
   pub home : AreHome s (of (front_of p) (Wheel s.number))

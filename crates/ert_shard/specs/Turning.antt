@@ -23,9 +23,9 @@ fired_of o = (sched_of o.settings o.history o.share.number).fired
 
 -- a turn: the wheel is advanced, and all expired timers are handed over. There may be no memory for either, and what was
 -- done before stays
-abbrev pub Turns : Settings → Way → ℕ → Result Turn NoMemory → Growth
-Turns g way n (Ok t) h m = Then (AdvancesWheel g way n (Ok (t.to, t.fired))) (Delivers g way n (Ok (t.put, t.dropped))) h m
-Turns g way n (Err e) h m =
+abbrev pub ShardTurns : Settings → Way → ℕ → Result Turn NoMemory → Growth
+ShardTurns g way n (Ok t) h m = Then (AdvancesWheel g way n (Ok (t.to, t.fired))) (Delivers g way n (Ok (t.put, t.dropped))) h m
+ShardTurns g way n (Err e) h m =
     AdvancesWheel g way n (Err e) h m
     ⊎ ((advanced : ℕ × ℕ) × Then (AdvancesWheel g way n (Ok advanced)) (Delivers g way n (Err e)) h m)
 
@@ -49,7 +49,7 @@ TurnsUpTo g way n most (Err e) h m =
     ⊎ ((advanced : ℕ × ℕ × Bool) × Then (AdvancesWheelSome g way n most (Ok advanced)) (DeliversSome g way n most (Err e)) h m)
 
 -- the process exits, and where it hadn't before, the shard's wheel is swept, which has all its timers
-abbrev pub Exits : Settings → Way → ℕ → ℕ → Bool → Growth
-Exits g way n process true h m =
+abbrev pub ShardExits : Settings → Way → ℕ → ℕ → Bool → Growth
+ShardExits g way n process true h m =
     Then (way [] (MarksExit g (Caller (n + 1)) process true)) (SweepsWheel g way (n + 1) process n) h m
-Exits g way n process false h m = way [] (MarksExit g (Caller (n + 1)) process false) h m
+ShardExits g way n process false h m = way [] (MarksExit g (Caller (n + 1)) process false) h m

@@ -7,7 +7,7 @@ use ert_mail::Handed;
 impl Shard {
     ghost use Rattle.std.specs.Prelude.{◌≡◌, false, true, IfOk};
     ghost use Rattle.ert_effects.specs.SomeCalls.{AdvancesWheelSome};
-    ghost use Rattle.ert_shard.specs.Shards.{Steps};
+    ghost use Rattle.ert_shard.specs.Shards.{ShardSteps};
     ghost use Rattle.ert_shard.specs.Turning.{HasTurnedMost, TurnsUpTo};
     ghost use Rattle.ert_timers.specs.Passed.{HasPassed};
     ghost use Rattle.ert_timers.specs.Trying.{IsLeft, LosesSome};
@@ -19,7 +19,7 @@ impl Shard {
     /// Where more are due so many were tried: a timer that another thread cancelled counts too. After want of memory none
     /// has expired.
     pub fn advance_some(&mut self, most: u32) -> Result<(u64, u32, bool), NoMemory>
-        ensures call { Steps self.old (λ way. AdvancesWheelSome self.old.settings way self.old.share.number most result) self.new }
+        ensures call { ShardSteps self.old (λ way. AdvancesWheelSome self.old.settings way self.old.share.number most result) self.new }
         ensures left { IfOk result (λ answer. IsLeft self.new.wheel answer.0 answer.2) }
         ensures fewer { IfOk result (λ answer. LosesSome answer.2 most self.old.wheel self.new.wheel) }
     {
@@ -35,7 +35,7 @@ impl Shard {
     ///
     /// After want of memory those that weren't handed over stay in the list.
     pub fn deliver_some(&mut self, most: u32) -> Result<(u32, u32, bool), NoMemory>
-        ensures { Steps self.old (λ way. DeliversSome self.old.settings way self.old.share.number most result) self.new }
+        ensures { ShardSteps self.old (λ way. DeliversSome self.old.settings way self.old.share.number most result) self.new }
     {
         let mut put = 0;
         let mut dropped = 0;
@@ -58,7 +58,7 @@ impl Shard {
     /// Where it tells that there are none, the wheel holds no row that is due by the time of the advance. With 0 at most it
     /// tells what there is. After want of memory what was done stays done.
     pub fn turn_some(&mut self, most: u32) -> Result<(Turn, bool), NoMemory>
-        ensures call { Steps self.old (λ way. TurnsUpTo self.old.settings way self.old.share.number most result) self.new }
+        ensures call { ShardSteps self.old (λ way. TurnsUpTo self.old.settings way self.old.share.number most result) self.new }
         ensures passed { IfOk result (λ answer. answer.1 ≡ false → HasPassed self.new.wheel answer.0.to) }
         ensures done { IfOk result (λ answer. answer.1 ≡ true → HasTurnedMost self.old.wheel self.new.wheel most answer.0) }
     {

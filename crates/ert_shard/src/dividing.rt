@@ -2,7 +2,7 @@
 ghost use Rattle.std.specs.Prelude.{◌≡◌, ◌≤◌, true};
 ghost use Rattle.ert_table.specs.Desks.{front_of, actors_of, Belongs};
 ghost use Rattle.ert_table.specs.Held.{is_held};
-ghost use Rattle.ert_shard.specs.Hubs.{Moves, MovesMails, HoldsMails};
+ghost use Rattle.ert_shard.specs.Hubs.{MovesActor, MovesMails, HoldsMails};
 
 use crate::hub::{Home, Hub};
 use crate::shard::Shard;
@@ -24,7 +24,7 @@ impl Hub {
     ghost use Rattle.std.specs.Prelude.{◌≡◌, ◌↔◌, ◌<◌, ◌≤◌, ℕ, IfOk, OnOk, OnErr, IfErr, IsTrue};
     ghost use Rattle.ert_defs.specs.Actors.{of};
     ghost use Rattle.ert_defs.specs.declared.entry.Actor.TheVariants.{Wheel};
-    ghost use Rattle.ert_shard.specs.Hubs.{GivesShard, AreKnown, IsAtHome, IsShardRefused, IsNext, TakesBack, share_below};
+    ghost use Rattle.ert_shard.specs.Hubs.{GivesShard, AreKnown, IsAtHome, IsShardRefused, IsLastOut, TakesBack, share_below};
     ghost use Rattle.ert_shard.specs.Shards.{AreHome};
 
     /// Gives the last scheduler that is left, with so many of the last processes that are left, to a shard.
@@ -116,7 +116,7 @@ impl Hub {
 
     /// Whether a shard is the next that can come back: the last that was given of those that are out.
     pub fn is_next(&self, shard: &Shard) -> bool
-        ensures { IsTrue result ↔ IsNext self.now shard.now }
+        ensures { IsTrue result ↔ IsLastOut self.now shard.now }
     {
         shard.number == self.left && shard.from == self.first
     }
@@ -127,7 +127,7 @@ impl Hub {
     pub fn join(&mut self, shard: Shard)
         requires table { shard.table ≡ self.old.table }
         requires settings { shard.settings ≡ self.old.settings }
-        requires next { IsNext self.old shard }
+        requires next { IsLastOut self.old shard }
         ensures takes { TakesBack self.old shard self.new }
         ensures home { AreHome shard.share (of self.new.history (Wheel shard.share.number)) }
     {
@@ -161,7 +161,7 @@ fn move_actor(desk: &Desk, from: &mut Pass, to: &mut Pass, actor: Actor)
     requires front { front_of to.old ≡ front_of from.old }
     ensures from { Belongs desk.now from.new }
     ensures to { Belongs desk.now to.new }
-    ensures moves { Moves actor from.old to.old from.new to.new }
+    ensures moves { MovesActor actor from.old to.old from.new to.new }
 {
     let one = from.split(desk, actor);
     to.join(desk, one);

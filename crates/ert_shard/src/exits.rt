@@ -9,14 +9,14 @@ impl Shard {
     ghost use Rattle.ert_effects.specs.WheelCalls.{MarksExit};
     ghost use Rattle.ert_defs.specs.States.{HasExited};
     ghost use Rattle.ert_defs.specs.declared.entry.Actor.TheVariants.{Caller};
-    ghost use Rattle.ert_shard.specs.Shards.{Steps, By, IsHome};
-    ghost use Rattle.ert_shard.specs.Turning.{Exits};
+    ghost use Rattle.ert_shard.specs.Shards.{ShardSteps, ShardBy, IsHome};
+    ghost use Rattle.ert_shard.specs.Turning.{ShardExits};
 
     /// Lets a process of the shard exit, cancels its timers, and returns true; false, and no more, if it had exited
     /// before (`exit`). All its timers are in the shard's wheel, see `Hub::shard`.
     pub fn exit(&mut self, process: u32) -> bool
         requires { IsHome self.old.share process }
-        ensures { Steps self.old (λ way. Exits self.old.settings way self.old.share.number process result) self.new }
+        ensures { ShardSteps self.old (λ way. ShardExits self.old.settings way self.old.share.number process result) self.new }
     {
         if !self.mark(process) {
             return false;
@@ -28,7 +28,7 @@ impl Shard {
     /// Lets a process of the shard exit, and tells whether it hadn't before.
     fn mark(&mut self, process: u32) -> bool
         requires { IsHome self.old.share process }
-        ensures call { Steps self.old (By self.old (λ g. MarksExit g (Caller (self.old.share.number + 1)) process result)) self.new }
+        ensures call { ShardSteps self.old (ShardBy self.old (λ g. MarksExit g (Caller (self.old.share.number + 1)) process result)) self.new }
         ensures exited { HasExited self.new.settings self.new.history process }
     {
         let by = Actor::Caller(self.number + 1);
@@ -39,7 +39,7 @@ impl Shard {
     fn sweep(&mut self, process: u32)
         requires home { IsHome self.old.share process }
         requires exited { HasExited self.old.settings self.old.history process }
-        ensures { Steps self.old (λ way. SweepsWheel self.old.settings way (self.old.share.number + 1) process self.old.share.number) self.new }
+        ensures { ShardSteps self.old (λ way. SweepsWheel self.old.settings way (self.old.share.number + 1) process self.old.share.number) self.new }
     {
         let by = self.number + 1;
         self.wheel.sweep(&self.desk, &mut self.pass, by, process);

@@ -58,20 +58,20 @@ impl Model for Hub {
     ghost use Rattle.std.specs.Vec.{vec_len, vec_capacity};
     ghost use Rattle.ert_table.specs.Desks.{settings_of};
     ghost use Rattle.ert_world.specs.Parts.{parts_of};
-    ghost use Rattle.ert_shard.specs.Hubs.{Rest, rest, IsRest, HasRoom};
+    ghost use Rattle.ert_shard.specs.Hubs.{Rest, rest, IsRest, HasRoomForAll};
 
     ghost Value = { Rest };
 
     ghost view = { λ h. rest (arc_value h.desk) h.pass h.keeper h.left h.first h.next h.homes.items };
 
     ghost invariant = { λ h. IsRest (arc_value h.desk) h.pass h.left h.first h.next h.homes.items (parts_of h.keeper h.wheels.items h.inboxes.items h.mails.items h.scheds.items)
-        × HasRoom (settings_of (arc_value h.desk)) (vec_capacity h.wheels) (vec_capacity h.inboxes) (vec_capacity h.mails) (vec_capacity h.scheds)
+        × HasRoomForAll (settings_of (arc_value h.desk)) (vec_capacity h.wheels) (vec_capacity h.inboxes) (vec_capacity h.mails) (vec_capacity h.scheds)
         × (vec_len h.homes + ((settings_of (arc_value h.desk)).schedulers - h.left) ≤ vec_capacity h.homes) };
 }
 
 impl Hub {
     ghost use Rattle.std.specs.Prelude.{◌≡◌, ◌+◌, ◌<◌};
-    ghost use Rattle.ert_shard.specs.Hubs.{IsFresh, IsWhole};
+    ghost use Rattle.ert_shard.specs.Hubs.{IsFresh, IsWorldAgain};
 
     /// What is left of a world that gave out no seat: all of it. There is a caller for each scheduler, and one more.
     pub fn new(world: World) -> Hub
@@ -131,7 +131,7 @@ impl Hub {
         requires schedulers { self.left ≡ self.settings.schedulers }
         requires processes { self.first ≡ self.settings.processes }
         requires seats { self.next ≡ self.settings.schedulers + 1 }
-        ensures { IsWhole self result }
+        ensures { IsWorldAgain self result }
     {
         let settings = *self.desk.settings();
         World::from_parts(Parts {

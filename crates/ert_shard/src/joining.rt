@@ -4,7 +4,7 @@ use crate::shard::Shard;
 
 impl Hub {
     ghost use Rattle.std.specs.Prelude.{◌≡◌, ◌<◌, All, length, IfSome, None, slice_index_or};
-    ghost use Rattle.ert_shard.specs.Hubs.{IsNext, AreOurs, TakesAll};
+    ghost use Rattle.ert_shard.specs.Hubs.{IsLastOut, AreOurs, TakesAll};
     ghost use Rattle.ert_shard.specs.Shards.{Owned};
 
     /// Takes shards back, in whatever order they stand: each as soon as it is the next (`is_next`). What is left of them
@@ -21,8 +21,8 @@ impl Hub {
 
     /// The place of the shard that is the next to come back, if it is among these.
     fn next_of(&self, shards: &[Shard]) -> Option<usize>
-        ensures some { IfSome result (λ place. (place < length shards.now) × ((d : Owned) → IsNext self.now (slice_index_or shards.now place d))) }
-        ensures none { result ≡ None → All (λ o. IsNext self.now o → ⊥) shards.now }
+        ensures some { IfSome result (λ place. (place < length shards.now) × ((d : Owned) → IsLastOut self.now (slice_index_or shards.now place d))) }
+        ensures none { result ≡ None → All (λ o. IsLastOut self.now o → ⊥) shards.now }
     {
         for place in 0..shards.len() {
             if self.is_next(&shards[place]) {

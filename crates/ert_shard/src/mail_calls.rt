@@ -6,13 +6,13 @@ use ert_mail::{MonitorErr, Taken};
 impl Shard {
     ghost use Rattle.std.specs.Prelude.{◌+◌};
     ghost use Rattle.ert_effects.specs.MailCalls.{Takes, Monitors, Demonitors, Tells};
-    ghost use Rattle.ert_shard.specs.Shards.{Steps, By, IsHome};
+    ghost use Rattle.ert_shard.specs.Shards.{ShardSteps, ShardBy, IsHome};
 
     /// Takes the first message of a process of the shard (`receive`): Exited where the process has exited, whatever
     /// it has, and Empty where it has none.
     pub fn take(&mut self, process: u32) -> Taken
         requires { IsHome self.old.share process }
-        ensures { Steps self.old (By self.old (λ g. Takes g (self.old.share.number + 1) process result)) self.new }
+        ensures { ShardSteps self.old (ShardBy self.old (λ g. Takes g (self.old.share.number + 1) process result)) self.new }
     {
         let by = self.number + 1;
         self.mails[(process - self.from) as usize].take(&self.desk, &mut self.pass, by)
@@ -25,7 +25,7 @@ impl Shard {
     /// changed.
     pub fn monitor(&mut self, process: u32) -> Result<u32, MonitorErr>
         requires { IsHome self.old.share process }
-        ensures { Steps self.old (By self.old (λ g. Monitors g (self.old.share.number + 1) process result)) self.new }
+        ensures { ShardSteps self.old (ShardBy self.old (λ g. Monitors g (self.old.share.number + 1) process result)) self.new }
     {
         let by = self.number + 1;
         self.mails[(process - self.from) as usize].monitor(&self.desk, &mut self.pass, by)
@@ -34,7 +34,7 @@ impl Shard {
     /// Removes a monitor of a process of the shard (`demonitor`), and tells whether it stood.
     pub fn demonitor(&mut self, process: u32, monitor: u32) -> bool
         requires { IsHome self.old.share process }
-        ensures { Steps self.old (By self.old (λ g. Demonitors g (self.old.share.number + 1) process monitor result)) self.new }
+        ensures { ShardSteps self.old (ShardBy self.old (λ g. Demonitors g (self.old.share.number + 1) process monitor result)) self.new }
     {
         let by = self.number + 1;
         let mail = &mut self.mails[(process - self.from) as usize];
@@ -47,7 +47,7 @@ impl Shard {
     /// After want of memory nothing has changed.
     pub fn tell(&mut self, process: u32) -> Result<u32, NoMemory>
         requires { IsHome self.old.share process }
-        ensures { Steps self.old (By self.old (λ g. Tells g (self.old.share.number + 1) process result)) self.new }
+        ensures { ShardSteps self.old (ShardBy self.old (λ g. Tells g (self.old.share.number + 1) process result)) self.new }
     {
         let by = self.number + 1;
         self.mails[(process - self.from) as usize].tell(&self.desk, &mut self.pass, by)

@@ -13,7 +13,7 @@ impl Shard {
     ghost use Rattle.ert_effects.specs.TimerCalls.{Cancels, Starts};
     ghost use Rattle.ert_effects.specs.declared.answers.StartErr.TheVariants.{NoMemory};
     ghost use Rattle.ert_shard.specs.Renewing.{LooksFor, Replaces, RestartsOn, LetsGo};
-    ghost use Rattle.ert_shard.specs.Shards.{Goes, Steps, By, IsHome, HasForgotten};
+    ghost use Rattle.ert_shard.specs.Shards.{ShardGoes, ShardSteps, ShardBy, IsHome, ShardHasForgotten};
     ghost use Rattle.ert_timers.specs.Freeing.{IsLast};
     ghost use Rattle.ert_timers.specs.Restarting.{IsForecast};
 
@@ -27,7 +27,7 @@ impl Shard {
     #[inline(always)]
     pub fn restart(&mut self, timer: TimerRef, start: &Start) -> Result<TimerRef, RestartErr>
         requires { IsHome self.old.share start.now.dest }
-        ensures call { Goes self.old (λ way. RestartsOn self.old.settings way self.old.share.number timer start.now result) self.new }
+        ensures call { ShardGoes self.old (λ way. RestartsOn self.old.settings way self.old.share.number timer start.now result) self.new }
         ensures forgotten { LetsGo timer result self.new }
     {
         let Some(forecast) = self.foresee(start) else {
@@ -44,7 +44,7 @@ impl Shard {
     /// has no deadline then.
     #[inline]
     fn foresee(&mut self, start: &Start) -> Option<Forecast>
-        ensures call { Steps self.old (By self.old (λ g _ es. LooksFor g (self.old.share.number + 1) start.now result es)) self.new }
+        ensures call { ShardSteps self.old (ShardBy self.old (λ g _ es. LooksFor g (self.old.share.number + 1) start.now result es)) self.new }
         ensures some { IfSome result (IsForecast self.new.settings start.now) }
     {
         let by = Actor::Caller(self.number + 1);
@@ -62,9 +62,9 @@ impl Shard {
     ) -> Option<Result<TimerRef, StartErr>>
         requires home { IsHome self.old.share start.now.dest }
         requires forecast { IsForecast self.old.settings start.now forecast }
-        ensures call { Goes self.old (λ way. Replaces self.old.settings way self.old.share.number timer start.now result) self.new }
+        ensures call { ShardGoes self.old (λ way. Replaces self.old.settings way self.old.share.number timer start.now result) self.new }
         ensures memory { result ≢ Some (Err NoMemory) }
-        ensures forgotten { OnSome result (HasForgotten self.new timer) }
+        ensures forgotten { OnSome result (ShardHasForgotten self.new timer) }
     {
         if timer.wheel != self.number {
             let _left = self.cancel_timer(timer)?;
@@ -78,7 +78,7 @@ impl Shard {
     #[inline(always)]
     fn cancel_own(&mut self, timer: TimerRef) -> Option<u64>
         requires { timer.wheel ≡ self.old.share.number }
-        ensures call { Steps self.old (By self.old (λ g. Cancels g (Caller (self.old.share.number + 1)) timer result)) self.new }
+        ensures call { ShardSteps self.old (ShardBy self.old (λ g. Cancels g (Caller (self.old.share.number + 1)) timer result)) self.new }
         ensures last { OnSome result (IsLast self.new.wheel timer) }
         ensures settled { OnSome result ((state self.new.settings self.new.history).status timer ≢ Some Armed) }
         ensures known { OnSome result ((state self.new.settings self.new.history).status timer ≢ None) }
@@ -100,9 +100,9 @@ impl Shard {
         requires last { IsLast self.old.wheel timer }
         requires settled { (state self.old.settings self.old.history).status timer ≢ Some Armed }
         requires known { (state self.old.settings self.old.history).status timer ≢ None }
-        ensures call { Goes self.old (By self.old (λ g. Starts g (self.old.share.number + 1) self.old.share.number start.now result)) self.new }
+        ensures call { ShardGoes self.old (ShardBy self.old (λ g. Starts g (self.old.share.number + 1) self.old.share.number start.now result)) self.new }
         ensures memory { result ≢ Err NoMemory }
-        ensures forgotten { HasForgotten self.new timer }
+        ensures forgotten { ShardHasForgotten self.new timer }
     {
         let by = self.number + 1;
         self.wheel

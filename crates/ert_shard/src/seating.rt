@@ -7,15 +7,15 @@ use std::sync::Arc;
 
 impl Hub {
     ghost use Rattle.std.specs.Prelude.{◌≡◌, ◌+◌, OnErr, IfOk, IfErr};
-    ghost use Rattle.ert_shard.specs.Hubs.{GivesSeat, IsSeatRefused};
+    ghost use Rattle.ert_shard.specs.Hubs.{HubGivesSeat, HubRefusesSeat};
 
     /// Gives the next caller after those of the schedulers a seat: it can step as that caller from any thread, beside
     /// the hub and all shards.
     ///
     /// NoSeat comes where each of them has a seat. After a refusal nothing has changed.
     pub fn seat(&mut self, alloc: Global) -> Result<Box<Seat, Global>, SeatErr>
-        ensures seat { IfOk result (λ seat. GivesSeat self.old self.new seat.value) }
-        ensures refused { IfErr result (IsSeatRefused self.old) }
+        ensures seat { IfOk result (λ seat. HubGivesSeat self.old self.new seat.value) }
+        ensures refused { IfErr result (HubRefusesSeat self.old) }
         ensures same { OnErr result (self.new ≡ self.old) }
     {
         let number = self.next;

@@ -31,7 +31,7 @@ pub struct Shard {
 impl Model for Shard {
     ghost use Rattle.std.specs.Arc.{arc_value};
     ghost use Rattle.std.specs.Coded.{codes};
-    ghost use Rattle.ert_shard.specs.Shards.{Owned, owned, share_of, parts_of, AreFit};
+    ghost use Rattle.ert_shard.specs.Shards.{Owned, owned, share_of, shard_parts_of, AreShardPartsFit};
     ghost use Rattle.ert_timers.specs.Parts.{part_code};
 
     ghost Value = { Owned };
@@ -40,7 +40,7 @@ impl Model for Shard {
 
     ghost view = { λ s. owned (arc_value s.desk) s.pass (share_of s.number s.from s.to) s.wheel };
 
-    ghost invariant = { λ s. AreFit (arc_value s.desk) s.pass (share_of s.number s.from s.to) (parts_of s.wheel s.inbox s.sched s.mails.items) };
+    ghost invariant = { λ s. AreShardPartsFit (arc_value s.desk) s.pass (share_of s.number s.from s.to) (shard_parts_of s.wheel s.inbox s.sched s.mails.items) };
 }
 
 impl Shard {
@@ -50,7 +50,7 @@ impl Shard {
     ghost use Rattle.ert_effects.specs.WheelCalls.{TellsAlive};
     ghost use Rattle.ert_effects.specs.declared.answers.StartErr.TheVariants.{NoMemory};
     ghost use Rattle.ert_defs.specs.declared.entry.Actor.TheVariants.{Caller};
-    ghost use Rattle.ert_shard.specs.Shards.{Goes, Steps, By, IsHome, HasForgotten};
+    ghost use Rattle.ert_shard.specs.Shards.{ShardGoes, ShardSteps, ShardBy, IsHome, ShardHasForgotten};
 
     /// The number of its scheduler, and of its wheel.
     pub fn number(&self) -> u32
@@ -82,7 +82,7 @@ impl Shard {
 
     /// Monotonic time, in nanoseconds (`erlang:monotonic_time`). It never falls from one call to a later one.
     pub fn monotonic_time(&mut self) -> i64
-        ensures { Steps self.old (By self.old (λ g. TellsTime g (Caller (self.old.share.number + 1)) result)) self.new }
+        ensures { ShardSteps self.old (ShardBy self.old (λ g. TellsTime g (Caller (self.old.share.number + 1)) result)) self.new }
     {
         let by = Actor::Caller(self.number + 1);
         monotonic_time(&self.desk, &mut self.pass, by)
@@ -90,7 +90,7 @@ impl Shard {
 
     /// The time offset, in nanoseconds, with its state (`erlang:time_offset`).
     pub fn time_offset(&mut self) -> (i64, OffsetState)
-        ensures { Steps self.old (By self.old (λ g. TellsOffset g (Caller (self.old.share.number + 1)) result)) self.new }
+        ensures { ShardSteps self.old (ShardBy self.old (λ g. TellsOffset g (Caller (self.old.share.number + 1)) result)) self.new }
     {
         let by = Actor::Caller(self.number + 1);
         time_offset(&self.desk, &mut self.pass, by)
@@ -98,7 +98,7 @@ impl Shard {
 
     /// System time, in nanoseconds: monotonic time, and then the time offset added (`erlang:system_time`).
     pub fn system_time(&mut self) -> i64
-        ensures { Steps self.old (By self.old (λ g. TellsSystemTime g (Caller (self.old.share.number + 1)) result)) self.new }
+        ensures { ShardSteps self.old (ShardBy self.old (λ g. TellsSystemTime g (Caller (self.old.share.number + 1)) result)) self.new }
     {
         let by = Actor::Caller(self.number + 1);
         system_time(&self.desk, &mut self.pass, by)
@@ -113,7 +113,7 @@ impl Shard {
     #[inline(always)]
     pub fn start(&mut self, start: &Start) -> Result<TimerRef, StartErr>
         requires { IsHome self.old.share start.now.dest }
-        ensures call { Goes self.old (By self.old (λ g. Starts g (self.old.share.number + 1) self.old.share.number start.now result)) self.new }
+        ensures call { ShardGoes self.old (ShardBy self.old (λ g. Starts g (self.old.share.number + 1) self.old.share.number start.now result)) self.new }
         ensures memory { result ≢ Err NoMemory }
     {
         self.wheel
@@ -127,8 +127,8 @@ impl Shard {
     /// the timer would be due.
     #[inline(always)]
     pub fn cancel_timer(&mut self, timer: TimerRef) -> Option<u64>
-        ensures call { Steps self.old (By self.old (λ g. Cancels g (Caller (self.old.share.number + 1)) timer result)) self.new }
-        ensures forgotten { OnSome result (HasForgotten self.new timer) }
+        ensures call { ShardSteps self.old (ShardBy self.old (λ g. Cancels g (Caller (self.old.share.number + 1)) timer result)) self.new }
+        ensures forgotten { OnSome result (ShardHasForgotten self.new timer) }
     {
         let by = Actor::Caller(self.number + 1);
         let left = cancel_timer(&self.desk, &mut self.pass, by, timer)?;
@@ -142,7 +142,7 @@ impl Shard {
     /// no timer that is armed.
     #[inline]
     pub fn read_timer(&mut self, timer: TimerRef) -> Option<u64>
-        ensures { Steps self.old (By self.old (λ g. Reads g (Caller (self.old.share.number + 1)) timer result)) self.new }
+        ensures { ShardSteps self.old (ShardBy self.old (λ g. Reads g (Caller (self.old.share.number + 1)) timer result)) self.new }
     {
         let by = Actor::Caller(self.number + 1);
         read_timer(&self.desk, &mut self.pass, by, timer)
@@ -151,7 +151,7 @@ impl Shard {
     /// Whether a process hasn't exited, of whatever shard (`is_process_alive`).
     pub fn is_alive(&mut self, process: u32) -> bool
         requires { process < self.old.settings.processes }
-        ensures { Steps self.old (By self.old (λ g. TellsAlive g (Caller (self.old.share.number + 1)) process result)) self.new }
+        ensures { ShardSteps self.old (ShardBy self.old (λ g. TellsAlive g (Caller (self.old.share.number + 1)) process result)) self.new }
     {
         let by = Actor::Caller(self.number + 1);
         is_alive(&self.desk, &mut self.pass, by, process)

@@ -22,8 +22,8 @@ impl Shard {
     ghost use Rattle.ert_defs.specs.Legal.{Legal};
     ghost use Rattle.ert_defs.specs.Mails.{first_of, others_of};
     ghost use Rattle.ert_defs.specs.States.{state};
-    ghost use Rattle.ert_shard.specs.Shards.{Steps};
-    ghost use Rattle.ert_shard.specs.Turning.{fired_of, Turns};
+    ghost use Rattle.ert_shard.specs.Shards.{ShardSteps};
+    ghost use Rattle.ert_shard.specs.Turning.{fired_of, ShardTurns};
     ghost use Rattle.ert_timers.specs.NextDue.{NoneArmedBefore, IsNextHeld};
     ghost use Rattle.ert_timers.specs.Passed.{HasPassed};
     ghost use Rattle.ert_defs.specs.declared.settings.TheConstants.{MOST_SLOTS};
@@ -46,7 +46,7 @@ impl Shard {
     ///
     /// After want of memory none has expired. Else the wheel holds no row then that is due by that time.
     pub fn advance(&mut self) -> Result<(u64, u32), NoMemory>
-        ensures call { Steps self.old (λ way. AdvancesWheel self.old.settings way self.old.share.number result) self.new }
+        ensures call { ShardSteps self.old (λ way. AdvancesWheel self.old.settings way self.old.share.number result) self.new }
         ensures passed { IfOk result (λ answer. HasPassed self.new.wheel answer.0) }
     {
         let before = self.sched.fired.len();
@@ -68,7 +68,7 @@ impl Shard {
     /// Hands over the shard's first expired timer to a process of its own.
     pub(crate) fn hand_first(&mut self, fired: &Fired) -> Result<Handed, NoMemory>
         requires { first_of (fired_of self.old) ≡ Some fired.now }
-        ensures call { Steps self.old (λ way. Hands self.old.settings way self.old.share.number result) self.new }
+        ensures call { ShardSteps self.old (λ way. Hands self.old.settings way self.old.share.number result) self.new }
         ensures fired { OnOk result (fired_of self.new ≡ others_of (fired_of self.old)) }
     {
         let place = (fired.dest - self.from) as usize;
@@ -83,7 +83,7 @@ impl Shard {
     ///
     /// After want of memory those that weren't handed over stay in the list.
     pub fn deliver(&mut self) -> Result<(u32, u32), NoMemory>
-        ensures { Steps self.old (λ way. Delivers self.old.settings way self.old.share.number result) self.new }
+        ensures { ShardSteps self.old (λ way. Delivers self.old.settings way self.old.share.number result) self.new }
     {
         let mut put = 0;
         let mut dropped = 0;
@@ -101,7 +101,7 @@ impl Shard {
     ///
     /// After want of memory what was done stays done.
     pub fn turn(&mut self) -> Result<Turn, NoMemory>
-        ensures call { Steps self.old (λ way. Turns self.old.settings way self.old.share.number result) self.new }
+        ensures call { ShardSteps self.old (λ way. ShardTurns self.old.settings way self.old.share.number result) self.new }
         ensures passed { IfOk result (λ t. HasPassed self.new.wheel t.to) }
     {
         let (to, fired) = self.advance()?;

@@ -24,7 +24,7 @@ use Rattle.ert_defs.specs.declared.timer.Status.{Status}
 use Rattle.ert_defs.specs.declared.timer.Status.TheVariants.{Armed}
 use Rattle.ert_defs.specs.declared.timer.TimerRef.{TimerRef}
 use Rattle.ert_words.specs.Ranges.{IsTimer}
-use Rattle.ert_table.specs.Acts.{Acts, Then}
+use Rattle.ert_table.specs.Acts.{Acts, IsAtStep}
 use Rattle.ert_table.specs.Places.{slot_place}
 use Rattle.ert_defs.specs.Entries.{arm_entry}
 use Rattle.ert_table.specs.Takes.{MayStep}
@@ -135,22 +135,22 @@ module _ (g : Settings) (v : View) (by : ℕ) (timer : TimerRef) (start : Start)
   has_wheel = eq-eqb timer.wheel timer.wheel refl
 
   -- what is known at the step
-  can_then : (h : List Entry) (n : ℕ) → Then g v place n h → CanArm g (state g h) (Caller by) timer (deadline_of g start ((state g h).looked (Caller by)))
+  can_then : (h : List Entry) (n : ℕ) → IsAtStep g v place n h → CanArm g (state g h) (Caller by) timer (deadline_of g start ((state g h).looked (Caller by)))
   can_then h n then = ((legal_one_more g h e).0 (grows g v place n e h then may.ours may.keeps may.known tt)).1.known
 
-  due_then : (h : List Entry) (n : ℕ) → Then g v place n h
+  due_then : (h : List Entry) (n : ℕ) → IsAtStep g v place n h
       → option_map (deadline_told timer.generation) (deadline_of g start ((state g h).looked (Caller by))) ≡ Some deadline
   due_then h n then =
       ap (λ look. option_map (deadline_told timer.generation) (deadline_of g start look)) (look_then g v place n h then (Caller by) may.ours.0) ∙ due
 
   -- the rows of the wheel after the step
-  rows_then : (h : List Entry) (n : ℕ) → Then g v place n h
+  rows_then : (h : List Entry) (n : ℕ) → IsAtStep g v place n h
       → (next g (state g h) e).rows timer.wheel ≡ (state g h).rows timer.wheel ++ row ∷ []
   rows_then h n then =
       rw has_wheel
       (ap (λ rows. (state g h).rows timer.wheel ++ rows) (row_from_told timer start (deadline_of g start ((state g h).looked (Caller by))) deadline (due_then h n then)))
 
-  here_arm : (h : List Entry) (n : ℕ) → Then g v place n h
+  here_arm : (h : List Entry) (n : ℕ) → IsAtStep g v place n h
       → word_of_slot (next g (state g h) e) timer.wheel timer.slot ≡ timer_word Armed deadline timer.generation
   here_arm h n then =
       let s : State = state g h in

@@ -28,7 +28,8 @@ use Rattle.ert_defs.specs.declared.settings.Reading.{Reading}
 use Rattle.ert_defs.specs.declared.settings.Settings.{Settings}
 use Rattle.ert_words.specs.Ranges.{IsTime, IsTimeWord, IsOffsetWord}
 use Rattle.ert_table.specs.Acts.{Acts}
-use Rattle.ert_table.specs.Entries.{tick_entry, time_entry, time_in, shift_entry, offset_entry, offset_in, state_where, state_in}
+use Rattle.ert_defs.specs.Entries.{tick_entry, shift_entry}
+use Rattle.ert_table.specs.Entries.{time_entry, time_in, offset_entry, offset_in, state_where, state_in}
 use Rattle.ert_table.specs.Rule.{IsLegalBy}
 use Rattle.ert_table.specs.Takes.{MayStep}
 use Rattle.ert_table.proofs.OneStep.{legal_by}

@@ -15,7 +15,7 @@ use Rattle.ert_defs.proofs.Runs.{legal_first}
 use Rattle.ert_defs.specs.declared.entry.Actor.{Actor}
 use Rattle.ert_defs.specs.declared.entry.Entry.{Entry}
 use Rattle.ert_defs.specs.declared.settings.Settings.{Settings}
-use Rattle.ert_table.specs.Acts.{Sitter, Meets}
+use Rattle.ert_table.specs.Acts.{Sitter, SittersMeet}
 use Rattle.ert_table.specs.Held.{is_held}
 use Rattle.ert_table.specs.Rule.{Fits, Holds}
 use Rattle.ert_table.specs.Views.{longer, both, spent}
@@ -178,7 +178,7 @@ joins g id other v w s kept at not there =
 
 -- a load that changes nothing tells what a pass was put together of
 pub learns : (g : Settings) (slots id : ℕ) (v : View)
-    → Allows (Ruled g) slots id (v, []) 0 (λ n. n) (λ n now. Meets g (v, []) now)
+    → Allows (Ruled g) slots id (v, []) 0 (λ n. n) (λ n now. SittersMeet g (v, []) now)
 learns g slots id v s kept homes at fits =
     let n : ℕ = slice_index s.words 0 in
     let fit = kept.fits id v at in
@@ -202,8 +202,8 @@ learns g slots id v s kept homes at fits =
 
 -- so does a load at the table, with its own settings
 pub learns_at : (key g : Settings) (slots id : ℕ) (me : Sitter) → key ≡ g → me.1 ≡ []
-    → Allows (Ruled key) slots id me 0 (λ n. n) (λ n now. Meets g me now)
+    → Allows (Ruled key) slots id me 0 (λ n. n) (λ n now. SittersMeet g me now)
 learns_at key g slots id me same bare =
-    let P : List (ℕ × Unit {0}) → Type 0 = λ l. Allows (Ruled key) slots id (me.0, l) 0 (λ n. n) (λ n now. Meets key (me.0, l) now) in
-    subst (λ x. Allows (Ruled key) slots id me 0 (λ n. n) (λ n now. Meets x me now)) same
+    let P : List (ℕ × Unit {0}) → Type 0 = λ l. Allows (Ruled key) slots id (me.0, l) 0 (λ n. n) (λ n now. SittersMeet key (me.0, l) now) in
+    subst (λ x. Allows (Ruled key) slots id me 0 (λ n. n) (λ n now. SittersMeet x me now)) same
     (subst P (sym bare) (learns key slots id me.0))

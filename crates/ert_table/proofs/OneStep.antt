@@ -16,7 +16,7 @@ use Rattle.ert_defs.proofs.Runs.{state-append}
 use Rattle.ert_defs.specs.declared.entry.Actor.{Actor}
 use Rattle.ert_defs.specs.declared.entry.Entry.{Entry}
 use Rattle.ert_defs.specs.declared.settings.Settings.{Settings}
-use Rattle.ert_table.specs.Acts.{Acts, Then, Finds, Sitter, Told, Read, Compared}
+use Rattle.ert_table.specs.Acts.{Acts, IsAtStep, FindsNumber, Sitter, Told, Read, Compared}
 use Rattle.ert_table.specs.Held.{is_held, IsOurs}
 use Rattle.ert_table.specs.Rule.{Fits, Holds, IsLegalBy}
 use Rattle.ert_table.specs.Takes.{Appends}
@@ -32,7 +32,7 @@ abbrev pub after : View → List Entry → Entry → View
 after v h e = record { front = h ++ e ∷ []; actors = v.actors; settings = v.settings; met = None }
 
 -- the history with the step's entry is legal
-pub grows : (g : Settings) (v : View) (i n : ℕ) (e : Entry) (h : List Entry) → Then g v i n h → IsOurs v.actors e.by e.with
+pub grows : (g : Settings) (v : View) (i n : ℕ) (e : Entry) (h : List Entry) → IsAtStep g v i n h → IsOurs v.actors e.by e.with
     → Keeps g e.by e.with e.event → Known g (state g v.front) e.by e.with e.event → Found g (state g h) e.by e.event
     → Legal g (h ++ e ∷ [])
 grows g v i n e h then ours ranged known found =
@@ -116,14 +116,14 @@ shown_all g words h e i m counted lt shown here others j lt_j =
 -- a step on a word is allowed, if what it tells of the pass is wanted
 pub may_step : (g : Settings) (slots id : ℕ) (v : View) (i : ℕ) (f : ℕ → ℕ) (entry : ℕ → Entry) (then : ℕ → Sitter → Type 0)
     → i < word_count g → Acts g v i f entry
-    → ((n : ℕ) (w : View) → w.settings ≡ v.settings → Finds g v i n (entry n) w → word_of g (state g w.front) i ≡ f n → then n (w, []))
+    → ((n : ℕ) (w : View) → w.settings ≡ v.settings → FindsNumber g v i n (entry n) w → word_of g (state g w.front) i ≡ f n → then n (w, []))
     → Allows (Ruled g) slots id (v, []) i f then
 may_step g slots id v i f entry then lt acts wanted s kept homes at fits =
     let n : ℕ = slice_index s.words i in
     let e : Entry = entry n in
     let h : List Entry = kept.history in
     let fit = kept.fits id v at in
-    let now : Then g v i n h = record {
+    let now : IsAtStep g v i n h = record {
       legal = kept.legal;
       later = fit.later;
       begins = fit.begins;
@@ -153,7 +153,7 @@ may_step g slots id v i f entry then lt acts wanted s kept homes at fits =
       others = fit.own;
       ours = acts.ours n;
     } in
-    let finds : Finds g v i n e w = record { step = tells; word = ap (λ x. word_of g (state g x) i) (sym fit.begins) ∙ now.word } in
+    let finds : FindsNumber g v i n e w = record { step = tells; word = ap (λ x. word_of g (state g x) i) (sym fit.begins) ∙ now.word } in
     (w, keeps, tt, ruled, wanted n w refl finds (ap (λ s. word_of g s i) (state-append g h (e ∷ [])) ∙ here))
 
 -- there is a first word
@@ -215,10 +215,10 @@ may_compare_at key g g' slots id me step f entry entry' same same' entries bare 
 
 -- what a step found, for the settings, the place and the entries that were picked
 pub finds_as : (g g' : Settings) (v : View) (i i' n : ℕ) (entry entry' : ℕ → Entry) (w : View) → g' ≡ g → i' ≡ i → entry' ≡ entry
-    → Finds g' v i' n (entry' n) w → Finds g v i n (entry n) w
+    → FindsNumber g' v i' n (entry' n) w → FindsNumber g v i n (entry n) w
 finds_as g g' v i i' n entry entry' w same place entries finds =
-    subst (λ (x : ℕ → Entry). Finds g v i n (x n) w) entries
-    (subst (λ k. Finds g v k n (entry' n) w) place (subst (λ k. Finds k v i' n (entry' n) w) same finds))
+    subst (λ (x : ℕ → Entry). FindsNumber g v i n (x n) w) entries
+    (subst (λ k. FindsNumber g v k n (entry' n) w) place (subst (λ k. FindsNumber k v i' n (entry' n) w) same finds))
 
 -- what is legal by the settings of a pass is legal
 pub legal_by : {P : Type 0} (g : Settings) (settings : Option Settings) (front : List Entry) → IsProp P → settings ≡ Some g

@@ -17,7 +17,7 @@ use Rattle.ert_words.specs.Ranges.{IsTimer, IsTimerWord, shown_generation}
 use Rattle.ert_table.specs.Acts.{Acts}
 use Rattle.ert_table.specs.Held.{is_held}
 use Rattle.ert_table.specs.Places.{slot_place}
-use Rattle.ert_table.specs.Settlings.{Shown, wheel_in, slot_in, shown_by, shown_in, left_at, left_shown, read_entry, status_in, deadline_in, generation_in, parts_in}
+use Rattle.ert_table.specs.Settlings.{ShownWord, wheel_in, slot_in, shown_by, shown_in, left_of_shown, left_shown, read_entry, status_in, word_deadline, word_generation, parts_in}
 use Rattle.ert_table.specs.Takes.{MayStep}
 use Rattle.ert_table.proofs.SlotFacts.{KeepsSlots, slots_kept}
 use Rattle.ert_table.proofs.SlotWords.{IsIdle, IsUsed, slot_cases, slot_found, taken_is_last}
@@ -36,9 +36,9 @@ parts_used : (status : Status) (deadline generation : ℕ) → IsTimer deadline 
 parts_used status deadline generation fits =
     let n : ℕ = timer_word status deadline generation in
     let parts = word_parts status deadline generation fits in
-    ap (λ x. option_map (λ (s : Status). let r : Shown = (s, deadline_in n, generation_in n) in r) x) parts.status_is
-    ∙ (ap (λ d. let r : Shown = (status, d, generation_in n) in Some r) parts.deadline_is
-    ∙ ap (λ m. let r : Shown = (status, deadline, m) in Some r) parts.generation_is)
+    ap (λ x. option_map (λ (s : Status). let r : ShownWord = (s, word_deadline n, word_generation n) in r) x) parts.status_is
+    ∙ (ap (λ d. let r : ShownWord = (status, d, word_generation n) in Some r) parts.deadline_is
+    ∙ ap (λ m. let r : ShownWord = (status, deadline, m) in Some r) parts.generation_is)
 
 -- the word of a slot shows what its state does
 pub parts_shown : (s : State) (w k n : ℕ) → KeepsSlots s → word_of_slot s w k ≡ n → parts_in n ≡ shown_in s w k
@@ -53,13 +53,13 @@ parts_shown s w k n kept word =
     ∙ ap (λ x. shown_by (Some used.status) x (s.last w k)) used.row_is)))
     (slot_cases s w k n kept word)
 
-status_shown : (f : Status → Shown) → ((x : Status) → (f x).0 ≡ x) → (o : Option Status) → option_map (λ (x : Shown). x.0) (option_map f o) ≡ o
+status_shown : (f : Status → ShownWord) → ((x : Status) → (f x).0 ≡ x) → (o : Option Status) → option_map (λ (x : ShownWord). x.0) (option_map f o) ≡ o
 status_shown f is None = refl
 status_shown f is (Some x) = ap (λ (y : Status). Some y) (is x)
 
 -- another status than armed leaves nothing
 left_used : (g : Settings) (look : ℤ) (wanted : ℕ) (status : Status) (row : Row) (generation : ℕ) → generation ≡ wanted
-    → left_at g look wanted status row.deadline (shown_generation status generation) ≡ left_by g look (Some status) (Some row)
+    → left_of_shown g look wanted status row.deadline (shown_generation status generation) ≡ left_by g look (Some status) (Some row)
 left_used g look wanted Armed row generation same = rw (eq-eqb generation wanted same) refl
 left_used g look wanted Expired row generation same = refl
 left_used g look wanted Delivered row generation same = refl
@@ -68,7 +68,7 @@ left_used g look wanted Orphaned row generation same = refl
 left_used g look wanted Dropped row generation same = refl
 
 left_other : (g : Settings) (look : ℤ) (wanted : ℕ) (status : Status) (deadline generation : ℕ) → generation ≢ wanted
-    → left_at g look wanted status deadline (shown_generation status generation) ≡ None
+    → left_of_shown g look wanted status deadline (shown_generation status generation) ≡ None
 left_other g look wanted Armed deadline generation not = rw (ne_eqb generation wanted not) refl
 left_other g look wanted Expired deadline generation not = refl
 left_other g look wanted Delivered deadline generation not = refl
@@ -104,15 +104,15 @@ peek_found g s look timer n kept word =
     (cases_eq (s.last w k) timer.generation))
     (slot_cases s w k n kept word)
 
-read_quiet : (g : Settings) (look : ℤ) (by : Actor) (carry : TimerCarry) (shown : Option Shown) → is_quiet (read_entry g look by carry shown).event ≡ true
+read_quiet : (g : Settings) (look : ℤ) (by : Actor) (carry : TimerCarry) (shown : Option ShownWord) → is_quiet (read_entry g look by carry shown).event ≡ true
 read_quiet g look by (Probe wheel slot) shown = refl
 read_quiet g look by (Peek timer) shown = refl
 
-read_by : (g : Settings) (look : ℤ) (by : Actor) (carry : TimerCarry) (shown : Option Shown) → (read_entry g look by carry shown).by ≡ by
+read_by : (g : Settings) (look : ℤ) (by : Actor) (carry : TimerCarry) (shown : Option ShownWord) → (read_entry g look by carry shown).by ≡ by
 read_by g look by (Probe wheel slot) shown = refl
 read_by g look by (Peek timer) shown = refl
 
-pub read_slot : (g : Settings) (look : ℤ) (by : Actor) (carry : TimerCarry) (shown : Option Shown)
+pub read_slot : (g : Settings) (look : ℤ) (by : Actor) (carry : TimerCarry) (shown : Option ShownWord)
     → let e = read_entry g look by carry shown in Keeps g e.by e.with e.event → IsSlot g (wheel_in carry) (slot_in carry)
 read_slot g look by (Probe wheel slot) shown h = h.2
 read_slot g look by (Peek timer) shown h = h.2
@@ -121,14 +121,14 @@ read_found : (g : Settings) (s : State) (look : ℤ) (by : Actor) (carry : Timer
     → word_of_slot s (wheel_in carry) (slot_in carry) ≡ n → s.looked by ≡ look
     → Found g s (read_entry g look by carry (parts_in n)).by (read_entry g look by carry (parts_in n)).event
 read_found g s look by (Probe wheel slot) n kept word same =
-    status_shown (λ (x : Status). let r : Shown = (x, deadline_in n, generation_in n) in r) (λ x. refl) (status_in n)
+    status_shown (λ (x : Status). let r : ShownWord = (x, word_deadline n, word_generation n) in r) (λ x. refl) (status_in n)
     ∙ slot_found s wheel slot n kept word
 read_found g s look by (Peek timer) n kept word same =
     peek_found g s look timer n kept word ∙ ap (λ x. left_by g x (s.status timer) (row_of (s.rows timer.wheel) timer)) (sym same)
 
 -- a load of the word of a slot records what is carried
 pub read_acts : (g : Settings) (v : View) (by : Actor) (carry : TimerCarry) → let look = (state g v.front).looked by in
-    ((shown : Option Shown) → MayStep g v (read_entry g look by carry shown))
+    ((shown : Option ShownWord) → MayStep g v (read_entry g look by carry shown))
     → Acts g v (slot_place g (wheel_in carry) (slot_in carry)) (λ n. n) (λ n. read_entry g look by carry (parts_in n))
 read_acts g v by carry may =
     let look : ℤ = (state g v.front).looked by in
@@ -162,12 +162,12 @@ slot_word_is s w k n kept word =
     }))
     (slot_cases s w k n kept word)
 
-none_is : (o : Option Shown) → IsNone o → o ≡ None
+none_is : (o : Option ShownWord) → IsNone o → o ≡ None
 none_is None h = refl
 none_is (Some x) h = absurd cc
 
 -- what a word is unpacked to is what is shown of its slot
-pub unpacked_shown : (s : State) (w k n : ℕ) (result : Option Shown) → KeepsSlots s → word_of_slot s w k ≡ n
+pub unpacked_shown : (s : State) (w k n : ℕ) (result : Option ShownWord) → KeepsSlots s → word_of_slot s w k ≡ n
     → (n ≡ 0 → IsNone result)
     → ((status : Status) (deadline generation : ℕ) → IsTimer deadline generation → n ≡ timer_word status deadline generation
     → result ≡ Some (status, deadline, shown_generation status generation))

@@ -7,7 +7,7 @@ use Rattle.ert_defs.specs.Words.{status_code, timer_word}
 use Rattle.ert_defs.specs.declared.timer.Status.{Status}
 use Rattle.ert_defs.specs.declared.timer.Status.TheVariants.{Armed, Expired, Delivered, Cancelled, Orphaned, Dropped}
 use Rattle.ert_words.specs.Ranges.{IsTimer, shown_generation}
-use Rattle.ert_table.specs.Settlings.{status_by, status_in, deadline_in, generation_in}
+use Rattle.ert_table.specs.Settlings.{status_by, status_in, word_deadline, word_generation}
 
 pub use_low : (n : ℕ) → n < 8796093022208 → use_of n ≡ n
 use_low n low = grind (arith, nat_tests)
@@ -55,24 +55,24 @@ all_back d g = omega arith
 -- the word of a timer has its status and deadline, and of its generation what it shows
 pub record HasParts (n : ℕ) (status : Status) (deadline generation : ℕ) : Type 0 where
   pub status_is : status_in n ≡ Some status
-  pub deadline_is : deadline_in n ≡ deadline
-  pub generation_is : generation_in n ≡ shown_generation status generation
+  pub deadline_is : word_deadline n ≡ deadline
+  pub generation_is : word_generation n ≡ shown_generation status generation
 
 -- another code than 7 leaves the use
-use_shown : (n c d g : ℕ) → n ≡ (c + 8 * d) + 70368744177664 * g → c ≤ 6 → d ≤ 8796093022207 → generation_in n ≡ g
+use_shown : (n c d g : ℕ) → n ≡ (c + 8 * d) + 70368744177664 * g → c ≤ 6 → d ≤ 8796093022207 → word_generation n ≡ g
 use_shown n c d g is few fits =
     let code : n % 8 ≡ c = ap (λ m. m % 8) is ∙ code_in c d g (omega (arith, few)) in
     let other : nat_eq (n % 8) 7 ≡ false = grind (arith, nat_tests) in
     ap (λ b. cond b (n / 8) (n / 70368744177664)) other ∙ (ap (λ m. m / 70368744177664) is ∙ use_back c d g (omega (arith, few)) fits)
 
-all_shown : (n d g : ℕ) → n ≡ (7 + 8 * d) + 70368744177664 * g → generation_in n ≡ d + 8796093022208 * g
+all_shown : (n d g : ℕ) → n ≡ (7 + 8 * d) + 70368744177664 * g → word_generation n ≡ d + 8796093022208 * g
 all_shown n d g is =
     let code : n % 8 ≡ 7 = ap (λ m. m % 8) is ∙ code_in 7 d g (omega arith) in
     let own : nat_eq (n % 8) 7 ≡ true = grind (arith, nat_tests) in
     ap (λ b. cond b (n / 8) (n / 70368744177664)) own ∙ (ap (λ m. m / 8) is ∙ all_back d g)
 
 generation_shown : (status : Status) (deadline generation : ℕ) → IsTimer deadline generation
-    → generation_in (timer_word status deadline generation) ≡ shown_generation status generation
+    → word_generation (timer_word status deadline generation) ≡ shown_generation status generation
 generation_shown Armed d m is = elim (order_of m) [
   | inl low ↦ use_shown (timer_word Armed d m) 1 d m
       (ap (λ c. (c + 8 * d) + 70368744177664 * use_of m) (armed_first m low) ∙ ap (λ u. (1 + 8 * d) + 70368744177664 * u) (use_low m low))
@@ -104,4 +104,4 @@ same_parts a b d e m n fits fits' same =
     let one = word_parts a d m fits in
     let other = word_parts b e n fits' in
     let status : Some a ≡ Some b = sym one.status_is ∙ (ap status_in same ∙ other.status_is) in
-    (cc, sym one.deadline_is ∙ (ap deadline_in same ∙ other.deadline_is), sym one.generation_is ∙ (ap generation_in same ∙ other.generation_is))
+    (cc, sym one.deadline_is ∙ (ap word_deadline same ∙ other.deadline_is), sym one.generation_is ∙ (ap word_generation same ∙ other.generation_is))

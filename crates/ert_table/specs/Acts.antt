@@ -17,7 +17,7 @@ use Rattle.ert_table.specs.Views.{HasMet}
 use Rattle.ert_table.specs.declared.view.View.{View}
 
 -- the history at a pass's step: the pass fits it, and its state gives the word that was found
-pub record Then (g : Settings) (v : View) (i n : ℕ) (h : List Entry) : Type 0 where
+pub record IsAtStep (g : Settings) (v : View) (i n : ℕ) (h : List Entry) : Type 0 where
   pub legal : Legal g h
   pub later : List Entry
   pub begins : h ≡ v.front ++ later
@@ -29,9 +29,9 @@ pub record Acts (g : Settings) (v : View) (i : ℕ) (f : ℕ → ℕ) (entry : �
   pub ours : (n : ℕ) → IsOurs v.actors (entry n).by (entry n).with
   pub keeps : (n : ℕ) → Keeps g (entry n).by (entry n).with (entry n).event
   pub known : (n : ℕ) → Known g (state g v.front) (entry n).by (entry n).with (entry n).event
-  pub found : (h : List Entry) (n : ℕ) → Then g v i n h → Found g (state g h) (entry n).by (entry n).event
-  pub here : (h : List Entry) (n : ℕ) → Then g v i n h → word_of g (next g (state g h) (entry n)) i ≡ f n
-  pub others : (h : List Entry) (n j : ℕ) → Then g v i n h → j < word_count g → j ≢ i
+  pub found : (h : List Entry) (n : ℕ) → IsAtStep g v i n h → Found g (state g h) (entry n).by (entry n).event
+  pub here : (h : List Entry) (n : ℕ) → IsAtStep g v i n h → word_of g (next g (state g h) (entry n)) i ≡ f n
+  pub others : (h : List Entry) (n j : ℕ) → IsAtStep g v i n h → j < word_count g → j ≢ i
       → word_of g (next g (state g h) (entry n)) j ≡ word_of g (state g h) j
 
 -- a pass as its seat has it
@@ -48,17 +48,17 @@ Read g step me e n now = (now.1 ≡ []) × (now.0.settings ≡ me.0.settings) ×
     × (word_of g (state g now.0.front) step.word ≡ n)
 
 -- a step took place with an entry, and found this number in the word
-pub record Finds (g : Settings) (v : View) (i n : ℕ) (e : Entry) (w : View) : Type 0 where
+pub record FindsNumber (g : Settings) (v : View) (i n : ℕ) (e : Entry) (w : View) : Type 0 where
   pub step : Appends g v e w
   pub word : word_of g (state g (v.front ++ step.between)) i ≡ n
 
 -- the pass has found a number in a word, and set it to another or not
 abbrev pub Compared : Settings → Step (Unit {0}) → Sitter → Entry → ℕ → Sitter → Type 0
-Compared g step me e n now = (now.1 ≡ []) × (now.0.settings ≡ me.0.settings) × Finds g me.0 step.word n e now.0
+Compared g step me e n now = (now.1 ≡ []) × (now.0.settings ≡ me.0.settings) × FindsNumber g me.0 step.word n e now.0
 
 -- the pass is as it was, and knows what is so of the two that met
-abbrev pub Meets : Settings → Sitter → Sitter → Type 0
-Meets g me now = (now ≡ me) × HasMet me.0.met me.0.front × Legal g me.0.front
+abbrev pub SittersMeet : Settings → Sitter → Sitter → Type 0
+SittersMeet g me now = (now ≡ me) × HasMet me.0.met me.0.front × Legal g me.0.front
 
 -- the pass is as it was, and its front is legal and gives the word that was found
 abbrev pub Sees : Settings → Step (Unit {0}) → Sitter → ℕ → Sitter → Type 0

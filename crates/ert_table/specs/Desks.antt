@@ -14,7 +14,7 @@ use Rattle.ert_defs.specs.declared.timer.TimerRef.{TimerRef}
 use Rattle.ert_table.specs.Entries.{time_entry, offset_entry, offset_in, state_in}
 use Rattle.ert_defs.specs.Entries.{mark_entry}
 use Rattle.ert_table.specs.Held.{IsWhole}
-use Rattle.ert_table.specs.Settlings.{Shown, read_entry, hit_entry, Settles}
+use Rattle.ert_table.specs.Settlings.{ShownWord, read_entry, hit_entry, Settles}
 use Rattle.ert_table.specs.Takes.{MayStep, Appends}
 use Rattle.ert_table.specs.declared.carry.OffsetCarry.{OffsetCarry}
 use Rattle.ert_table.specs.declared.carry.Settle.{Settle}
@@ -80,12 +80,12 @@ abbrev pub MayLoadOffset : Desk → Pass → Actor → OffsetCarry → Type 0
 MayLoadOffset d p by carry = (offset : ℤ) (new : OffsetState) → MayMake d p (offset_made d p by carry offset new)
 
 -- what is recorded where a pass loads the word of a slot
-abbrev pub read_made : Desk → Pass → Actor → TimerCarry → Option Shown → Entry
+abbrev pub read_made : Desk → Pass → Actor → TimerCarry → Option ShownWord → Entry
 read_made d p by carry shown = read_entry (settings_of d) ((state_of d p).looked by) by carry shown
 
 -- a pass may load the word of a slot, whatever it shows
 abbrev pub MayLoadTimer : Desk → Pass → Actor → TimerCarry → Type 0
-MayLoadTimer d p by carry = (shown : Option Shown) → MayMake d p (read_made d p by carry shown)
+MayLoadTimer d p by carry = (shown : Option ShownWord) → MayMake d p (read_made d p by carry shown)
 
 -- what is recorded where a pass settles a timer or hands it over
 abbrev pub settled_made : Desk → Pass → Actor → TimerRef → ℕ → Settle → Entry

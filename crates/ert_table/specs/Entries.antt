@@ -3,15 +3,13 @@
 use Rattle.std.specs.Prelude.{ℕ, ℤ, pos, ◌+ℤ◌, ◌-ℤ◌, ◌/◌, ◌%◌, Bool, true, false, nat_eq, List, Option, Some, None, option_map}
 use Rattle.ert_defs.specs.Entries.{entry_by}
 use Rattle.ert_defs.specs.Lines.{first_state}
-use Rattle.ert_defs.specs.declared.entry.Act.{Act}
 use Rattle.ert_defs.specs.declared.entry.Actor.{Actor}
 use Rattle.ert_defs.specs.declared.entry.Actor.TheVariants.{Keeper, Wheel, Inbox, Sched, MailOf, Caller}
 use Rattle.ert_defs.specs.declared.entry.Entry.{Entry}
-use Rattle.ert_defs.specs.declared.entry.Event.TheVariants.{Tick, Shift, Look, Off, Advanced, Ask, Pick, Answer, Take, Unwatch, Watch, Tell}
+use Rattle.ert_defs.specs.declared.entry.Event.TheVariants.{Look, Off, Advanced, Ask, Pick, Answer, Take, Unwatch, Watch, Tell}
 use Rattle.ert_defs.specs.declared.settings.Mode.{Mode}
 use Rattle.ert_defs.specs.declared.settings.OffsetState.{OffsetState}
 use Rattle.ert_defs.specs.declared.settings.OffsetState.TheVariants.{Final}
-use Rattle.ert_defs.specs.declared.settings.Reading.{Reading}
 use Rattle.ert_defs.specs.declared.settings.Settings.{Settings}
 use Rattle.ert_table.specs.Held.{least_caller}
 use Rattle.ert_table.specs.declared.carry.OffsetCarry.{OffsetCarry}
@@ -23,10 +21,6 @@ use Rattle.ert_table.specs.declared.carry.TimeCarry.TheVariants.{Look as ToLook,
 abbrev pub wheel_of : Actor → ℕ
 wheel_of (Sched w) = w
 wheel_of _ = 0
-
--- the tick of a caller
-abbrev pub tick_entry : ℕ → Reading → Act → ℤ → Entry
-tick_entry by reading act now = entry_by Keeper (Some (Caller by)) (Tick reading act now)
 
 -- what is recorded where the time word is loaded
 abbrev pub time_entry : Actor → TimeCarry → ℤ → Entry
@@ -41,10 +35,6 @@ time_entry by (ToUnwatch process monitor was) now = entry_by by (Some (MailOf pr
 -- the time of a word
 abbrev pub time_in : Settings → ℕ → ℤ
 time_in g n = g.start +ℤ pos n
-
--- the shift of a caller
-abbrev pub shift_entry : ℕ → ℤ → OffsetState → Entry
-shift_entry by offset state = entry_by Keeper (Some (Caller by)) (Shift offset state)
 
 -- with whom the offset is read: the clock's part, with the caller of least number among these
 abbrev pub offset_with : Settings → List Actor → Actor → Option Actor

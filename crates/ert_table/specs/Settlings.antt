@@ -38,12 +38,12 @@ abbrev pub status_in : ℕ → Option Status
 status_in n = status_by (n % 8)
 
 -- the deadline in the word of a slot, in milliseconds after the start time
-abbrev pub deadline_in : ℕ → ℕ
-deadline_in n = (n / 8) % 8796093022208
+abbrev pub word_deadline : ℕ → ℕ
+word_deadline n = (n / 8) % 8796093022208
 
 -- the generation in the word of a slot whose timer is armed; else which use of its round that is
-abbrev pub generation_in : ℕ → ℕ
-generation_in n = cond (nat_eq (n % 8) 7) (n / 8) (n / 70368744177664)
+abbrev pub word_generation : ℕ → ℕ
+word_generation n = cond (nat_eq (n % 8) 7) (n / 8) (n / 70368744177664)
 
 -- a timer has a row with this deadline
 pub record HasRow (s : State) (timer : TimerRef) (deadline : ℕ) : Type 0 where
@@ -68,16 +68,16 @@ status_to ToDeliver = Delivered
 status_to ToDrop = Dropped
 
 -- with whom a message is delivered: the mailbox of its destination
-abbrev pub mail_of : Option Row → Option Actor
-mail_of None = None
-mail_of (Some row) = Some (MailOf row.dest)
+abbrev pub mailbox_of : Option Row → Option Actor
+mailbox_of None = None
+mailbox_of (Some row) = Some (MailOf row.dest)
 
 -- what is recorded where a timer is settled or handed over by one that knows this state
 abbrev pub hit_entry : Settings → State → Actor → TimerRef → ℕ → Settle → Entry
 hit_entry g s by timer deadline ToCancel = entry_by by None (Cancel timer (Some (left g deadline (s.looked by))))
 hit_entry g s by timer deadline ToExpire = entry_by by (Some (Wheel timer.wheel)) (Expire timer)
 hit_entry g s by timer deadline ToOrphan = entry_by by (Some (Wheel timer.wheel)) (Orphan timer)
-hit_entry g s by timer deadline ToDeliver = entry_by by (mail_of (row_of (s.rows timer.wheel) timer)) (Deliver timer)
+hit_entry g s by timer deadline ToDeliver = entry_by by (mailbox_of (row_of (s.rows timer.wheel) timer)) (Deliver timer)
 hit_entry g s by timer deadline ToDrop = entry_by by None (Drop timer)
 
 -- a timer wasn't armed when it was to be settled, and the last timer of its slot was looked at. That one
@@ -116,8 +116,8 @@ settle_entry g s by timer deadline how n =
     cond (nat_eq n (timer_word (status_from how) deadline timer.generation)) hit (miss_entry hit by timer how n)
 
 -- what a word of a slot shows of its last timer: status, deadline and generation
-abbrev pub Shown : Type 0
-Shown = Status × ℕ × ℕ
+abbrev pub ShownWord : Type 0
+ShownWord = Status × ℕ × ℕ
 
 -- the wheel of the slot that is looked at
 abbrev pub wheel_in : TimerCarry → ℕ
@@ -130,31 +130,31 @@ slot_in (ToProbe wheel slot) = slot
 slot_in (ToPeek timer) = timer.slot
 
 -- what is shown of a slot by its last timer: its status, its row and its generation
-abbrev pub shown_by : Option Status → Option Row → ℕ → Option Shown
+abbrev pub shown_by : Option Status → Option Row → ℕ → Option ShownWord
 shown_by (Some status) (Some row) generation = Some (status, row.deadline, shown_generation status generation)
 shown_by _ _ generation = None
 
 -- what is shown of a slot in a state
-abbrev pub shown_in : State → ℕ → ℕ → Option Shown
+abbrev pub shown_in : State → ℕ → ℕ → Option ShownWord
 shown_in s w k =
     let timer = timer_at w k (s.last w k) in
     shown_by (s.status timer) (row_of (s.rows w) timer) (s.last w k)
 
 -- the milliseconds left of a timer by what was shown of its slot: an older timer of the slot isn't armed
-abbrev pub left_at : Settings → ℤ → ℕ → Status → ℕ → ℕ → Option ℕ
-left_at g look wanted Armed deadline generation = cond (nat_eq generation wanted) (Some (left g deadline look)) None
-left_at g look wanted _ deadline generation = None
+abbrev pub left_of_shown : Settings → ℤ → ℕ → Status → ℕ → ℕ → Option ℕ
+left_of_shown g look wanted Armed deadline generation = cond (nat_eq generation wanted) (Some (left g deadline look)) None
+left_of_shown g look wanted _ deadline generation = None
 
 -- the milliseconds left of a timer of this generation, by what is shown of its slot, if anything is
-abbrev pub left_shown : Settings → ℤ → ℕ → Option Shown → Option ℕ
+abbrev pub left_shown : Settings → ℤ → ℕ → Option ShownWord → Option ℕ
 left_shown g look wanted None = None
-left_shown g look wanted (Some shown) = left_at g look wanted shown.0 shown.1 shown.2
+left_shown g look wanted (Some shown) = left_of_shown g look wanted shown.0 shown.1 shown.2
 
 -- what is recorded where the word of a slot is loaded by one with this last look
-abbrev pub read_entry : Settings → ℤ → Actor → TimerCarry → Option Shown → Entry
+abbrev pub read_entry : Settings → ℤ → Actor → TimerCarry → Option ShownWord → Entry
 read_entry g look by (ToProbe wheel slot) shown = probe_entry by wheel slot (option_map (λ x. x.0) shown)
 read_entry g look by (ToPeek timer) shown = entry_by by None (Peek timer (left_shown g look timer.generation shown))
 
 -- what the word of a slot shows
-abbrev pub parts_in : ℕ → Option Shown
-parts_in n = option_map (λ status. (status, deadline_in n, generation_in n)) (status_in n)
+abbrev pub parts_in : ℕ → Option ShownWord
+parts_in n = option_map (λ status. (status, word_deadline n, word_generation n)) (status_in n)

@@ -2,7 +2,8 @@
 ghost use Rattle.std.specs.Prelude.{◌≡◌};
 ghost use Rattle.ert_defs.specs.Words.{time_word, offset_word, is_final};
 ghost use Rattle.ert_table.specs.Desks.{settings_of, state_of, Belongs, MayMake, Makes, MayLoadTime, MayLoadOffset, offset_made, offset_loaded};
-ghost use Rattle.ert_table.specs.Entries.{tick_entry, time_entry, time_in, shift_entry, state_where};
+ghost use Rattle.ert_defs.specs.Entries.{tick_entry, shift_entry};
+ghost use Rattle.ert_table.specs.Entries.{time_entry, time_in, state_where};
 
 use crate::carry::{OffsetCarry, TimeCarry};
 use crate::desk::{Desk, Pass};

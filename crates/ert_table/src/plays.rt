@@ -6,7 +6,7 @@ ghost use Rattle.ert_defs.specs.declared.entry.Actor.TheVariants.{Keeper};
 ghost use Rattle.ert_defs.specs.declared.entry.Entry.{Entry};
 ghost use Rattle.ert_defs.specs.Settings.{any_settings};
 ghost use Rattle.ert_defs.specs.declared.settings.Settings.{Settings};
-ghost use Rattle.ert_table.specs.Acts.{Told, Read, Compared, Meets, Sees, any_entry};
+ghost use Rattle.ert_table.specs.Acts.{Told, Read, Compared, SittersMeet, Sees, any_entry};
 ghost use Rattle.ert_table.specs.Held.{actors_but};
 ghost use Rattle.ert_table.specs.Views.{holding, both, spent};
 
@@ -69,7 +69,7 @@ pub(crate) struct Learns<C> {
 }
 
 impl<C: Named> Play<(), View> for Learns<C> {
-    ghost then = { λ step me n now. Meets C.settings me now };
+    ghost then = { λ step me n now. SittersMeet C.settings me now };
 }
 
 /// A load that makes no entry, and finds a word of the state that the pass knows.

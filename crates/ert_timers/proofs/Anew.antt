@@ -21,10 +21,10 @@ use Rattle.ert_timers.proofs.Forgotten.{stands_dropped}
 use Rattle.ert_timers.proofs.Passing.{loses_none}
 use Rattle.ert_timers.proofs.Standing.{clock_at, takes_none}
 use Rattle.ert_timers.proofs.Starts.{ahead_stands, now_is}
-use Rattle.ert_timers.specs.Changes.{IsFree, dropped, has_uses, kept, slot_for}
+use Rattle.ert_timers.specs.Changes.{CanTakeTimer, dropped, has_uses, kept, slot_for}
 use Rattle.ert_timers.specs.Freeing.{IsHeld, IsLast}
 use Rattle.ert_timers.specs.Looking.{LooksAhead}
-use Rattle.ert_timers.specs.Parts.{HoldsCaller, Part, Stands, last_timer, slot_at}
+use Rattle.ert_timers.specs.Parts.{HoldsCaller, Part, PartStands, last_timer, slot_at}
 use Rattle.ert_timers.specs.Passed.{GainsOne, LosesRows}
 use Rattle.ert_timers.specs.Restarting.{CanRenew}
 use Rattle.ert_timers.specs.Starting.{TakesSlot}
@@ -50,21 +50,21 @@ kept_again p k start next =
     } in q) (sym (set_twice p.keys k None (Some (record { deadline = next.deadline; order = p.arms }))))
 
 -- without its row the slot is free
-pub free_again : (p : Part) (k : ℕ) → CanRenew p k → IsFree (dropped p k) k
+pub free_again : (p : Part) (k : ℕ) → CanRenew p k → CanTakeTimer (dropped p k) k
 free_again p k can =
     let has = some_key (key_in p.keys k) can.held in
     record { low = can.low; vacant = get_or-set_same p.keys k None None (key_low p.keys k has.0 has.1); away = can.away }
 
 -- the part stands without that row
-stands_again : (g : Settings) (h : List Entry) (p : Part) (timer : TimerRef) → Stands g h p → IsLast p timer → CanRenew p timer.slot
-    → (state g h).status timer ≢ Some Armed → Stands g h (dropped p timer.slot)
+stands_again : (g : Settings) (h : List Entry) (p : Part) (timer : TimerRef) → PartStands g h p → IsLast p timer → CanRenew p timer.slot
+    → (state g h).status timer ≢ Some Armed → PartStands g h (dropped p timer.slot)
 stands_again g h p timer stands last can settled =
     let k : ℕ = timer.slot in
     let has = some_key (key_in p.keys k) can.held in
     stands_dropped g h p k has.0 stands has.1 (λ armed. settled (ap (state g h).status last.named ∙ armed))
 
 -- its timer takes the slot no more
-untaken : (g : Settings) (h : List Entry) (p : Part) (timer : TimerRef) → Stands g h p → IsLast p timer → CanRenew p timer.slot
+untaken : (g : Settings) (h : List Entry) (p : Part) (timer : TimerRef) → PartStands g h p → IsLast p timer → CanRenew p timer.slot
     → (state g h).status timer ≢ Some Armed → is_taken ((state g h).status (last_timer p.number p.slots timer.slot)) ≡ false
 untaken g h p timer stands last can settled =
     let k : ℕ = timer.slot in
@@ -73,7 +73,7 @@ untaken g h p timer stands last can settled =
     (live_unexpired ((state g h).status (last_timer p.number p.slots k)) (stands.holds.rows.live k has.0 has.1))
 
 -- so a start finds it, with no look at slots
-takes_again : (g : Settings) (u : View) (by now : ℕ) (p : Part) (k : ℕ) → Stands g u.front p → IsFree p k → has_uses (slot_at p.slots k) ≡ true
+takes_again : (g : Settings) (u : View) (by now : ℕ) (p : Part) (k : ℕ) → PartStands g u.front p → CanTakeTimer p k → has_uses (slot_at p.slots k) ≡ true
     → is_taken ((state g u.front).status (last_timer p.number p.slots k)) ≡ false → now ≡ clock_at g (state g u.front)
     → TakesSlot g u by now p p (Some k) u
 takes_again g u by now p k stands free has none is =
@@ -97,7 +97,7 @@ takes_again g u by now p k stands free has none is =
 
 -- a caller starts a timer in the place of one that was settled
 pub record Renews (g : Settings) (v : View) (by : ℕ) (p : Part) (timer : TimerRef) : Type 0 where
-  pub stands : Stands g v.front p
+  pub stands : PartStands g v.front p
   pub holds : HoldsCaller g v by p.number
   pub last : IsLast p timer
   pub can : CanRenew p timer.slot
@@ -105,7 +105,7 @@ pub record Renews (g : Settings) (v : View) (by : ℕ) (p : Part) (timer : Timer
 
 -- the part stands after the look as if the row had gone
 pub stands_after : (g : Settings) (v : View) (by : ℕ) (start : Start) (ahead : Option Ahead) (u : View) (p : Part) (timer : TimerRef)
-    → Renews g v by p timer → LooksAhead g v by start ahead u → Stands g u.front (dropped p timer.slot)
+    → Renews g v by p timer → LooksAhead g v by start ahead u → PartStands g u.front (dropped p timer.slot)
 stands_after g v by start ahead u p timer r looks =
     ahead_stands g v by start ahead u (dropped p timer.slot) (stands_again g v.front p timer r.stands r.last r.can r.settled) r.holds looks
 

@@ -22,9 +22,9 @@ use Rattle.ert_defs.specs.declared.timer.TimerRef.{TimerRef}
 use Rattle.ert_table.specs.Takes.{Appends, MayStep}
 use Rattle.ert_table.specs.declared.view.View.{View}
 use Rattle.ert_table.proofs.Parts.{stepped}
-use Rattle.ert_timers.specs.Changes.{IsFree, kept, slot_for}
+use Rattle.ert_timers.specs.Changes.{CanTakeTimer, kept, slot_for}
 use Rattle.ert_laws.specs.Counts.{is_arm, is_expire, is_orphan}
-use Rattle.ert_timers.specs.Parts.{HoldsCaller, IsLive, Part, HoldsRows, Stands, slot_at, last_timer, held_row, unused}
+use Rattle.ert_timers.specs.Parts.{HoldsCaller, IsLive, Part, HoldsRows, PartStands, slot_at, last_timer, held_row, unused}
 use Rattle.ert_timers.specs.Starting.{Arms, HoldsTimer, IsUseFor}
 use Rattle.ert_timers.specs.Passed.{GainsOne}
 use Rattle.ert_timers.specs.Slots.{Slot}
@@ -177,8 +177,8 @@ gains_armed p k coming start timer named wide j seen is =
     ]
 
 -- the part stands with the new timer
-pub arms : (g : Settings) (v : View) (by : ℕ) (p q : Part) (k : ℕ) (coming : Use) (start : Start) (timer : TimerRef) (u : View) → Stands g v.front p
-    → HoldsCaller g v by p.number → IsFree p k → IsUseFor g (state g v.front) by p.number k start coming
+pub arms : (g : Settings) (v : View) (by : ℕ) (p q : Part) (k : ℕ) (coming : Use) (start : Start) (timer : TimerRef) (u : View) → PartStands g v.front p
+    → HoldsCaller g v by p.number → CanTakeTimer p k → IsUseFor g (state g v.front) by p.number k start coming
     → q ≡ kept p k start coming → timer ≡ last_timer q.number q.slots k → Appends g v (arm_entry by timer start) u
     → Arms g v by p q k coming start timer u
 arms g v by p q k coming start timer u stands holds free can part timer_is step =
@@ -217,7 +217,7 @@ arms g v by p q k coming start timer u stands holds free can part timer_is step 
     record {
       step = step;
       part = part;
-      stands = subst (λ (x : Part). Stands g u.front x) (sym part) (record {
+      stands = subst (λ (x : Part). PartStands g u.front x) (sym part) (record {
         checked = stands.checked;
         legal = step.legal;
         holds = record {
@@ -299,8 +299,8 @@ arms g v by p q k coming start timer u stands holds free can part timer_is step 
     cond_is_true false x y is = absurd cc
 
 -- a timer may be armed there
-pub may_arm : (g : Settings) (v : View) (by : ℕ) (p q : Part) (k : ℕ) (coming : Use) (start : Start) (timer : TimerRef) → Stands g v.front p
-    → HoldsCaller g v by p.number → IsFree p k → is_taken ((state g v.front).status (last_timer p.number p.slots k)) ≡ false
+pub may_arm : (g : Settings) (v : View) (by : ℕ) (p q : Part) (k : ℕ) (coming : Use) (start : Start) (timer : TimerRef) → PartStands g v.front p
+    → HoldsCaller g v by p.number → CanTakeTimer p k → is_taken ((state g v.front).status (last_timer p.number p.slots k)) ≡ false
     → start.dest < g.processes → IsUseFor g (state g v.front) by p.number k start coming → p.arms < 9007199254740992
     → q ≡ kept p k start coming → timer ≡ last_timer q.number q.slots k → MayStep g v (arm_entry by timer start)
 may_arm g v by p q k coming start timer stands holds free usable dest can few part timer_is =

@@ -19,7 +19,7 @@ use Rattle.ert_defs.specs.declared.timer.Status.TheVariants.{Armed, Expired, Del
 use Rattle.ert_defs.specs.declared.timer.TimerRef.{TimerRef}
 use Rattle.ert_effects.specs.TimerCalls.{cancel_entries}
 use Rattle.ert_table.proofs.Calls.{whole_exact}
-use Rattle.ert_timers.specs.Laws.{LawOfCancels}
+use Rattle.ert_timers.specs.Laws.{LawOfWholeCancels}
 use Rattle.ert_timers.specs.Parts.{Part, last_timer, held_row}
 use Rattle.ert_timers.specs.Tidy.{IsTidy}
 use Rattle.ert_timers.proofs.Later.{later_entry}
@@ -99,7 +99,7 @@ module _ (g : Settings) (s : State) (by : Actor) (now : ℤ) (timer : TimerRef) 
       let bad : None ≡ Some (left g row.deadline (t.looked by)) = told ∙ all in
       cc
 
-pub cancel_leaves : LawOfCancels
+pub cancel_leaves : LawOfWholeCancels
 cancel_leaves g v by timer answer u whole made =
     let s : State = state g v.front in
     let is = made.allowed in

@@ -13,7 +13,7 @@ use Rattle.ert_defs.specs.declared.timer.TimerRef.{TimerRef}
 use Rattle.ert_table.specs.Settlings.{shown_by, shown_in}
 use Rattle.ert_timers.specs.Dropping.{DropsRow, DropsRows}
 use Rattle.ert_timers.specs.Freeing.{IsHeld}
-use Rattle.ert_timers.specs.Parts.{Part, Stands, last_timer}
+use Rattle.ert_timers.specs.Parts.{Part, PartStands, last_timer}
 use Rattle.ert_timers.specs.Passed.{LosesRows}
 use Rattle.ert_timers.specs.Starting.{status_shown}
 use Rattle.ert_timers.specs.Tidy.{IsTidy}
@@ -57,7 +57,7 @@ shown_status None row generation = refl
 shown_status (Some status) row generation = refl
 
 -- so a slot with a row shows the status of its last timer
-pub status_seen : (g : Settings) (h : List Entry) (p : Part) (k : ℕ) (key : Key) → Stands g h p → key_in p.keys k ≡ Some key
+pub status_seen : (g : Settings) (h : List Entry) (p : Part) (k : ℕ) (key : Key) → PartStands g h p → key_in p.keys k ≡ Some key
     → status_shown (shown_in (state g h) p.number k) ≡ (state g h).status (last_timer p.number p.slots k)
 status_seen g h p k key stands held =
     let s : State = state g h in
@@ -73,7 +73,7 @@ status_seen g h p k key stands held =
     shown (timer_at w k (s.last w k)) (sym last)
 
 -- a slot whose row stays: the timer was seen armed
-pub drops_none : (g : Settings) (h : List Entry) (p : Part) (k : ℕ) (key : Key) → Stands g h p → key_in p.keys k ≡ Some key
+pub drops_none : (g : Settings) (h : List Entry) (p : Part) (k : ℕ) (key : Key) → PartStands g h p → key_in p.keys k ≡ Some key
     → is_armed (status_shown (shown_in (state g h) p.number k)) ≡ true → DropsRow g h p p k
 drops_none g h p k key stands held armed = record {
   stands = stands;
@@ -82,7 +82,7 @@ drops_none g h p k key stands held armed = record {
 }
 
 -- it has none
-pub drops_empty : (g : Settings) (h : List Entry) (p : Part) (k : ℕ) → Stands g h p → key_in p.keys k ≡ None → DropsRow g h p p k
+pub drops_empty : (g : Settings) (h : List Entry) (p : Part) (k : ℕ) → PartStands g h p → key_in p.keys k ≡ None → DropsRow g h p p k
 drops_empty g h p k stands none = record {
   stands = stands;
   loses = loses_none p;
@@ -90,14 +90,14 @@ drops_empty g h p k stands none = record {
 }
 
 -- a timer that was seen settled
-pub settled_seen : (g : Settings) (h : List Entry) (p : Part) (k : ℕ) (key : Key) → Stands g h p → key_in p.keys k ≡ Some key
+pub settled_seen : (g : Settings) (h : List Entry) (p : Part) (k : ℕ) (key : Key) → PartStands g h p → key_in p.keys k ≡ Some key
     → is_armed (status_shown (shown_in (state g h) p.number k)) ≡ false → (state g h).status (last_timer p.number p.slots k) ≢ Some Armed
 settled_seen g h p k key stands held not =
     unarmed ((state g h).status (last_timer p.number p.slots k)) (ap is_armed (sym (status_seen g h p k key stands held)) ∙ not)
 
 -- its row has gone
 pub drops_one : (g : Settings) (h : List Entry) (p q : Part) (k : ℕ) (timer : TimerRef) → timer ≡ last_timer p.number p.slots k → k < length p.slots
-    → Stands g h q → LosesRows p q → (IsHeld q timer → ⊥) → DropsRow g h p q k
+    → PartStands g h q → LosesRows p q → (IsHeld q timer → ⊥) → DropsRow g h p q k
 drops_one g h p q k timer named low stands loses gone = record {
   stands = stands;
   loses = loses;
@@ -111,7 +111,7 @@ drops_one g h p q k timer named low stands loses gone = record {
 }
 
 -- no slot was looked at yet
-pub drops_first : (g : Settings) (h : List Entry) (p : Part) → Stands g h p → DropsRows g h p p 0
+pub drops_first : (g : Settings) (h : List Entry) (p : Part) → PartStands g h p → DropsRows g h p p 0
 drops_first g h p stands = record { stands = stands; loses = loses_none p; below = λ k key low is. absurd (omega (arith, low)) }
 
 -- one more was

@@ -19,9 +19,9 @@ use Rattle.ert_defs.specs.declared.timer.Status.TheVariants.{Armed}
 use Rattle.ert_defs.specs.declared.timer.TimerRef.{TimerRef}
 use Rattle.ert_timers.specs.Changes.{let_go}
 use Rattle.ert_timers.specs.Expiring.{AreDue, IsReady, timer_of}
-use Rattle.ert_timers.specs.Parts.{Part, Stands, last_timer}
+use Rattle.ert_timers.specs.Parts.{Part, PartStands, last_timer}
 use Rattle.ert_wheel.specs.FirstDue.{NoRowDue, IsFirstRowDue}
-use Rattle.ert_wheel.specs.Rows.{key_in, key_of, times, due_at, comes_before, row_at}
+use Rattle.ert_wheel.specs.Rows.{key_in, key_of, times, times_due, comes_before, row_at}
 use Rattle.ert_wheel.specs.declared.row.Key.{Key}
 use Rattle.ert_wheel.specs.declared.row.Row.{Row as WheelRow}
 use Rattle.ert_wheel.proofs.Collect.{key_low}
@@ -78,30 +78,30 @@ slot_in k (r ∷ rows) once P all =
           slot_in k rows (omega (arith, once, times-cons r rows k)) P (All-tail P r rows all)
     ]
 
-due_some : (to : ℕ) (o : Option Key) (key : Key) → o ≡ Some key → key.deadline ≤ to → due_at to o ≡ 1
+due_some : (to : ℕ) (o : Option Key) (key : Key) → o ≡ Some key → key.deadline ≤ to → times_due to o ≡ 1
 due_some to o key is low =
-    ap (due_at to) is ∙ ap (λ b. cond b 1 0) (le-leb key.deadline to low)
+    ap (times_due to) is ∙ ap (λ b. cond b 1 0) (le-leb key.deadline to low)
 
-some_due : (to : ℕ) (o : Option Key) (key : Key) → o ≡ Some key → 1 ≤ due_at to o → key.deadline ≤ to
+some_due : (to : ℕ) (o : Option Key) (key : Key) → o ≡ Some key → 1 ≤ times_due to o → key.deadline ≤ to
 some_due to o key is due = at (nat_le key.deadline to) refl
   where
     at : (b : Bool) → nat_le key.deadline to ≡ b → key.deadline ≤ to
     at true le = leb-true key.deadline to le
     at false le =
-        let none : ◌≡◌ {A = ℕ} (due_at to o) 0 = ap (due_at to) is ∙ ap (λ b. cond b 1 0) le in
+        let none : ◌≡◌ {A = ℕ} (times_due to o) 0 = ap (times_due to) is ∙ ap (λ b. cond b 1 0) le in
         absurd (omega (arith, due, none))
 
-due_none : (to : ℕ) (o : Option Key) → due_at to o ≡ 0 → IfSome o (λ key. to < key.deadline)
+due_none : (to : ℕ) (o : Option Key) → times_due to o ≡ 0 → IfSome o (λ key. to < key.deadline)
 due_none to None is = tt
 due_none to (Some key) is =
     elim (cases_lt to key.deadline) [
       | inl low ↦ low
       | inr high ↦
-          let one : ◌≡◌ {A = ℕ} (due_at to (Some key)) 1 = due_some to (Some key) key refl high in
+          let one : ◌≡◌ {A = ℕ} (times_due to (Some key)) 1 = due_some to (Some key) key refl high in
           absurd (omega (arith, one, is))
     ]
 
-due_most : (to : ℕ) (o : Option Key) → due_at to o ≤ 1
+due_most : (to : ℕ) (o : Option Key) → times_due to o ≤ 1
 due_most to None = omega arith
 due_most to (Some key) = at (nat_le key.deadline to)
   where
@@ -118,7 +118,7 @@ before_is x y (inl low) = grind (arith, nat_tests)
 before_is x y (inr same) = grind (arith, nat_tests)
 
 -- the timer of a row that is held and due is the next to expire where no armed timer comes before it
-pub next_of : (g : Settings) (h : List Entry) (p : Part) (to : ℕ) (r : WheelRow) → Stands g h p
+pub next_of : (g : Settings) (h : List Entry) (p : Part) (to : ℕ) (r : WheelRow) → PartStands g h p
     → pos to ≡ down g ((state g h).looked (Sched p.number)) → key_in p.keys r.slot ≡ Some (key_of r) → r.deadline ≤ to
     → ((n : ℕ) (row : Row) → slice_get ((state g h).rows p.number) n ≡ Some row → (state g h).status row.timer ≡ Some Armed
     → comes_before (row_at row.timer.slot (record { deadline = row.deadline; order = n })) r ≡ true → row.deadline ≤ r.deadline → n ≢ r.order
@@ -165,7 +165,7 @@ module _ (g : Settings) (h : List Entry) (p : Part) (to : ℕ) (r : WheelRow) (r
   none_before n row at armed before low other =
       let key : Key = record { deadline = row.deadline; order = n } in
       let held : key_in p.keys row.timer.slot ≡ Some key = ready.stands.holds.rows.armed n row at armed in
-      let due : due_at to (key_in p.keys row.timer.slot) ≡ 1 = due_some to (key_in p.keys row.timer.slot) key held (omega (arith, low, first_due)) in
+      let due : times_due to (key_in p.keys row.timer.slot) ≡ 1 = due_some to (key_in p.keys row.timer.slot) key held (omega (arith, low, first_due)) in
       let apart : r.slot ≢ row.timer.slot =
       λ same. (let e : Some (key_of r) ≡ Some key = sym first_held ∙ (ap (key_in p.keys) same ∙ held) in
       other (sym (ap (λ (k : Key). k.order) (some_same (key_of r) key e)))) in
@@ -202,12 +202,12 @@ module _ (g : Settings) (h : List Entry) (p : Part) (to : ℕ) (r : WheelRow) (r
     each = λ k.
         elim (cases_eq k r.slot) [
           | inl same ↦ ap (λ n. times n rest) same ∙ (first_once
-              ∙ sym (ap (due_at to) (ap (key_in (set p.keys r.slot None)) same ∙ get_or-set_same p.keys r.slot None None low)))
+              ∙ sym (ap (times_due to) (ap (key_in (set p.keys r.slot None)) same ∙ get_or-set_same p.keys r.slot None None low)))
           | inr other ↦
               let apart : r.slot ≢ k = λ e. other (sym e) in
               let none : ◌≡◌ {A = ℕ} (cond (nat_eq r.slot k) 1 0) 0 = ap (λ b. cond b 1 0) (ne_eqb r.slot k apart) in
-              let before : times k rest ≡ due_at to (key_in p.keys k) = omega (arith, ready.due.each k, times-cons r rest k, none) in
-              before ∙ ap (due_at to) (sym (get_or-set_other p.keys r.slot k None None other))
+              let before : times k rest ≡ times_due to (key_in p.keys k) = omega (arith, ready.due.each k, times-cons r rest k, none) in
+              before ∙ ap (times_due to) (sym (get_or-set_other p.keys r.slot k None None other))
         ];
     held = stay rest first_once (All-tail (λ row. key_in p.keys row.slot ≡ Some (key_of row)) r rest ready.due.held);
     in_order = pairs_tail (λ x y. comes_before y x ≡ false) r rest ready.due.in_order;
@@ -229,7 +229,7 @@ module _ (g : Settings) (h : List Entry) (p : Part) (to : ℕ) (r : WheelRow) (r
           (stay rows (omega (arith, none, times-cons y rows r.slot)) (All-tail (λ row. key_in p.keys row.slot ≡ Some (key_of row)) y rows held))
 
 -- the first row that is due is that of the timer that is the next to expire
-pub first_next : (g : Settings) (h : List Entry) (p : Part) (to : ℕ) (r : WheelRow) → Stands g h p
+pub first_next : (g : Settings) (h : List Entry) (p : Part) (to : ℕ) (r : WheelRow) → PartStands g h p
     → pos to ≡ down g ((state g h).looked (Sched p.number)) → IsFirstRowDue p.keys to r
     → IsNext g (state g h) (Sched p.number) (last_timer p.number p.slots r.slot)
 first_next g h p to r stands told first =
@@ -239,7 +239,7 @@ first_next g h p to r stands told first =
     cc)
 
 -- where no row is due no armed timer is
-pub none_armed_due : (g : Settings) (h : List Entry) (p : Part) (to : ℕ) → Stands g h p → NoRowDue p.keys to
+pub none_armed_due : (g : Settings) (h : List Entry) (p : Part) (to : ℕ) → PartStands g h p → NoRowDue p.keys to
     → AllSettled (state g h).status (λ d. nat_le d to) ((state g h).rows p.number)
 none_armed_due g h p to stands none =
     settled_by (state g h).status (λ d. nat_le d to) ((state g h).rows p.number) (λ n row at test armed.
@@ -255,7 +255,7 @@ pub none_due : (g : Settings) (h : List Entry) (p : Part) (to : ℕ) → IsReady
 none_due g h p to ready =
     settled_by (state g h).status (λ d. nat_le d to) ((state g h).rows p.number) (λ n row at test armed.
     let held = ready.stands.holds.rows.armed n row at armed in
-    let one : ◌≡◌ {A = ℕ} (due_at to (key_in p.keys row.timer.slot)) 1 =
+    let one : ◌≡◌ {A = ℕ} (times_due to (key_in p.keys row.timer.slot)) 1 =
     due_some to (key_in p.keys row.timer.slot) (record { deadline = row.deadline; order = n }) held (leb-true row.deadline to test) in
     omega (arith, one, ready.due.each row.timer.slot))
 

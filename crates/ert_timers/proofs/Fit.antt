@@ -8,7 +8,7 @@ use Rattle.std.specs.FinSet as sets
 use Rattle.std.specs.Option.{is_some}
 use Rattle.std.specs.Ordering.{nat_cmp}
 use Rattle.ert_timers.specs.Changes.{LostRow, dropped}
-use Rattle.ert_timers.specs.Parts.{AreFit, AreOwned, Part}
+use Rattle.ert_timers.specs.Parts.{AreFieldsFit, AreOwned, Part}
 use Rattle.ert_timers.specs.Slots.{Slot}
 use Rattle.ert_timers.proofs.Rows.{key_left}
 use Rattle.ert_wheel.specs.Rings.{Rings, MayTake}
@@ -24,8 +24,8 @@ set_none keys k vacant = subst (λ key. set keys k key ≡ keys) vacant (set-get
 
 -- the row of a slot goes, and the slot stays in its chain
 unfoldable pub fit_dropped : (processes : ℕ) (slots : List Slot) (keys : List (Option Key)) (free : FreeSet) (owners : Rings) (a x o k : ℕ) (key : Key)
-    → AreFit processes slots keys free owners a x o → key_in keys k ≡ Some key
-    → AreFit processes slots (set keys k None) free owners a x o
+    → AreFieldsFit processes slots keys free owners a x o → key_in keys k ≡ Some key
+    → AreFieldsFit processes slots (set keys k None) free owners a x o
 fit_dropped processes slots keys free owners a x o k key fit held =
     let low : k < length keys = key_low keys k key held in
     record {
@@ -59,15 +59,15 @@ fit_dropped processes slots keys free owners a x o k key fit held =
 
 -- so the places are as they were
 pub same_places : (processes : ℕ) (slots : List Slot) (keys : List (Option Key)) (free : FreeSet) (owners : Rings) (a x o k : ℕ) (key : Key)
-    (fit : AreFit processes slots keys free owners a x o) (held : key_in keys k ≡ Some key)
+    (fit : AreFieldsFit processes slots keys free owners a x o) (held : key_in keys k ≡ Some key)
     → fit.chained.places ≡ (fit_dropped processes slots keys free owners a x o k key fit held).chained.places
 unfolding fit_dropped
 same_places processes slots keys free owners a x o k key fit held = refl
 
 -- with other chains
 pub fit_owned : (processes : ℕ) (slots : List Slot) (keys : List (Option Key)) (free : FreeSet) (owners new : Rings) (a x o : ℕ)
-    → AreFit processes slots keys free owners a x o → new.slots ≡ owners.slots → new.homes ≡ owners.homes → AreOwned slots keys new a
-    → AreFit processes slots keys free new a x o
+    → AreFieldsFit processes slots keys free owners a x o → new.slots ≡ owners.slots → new.homes ≡ owners.homes → AreOwned slots keys new a
+    → AreFieldsFit processes slots keys free new a x o
 fit_owned processes slots keys free owners new a x o fit same homes are = record {
   few = fit.few;
   wide = fit.wide;
@@ -86,23 +86,23 @@ fit_owned processes slots keys free owners new a x o fit same homes are = record
 
 -- the row of a slot goes, where it has one
 pub fit_removed : (processes : ℕ) (slots : List Slot) (keys left : List (Option Key)) (free : FreeSet) (owners new : Rings) (a x o k : ℕ)
-    → AreFit processes slots keys free owners a x o → left ≡ set keys k None → new ≡ owners → AreFit processes slots left free new a x o
+    → AreFieldsFit processes slots keys free owners a x o → left ≡ set keys k None → new ≡ owners → AreFieldsFit processes slots left free new a x o
 fit_removed processes slots keys left free owners new a x o k fit is same =
-    subst (λ ks. AreFit processes slots ks free new a x o) (sym is)
-    (subst (λ r. AreFit processes slots (set keys k None) free r a x o) (sym same) (at (key_in keys k) refl))
+    subst (λ ks. AreFieldsFit processes slots ks free new a x o) (sym is)
+    (subst (λ r. AreFieldsFit processes slots (set keys k None) free r a x o) (sym same) (at (key_in keys k) refl))
   where
-    at : (o' : Option Key) → key_in keys k ≡ o' → AreFit processes slots (set keys k None) free owners a x o
-    at None none = subst (λ ks. AreFit processes slots ks free owners a x o) (sym (set_none keys k none)) fit
+    at : (o' : Option Key) → key_in keys k ≡ o' → AreFieldsFit processes slots (set keys k None) free owners a x o
+    at None none = subst (λ ks. AreFieldsFit processes slots ks free owners a x o) (sym (set_none keys k none)) fit
     at (Some key) held = fit_dropped processes slots keys free owners a x o k key fit held
 
 -- the chains have each slot
 pub may_leave : (processes : ℕ) (slots : List Slot) (keys : List (Option Key)) (free : FreeSet) (owners : Rings) (a x o k : ℕ)
-    → AreFit processes slots keys free owners a x o → k < length slots → MayTake owners k
+    → AreFieldsFit processes slots keys free owners a x o → k < length slots → MayTake owners k
 may_leave processes slots keys free owners a x o k fit low =
     record { places = fit.chained.places; are = fit.chained.are; low = omega (arith, fit.owned) }
 
 -- a slot with a row isn't held free, and less is counted once the row has gone
-pub fit_lost : (p : Part) (owners : Rings) (free : FreeSet) (k : ℕ) (key : Key) → AreFit p.processes p.slots p.keys free owners p.arms p.expires p.orphans
+pub fit_lost : (p : Part) (owners : Rings) (free : FreeSet) (k : ℕ) (key : Key) → AreFieldsFit p.processes p.slots p.keys free owners p.arms p.expires p.orphans
     → free.held ≡ p.free → key_in p.keys k ≡ Some key → LostRow (dropped p k) k
 fit_lost p owners free k key fit same held =
     let low : k < length p.keys = key_low p.keys k key held in
@@ -133,8 +133,8 @@ none_key (Some key) not = absurd (not refl)
 
 -- with other counts, which are few enough
 pub fit_counted : (processes : ℕ) (slots : List Slot) (keys : List (Option Key)) (free : FreeSet) (owners : Rings) (a x o y p : ℕ)
-    → AreFit processes slots keys free owners a x o → (y + p) + count_by is_some keys ≤ a
-    → AreFit processes slots keys free owners a y p
+    → AreFieldsFit processes slots keys free owners a x o → (y + p) + count_by is_some keys ≤ a
+    → AreFieldsFit processes slots keys free owners a y p
 fit_counted processes slots keys free owners a x o y p fit few = record {
   few = fit.few;
   wide = fit.wide;
@@ -153,9 +153,9 @@ fit_counted processes slots keys free owners a x o y p fit few = record {
 
 -- with other free slots, which were free before or can be
 pub fit_free : (processes : ℕ) (slots : List Slot) (keys : List (Option Key)) (free new : FreeSet) (owners : Rings) (a x o : ℕ)
-    → AreFit processes slots keys free owners a x o → new.slots ≡ free.slots
+    → AreFieldsFit processes slots keys free owners a x o → new.slots ≡ free.slots
     → ((j : ℕ) → sets.contains new.held j ≡ true → (key_in keys j ≡ None) × (j < length slots))
-    → AreFit processes slots keys new owners a x o
+    → AreFieldsFit processes slots keys new owners a x o
 fit_free processes slots keys free new owners a x o fit same can = record {
   few = fit.few;
   wide = fit.wide;
@@ -181,9 +181,9 @@ or_cases true c P f h is = f refl
 or_cases false c P f h is = h is
 
 pub fit_put : (processes : ℕ) (slots : List Slot) (keys : List (Option Key)) (free new : FreeSet) (owners : Rings) (a x o k : ℕ)
-    → AreFit processes slots keys free owners a x o → new ≡ record free { held = sets.insert free.held k }
+    → AreFieldsFit processes slots keys free owners a x o → new ≡ record free { held = sets.insert free.held k }
     → k < length slots → key_in keys k ≡ None
-    → AreFit processes slots keys new owners a x o
+    → AreFieldsFit processes slots keys new owners a x o
 fit_put processes slots keys free new owners a x o k fit is low vacant =
     fit_free processes slots keys free new owners a x o fit (ap (λ (f : FreeSet). f.slots) is) (λ j held.
     or_cases (nat_eq j k) (sets.contains free.held j) ((key_in keys j ≡ None) × (j < length slots))
@@ -244,8 +244,8 @@ some_left s k None empty =
 some_left s k (Some x) empty = refl
 
 pub fit_picked : (processes : ℕ) (slots : List Slot) (keys : List (Option Key)) (free new : FreeSet) (owners : Rings) (a x o k : ℕ)
-    → AreFit processes slots keys free owners a x o → new ≡ record free { held = sets.remove free.held k }
-    → AreFit processes slots keys new owners a x o
+    → AreFieldsFit processes slots keys free owners a x o → new ≡ record free { held = sets.remove free.held k }
+    → AreFieldsFit processes slots keys new owners a x o
 fit_picked processes slots keys free new owners a x o k fit is =
     fit_free processes slots keys free new owners a x o fit (ap (λ (f : FreeSet). f.slots) is) (λ j held.
     let was : sets.contains free.held j ≡ true =

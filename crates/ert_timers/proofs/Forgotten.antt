@@ -8,7 +8,7 @@ use Rattle.ert_defs.specs.declared.entry.Entry.{Entry}
 use Rattle.ert_defs.specs.declared.settings.Settings.{Settings}
 use Rattle.ert_defs.specs.declared.timer.Status.TheVariants.{Armed}
 use Rattle.ert_timers.specs.Changes.{dropped, reused}
-use Rattle.ert_timers.specs.Parts.{Part, Stands, last_timer}
+use Rattle.ert_timers.specs.Parts.{Part, PartStands, last_timer}
 use Rattle.ert_timers.proofs.Later.{IsLater, live_unexpired}
 use Rattle.ert_timers.proofs.Rows.{key_left, rows_dropped}
 use Rattle.ert_timers.proofs.Standing.{holds_back, holds_with, takes_none}
@@ -20,8 +20,8 @@ same_state : (w : ℕ) (s : State) → IsLater w s s
 same_state w s = record { rows = refl; last = λ k. refl; uses = λ k. refl; armed = λ r on is. is; free = λ r on none. none }
 
 -- the part stands with the slot of a timer that takes it no more
-pub stands_reused : (g : Settings) (h : List Entry) (p : Part) (k : ℕ) → Stands g h p → k < length p.slots
-    → is_taken ((state g h).status (last_timer p.number p.slots k)) ≡ false → Stands g h (reused p k)
+pub stands_reused : (g : Settings) (h : List Entry) (p : Part) (k : ℕ) → PartStands g h p → k < length p.slots
+    → is_taken ((state g h).status (last_timer p.number p.slots k)) ≡ false → PartStands g h (reused p k)
 stands_reused g h p k stands low none = record {
   checked = stands.checked;
   legal = stands.legal;
@@ -30,8 +30,8 @@ stands_reused g h p k stands low none = record {
 }
 
 -- and without the row of a timer that isn't armed
-pub stands_dropped : (g : Settings) (h : List Entry) (p : Part) (k : ℕ) (key : Key) → Stands g h p → key_in p.keys k ≡ Some key
-    → (state g h).status (last_timer p.number p.slots k) ≢ Some Armed → Stands g h (dropped p k)
+pub stands_dropped : (g : Settings) (h : List Entry) (p : Part) (k : ℕ) (key : Key) → PartStands g h p → key_in p.keys k ≡ Some key
+    → (state g h).status (last_timer p.number p.slots k) ≢ Some Armed → PartStands g h (dropped p k)
 stands_dropped g h p k key stands held settled =
     let s : State = state g h in
     let low : k < length p.keys = key_low p.keys k key held in
@@ -45,8 +45,8 @@ stands_dropped g h p k key stands held settled =
       counted = record { arms = stands.counted.arms; expires = stands.counted.expires; orphans = stands.counted.orphans };
     }
 
-pub forgot : (g : Settings) (h : List Entry) (p : Part) (k : ℕ) (key : Key) → Stands g h p → k < length p.slots → key_in p.keys k ≡ Some key
-    → (state g h).status (last_timer p.number p.slots k) ≢ Some Armed → Stands g h (reused (dropped p k) k)
+pub forgot : (g : Settings) (h : List Entry) (p : Part) (k : ℕ) (key : Key) → PartStands g h p → k < length p.slots → key_in p.keys k ≡ Some key
+    → (state g h).status (last_timer p.number p.slots k) ≢ Some Armed → PartStands g h (reused (dropped p k) k)
 forgot g h p k key stands in_range held settled =
     let s : State = state g h in
     stands_reused g h (dropped p k) k (stands_dropped g h p k key stands held settled) in_range

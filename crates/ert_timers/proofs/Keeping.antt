@@ -7,9 +7,9 @@ use Rattle.std.specs.Bool.{OnTrue}
 use Rattle.std.specs.FinSet as sets
 use Rattle.std.specs.Ordering.{nat_cmp}
 use Rattle.ert_defs.specs.declared.timer.Start.{Start}
-use Rattle.ert_timers.specs.Changes.{IsFree, LostRow, NextOf, picked, slot_for, kept}
+use Rattle.ert_timers.specs.Changes.{CanTakeTimer, LostRow, NextOf, picked, slot_for, kept}
 use Rattle.ert_timers.specs.Owners.{Joins, Thinned, FindsRow}
-use Rattle.ert_timers.specs.Parts.{AreFit, AreOwned, Part, slot_at, unused}
+use Rattle.ert_timers.specs.Parts.{AreFieldsFit, AreOwned, Part, slot_at, unused}
 use Rattle.ert_timers.specs.Slots.{Slot}
 use Rattle.ert_timers.specs.declared.part.Use.{Use}
 use mir.Val.{bool_byte}
@@ -106,10 +106,10 @@ owned_kept slots keys owners new a k slot key are low wide joins =
 
 -- a timer is put in
 pub fit_kept : (p : Part) (free : FreeSet) (owners new : Rings) (k : ℕ) (start : Start) (next : Use)
-    (fit : AreFit p.processes p.slots p.keys free owners p.arms p.expires p.orphans) → free.held ≡ p.free → IsFree p k
+    (fit : AreFieldsFit p.processes p.slots p.keys free owners p.arms p.expires p.orphans) → free.held ≡ p.free → CanTakeTimer p k
     → p.arms < 9007199254740992 → start.dest < p.processes → new.slots ≡ owners.slots → new.homes ≡ owners.homes
     → Joins new fit.chained.places k start.dest p.arms
-    → let q = kept p k start next in AreFit q.processes q.slots q.keys free new q.arms q.expires q.orphans
+    → let q = kept p k start next in AreFieldsFit q.processes q.slots q.keys free new q.arms q.expires q.orphans
 fit_kept p free owners new k start next fit same can few dest slots homes joins =
     let slot : Slot = slot_for next (slot_at p.slots k).above start in
     let key : Key = record { deadline = next.deadline; order = p.arms } in
@@ -167,7 +167,7 @@ owned_thinned slots keys owners new a left are t = record {
 
 -- the newest row of a process is one that was found in its chain
 pub next_found : (p : Part) (free : FreeSet) (owners new : Rings) (process : ℕ) (found : Option Row)
-    (fit : AreFit p.processes p.slots p.keys free owners p.arms p.expires p.orphans)
+    (fit : AreFieldsFit p.processes p.slots p.keys free owners p.arms p.expires p.orphans)
     → FindsRow p.keys fit.chained.places process new found → NextOf p process found
 next_found p free owners new process None fit finds = λ k key is dest.
     let s = fit.chained.held k key is in
@@ -191,19 +191,19 @@ next_found p free owners new process (Some row) fit finds =
     )
 
 -- what a slot that was held free can be used for
-pub picked_free : (p : Part) (free : FreeSet) (owners : Rings) (k : ℕ) → AreFit p.processes p.slots p.keys free owners p.arms p.expires p.orphans
-    → free.held ≡ p.free → sets.contains free.held k ≡ true → IsFree (picked p k) k
+pub picked_free : (p : Part) (free : FreeSet) (owners : Rings) (k : ℕ) → AreFieldsFit p.processes p.slots p.keys free owners p.arms p.expires p.orphans
+    → free.held ≡ p.free → sets.contains free.held k ≡ true → CanTakeTimer (picked p k) k
 picked_free p free owners k fit same held = record {
   low = fit.below k held;
   vacant = fit.vacant k held;
   away = taken_out p.free k;
 }
 
-pub pick_fit : (p : Part) (free new : FreeSet) (owners : Rings) (o : Option ℕ) → AreFit p.processes p.slots p.keys free owners p.arms p.expires p.orphans
+pub pick_fit : (p : Part) (free new : FreeSet) (owners : Rings) (o : Option ℕ) → AreFieldsFit p.processes p.slots p.keys free owners p.arms p.expires p.orphans
     → IfNone o (new ≡ free) → IfSome o (λ k. new ≡ record free { held = sets.remove free.held k })
-    → AreFit p.processes p.slots p.keys new owners p.arms p.expires p.orphans
+    → AreFieldsFit p.processes p.slots p.keys new owners p.arms p.expires p.orphans
 pick_fit p free new owners None fit same taken =
-    subst (λ f. AreFit p.processes p.slots p.keys f owners p.arms p.expires p.orphans) (sym same) fit
+    subst (λ f. AreFieldsFit p.processes p.slots p.keys f owners p.arms p.expires p.orphans) (sym same) fit
 pick_fit p free new owners (Some k) fit same taken = fit_picked p.processes p.slots p.keys free new owners p.arms p.expires p.orphans k fit taken
 
 pub pick_none : (s : sets.FinSet nat_cmp) (o : Option ℕ) → (IsNone o → s ≡ sets.empty)
@@ -223,13 +223,13 @@ pub if_some : (o : Option ℕ) (P : Type 0) → IsSome o → IfNone o P
 if_some None P some = absurd cc
 if_some (Some k) P some = tt
 
-pub pick_usable : (p : Part) (free new : FreeSet) (owners : Rings) (o : Option ℕ) → AreFit p.processes p.slots p.keys free owners p.arms p.expires p.orphans
+pub pick_usable : (p : Part) (free new : FreeSet) (owners : Rings) (o : Option ℕ) → AreFieldsFit p.processes p.slots p.keys free owners p.arms p.expires p.orphans
     → free.held ≡ p.free → IfSome o (λ k. sets.contains free.held k ≡ true)
-    → IfSome o (λ k. new ≡ record free { held = sets.remove free.held k }) → IfSome o (IsFree (record p { free = new.held }))
+    → IfSome o (λ k. new ≡ record free { held = sets.remove free.held k }) → IfSome o (CanTakeTimer (record p { free = new.held }))
 pick_usable p free new owners None fit same held taken = tt
 pick_usable p free new owners (Some k) fit same held taken =
     let e : sets.remove p.free k ≡ new.held = ap (λ s. sets.remove s k) (sym same) ∙ ap (λ (f : FreeSet). f.held) (sym taken) in
-    subst (λ (s : sets.FinSet nat_cmp). IsFree (record p { free = s }) k) e (picked_free p free owners k fit same held)
+    subst (λ (s : sets.FinSet nat_cmp). CanTakeTimer (record p { free = s }) k) e (picked_free p free owners k fit same held)
 
 pub byte_low : (b : Bool) (n : ℕ) → n ≡ bool_byte b → n ≤ 1
 byte_low true n is = omega (arith, is)

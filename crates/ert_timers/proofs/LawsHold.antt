@@ -22,7 +22,7 @@ use Rattle.ert_effects.specs.WheelCalls.{Try, expires_by, expiry_entries, orphan
 use Rattle.ert_effects.specs.declared.answers.StartErr.TheVariants.{BadArg, Full, NoMemory}
 use Rattle.ert_table.specs.Held.{IsOurs}
 use Rattle.ert_table.proofs.Parts.{free_later, of_one, of_both}
-use Rattle.ert_timers.specs.Laws.{AreWithWheel, LawOfStanding, LawOfStarts, LawOfAdvances, LawOfSweeps, LawOfRooms}
+use Rattle.ert_timers.specs.Laws.{AreWithWheel, LawOfStandingParts, LawOfStartEntries, LawOfAdvanceEntries, LawOfSweeps, LawOfRooms}
 use Rattle.ert_laws.specs.Counts.{entries_of, is_arm, is_expire, is_orphan}
 use Rattle.ert_timers.specs.Parts.{IsLive, last_timer}
 use Rattle.ert_timers.proofs.Later.{IsLater, later_free, none_counted, live_free}
@@ -34,7 +34,7 @@ same_count : (test : Event → Bool) (w : ℕ) (f m : List Entry) → IsFree m (
 same_count test w f m free =
     omega (arith, sum_by-append (λ (e : Entry). cond (has_actor e (Wheel w) && test e.event) 1 0) f m, none_counted test w m free)
 
-pub stand_on : LawOfStanding
+pub stand_on : LawOfStandingParts
 stand_on g f h p longer same legal stands =
     let w : ℕ = p.number in
     let m : List Entry = longer.later in
@@ -87,7 +87,7 @@ closing_only false by w timer es wheel closes = same_only (Caller by) w es _ clo
 closing_only true by w timer es wheel (inl hit) = same_only (Caller by) w es _ hit (paired (Caller by) w timer.wheel wheel, tt)
 closing_only true by w timer es wheel (inr miss) = same_only (Caller by) w es _ miss.entries (paired (Caller by) w timer.wheel wheel, tt)
 
-pub starts_only : LawOfStarts
+pub starts_only : LawOfStartEntries
 starts_only g by w start (Ok timer) s es starts =
     same_only (Caller by) w es _ starts.entries (
       alone (Caller by) w,
@@ -123,7 +123,7 @@ advance_only w answer es advance =
     same_only (Sched w) w es _ advance.entries
     (alone (Sched w) w, only-append (Sched w) w (expiry_entries w advance.tries) _ (tries_only w advance.tries) (paired (Sched w) w w refl, tt))
 
-pub advances_only : LawOfAdvances
+pub advances_only : LawOfAdvanceEntries
 advances_only g w (Ok answer) s es advances = advance_only w answer es (advance_is w answer es advances)
 advances_only g w (Err e) s es (inl none) = same_only (Sched w) w es _ none tt
 advances_only g w (Err e) s es (inr looked) = same_only (Sched w) w es _ looked.1 (alone (Sched w) w, tt)

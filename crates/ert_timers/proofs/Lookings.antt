@@ -15,14 +15,14 @@ use Rattle.ert_defs.specs.declared.timer.Status.{Status}
 use Rattle.ert_defs.specs.declared.timer.Status.TheVariants.{Armed}
 use Rattle.ert_calls.proofs.Looks.{can_step}
 use Rattle.ert_table.specs.Held.{is_held}
-use Rattle.ert_table.specs.Settlings.{Shown}
+use Rattle.ert_table.specs.Settlings.{ShownWord}
 use Rattle.ert_table.specs.Takes.{Appends}
 use Rattle.ert_table.specs.declared.view.View.{View}
 use Rattle.ert_table.proofs.Parts.{stepped}
 use Rattle.ert_timers.specs.Changes.{is_resting, dropped, freed}
 use Rattle.ert_laws.proofs.Since.{rounds_begun}
 use Rattle.ert_laws.specs.Counts.{is_expire, is_orphan}
-use Rattle.ert_timers.specs.Parts.{HoldsCaller, Part, Stands, slot_at, last_timer}
+use Rattle.ert_timers.specs.Parts.{HoldsCaller, Part, PartStands, slot_at, last_timer}
 use Rattle.ert_timers.specs.Starting.{LooksAt, status_shown}
 use Rattle.ert_timers.specs.Passed.{LosesRows}
 use Rattle.ert_timers.proofs.Later.{later_before, later_step}
@@ -32,19 +32,19 @@ use Rattle.ert_timers.proofs.Passing.{loses_none, loses_row}
 use Rattle.ert_timers.proofs.Tried.{stands_gone}
 
 -- what a load of a slot found
-pub status_is : (shown : Option Shown) → option_map (λ (x : Shown). x.0) shown ≡ status_shown shown
+pub status_is : (shown : Option ShownWord) → option_map (λ (x : ShownWord). x.0) shown ≡ status_shown shown
 status_is None = refl
 status_is (Some shown) = refl
 
-pub probe_is : (g : Settings) (v : View) (by w w' k : ℕ) (shown : Option Shown) (u : View) → w' ≡ w
-    → Appends g v (probe_entry (Caller by) w' k (option_map (λ (x : Shown). x.0) shown)) u
+pub probe_is : (g : Settings) (v : View) (by w w' k : ℕ) (shown : Option ShownWord) (u : View) → w' ≡ w
+    → Appends g v (probe_entry (Caller by) w' k (option_map (λ (x : ShownWord). x.0) shown)) u
     → Appends g v (probe_entry (Caller by) w k (status_shown shown)) u
 probe_is g v by w w' k shown u number step =
     subst (λ n. Appends g v (probe_entry (Caller by) n k (status_shown shown)) u) number
     (subst (λ x. Appends g v (probe_entry (Caller by) w' k x) u) (status_is shown) step)
 
 -- what was found is the status of the slot's last timer, before and after the look
-pub found_is : (g : Settings) (v : View) (by : Actor) (p : Part) (k : ℕ) (found : Option Status) (u : View) → Stands g v.front p
+pub found_is : (g : Settings) (v : View) (by : Actor) (p : Part) (k : ℕ) (found : Option Status) (u : View) → PartStands g v.front p
     → is_held v.actors (Wheel p.number) ≡ true → k < g.slots → Appends g v (probe_entry by p.number k found) u
     → found ≡ (state g u.front).status (last_timer p.number p.slots k)
 found_is g v by p k found u stands held low step =
@@ -63,7 +63,7 @@ since_same g v by w k found u step held j =
     ap (λ (x : Uses). x.since) ((later_step g v (probe_entry (Caller by) w k found) u w step held refl).uses j)
 
 -- a slot was found taken
-pub looks_taken : (g : Settings) (v : View) (by now : ℕ) (p : Part) (k : ℕ) (found : Option Status) (u : View) → Stands g v.front p
+pub looks_taken : (g : Settings) (v : View) (by now : ℕ) (p : Part) (k : ℕ) (found : Option Status) (u : View) → PartStands g v.front p
     → HoldsCaller g v by p.number → sets.contains p.free k ≡ false → Appends g v (probe_entry (Caller by) p.number k found) u
     → is_taken found ≡ true → LooksAt g v by now p p k u
 looks_taken g v by now p k found u stands holds away step taken = record {
@@ -94,9 +94,9 @@ put_here s k =
     ∙ ((λ i. unsigned_tied k k i || sets.contains s k) ∙ ap (λ b. b || sets.contains s k) (eq-eqb k k refl))
 
 -- the part without the row of a slot that was found not taken
-gone_stands : (g : Settings) (v : View) (by : ℕ) (p : Part) (k : ℕ) (found : Option Status) (u : View) → Stands g v.front p
+gone_stands : (g : Settings) (v : View) (by : ℕ) (p : Part) (k : ℕ) (found : Option Status) (u : View) → PartStands g v.front p
     → HoldsCaller g v by p.number → k < g.slots → Appends g v (probe_entry (Caller by) p.number k found) u
-    → is_taken ((state g u.front).status (last_timer p.number p.slots k)) ≡ false → Stands g u.front (dropped p k)
+    → is_taken ((state g u.front).status (last_timer p.number p.slots k)) ≡ false → PartStands g u.front (dropped p k)
 gone_stands g v by p k found u stands holds low step free =
     let e : Entry = probe_entry (Caller by) p.number k found in
     let counts = stands.counted in
@@ -105,14 +105,14 @@ gone_stands g v by p k found u stands holds low step free =
     (counts.expires ∙ sym (count_same g v e u p.number is_expire step holds.wheel refl))
     (counts.orphans ∙ sym (count_same g v e u p.number is_orphan step holds.wheel refl))
 
-free_last : (g : Settings) (v : View) (by : ℕ) (p : Part) (k : ℕ) (found : Option Status) (u : View) → Stands g v.front p
+free_last : (g : Settings) (v : View) (by : ℕ) (p : Part) (k : ℕ) (found : Option Status) (u : View) → PartStands g v.front p
     → HoldsCaller g v by p.number → k < g.slots → Appends g v (probe_entry (Caller by) p.number k found) u → is_taken found ≡ false
     → is_taken ((state g u.front).status (last_timer p.number p.slots k)) ≡ false
 free_last g v by p k found u stands holds low step none =
     ap is_taken (sym (found_is g v (Caller by) p k found u stands holds.wheel low step)) ∙ none
 
 -- a slot was found not taken, and rests: it has no row from then on
-pub looks_resting : (g : Settings) (v : View) (by now : ℕ) (p q : Part) (k : ℕ) (found : Option Status) (u : View) → Stands g v.front p
+pub looks_resting : (g : Settings) (v : View) (by now : ℕ) (p q : Part) (k : ℕ) (found : Option Status) (u : View) → PartStands g v.front p
     → HoldsCaller g v by p.number → k < g.slots → sets.contains p.free k ≡ false → Appends g v (probe_entry (Caller by) p.number k found) u
     → is_taken found ≡ false → q ≡ dropped p k → is_resting (slot_at q.slots k) now ≡ true → LooksAt g v by now p q k u
 looks_resting g v by now p q k found u stands holds low away step none gone rests =
@@ -120,7 +120,7 @@ looks_resting g v by now p q k found u stands holds low away step none gone rest
     record {
       found = found;
       step = step;
-      stands = subst (λ (x : Part). Stands g u.front x) (sym gone)
+      stands = subst (λ (x : Part). PartStands g u.front x) (sym gone)
           (gone_stands g v by p k found u stands holds low step (free_last g v by p k found u stands holds low step none));
       number = ap (λ (x : Part). x.number) gone;
       slots = ap (λ (x : Part). x.slots) gone;
@@ -133,20 +133,20 @@ looks_resting g v by now p q k found u stands holds low away step none gone rest
     }
 
 -- a slot was found not taken, and doesn't rest: it has no row from then on, and is held free
-pub looks_free : (g : Settings) (v : View) (by now : ℕ) (p q r : Part) (k : ℕ) (found : Option Status) (u : View) → Stands g v.front p
+pub looks_free : (g : Settings) (v : View) (by now : ℕ) (p q r : Part) (k : ℕ) (found : Option Status) (u : View) → PartStands g v.front p
     → HoldsCaller g v by p.number → now ≤ clock_at g (state g v.front) → k < g.slots → Appends g v (probe_entry (Caller by) p.number k found) u
     → is_taken found ≡ false → q ≡ dropped p k → is_resting (slot_at q.slots k) now ≡ false → r ≡ freed q k → LooksAt g v by now p r k u
 looks_free g v by now p q r k found u stands holds past low step none gone awake back =
     let e : Entry = probe_entry (Caller by) p.number k found in
     let free = free_last g v by p k found u stands holds low step none in
     let all : r ≡ freed (dropped p k) k = back ∙ ap (λ (x : Part). freed x k) gone in
-    let left : Stands g u.front (dropped p k) = gone_stands g v by p k found u stands holds low step free in
+    let left : PartStands g u.front (dropped p k) = gone_stands g v by p k found u stands holds low step free in
     let here : is_resting (slot_at p.slots k) now ≡ false = ap (λ (x : Part). is_resting (slot_at x.slots k) now) (sym gone) ∙ awake in
     let time : ℕ = clock_at g (state g u.front) in
     record {
       found = found;
       step = step;
-      stands = subst (λ (x : Part). Stands g u.front x) (sym all) (record {
+      stands = subst (λ (x : Part). PartStands g u.front x) (sym all) (record {
         checked = left.checked;
         legal = left.legal;
         holds = holds_freed g (state g u.front) (dropped p k) k left.holds free

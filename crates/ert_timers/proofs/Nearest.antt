@@ -4,13 +4,13 @@ use Rattle.std.proofs.Common.{◌≡◌, ℕ, Option, Some, None, inl, inr, sym,
 use Rattle.ert_defs.specs.States.{State}
 use Rattle.ert_defs.specs.declared.settings.Settings.{Settings}
 use Rattle.ert_timers.specs.NextDue.{IsArmed, NoneArmedBefore, IsNearest, IsNextHeld}
-use Rattle.ert_timers.specs.Parts.{Part, Holds, held_row}
+use Rattle.ert_timers.specs.Parts.{Part, FitsState, held_row}
 use Rattle.ert_timers.specs.Tidy.{IsTidy}
 use Rattle.ert_wheel.specs.Rows.{key_in}
 use Rattle.ert_wheel.specs.declared.row.Key.{Key}
 
 -- each armed timer is held
-pub none_armed_before : (g : Settings) (s : State) (p : Part) (answer : Option ℕ) → Holds g s p
+pub none_armed_before : (g : Settings) (s : State) (p : Part) (answer : Option ℕ) → FitsState g s p
     → IsNextHeld p answer → NoneArmedBefore s p.number answer
 none_armed_before g s p None holds told = λ row armed.
     let none : ◌≡◌ {A = Option Key} None (Some (record { deadline = row.deadline; order = armed.place })) =
@@ -21,7 +21,7 @@ none_armed_before g s p (Some time) holds told = λ row armed.
     (holds.rows.armed armed.place row armed.is armed.armed)
 
 -- and each timer that a tidy part holds is armed
-armed_of : (g : Settings) (s : State) (p : Part) (slot : ℕ) (key : Key) → Holds g s p → IsTidy s p
+armed_of : (g : Settings) (s : State) (p : Part) (slot : ℕ) (key : Key) → FitsState g s p → IsTidy s p
     → key_in p.keys slot ≡ Some key → IsArmed s p.number (held_row p.number p.slots slot key)
 armed_of g s p slot key holds tidy has = record {
   place = key.order;
@@ -29,7 +29,7 @@ armed_of g s p slot key holds tidy has = record {
   armed = tidy slot key has;
 }
 
-pub is_nearest : (g : Settings) (s : State) (p : Part) (answer : Option ℕ) → Holds g s p → IsTidy s p
+pub is_nearest : (g : Settings) (s : State) (p : Part) (answer : Option ℕ) → FitsState g s p → IsTidy s p
     → IsNextHeld p answer → IsNearest s p.number p.passed answer
 is_nearest g s p None holds tidy told = tt
 is_nearest g s p (Some time) holds tidy told =

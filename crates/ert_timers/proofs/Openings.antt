@@ -9,7 +9,7 @@ use Rattle.std.specs.FinSet as sets
 use Rattle.std.specs.Option.{is_some}
 use Rattle.ert_defs.specs.Settings.{IsChecked}
 use Rattle.ert_defs.specs.declared.settings.Settings.{Settings}
-use Rattle.ert_timers.specs.Parts.{AreFit, Part, Stands, slot_at, unused}
+use Rattle.ert_timers.specs.Parts.{AreFieldsFit, Part, PartStands, slot_at, unused}
 use Rattle.ert_timers.specs.Slots.{Slot}
 use Rattle.ert_wheel.specs.Rings.{Rings, AreChains}
 use Rattle.ert_wheel.specs.Rows.{key_in}
@@ -39,7 +39,7 @@ no_keys n = omega (arith, sum_by-replicate (λ (o : Option Key). cond (is_some o
 pub fit_open : (processes n : ℕ) (slots : List Slot) (keys : List (Option Key)) (free : FreeSet) (owners : Rings) → n ≤ MOST_SLOTS → processes ≤ MOST_PROCESSES
     → slots ≡ replicate n unused → keys ≡ replicate n None → free.slots ≡ n
     → ((k : ℕ) → sets.contains free.held k ≡ nat_lt k n) → owners.slots ≡ n → processes ≤ owners.homes
-    → AreChains owners (λ _. None) → AreFit processes slots keys free owners 0 0 0
+    → AreChains owners (λ _. None) → AreFieldsFit processes slots keys free owners 0 0 0
 fit_open processes n slots keys free owners few few_homes slots_are keys_are all every owned homes chains =
     let wide : length slots ≡ n = ap length slots_are ∙ length-replicate n unused in
     let none : (k : ℕ) → key_in keys k ≡ None = λ k. ap (λ ks. key_in ks k) keys_are ∙ key_nowhere n k in
@@ -66,7 +66,7 @@ fit_open processes n slots keys free owners few few_homes slots_are keys_are all
     }
 
 pub stands_open : (g : Settings) (w n : ℕ) (p : Part) → IsChecked g → w < g.schedulers → g.slots ≡ n → p.number ≡ w → p.processes ≡ g.processes
-    → p.slots ≡ replicate n unused → p.keys ≡ replicate n None → p.arms ≡ 0 → p.expires ≡ 0 → p.orphans ≡ 0 → Stands g [] p
+    → p.slots ≡ replicate n unused → p.keys ≡ replicate n None → p.arms ≡ 0 → p.expires ≡ 0 → p.orphans ≡ 0 → PartStands g [] p
 stands_open g w n p checked low many number processes slots keys arms expires orphans =
     let none : (k : ℕ) → key_in p.keys k ≡ None = λ k. ap (λ ks. key_in ks k) keys ∙ key_nowhere n k in
     record {

@@ -21,7 +21,7 @@ use Rattle.ert_table.proofs.Calls.{step_takes_place, takes_place_then}
 use Rattle.ert_table.proofs.Parts.{stepped}
 use Rattle.ert_timers.specs.Changes.{given_back}
 use Rattle.ert_laws.specs.Counts.{is_expire, is_orphan}
-use Rattle.ert_timers.specs.Parts.{HoldsCaller, Part, Stands, slot_at, last_timer, held_row}
+use Rattle.ert_timers.specs.Parts.{HoldsCaller, Part, PartStands, slot_at, last_timer, held_row}
 use Rattle.ert_timers.specs.Starting.{HoldsTimer, Orphans, Ends}
 use Rattle.ert_timers.proofs.Later.{live_step, live_unexpired, unexpired_step}
 use Rattle.ert_timers.proofs.Passing.{loses_none, loses_row}
@@ -32,12 +32,12 @@ use Rattle.ert_wheel.specs.declared.row.Key.{Key}
 use Rattle.ert_wheel.proofs.Collect.{key_low}
 
 -- the part once the slot of a timer that takes it no more is held free
-pub back : (g : Settings) (v : View) (e : Entry) (u : View) (p : Part) (k : ℕ) (key : Key) (hit : Bool) → Stands g v.front p
+pub back : (g : Settings) (v : View) (e : Entry) (u : View) (p : Part) (k : ℕ) (key : Key) (hit : Bool) → PartStands g v.front p
     → key_in p.keys k ≡ Some key → Appends g v e u → is_held v.actors (Wheel p.number) ≡ true
     → ((state g u.front).status (last_timer p.number p.slots k) ≢ Some Armed)
     → ((state g u.front).status (last_timer p.number p.slots k) ≢ Some Expired)
-    → Stands g u.front (record p { keys = set p.keys k None; expires = p.expires; orphans = p.orphans + cond hit 1 0 })
-    → Stands g u.front (given_back p k hit)
+    → PartStands g u.front (record p { keys = set p.keys k None; expires = p.expires; orphans = p.orphans + cond hit 1 0 })
+    → PartStands g u.front (given_back p k hit)
 back g v e u p k key hit stands held step wheel settled unexpired gone = record {
   checked = gone.checked;
   legal = gone.legal;
@@ -47,7 +47,7 @@ back g v e u p k key hit stands held step wheel settled unexpired gone = record 
   counted = record { arms = gone.counted.arms; expires = gone.counted.expires; orphans = gone.counted.orphans };
 }
 
-orphaned_at : (g : Settings) (v : View) (by : ℕ) (p q : Part) (k : ℕ) (key : Key) (hit : Bool) (u : View) → Stands g v.front p
+orphaned_at : (g : Settings) (v : View) (by : ℕ) (p q : Part) (k : ℕ) (key : Key) (hit : Bool) (u : View) → PartStands g v.front p
     → key_in p.keys k ≡ Some key → k < g.slots → is_held v.actors (Wheel p.number) ≡ true
     → Settles g v (Caller by) (last_timer p.number p.slots k) key.deadline ToOrphan hit u
     → (state g u.front).status (last_timer p.number p.slots k) ≢ Some Armed → q ≡ given_back p k hit
@@ -63,7 +63,7 @@ orphaned_at g v by p q k key true u stands held low wheel settles settled part =
       step = step;
       settled = tt;
       part = part;
-      stands = subst (λ (x : Part). Stands g u.front x) (sym part)
+      stands = subst (λ (x : Part). PartStands g u.front x) (sym part)
           (back g v e u p k key true stands held step wheel settled
           (unexpired_step g v e u timer step wheel refl (stands.holds.rows.live k key held))
           (stands_gone g v e u p k p.expires (p.orphans + 1) stands (key_low p.keys k key held) step wheel refl (λ j other. two_slots w p.slots k j other) settled
@@ -82,7 +82,7 @@ orphaned_at g v by p q k key false u stands held low wheel settles settled part 
       step = step;
       settled = settles.not_armed (sym (stands.holds.lasts k low));
       part = part;
-      stands = subst (λ (x : Part). Stands g u.front x) (sym part)
+      stands = subst (λ (x : Part). PartStands g u.front x) (sym part)
           (back g v e u p k key false stands held step wheel settled
           (live_unexpired ((state g u.front).status timer) (live_step g v e u timer step wheel refl (stands.holds.rows.live k key held)))
           (stands_gone g v e u p k p.expires (p.orphans + 0) stands (key_low p.keys k key held) step wheel refl (λ j other. refl) settled
@@ -90,7 +90,7 @@ orphaned_at g v by p q k key false u stands held low wheel settles settled part 
           (same ∙ (counts.orphans ∙ sym (count_same g v e u w is_orphan step wheel refl)))));
     }
 
-pub orphaned : (g : Settings) (v : View) (by : ℕ) (p q : Part) (timer : TimerRef) (deadline : ℕ) (hit : Bool) (u : View) → Stands g v.front p
+pub orphaned : (g : Settings) (v : View) (by : ℕ) (p q : Part) (timer : TimerRef) (deadline : ℕ) (hit : Bool) (u : View) → PartStands g v.front p
     → HoldsTimer p timer deadline → HoldsCaller g v by p.number → Settles g v (Caller by) timer deadline ToOrphan hit u
     → (state g u.front).status timer ≢ Some Armed → q ≡ given_back p timer.slot hit → Orphans g v by p q timer u
 orphaned g v by p q timer deadline hit u stands has holds settles settled part =
@@ -101,7 +101,7 @@ orphaned g v by p q timer deadline hit u stands has holds settles settled part =
     (subst (λ t. (state g u.front).status t ≢ Some Armed) has.named settled) part)
 
 -- it may be tried
-pub may_orphan : (g : Settings) (v : View) (by : ℕ) (p : Part) (timer : TimerRef) (deadline : ℕ) → Stands g v.front p → HoldsTimer p timer deadline
+pub may_orphan : (g : Settings) (v : View) (by : ℕ) (p : Part) (timer : TimerRef) (deadline : ℕ) → PartStands g v.front p → HoldsTimer p timer deadline
     → HoldsCaller g v by p.number → (state g v.front).exited (slot_at p.slots timer.slot).dest ≡ true
     → MayStep g v (hit_entry g (state g v.front) (Caller by) timer deadline ToOrphan)
 may_orphan g v by p timer deadline stands has holds exited =
@@ -131,13 +131,13 @@ exited_seen g v by process u step =
     ∙ or_first ((state g (v.front ++ step.between)).exited process) _ (sym found)
 
 -- the part stands after a mark
-pub marked_stands : (g : Settings) (v : View) (by process : ℕ) (was : Bool) (u : View) (p : Part) → Stands g v.front p
-    → HoldsCaller g v by p.number → Appends g v (mark_entry (Caller by) process false was) u → Stands g u.front p
+pub marked_stands : (g : Settings) (v : View) (by process : ℕ) (was : Bool) (u : View) (p : Part) → PartStands g v.front p
+    → HoldsCaller g v by p.number → Appends g v (mark_entry (Caller by) process false was) u → PartStands g u.front p
 marked_stands g v by process was u p stands holds step =
     stands_step g v (mark_entry (Caller by) process false was) u p stands step holds.wheel (record { arm = refl; expire = refl; orphan = refl })
 
 -- a start ends where its destination hadn't exited
-pub ends_alive : (g : Settings) (v : View) (by : ℕ) (p : Part) (dest : ℕ) (timer : TimerRef) (was : Bool) (u : View) → Stands g v.front p
+pub ends_alive : (g : Settings) (v : View) (by : ℕ) (p : Part) (dest : ℕ) (timer : TimerRef) (was : Bool) (u : View) → PartStands g v.front p
     → HoldsCaller g v by p.number → was ≡ false → Appends g v (mark_entry (Caller by) dest false was) u → Ends g v by p p dest timer u
 ends_alive g v by p dest timer was u stands holds not step =
     let here : Appends g v (mark_entry (Caller by) dest false false) u = subst (λ b. Appends g v (mark_entry (Caller by) dest false b) u) not step in

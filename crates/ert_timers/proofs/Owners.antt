@@ -8,7 +8,7 @@ use Rattle.ert_timers.specs.Owners.{MayJoin, Joins, Thinned, IsIn, FindsRow}
 use Rattle.ert_wheel.proofs.Parts.{IsSlot, slot_is, with_place_here, with_place_there, kept_place}
 use Rattle.ert_wheel.specs.Chained.{Shape}
 use Rattle.ert_wheel.specs.Links.{next_at}
-use Rattle.ert_wheel.specs.Rings.{Rings, Place, AreChains, StandsIn, Finds, MayTake, Takes, MayPut, Puts, shape, with_place}
+use Rattle.ert_wheel.specs.Rings.{Rings, Place, AreChains, StandsIn, Finds, MayTake, GivesUpPlace, MayPut, Puts, shape, with_place}
 use Rattle.ert_wheel.specs.Rows.{key_in, row_at}
 use Rattle.ert_wheel.specs.declared.row.Key.{Key}
 use Rattle.ert_wheel.specs.declared.row.Row.{Row}
@@ -122,7 +122,7 @@ joins_stay owners places slot process bound are orders s =
 
 -- or it leaves one and comes into another
 pub joins_anew : (old taken new : Rings) (places : ℕ → Option Place) (slot process bound : ℕ) (stays : Bool)
-    → AreChains old places → MayJoin places slot process bound stays → Takes old taken slot → Puts taken new slot process
+    → AreChains old places → MayJoin places slot process bound stays → GivesUpPlace old taken slot → Puts taken new slot process
     → Joins new places slot process bound
 joins_anew old taken new places slot process bound stays are may takes puts =
     let here : Place = record { home = process; order = bound } in
@@ -147,7 +147,7 @@ joins_anew old taken new places slot process bound stays are may takes puts =
 -- a slot in no chain gives no place up
 pub takes_none : (owners : Rings) (slot : ℕ) (owned : Bool)
     → ((places : ℕ → Option Place) → AreChains owners places → IsTrue owned ↔ IsSome (places slot)) → (IsTrue owned → ⊥)
-    → Takes owners owners slot
+    → GivesUpPlace owners owners slot
 takes_none owners slot owned tells not = λ places are.
     let same : (j : ℕ) → with_place places slot None j ≡ places j =
     λ j. elim (cases_eq j slot) [
@@ -162,7 +162,7 @@ takes_none owners slot owned tells not = λ places are.
     at (Some place) out = absurd (out refl)
 
 -- a slot that was taken out may come in
-pub may_come : (old taken : Rings) (slot process : ℕ) → MayTake old slot → Takes old taken slot → taken.slots ≡ old.slots
+pub may_come : (old taken : Rings) (slot process : ℕ) → MayTake old slot → GivesUpPlace old taken slot → taken.slots ≡ old.slots
     → taken.homes ≡ old.homes → process < old.homes → MayPut taken slot process
 may_come old taken slot process may takes slots homes in_range = record {
   places = with_place may.places slot None;
@@ -179,7 +179,7 @@ thinned_none owners keys places are = record { are = are; each = λ k. inl refl 
 
 -- one more leaves
 pub thinned_more : (owners new : Rings) (keys : List (Option Key)) (places left : ℕ → Option Place) (k : ℕ)
-    → Thinned owners keys places left → key_in keys k ≡ None → Takes owners new k
+    → Thinned owners keys places left → key_in keys k ≡ None → GivesUpPlace owners new k
     → Thinned new keys places (with_place left k None)
 thinned_more owners new keys places left k t none takes = record {
   are = takes left t.are;

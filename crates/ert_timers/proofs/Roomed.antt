@@ -22,7 +22,7 @@ use Rattle.ert_table.specs.declared.view.View.{View}
 use Rattle.ert_table.proofs.Calls.{step_takes_place, takes_place_then}
 use Rattle.ert_timers.specs.Changes.{is_resting}
 use Rattle.ert_timers.specs.Looking.{LooksDown}
-use Rattle.ert_timers.specs.Parts.{HoldsCaller, Part, Stands, slot_at}
+use Rattle.ert_timers.specs.Parts.{HoldsCaller, Part, PartStands, slot_at}
 use Rattle.ert_timers.specs.Rooms.{SeesSlot, SeesSome, SeesAll, room_after}
 use Rattle.ert_timers.specs.Starting.{probes_from}
 use Rattle.ert_timers.specs.Slots.{Slot}
@@ -84,7 +84,7 @@ shows by w now s k (suc n) (found ∷ founds) before count =
     )
 
 -- by its look the round of each slot has begun
-looked_begun : (g : Settings) (v : View) (by looked : _) (p : Part) (u : View) → Stands g v.front p → Appends g v (look_entry (Caller by) looked) u
+looked_begun : (g : Settings) (v : View) (by looked : _) (p : Part) (u : View) → PartStands g v.front p → Appends g v (look_entry (Caller by) looked) u
     → (k : ℕ) → (state g v.front).since p.number k ≤ natural (down g looked)
 looked_begun g v by looked p u stands step k =
     let e : Entry = look_entry (Caller by) looked in
@@ -99,7 +99,7 @@ looked_begun g v by looked p u stands step k =
     no_more a b c low high = omega (arith, low, high)
 
 -- a look at the time, and none at a slot
-pub sees_none : (g : Settings) (v : View) (by now : ℕ) (p : Part) (u : View) → Stands g v.front p → HoldsCaller g v by p.number
+pub sees_none : (g : Settings) (v : View) (by now : ℕ) (p : Part) (u : View) → PartStands g v.front p → HoldsCaller g v by p.number
     → LooksDown g v (Caller by) now u → SeesSome g v by now p 0 no_room u
 sees_none g v by now p u stands holds looks =
     let e : Entry = look_entry (Caller by) looks.now in
@@ -117,7 +117,7 @@ sees_none g v by now p u stands holds looks =
     }
 
 -- one slot more
-pub sees_more : (g : Settings) (v : View) (by now : ℕ) (p : Part) (n : ℕ) (before room : Room) (u w : View) → Stands g v.front p → n < g.slots
+pub sees_more : (g : Settings) (v : View) (by now : ℕ) (p : Part) (n : ℕ) (before room : Room) (u w : View) → PartStands g v.front p → n < g.slots
     → SeesSome g v by now p n before u → HoldsCaller g u by p.number → SeesSlot g u by now p n before room w → room.free ≤ n + 1
     → SeesSome g v by now p (n + 1) room w
 sees_more g v by now p n before room u w stands low some holds one few =
@@ -161,7 +161,7 @@ sees_all g v by now p n seen u all some = record {
 }
 
 -- what that tells
-pub tells_room : (g : Settings) (v : View) (by : ℕ) (p : Part) (seen room : Room) (u : View) → Stands g v.front p → SeesAll g v by p seen u
+pub tells_room : (g : Settings) (v : View) (by : ℕ) (p : Part) (seen room : Room) (u : View) → PartStands g v.front p → SeesAll g v by p seen u
     → room ≡ room_with p.arms seen → IsMade g v (TellsRoom g by p.number room) u
 tells_room g v by p seen room u stands all told = record {
   entries = look_entry (Caller by) all.now ∷ all.probes;

@@ -19,13 +19,13 @@ use Rattle.ert_table.specs.Takes.{Appends, TakesPlace}
 use Rattle.ert_table.specs.declared.view.View.{View}
 use Rattle.ert_table.proofs.Calls.{step_takes_place, takes_place_then}
 use Rattle.ert_timers.specs.Changes.{is_resting}
-use Rattle.ert_timers.specs.Parts.{HoldsCaller, Part, Stands, slot_at}
+use Rattle.ert_timers.specs.Parts.{HoldsCaller, Part, PartStands, slot_at}
 use Rattle.ert_timers.specs.Starting.{LooksAt, LooksAtSome, FindsRound, LooksAround, AreFull, probes_from}
 use Rattle.ert_timers.proofs.Standing.{clock_at, clock_rises}
 use Rattle.ert_timers.proofs.Passing.{loses_none, loses_then}
 
 -- nothing was looked at yet
-pub looks_none : (g : Settings) (v : View) (by now : ℕ) (p : Part) (from : ℕ) → Stands g v.front p → LooksAtSome g v by now p p from from v
+pub looks_none : (g : Settings) (v : View) (by now : ℕ) (p : Part) (from : ℕ) → PartStands g v.front p → LooksAtSome g v by now p p from from v
 looks_none g v by now p from stands = record {
   founds = [];
   call = record { actors = refl; legal = stands.legal; later = []; grown = sym (append-nil v.front); ours = refl };

@@ -34,7 +34,7 @@ use Rattle.ert_table.specs.Calls.{IsMade}
 use Rattle.ert_table.specs.Takes.{TakesPlace}
 use Rattle.ert_table.specs.declared.view.View.{View}
 use Rattle.ert_timers.specs.Freeing.{IsLast, IsLetGo}
-use Rattle.ert_timers.specs.Parts.{Part, Stands, last_timer, slot_at}
+use Rattle.ert_timers.specs.Parts.{Part, PartStands, last_timer, slot_at}
 use Rattle.ert_timers.proofs.Later.{live_unexpired, was_armed}
 use Rattle.ert_wheel.specs.Rows.{key_in}
 use Rattle.ert_wheel.specs.declared.row.Key.{Key}
@@ -117,7 +117,7 @@ module _ (g : Settings) (actors : List Actor) (timer : TimerRef) where
       (hands_taken (next g s e) m rest (forward_not_armed (s.status timer) ((next g s e).status timer) (moved s e m free) not)) has
 
 -- a timer that takes its slot is the last of it
-taken_last : (g : Settings) (h : List Entry) (p : Part) (timer : TimerRef) → Stands g h p → timer.wheel ≡ p.number
+taken_last : (g : Settings) (h : List Entry) (p : Part) (timer : TimerRef) → PartStands g h p → timer.wheel ≡ p.number
     → is_taken ((state g h).status timer) ≡ true → IsLast p timer
 taken_last g h p timer stands wheel taken =
     let s : State = state g h in
@@ -138,7 +138,7 @@ taken_last g h p timer stands wheel taken =
     }
 
 -- what a pass cancelled was the last timer of its slot
-pub hit_last : (g : Settings) (v : View) (es : List Entry) (u : View) (p : Part) (timer : TimerRef) → Stands g v.front p
+pub hit_last : (g : Settings) (v : View) (es : List Entry) (u : View) (p : Part) (timer : TimerRef) → PartStands g v.front p
     → timer.wheel ≡ p.number → (takes : TakesPlace g v es u) → IsFree takes.later (Wheel timer.wheel) → HasOne (IsHit timer) es → IsLast p timer
 hit_last g v es u p timer stands wheel takes free has =
     let legal : LegalFrom g (state g v.front) takes.later =
@@ -147,7 +147,7 @@ hit_last g v es u p timer stands wheel takes free has =
     (ap is_taken (hit_armed g v.actors timer (state g v.front) takes.later legal free (subst (HasOne (IsHit timer)) (sym takes.ours) has)))
 
 -- the first expired timer of a scheduler was let go
-pub fired_let_go : (g : Settings) (h : List Entry) (p : Part) (fired : Row) → Stands g h p
+pub fired_let_go : (g : Settings) (h : List Entry) (p : Part) (fired : Row) → PartStands g h p
     → first_of ((state g h).scheds p.number).fired ≡ Some fired → IsLetGo p fired.timer
 fired_let_go g h p fired stands first =
     let s : State = state g h in

@@ -23,7 +23,7 @@ use Rattle.ert_timers.proofs.Trying.{loses_come_to, stands_come_to, tries_come_t
 use Rattle.ert_timers.specs.Changes.{gone_on}
 use Rattle.ert_timers.specs.FiredLists.{Queue}
 use Rattle.ert_timers.specs.Looking.{LooksDown}
-use Rattle.ert_timers.specs.Parts.{HoldsSched, Part, Stands}
+use Rattle.ert_timers.specs.Parts.{HoldsSched, Part, PartStands}
 use Rattle.ert_timers.specs.Passed.{HoldsNone}
 use Rattle.ert_timers.specs.Trying.{HasDue, HasExpiredSome, IsLooked, IsTriedSome, LosesSome, TriesRows, come_to}
 use Rattle.ert_wheel.specs.FirstDue.{NoRowDue, IsFirstRowDue}
@@ -31,7 +31,7 @@ use Rattle.ert_wheel.specs.Rows.{key_of}
 use Rattle.ert_wheel.specs.declared.row.Row.{Row as WheelRow}
 
 -- the look with which it begins
-pub is_looked : (g : Settings) (v : View) (p : Part) (to : ℕ) (u : View) → Stands g v.front p → HoldsSched v p.number
+pub is_looked : (g : Settings) (v : View) (p : Part) (to : ℕ) (u : View) → PartStands g v.front p → HoldsSched v p.number
     → LooksDown g v (Sched p.number) to u → IsLooked g u.front p to
 is_looked g v p to u stands holds looks = record {
   stands = looked_stands g v p to u stands holds looks;

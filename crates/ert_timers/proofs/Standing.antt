@@ -25,15 +25,15 @@ use Rattle.ert_table.specs.declared.view.View.{View}
 use Rattle.ert_timers.specs.Changes.{freed, has_uses}
 use Rattle.ert_laws.proofs.Since.{milliseconds_rise, rounds_begun}
 use Rattle.ert_laws.specs.Counts.{entries_of, is_arm, is_expire, is_orphan}
-use Rattle.ert_timers.specs.Parts.{Part, HoldsRows, Holds, Stands, slot_at, last_timer}
+use Rattle.ert_timers.specs.Parts.{Part, HoldsRows, FitsState, PartStands, slot_at, last_timer}
 use Rattle.ert_timers.proofs.Later.{IsLater, later_step, ends, live_step, count_step}
 use Rattle.ert_timers.proofs.Resting.{rested_by, used_less}
 use Rattle.ert_timers.proofs.Rows.{rows_later}
 use Rattle.ert_wheel.specs.declared.row.Key.{Key}
 
 -- a part stands as before where it holds fewer slots free, and where the time of its wheel goes on
-pub stands_with : (g : Settings) (h : List Entry) (p : Part) (free : sets.FinSet nat_cmp) (passed : ℕ) → Stands g h p
-    → ((k : ℕ) → sets.contains free k ≡ true → sets.contains p.free k ≡ true) → Stands g h (record p { free = free; passed = passed })
+pub stands_with : (g : Settings) (h : List Entry) (p : Part) (free : sets.FinSet nat_cmp) (passed : ℕ) → PartStands g h p
+    → ((k : ℕ) → sets.contains free k ≡ true → sets.contains p.free k ≡ true) → PartStands g h (record p { free = free; passed = passed })
 stands_with g h p free passed stands held = record {
   checked = stands.checked;
   legal = stands.legal;
@@ -77,9 +77,9 @@ same_since u v time later same rises rested =
     no_more a b c low high = omega (arith, low, high)
 
 -- the part with these keys and counts fits a later state
-pub holds_with : (g : Settings) (s t : State) (p : Part) (keys : List (Option Key)) (expired orphaned : ℕ) → Holds g s p
+pub holds_with : (g : Settings) (s t : State) (p : Part) (keys : List (Option Key)) (expired orphaned : ℕ) → FitsState g s p
     → IsLater p.number s t → clock_at g s ≤ clock_at g t → length keys ≡ length p.keys → HoldsRows t p.number p.slots keys
-    → Holds g t (record p { keys = keys; expires = expired; orphans = orphaned })
+    → FitsState g t (record p { keys = keys; expires = expired; orphans = orphaned })
 holds_with g s t p keys expired orphaned holds later rises wide rows = record {
   number = holds.number;
   processes = holds.processes;
@@ -109,9 +109,9 @@ or_cases true c P f h is = f refl
 or_cases false c P f h is = h is
 
 -- a slot whose timer takes it no more, and that doesn't rest, can be held free, or not
-pub holds_if : (g : Settings) (t : State) (p : Part) (k : ℕ) (b : Bool) → Holds g t p
+pub holds_if : (g : Settings) (t : State) (p : Part) (k : ℕ) (b : Bool) → FitsState g t p
     → is_taken (t.status (last_timer p.number p.slots k)) ≡ false → (b ≡ true → (turned (uses_at t p.number k)).since ≤ clock_at g t)
-    → Holds g t (record p { free = cond b (sets.insert p.free k) p.free })
+    → FitsState g t (record p { free = cond b (sets.insert p.free k) p.free })
 holds_if g t p k b holds none rested = record {
   number = holds.number;
   processes = holds.processes;
@@ -138,14 +138,14 @@ holds_if g t p k b holds none rested = record {
         (λ was. holds.ready j was) (held_or p.free k j true is)
 
 -- it can where it doesn't rest
-pub holds_freed : (g : Settings) (t : State) (p : Part) (k : ℕ) → Holds g t p
-    → is_taken (t.status (last_timer p.number p.slots k)) ≡ false → (turned (uses_at t p.number k)).since ≤ clock_at g t → Holds g t (freed p k)
+pub holds_freed : (g : Settings) (t : State) (p : Part) (k : ℕ) → FitsState g t p
+    → is_taken (t.status (last_timer p.number p.slots k)) ≡ false → (turned (uses_at t p.number k)).since ≤ clock_at g t → FitsState g t (freed p k)
 holds_freed g t p k holds none rested = holds_if g t p k true holds none (λ is. rested)
 
 -- and so where its round has uses left
-pub holds_back : (g : Settings) (h : List Entry) (p : Part) (k : ℕ) → IsChecked g → Legal g h → k < g.slots → Holds g (state g h) p
+pub holds_back : (g : Settings) (h : List Entry) (p : Part) (k : ℕ) → IsChecked g → Legal g h → k < g.slots → FitsState g (state g h) p
     → is_taken ((state g h).status (last_timer p.number p.slots k)) ≡ false
-    → Holds g (state g h) (record p { free = cond (has_uses (slot_at p.slots k)) (sets.insert p.free k) p.free })
+    → FitsState g (state g h) (record p { free = cond (has_uses (slot_at p.slots k)) (sets.insert p.free k) p.free })
 holds_back g h p k checked legal low holds none =
     holds_if g (state g h) p k (has_uses (slot_at p.slots k)) holds none (λ has.
     rested_by (state g h) p.number k (clock_at g (state g h)) (slot_at p.slots k) (holds.lasts k low) (holds.aboves k low)
@@ -185,8 +185,8 @@ pub record IsCalm (event : Event) : Type 0 where
   pub orphan : is_orphan event ≡ false
 
 -- after such a step the part stands as it is
-pub stands_step : (g : Settings) (v : View) (e : Entry) (u : View) (p : Part) → Stands g v.front p → Appends g v e u
-    → is_held v.actors (Wheel p.number) ≡ true → IsCalm e.event → Stands g u.front p
+pub stands_step : (g : Settings) (v : View) (e : Entry) (u : View) (p : Part) → PartStands g v.front p → Appends g v e u
+    → is_held v.actors (Wheel p.number) ≡ true → IsCalm e.event → PartStands g u.front p
 stands_step g v e u p stands step held calm = record {
   checked = stands.checked;
   legal = step.legal;

@@ -24,7 +24,7 @@ use Rattle.ert_table.proofs.Calls.{step_takes_place, takes_place_then}
 use Rattle.ert_laws.proofs.SlotUses.{timers_few}
 use Rattle.ert_timers.specs.Changes.{is_resting, next_use}
 use Rattle.ert_timers.specs.Looking.{LooksAhead}
-use Rattle.ert_timers.specs.Parts.{HoldsCaller, Part, Stands, slot_at, last_timer}
+use Rattle.ert_timers.specs.Parts.{HoldsCaller, Part, PartStands, slot_at, last_timer}
 use Rattle.ert_timers.specs.Starting.{AreFull, Arms, Ends, IsUseFor, TakesSlot, probes_from}
 use Rattle.ert_timers.specs.declared.looking.Ahead.{Ahead}
 use Rattle.ert_timers.specs.declared.part.Use.{Use}
@@ -43,8 +43,8 @@ bad_arg g v by w start ahead u none looks = record {
 }
 
 -- the part stands after the look
-pub ahead_stands : (g : Settings) (v : View) (by : ℕ) (start : Start) (ahead : Option Ahead) (u : View) (p : Part) → Stands g v.front p
-    → HoldsCaller g v by p.number → LooksAhead g v by start ahead u → Stands g u.front p
+pub ahead_stands : (g : Settings) (v : View) (by : ℕ) (start : Start) (ahead : Option Ahead) (u : View) (p : Part) → PartStands g v.front p
+    → HoldsCaller g v by p.number → LooksAhead g v by start ahead u → PartStands g u.front p
 ahead_stands g v by start ahead u p stands holds looks =
     stands_step g v (look_entry (Caller by) looks.now) u p stands looks.step holds.wheel (record { arm = refl; expire = refl; orphan = refl })
 
@@ -103,7 +103,7 @@ round_of n m same round = record {
 
 -- a start for which no slot was found
 pub is_full : (g : Settings) (v : View) (by : ℕ) (p q : Part) (start : Start) (ahead : Option Ahead) (a : Ahead) (slot : Option ℕ) (u x : View)
-    → Stands g v.front p → ahead ≡ Some a → slot ≡ None → LooksAhead g v by start ahead u → TakesSlot g u by a.now p q slot x
+    → PartStands g v.front p → ahead ≡ Some a → slot ≡ None → LooksAhead g v by start ahead u → TakesSlot g u by a.now p q slot x
     → IsMade g v (Starts g by p.number start (Err Full)) x
 is_full g v by p q start ahead a slot u x stands has none looks takes =
     let all = subst (λ s. TakesSlot g u by a.now p q s x) none takes in
@@ -141,7 +141,7 @@ is_full g v by p q start ahead a slot u x stands has none looks takes =
 
 -- a start of a wheel that has had as many timers as it can have
 pub is_at_end : (g : Settings) (v : View) (by arms : ℕ) (p : Part) (start : Start) (ahead : Option Ahead) (a : Ahead) (u : View)
-    → Stands g v.front p → ahead ≡ Some a → arms ≡ p.arms → 9007199254740992 ≤ arms → LooksAhead g v by start ahead u
+    → PartStands g v.front p → ahead ≡ Some a → arms ≡ p.arms → 9007199254740992 ≤ arms → LooksAhead g v by start ahead u
     → IsMade g v (Starts g by p.number start (Err Full)) u
 is_at_end g v by arms p start ahead a u stands has same high looks =
     let is = is_ahead g v by start ahead a u looks has in

@@ -21,7 +21,7 @@ use Rattle.ert_table.specs.declared.view.View.{View}
 use Rattle.ert_table.proofs.Calls.{step_takes_place, takes_place_then}
 use Rattle.ert_timers.specs.Changes.{NextOf}
 use Rattle.ert_laws.specs.Counts.{is_arm}
-use Rattle.ert_timers.specs.Parts.{HoldsCaller, Part, Stands, last_timer, held_row}
+use Rattle.ert_timers.specs.Parts.{HoldsCaller, Part, PartStands, last_timer, held_row}
 use Rattle.ert_timers.specs.Starting.{HoldsTimer, Orphans}
 use Rattle.ert_timers.specs.Sweeping.{SweepsSome}
 use Rattle.ert_timers.proofs.Later.{later_step}
@@ -34,7 +34,7 @@ use Rattle.ert_wheel.proofs.Collect.{key_low}
 use Rattle.ert_wheel.proofs.Views.{counts_less}
 
 -- none was tried yet
-pub sweeps_none : (g : Settings) (v : View) (by process : ℕ) (p : Part) → Stands g v.front p → (state g v.front).exited process ≡ true
+pub sweeps_none : (g : Settings) (v : View) (by process : ℕ) (p : Part) → PartStands g v.front p → (state g v.front).exited process ≡ true
     → SweepsSome g v by process p p v
 sweeps_none g v by process p stands exited = record {
   tries = [];

@@ -6,9 +6,9 @@ use Rattle.ert_defs.specs.States.{uses_at, state}
 use Rattle.ert_defs.specs.Timers.{turned, is_taken}
 use Rattle.ert_defs.specs.declared.settings.Settings.{Settings}
 use Rattle.ert_table.specs.declared.view.View.{View}
-use Rattle.ert_timers.specs.Changes.{IsFree, picked}
+use Rattle.ert_timers.specs.Changes.{CanTakeTimer, picked}
 use Rattle.ert_laws.proofs.Since.{rounds_begun}
-use Rattle.ert_timers.specs.Parts.{Part, Stands, slot_at, last_timer}
+use Rattle.ert_timers.specs.Parts.{Part, PartStands, slot_at, last_timer}
 use Rattle.ert_timers.specs.Starting.{FindsRound, LooksAround, TakesSlot}
 use Rattle.ert_timers.specs.Passed.{LosesRows}
 use Rattle.ert_timers.proofs.Fit.{taken_was}
@@ -18,17 +18,17 @@ use Rattle.ert_timers.proofs.Passing.{loses_then}
 use Rattle.ert_timers.proofs.Rounds.{round_are_probes}
 
 -- the part stands when a slot is held free no more
-picked_stands : (g : Settings) (v : View) (p q : Part) (k : ℕ) → Stands g v.front p → q ≡ picked p k → Stands g v.front q
+picked_stands : (g : Settings) (v : View) (p q : Part) (k : ℕ) → PartStands g v.front p → q ≡ picked p k → PartStands g v.front q
 picked_stands g v p q k stands is =
-    subst (λ (x : Part). Stands g v.front x) (sym is) (stands_with g v.front p (picked p k).free p.passed stands (λ j held. taken_was p.free k j held))
+    subst (λ (x : Part). PartStands g v.front x) (sym is) (stands_with g v.front p (picked p k).free p.passed stands (λ j held. taken_was p.free k j held))
 
 -- it has lost no row
 loses_picked : (p : Part) (k : ℕ) → LosesRows p (picked p k)
 loses_picked p k = record { number = refl; slots = refl; left = λ j key is. is; time = omega arith }
 
 -- a slot was held free
-pub takes_first : (g : Settings) (v : View) (by now : ℕ) (p q : Part) (k : ℕ) → Stands g v.front p → now ≡ clock_at g (state g v.front)
-    → q ≡ picked p k → IsFree q k → sets.contains p.free k ≡ true → TakesSlot g v by now p q (Some k) v
+pub takes_first : (g : Settings) (v : View) (by now : ℕ) (p q : Part) (k : ℕ) → PartStands g v.front p → now ≡ clock_at g (state g v.front)
+    → q ≡ picked p k → CanTakeTimer q k → sets.contains p.free k ≡ true → TakesSlot g v by now p q (Some k) v
 takes_first g v by now p q k stands told is free held = record {
   probes = [];
   are_probes = tt;
@@ -46,7 +46,7 @@ takes_first g v by now p q k stands told is free held = record {
 }
 
 -- a slot that is held free after the looks doesn't rest
-rested_then : (g : Settings) (v : View) (by now : ℕ) (p q : Part) (k : ℕ) (u : View) → Stands g v.front p → now ≡ clock_at g (state g v.front)
+rested_then : (g : Settings) (v : View) (by now : ℕ) (p q : Part) (k : ℕ) (u : View) → PartStands g v.front p → now ≡ clock_at g (state g v.front)
     → LooksAround g v by now p q u → k < g.slots → sets.contains q.free k ≡ true → (turned (uses_at (state g u.front) q.number k)).since ≤ now
 rested_then g v by now p q k u stands told some low held =
     rested_by (state g u.front) q.number k now (slot_at q.slots k) (some.stands.holds.lasts k low) (some.stands.holds.aboves k low)
@@ -58,10 +58,10 @@ rested_then g v by now p q k u stands told some low held =
         (omega (arith, told, some.since k, rounds_begun g v.front p.number k stands.checked stands.legal))
 
 -- none was, and those of a round were looked at
-pub takes_then : (g : Settings) (v : View) (by now : ℕ) (p p' q r : Part) (slot : Option ℕ) (u : View) → Stands g v.front p
+pub takes_then : (g : Settings) (v : View) (by now : ℕ) (p p' q r : Part) (slot : Option ℕ) (u : View) → PartStands g v.front p
     → now ≡ clock_at g (state g v.front) → p' ≡ p → LooksAround g v by now p' q u
     → IfNone slot ((k : ℕ) → sets.contains q.free k ≡ false) → IfNone slot (r ≡ q)
-    → IfSome slot (λ k. sets.contains q.free k ≡ true) → IfSome slot (λ k. r ≡ picked q k) → IfSome slot (IsFree r)
+    → IfSome slot (λ k. sets.contains q.free k ≡ true) → IfSome slot (λ k. r ≡ picked q k) → IfSome slot (CanTakeTimer r)
     → TakesSlot g v by now p r slot u
 takes_then g v by now p p' q r None u stands told same some none left held is free =
     let here = subst (λ (x : Part). LooksAround g v by now x q u) same some in
@@ -69,7 +69,7 @@ takes_then g v by now p p' q r None u stands told same some none left held is fr
       probes = here.probes;
       are_probes = round_are_probes by now p.number q here.round here.probes here.finds;
       call = here.call;
-      stands = subst (λ (x : Part). Stands g u.front x) (sym left) here.stands;
+      stands = subst (λ (x : Part). PartStands g u.front x) (sym left) here.stands;
       number = ap (λ (x : Part). x.number) left ∙ here.number;
       slots = ap (λ (x : Part). x.slots) left ∙ here.slots;
       arms = ap (λ (x : Part). x.arms) left ∙ here.arms;

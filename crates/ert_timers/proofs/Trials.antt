@@ -22,7 +22,7 @@ use Rattle.ert_timers.specs.Changes.{gone_on}
 use Rattle.ert_timers.specs.Expiring.{Expires, ExpiresSome, HasExpired, HasNotExpired, HasTried, HasNotTried, IsTried, IsReady, AreDue}
 use Rattle.ert_timers.specs.FiredLists.{Queue}
 use Rattle.ert_timers.specs.Looking.{LooksDown}
-use Rattle.ert_timers.specs.Parts.{HoldsSched, Part, Stands}
+use Rattle.ert_timers.specs.Parts.{HoldsSched, Part, PartStands}
 use Rattle.ert_timers.specs.Passed.{LosesRows}
 use Rattle.ert_timers.proofs.Passing.{loses_none}
 use Rattle.ert_timers.proofs.Later.{later_step}
@@ -30,7 +30,7 @@ use Rattle.ert_timers.proofs.Dues.{due_left, first_due, first_held, no_row, none
 use Rattle.ert_timers.proofs.Standing.{stands_step}
 use Rattle.ert_timers.proofs.Tried.{self, waits_by}
 use Rattle.ert_timers.proofs.Trying.{tries_none, tries_more, looked_more, stands_come_to, tries_come_to}
-use Rattle.ert_wheel.specs.Rows.{key_in, key_of, times, due_at, comes_before}
+use Rattle.ert_wheel.specs.Rows.{key_in, key_of, times, times_due, comes_before}
 use Rattle.ert_wheel.specs.declared.row.Row.{Row as WheelRow}
 
 -- nothing was tried yet
@@ -69,14 +69,14 @@ expires_gone_on g v p q to due n old new u some = record {
 }
 
 -- the part stands after the look
-pub looked_stands : (g : Settings) (v : View) (p : Part) (to : ℕ) (u : View) → Stands g v.front p → HoldsSched v p.number
-    → LooksDown g v (Sched p.number) to u → Stands g u.front p
+pub looked_stands : (g : Settings) (v : View) (p : Part) (to : ℕ) (u : View) → PartStands g v.front p → HoldsSched v p.number
+    → LooksDown g v (Sched p.number) to u → PartStands g u.front p
 looked_stands g v p to u stands holds looks =
     stands_step g v (look_entry (Sched p.number) looks.now) u p stands looks.step holds.wheel
     (record { arm = refl; expire = refl; orphan = refl })
 
 -- what is ready after the look
-pub ready_looked : (g : Settings) (v : View) (p : Part) (to : ℕ) (due : List WheelRow) (u : View) → Stands g v.front p → HoldsSched v p.number
+pub ready_looked : (g : Settings) (v : View) (p : Part) (to : ℕ) (due : List WheelRow) (u : View) → PartStands g v.front p → HoldsSched v p.number
     → LooksDown g v (Sched p.number) to u → AreDue p to due → IsReady g u.front p to due
 ready_looked g v p to due u stands holds looks due_are = record {
   stands = looked_stands g v p to u stands holds looks;
@@ -85,10 +85,10 @@ ready_looked g v p to due u stands holds looks due_are = record {
 }
 
 -- the part stands when the end is recorded
-pub stands_ended : (g : Settings) (v : View) (p q : Part) (w to : ℕ) (u : View) → Stands g v.front p → q ≡ p → p.number ≡ w
-    → is_held v.actors (Wheel w) ≡ true → Appends g v (advanced_entry w to) u → Stands g u.front q
+pub stands_ended : (g : Settings) (v : View) (p q : Part) (w to : ℕ) (u : View) → PartStands g v.front p → q ≡ p → p.number ≡ w
+    → is_held v.actors (Wheel w) ≡ true → Appends g v (advanced_entry w to) u → PartStands g u.front q
 stands_ended g v p q w to u stands same number held step =
-    subst (λ (x : Part). Stands g u.front x) (sym same)
+    subst (λ (x : Part). PartStands g u.front x) (sym same)
     (stands_step g v (advanced_entry w to) u p stands step (subst (λ n. is_held v.actors (Wheel n) ≡ true) (sym number) held)
     (record { arm = refl; expire = refl; orphan = refl }))
 
@@ -179,7 +179,7 @@ not_expired g v w k to e old new u number looks rows =
     }
 
 -- nothing was tried then
-pub has_not_tried : (g : Settings) (v : View) (p q : Part) (k to : ℕ) (e : NoMemory) (old new : Queue) (u : View) → Stands g v.front p
+pub has_not_tried : (g : Settings) (v : View) (p q : Part) (k to : ℕ) (e : NoMemory) (old new : Queue) (u : View) → PartStands g v.front p
     → HoldsSched v p.number → k ≡ p.number → q ≡ p → LooksDown g v (Sched k) to u → new.rows ≡ old.rows → HasNotTried g v p q e old new u
 has_not_tried g v p q k to e old new u stands holds number same down rows =
     let looks : LooksDown g v (Sched p.number) to u = subst (λ m. LooksDown g v (Sched m) to u) number down in
@@ -187,7 +187,7 @@ has_not_tried g v p q k to e old new u stands holds number same down rows =
       call = not_expired g v p.number k to e old new u number down rows;
       loses = subst (LosesRows p) (sym same) (loses_none p);
       number = ap (λ (x : Part). x.number) same;
-      stands = subst (λ (x : Part). Stands g u.front x) (sym same) (looked_stands g v p to u stands holds looks);
+      stands = subst (λ (x : Part). PartStands g u.front x) (sym same) (looked_stands g v p to u stands holds looks);
     }
 
 pub when_none : (g : Settings) (v : View) (p q : Part) (r : Result ℕ NoMemory) (old new : Queue) (u : View) → IsErr r
@@ -196,7 +196,7 @@ when_none g v p q (Ok to) old new u is f = absurd cc
 when_none g v p q (Err e) old new u is f = f e
 
 -- the due rows that the wheel tells
-pub are_due : (p : Part) (to : ℕ) (rows : List WheelRow) → ((k : ℕ) → times k rows ≡ due_at to (key_in p.keys k))
+pub are_due : (p : Part) (to : ℕ) (rows : List WheelRow) → ((k : ℕ) → times k rows ≡ times_due to (key_in p.keys k))
     → All (λ row. key_in p.keys row.slot ≡ Some (key_of row)) rows → IsSortedBy comes_before rows → AreDue p to rows
 are_due p to rows each held sorted = record {
   each = each;

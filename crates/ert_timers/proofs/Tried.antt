@@ -30,7 +30,7 @@ use Rattle.ert_timers.specs.Changes.{let_go}
 use Rattle.ert_timers.specs.Expiring.{Expires, timer_of}
 use Rattle.ert_timers.specs.FiredLists.{Queue}
 use Rattle.ert_laws.specs.Counts.{entries_of, is_arm, is_expire, is_orphan}
-use Rattle.ert_timers.specs.Parts.{HoldsSched, Part, Stands, last_timer, held_row}
+use Rattle.ert_timers.specs.Parts.{HoldsSched, Part, PartStands, last_timer, held_row}
 use Rattle.ert_timers.specs.Slots.{Slot}
 use Rattle.ert_timers.proofs.Later.{later_before, later_step, ends, live_step, count_step}
 use Rattle.ert_timers.proofs.Rows.{key_left, rows_dropped}
@@ -55,13 +55,13 @@ row_of_place (r ∷ rows) (suc n) row apart at =
     rw (same_timer-false r.timer row.timer other) (row_of_place rows n row (pairs_tail Differ r rows apart) at)
 
 -- the row of a held timer is found by its reference
-pub held_found : (g : Settings) (h : List Entry) (p : Part) (k : ℕ) (key : Key) → Stands g h p → key_in p.keys k ≡ Some key
+pub held_found : (g : Settings) (h : List Entry) (p : Part) (k : ℕ) (key : Key) → PartStands g h p → key_in p.keys k ≡ Some key
     → row_of ((state g h).rows p.number) (last_timer p.number p.slots k) ≡ Some (held_row p.number p.slots k key)
 held_found g h p k key stands held =
     row_of_place ((state g h).rows p.number) key.order (held_row p.number p.slots k key) (rows_hold g h p.number stands.legal).apart
     (stands.holds.rows.each k key held)
 
-pub held_has_row : (g : Settings) (h : List Entry) (p : Part) (k : ℕ) (key : Key) → Stands g h p → key_in p.keys k ≡ Some key
+pub held_has_row : (g : Settings) (h : List Entry) (p : Part) (k : ℕ) (key : Key) → PartStands g h p → key_in p.keys k ≡ Some key
     → HasRow (state g h) (last_timer p.number p.slots k) key.deadline
 held_has_row g h p k key stands held = record {
   row = held_row p.number p.slots k key;
@@ -79,12 +79,12 @@ count_more g v e u w test step held has is =
     omega (arith, count_step g v e u w test step held)
 
 -- the row of a timer that isn't armed any more goes
-pub stands_gone : (g : Settings) (v : View) (e : Entry) (u : View) (p : Part) (k expired orphaned : ℕ) → Stands g v.front p
+pub stands_gone : (g : Settings) (v : View) (e : Entry) (u : View) (p : Part) (k expired orphaned : ℕ) → PartStands g v.front p
     → k < length p.keys → Appends g v e u → is_held v.actors (Wheel p.number) ≡ true → is_arm e.event ≡ false
     → ((j : ℕ) → j ≢ k → ends e.event (last_timer p.number p.slots j) ≡ false)
     → (state g u.front).status (last_timer p.number p.slots k) ≢ Some Armed
     → expired ≡ entries_of is_expire p.number u.front → orphaned ≡ entries_of is_orphan p.number u.front
-    → Stands g u.front (record p { keys = set p.keys k None; expires = expired; orphans = orphaned })
+    → PartStands g u.front (record p { keys = set p.keys k None; expires = expired; orphans = orphaned })
 stands_gone g v e u p k expired orphaned stands low step wheel unarmed others settled expires_are orphans_are =
     let later = later_step g v e u p.number step wheel unarmed in
     record {
@@ -130,7 +130,7 @@ or_true true c is = refl
 or_true false c is = is
 
 -- a try to let a timer expire
-pub expired : (g : Settings) (v : View) (p q : Part) (row : WheelRow) (old new : Queue) (u : View) (hit : Bool) → Stands g v.front p
+pub expired : (g : Settings) (v : View) (p q : Part) (row : WheelRow) (old new : Queue) (u : View) (hit : Bool) → PartStands g v.front p
     → key_in p.keys row.slot ≡ Some (key_of row) → is_held v.actors (Sched p.number) ≡ true → is_held v.actors (Wheel p.number) ≡ true
     → Settles g v (Sched p.number) (last_timer p.number p.slots row.slot) row.deadline ToExpire hit u
     → (state g u.front).status (last_timer p.number p.slots row.slot) ≢ Some Armed
@@ -149,7 +149,7 @@ expired g v p q row old new u true stands held sched wheel settles settled part 
       step = step;
       settled = tt;
       part = part;
-      stands = subst (λ (x : Part). Stands g u.front x) (sym part)
+      stands = subst (λ (x : Part). PartStands g u.front x) (sym part)
           (stands_gone g v e u p row.slot (p.expires + 1) p.orphans stands (key_low p.keys row.slot (key_of row) held) step wheel refl
           (λ j other. two_slots w p.slots row.slot j other) settled
           (ap (λ n. n + 1) counts.expires ∙ sym (count_more g v e u w is_expire step wheel (self w) refl))
@@ -172,7 +172,7 @@ expired g v p q row old new u false stands held sched wheel settles settled part
       step = step;
       settled = settles.not_armed (sym (stands.holds.lasts row.slot low));
       part = part;
-      stands = subst (λ (x : Part). Stands g u.front x) (sym part)
+      stands = subst (λ (x : Part). PartStands g u.front x) (sym part)
           (stands_gone g v e u p row.slot (p.expires + 0) p.orphans stands (key_low p.keys row.slot (key_of row) held) step wheel refl (λ j other. refl) settled
           (same ∙ (counts.expires ∙ sym (count_same g v e u w is_expire step wheel refl)))
           (counts.orphans ∙ sym (count_same g v e u w is_orphan step wheel refl)));
@@ -183,7 +183,7 @@ expired g v p q row old new u false stands held sched wheel settles settled part
 
 -- the same of what the code has
 pub expired_from : (g : Settings) (v : View) (p q : Part) (row : WheelRow) (old new : Queue) (u : View) (n : ℕ) (timer : Row) (hit b : Bool)
-    → n ≡ p.number → timer ≡ timer_of p row → hit ≡ b → Stands g v.front p → key_in p.keys row.slot ≡ Some (key_of row)
+    → n ≡ p.number → timer ≡ timer_of p row → hit ≡ b → PartStands g v.front p → key_in p.keys row.slot ≡ Some (key_of row)
     → HoldsSched v p.number → Settles g v (Sched n) timer.timer timer.deadline ToExpire hit u
     → (state g u.front).status timer.timer ≢ Some Armed → q ≡ let_go p row.slot hit → new.rows ≡ old.rows ++ cond b (timer ∷ []) []
     → old.room ≤ new.room + 1 → Expires g v p q row old new u

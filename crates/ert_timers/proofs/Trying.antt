@@ -13,7 +13,7 @@ use Rattle.ert_defs.specs.declared.entry.Entry.{Entry}
 use Rattle.ert_defs.specs.declared.settings.Settings.{Settings}
 use Rattle.ert_defs.specs.declared.timer.Status.{Status}
 use Rattle.ert_defs.specs.declared.timer.TimerRef.{TimerRef}
-use Rattle.ert_effects.specs.WheelCalls.{Try, expires_by, expiry_entries, hit_by, hits, IsSettled, AllSettled}
+use Rattle.ert_effects.specs.WheelCalls.{Try, expires_by, expiry_entries, hit_by, hits, IsSettled, AllMissesSettled}
 use Rattle.ert_laws.specs.Counts.{is_arm}
 use Rattle.ert_table.specs.Held.{is_held}
 use Rattle.ert_table.specs.Takes.{Appends, TakesPlace}
@@ -21,7 +21,7 @@ use Rattle.ert_table.specs.declared.view.View.{View}
 use Rattle.ert_table.proofs.Calls.{step_takes_place, takes_place_then}
 use Rattle.ert_timers.specs.Expiring.{Expires, fired_as, timer_of}
 use Rattle.ert_timers.specs.FiredLists.{Queue}
-use Rattle.ert_timers.specs.Parts.{Part, Stands, last_timer}
+use Rattle.ert_timers.specs.Parts.{Part, PartStands, last_timer}
 use Rattle.ert_timers.specs.Passed.{LosesRows}
 use Rattle.ert_timers.specs.Trying.{TriesRows, come_to, fired_in}
 use Rattle.ert_timers.proofs.Later.{later_step}
@@ -71,7 +71,7 @@ fired_count : (row : Row) (missed : Option (Option Status)) → length (fired_as
 fired_count row None = refl
 fired_count row (Some found) = refl
 
-settled-push : (tries : List Try) (t : Try) → AllSettled tries → IsSettled t.missed → AllSettled (tries ++ t ∷ [])
+settled-push : (tries : List Try) (t : Try) → AllMissesSettled tries → IsSettled t.missed → AllMissesSettled (tries ++ t ∷ [])
 settled-push [] t all one = (one, tt)
 settled-push (x ∷ tries) t all one = (all.0, settled-push tries t all.1 one)
 
@@ -91,7 +91,7 @@ row_counted p q row held keys =
 
 -- one more was tried
 pub tries_more : (g : Settings) (v : View) (p q r : Part) (to n : ℕ) (row : WheelRow) (old mid new : Queue) (u w : View)
-    → TriesRows g v p q to n old mid u → Stands g u.front q → key_in q.keys row.slot ≡ Some (key_of row) → row.deadline ≤ to
+    → TriesRows g v p q to n old mid u → PartStands g u.front q → key_in q.keys row.slot ≡ Some (key_of row) → row.deadline ≤ to
     → is_held u.actors (Wheel q.number) ≡ true → Expires g u q r row mid new w → TriesRows g v p r to (n + 1) old new w
 tries_more g v p q r to n row old mid new u w some stands its due wheel one =
     let t : Try = record { timer = last_timer q.number q.slots row.slot; missed = one.missed } in
@@ -148,7 +148,7 @@ looked_more g q r to row mid new u w told held one =
     told ∙ (ap (down g) (sym look) ∙ ap (λ k. down g ((state g w.front).looked (Sched k))) (sym (ap (λ (x : Part). x.number) one.part)))
 
 -- a part stands as before where the time of its wheel goes on
-pub stands_come_to : (g : Settings) (h : List Entry) (p : Part) (passed : ℕ) → Stands g h p → Stands g h (come_to p passed)
+pub stands_come_to : (g : Settings) (h : List Entry) (p : Part) (passed : ℕ) → PartStands g h p → PartStands g h (come_to p passed)
 stands_come_to g h p passed stands = stands_with g h p p.free passed stands (λ k held. held)
 
 -- it has lost no row

@@ -34,7 +34,7 @@ next_use generation now wanted =
     })
 
 -- a slot can take a timer where it doesn't rest: it has no row, and isn't held free
-pub record IsFree (p : Part) (k : ℕ) : Type 0 where
+pub record CanTakeTimer (p : Part) (k : ℕ) : Type 0 where
   pub low : k < length p.slots
   pub vacant : key_in p.keys k ≡ None
   pub away : set.contains p.free k ≡ false

@@ -11,16 +11,16 @@ use Rattle.ert_defs.specs.declared.entry.Entry.{Entry}
 use Rattle.ert_defs.specs.declared.memory.NoMemory.{NoMemory}
 use Rattle.ert_defs.specs.declared.settings.Settings.{Settings}
 use Rattle.ert_defs.specs.declared.timer.Status.{Status}
-use Rattle.ert_effects.specs.WheelCalls.{Try, expires_by, expiry_entries, hits, IsSettled, AllSettled, AllDue, AreOnce, Advances}
+use Rattle.ert_effects.specs.WheelCalls.{Try, expires_by, expiry_entries, hits, IsSettled, AllMissesSettled, AllDue, AreOnce, Advances}
 use Rattle.ert_table.specs.Calls.{IsMade}
 use Rattle.ert_table.specs.Takes.{Appends, TakesPlace}
 use Rattle.ert_table.specs.declared.view.View.{View}
 use Rattle.ert_timers.specs.Changes.{let_go}
 use Rattle.ert_timers.specs.FiredLists.{Queue}
-use Rattle.ert_timers.specs.Parts.{Part, Stands, last_timer, held_row}
+use Rattle.ert_timers.specs.Parts.{Part, PartStands, last_timer, held_row}
 use Rattle.ert_timers.specs.Passed.{LosesRows}
 use Rattle.ert_timers.specs.Trying.{fired_in, TriesRows}
-use Rattle.ert_wheel.specs.Rows.{key_in, key_of, times, due_at, comes_before}
+use Rattle.ert_wheel.specs.Rows.{key_in, key_of, times, times_due, comes_before}
 use Rattle.ert_wheel.specs.declared.row.Row.{Row as WheelRow}
 
 -- the timer of a row
@@ -43,20 +43,20 @@ pub record Expires (g : Settings) (v : View) (p q : Part) (row : WheelRow) (old 
   pub step : Appends g v (expires_by p.number (last_timer p.number p.slots row.slot) missed) u
   pub settled : IsSettled missed
   pub part : q ≡ let_go p row.slot (is_hit missed)
-  pub stands : Stands g u.front q
+  pub stands : PartStands g u.front q
   pub fired : new.rows ≡ old.rows ++ fired_as (timer_of p row) missed
   pub waits : fired_in g u.front p.number ≡ fired_in g v.front p.number ++ fired_as (timer_of p row) missed
   pub room : old.room ≤ new.room + 1
 
 -- these are the rows that are due, in order
 pub record AreDue (p : Part) (to : ℕ) (rows : List WheelRow) : Type 0 where
-  pub each : (k : ℕ) → times k rows ≡ due_at to (key_in p.keys k)
+  pub each : (k : ℕ) → times k rows ≡ times_due to (key_in p.keys k)
   pub held : All (λ row. key_in p.keys row.slot ≡ Some (key_of row)) rows
   pub in_order : AllPairs (λ x y. comes_before y x ≡ false) rows
 
 -- they are due by the last look of the scheduler, for which the part stands
 pub record IsReady (g : Settings) (h : List Entry) (p : Part) (to : ℕ) (rows : List WheelRow) : Type 0 where
-  pub stands : Stands g h p
+  pub stands : PartStands g h p
   pub told : pos to ≡ down g ((state g h).looked (Sched p.number))
   pub due : AreDue p to rows
 
@@ -83,7 +83,7 @@ pub record HasTried (g : Settings) (v : View) (p q : Part) (to : ℕ) (old new :
   pub now : ℤ
   pub tries : List Try
   pub gained : List Row
-  pub settled : AllSettled tries
+  pub settled : AllMissesSettled tries
   pub due : AllDue ((state g v.front).rows p.number) to tries
   pub once : AreOnce tries
   pub loses : LosesRows p q
@@ -99,7 +99,7 @@ pub record HasNotTried (g : Settings) (v : View) (p q : Part) (e : NoMemory) (ol
   pub call : HasNotExpired g v p.number e old new u
   pub loses : LosesRows p q
   pub number : q.number ≡ p.number
-  pub stands : Stands g u.front q
+  pub stands : PartStands g u.front q
 
 -- what comes of trying the due rows, by the answer: all were tried, or none for want of memory
 abbrev pub IsTried : Settings → View → Part → Part → Result ℕ NoMemory → Queue → Queue → View → Type 0

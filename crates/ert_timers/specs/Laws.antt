@@ -24,27 +24,27 @@ use Rattle.ert_table.specs.Calls.{AreOnlyOf, IsMade}
 use Rattle.ert_table.specs.Held.{IsWhole}
 use Rattle.ert_table.specs.Views.{Begins}
 use Rattle.ert_table.specs.declared.view.View.{View}
-use Rattle.ert_timers.specs.Parts.{Part, Stands}
+use Rattle.ert_timers.specs.Parts.{Part, PartStands}
 use Rattle.ert_timers.specs.Tidy.{IsTidy, IsTidyBut}
 
 -- a part that stands for a history stands for each longer legal one that has no more entries of the wheel:
 -- where others have made theirs, and where a pass that holds it was joined to another
-abbrev pub LawOfStanding : Type 0
-LawOfStanding = (g : Settings) (f h : List Entry) (p : Part) → Begins f h → of h (Wheel p.number) ≡ of f (Wheel p.number) → Legal g h
-    → Stands g f p → Stands g h p
+abbrev pub LawOfStandingParts : Type 0
+LawOfStandingParts = (g : Settings) (f h : List Entry) (p : Part) → Begins f h → of h (Wheel p.number) ≡ of f (Wheel p.number) → Legal g h
+    → PartStands g f p → PartStands g h p
 
 -- these entries are of an actor and of a wheel alone
 abbrev pub AreWithWheel : Actor → ℕ → List Entry → Type 0
 AreWithWheel by w es = AreOnlyOf (by ∷ (Wheel w ∷ [])) es
 
 -- the entries of a start are of its caller and of the wheel alone
-abbrev pub LawOfStarts : Type 0
-LawOfStarts = (g : Settings) (by w : ℕ) (start : Start) (answer : Result TimerRef StartErr) (s : State) (es : List Entry)
+abbrev pub LawOfStartEntries : Type 0
+LawOfStartEntries = (g : Settings) (by w : ℕ) (start : Start) (answer : Result TimerRef StartErr) (s : State) (es : List Entry)
     → Starts g by w start answer s es → AreWithWheel (Caller by) w es
 
 -- those of an advance are of the scheduler and of its wheel alone
-abbrev pub LawOfAdvances : Type 0
-LawOfAdvances = (g : Settings) (w : ℕ) (answer : Result (ℕ × ℕ) NoMemory) (s : State) (es : List Entry) → Advances g w answer s es
+abbrev pub LawOfAdvanceEntries : Type 0
+LawOfAdvanceEntries = (g : Settings) (w : ℕ) (answer : Result (ℕ × ℕ) NoMemory) (s : State) (es : List Entry) → Advances g w answer s es
     → AreWithWheel (Sched w) w es
 
 -- those of a sweep are of its caller and of the wheel alone
@@ -57,7 +57,7 @@ LawOfRooms = (g : Settings) (by w : ℕ) (room : Room) (s : State) (es : List En
 
 -- a tidy part holds as many rows as there are armed timers of its wheel
 abbrev pub LawOfTidyCounts : Type 0
-LawOfTidyCounts = (g : Settings) (h : List Entry) (p : Part) → Stands g h p → IsTidy (state g h) p
+LawOfTidyCounts = (g : Settings) (h : List Entry) (p : Part) → PartStands g h p → IsTidy (state g h) p
     → count_by is_some p.keys ≡ count_at (state g h) Armed p.number
 
 -- what a cancel by a pass that holds every actor leaves: where it answers a number its timer isn't armed any
@@ -65,9 +65,9 @@ LawOfTidyCounts = (g : Settings) (h : List Entry) (p : Part) → Stands g h p �
 pub record IsLeftBy (g : Settings) (v : View) (timer : TimerRef) (answer : Option ℕ) (u : View) : Type 0 where
   pub settled : (left : ℕ) → answer ≡ Some left → (state g u.front).status timer ≢ Some Armed
   pub others : (p : Part) → IsTidy (state g v.front) p → IsTidyBut (state g u.front) p timer
-  pub missed : (p : Part) → answer ≡ None → Stands g v.front p → IsTidy (state g v.front) p → IsTidy (state g u.front) p
+  pub missed : (p : Part) → answer ≡ None → PartStands g v.front p → IsTidy (state g v.front) p → IsTidy (state g u.front) p
 
 -- a cancel by a pass that holds every actor leaves this
-abbrev pub LawOfCancels : Type 0
-LawOfCancels = (g : Settings) (v : View) (by : Actor) (timer : TimerRef) (answer : Option ℕ) (u : View) → IsWhole g v.actors
+abbrev pub LawOfWholeCancels : Type 0
+LawOfWholeCancels = (g : Settings) (v : View) (by : Actor) (timer : TimerRef) (answer : Option ℕ) (u : View) → IsWhole g v.actors
     → IsMade g v (Cancels g by timer answer) u → IsLeftBy g v timer answer u

@@ -95,7 +95,7 @@ pub record AreOwned (slots : List Slot) (keys : List (Option Key)) (owners : Rin
   pub orders : (k : ℕ) (place : Place) → places k ≡ Some place → place.order < armed
 
 -- what the fields of a part keep, whatever the history
-pub record AreFit (processes : ℕ) (slots : List Slot) (keys : List (Option Key)) (free : FreeSet) (owners : Rings) (armed expired orphaned : ℕ) : Type 0 where
+pub record AreFieldsFit (processes : ℕ) (slots : List Slot) (keys : List (Option Key)) (free : FreeSet) (owners : Rings) (armed expired orphaned : ℕ) : Type 0 where
   pub few : length slots ≤ MOST_SLOTS
   pub wide : length keys ≡ length slots
   pub all_slots : free.slots ≡ length slots
@@ -133,7 +133,7 @@ abbrev pub HaveRested : State → Part → ℕ → Type 0
 HaveRested s p now = (k : ℕ) → set.contains p.free k ≡ true → (turned (uses_at s p.number k)).since ≤ now
 
 -- a part fits a state
-pub record Holds (g : Settings) (s : State) (p : Part) : Type 0 where
+pub record FitsState (g : Settings) (s : State) (p : Part) : Type 0 where
   pub number : p.number < g.schedulers
   pub processes : p.processes ≡ g.processes
   pub many : length p.slots ≡ g.slots
@@ -152,10 +152,10 @@ pub record IsCounted (h : List Entry) (p : Part) : Type 0 where
   pub orphans : p.orphans ≡ entries_of is_orphan p.number h
 
 -- a part stands for a history
-pub record Stands (g : Settings) (h : List Entry) (p : Part) : Type 0 where
+pub record PartStands (g : Settings) (h : List Entry) (p : Part) : Type 0 where
   pub checked : IsChecked g
   pub legal : Legal g h
-  pub holds : Holds g (state g h) p
+  pub holds : FitsState g (state g h) p
   pub counted : IsCounted h p
 
 -- a pass holds a wheel, and a caller in range

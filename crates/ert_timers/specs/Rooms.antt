@@ -14,7 +14,7 @@ use Rattle.ert_effects.specs.declared.answers.Room.{Room}
 use Rattle.ert_table.specs.Takes.{Appends, TakesPlace}
 use Rattle.ert_table.specs.declared.view.View.{View}
 use Rattle.ert_timers.specs.Changes.{is_resting}
-use Rattle.ert_timers.specs.Parts.{Part, Stands, slot_at}
+use Rattle.ert_timers.specs.Parts.{Part, PartStands, slot_at}
 use Rattle.ert_timers.specs.Starting.{probes_from}
 
 -- a slot was looked at, and what was known before became this
@@ -34,7 +34,7 @@ pub record SeesAll (g : Settings) (v : View) (by : ℕ) (p : Part) (seen : Room)
   pub probes : List Entry
   pub shows : ShowsRoom by p.number (natural (down g now)) (state g v.front) 0 g.slots no_room seen probes
   pub call : TakesPlace g v (look_entry (Caller by) now ∷ probes) u
-  pub stands : Stands g u.front p
+  pub stands : PartStands g u.front p
 
 -- a look at the time, and then so many slots were looked at in order
 pub record SeesSome (g : Settings) (v : View) (by now : ℕ) (p : Part) (n : ℕ) (room : Room) (u : View) : Type 0 where
@@ -44,6 +44,6 @@ pub record SeesSome (g : Settings) (v : View) (by now : ℕ) (p : Part) (n : ℕ
   pub begun : (k : ℕ) → (state g v.front).since p.number k ≤ now
   pub call : TakesPlace g v (look_entry (Caller by) looked ∷ probes_from by p.number 0 founds) u
   pub count : length founds ≡ n
-  pub stands : Stands g u.front p
+  pub stands : PartStands g u.front p
   pub told : room ≡ room_after (state g v.front) now p.number 0 founds no_room
   pub few : room.free ≤ n

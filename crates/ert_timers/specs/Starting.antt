@@ -14,12 +14,12 @@ use Rattle.ert_defs.specs.declared.timer.Status.{Status}
 use Rattle.ert_defs.specs.declared.timer.TimerRef.{TimerRef}
 use Rattle.ert_effects.specs.TimerCalls.{AreProbes, Closes, Round}
 use Rattle.ert_effects.specs.WheelCalls.{orphans_by, IsSettled}
-use Rattle.ert_table.specs.Settlings.{Shown}
+use Rattle.ert_table.specs.Settlings.{ShownWord}
 use Rattle.ert_table.specs.Takes.{Appends, TakesPlace}
 use Rattle.ert_table.specs.declared.view.View.{View}
-use Rattle.ert_timers.specs.Changes.{IsFree, is_resting, kept, given_back}
+use Rattle.ert_timers.specs.Changes.{CanTakeTimer, is_resting, kept, given_back}
 use Rattle.ert_timers.specs.Expiring.{is_hit}
-use Rattle.ert_timers.specs.Parts.{Part, Stands, last_timer, slot_at}
+use Rattle.ert_timers.specs.Parts.{Part, PartStands, last_timer, slot_at}
 use Rattle.ert_timers.specs.Passed.{LosesRows, GainsOne}
 use Rattle.ert_timers.specs.declared.part.Use.{Use}
 use Rattle.ert_wheel.specs.Rows.{key_in}
@@ -37,7 +37,7 @@ pub record Orphans (g : Settings) (v : View) (by : ℕ) (p q : Part) (timer : Ti
   pub step : Appends g v (orphans_by by p.number timer missed) u
   pub settled : IsSettled missed
   pub part : q ≡ given_back p timer.slot (is_hit missed)
-  pub stands : Stands g u.front q
+  pub stands : PartStands g u.front q
 
 -- the next use of a slot that doesn't rest, for a start by its caller's last look
 pub record IsUseFor (g : Settings) (s : State) (by wheel slot : ℕ) (start : Start) (next : Use) : Type 0 where
@@ -50,7 +50,7 @@ pub record IsUseFor (g : Settings) (s : State) (by wheel slot : ℕ) (start : St
 pub record Arms (g : Settings) (v : View) (by : ℕ) (p q : Part) (slot : ℕ) (next : Use) (start : Start) (timer : TimerRef) (u : View) : Type 0 where
   pub step : Appends g v (arm_entry by timer start) u
   pub part : q ≡ kept p slot start next
-  pub stands : Stands g u.front q
+  pub stands : PartStands g u.front q
   pub holds : HoldsTimer q timer next.deadline
   pub dest : (slot_at q.slots timer.slot).dest ≡ start.dest
   pub rows : GainsOne p q (Ok timer)
@@ -62,11 +62,11 @@ pub record Ends (g : Settings) (v : View) (by : ℕ) (p q : Part) (dest : ℕ) (
   pub closes : Closes was by timer closing
   pub call : TakesPlace g v (mark_entry (Caller by) dest false was ∷ closing) u
   pub number : q.number ≡ p.number
-  pub stands : Stands g u.front q
+  pub stands : PartStands g u.front q
   pub loses : LosesRows p q
 
 -- the status of what is shown of a slot
-abbrev pub status_shown : Option Shown → Option Status
+abbrev pub status_shown : Option ShownWord → Option Status
 status_shown None = None
 status_shown (Some shown) = Some shown.0
 
@@ -75,7 +75,7 @@ status_shown (Some shown) = Some shown.0
 pub record LooksAt (g : Settings) (v : View) (by now : ℕ) (p q : Part) (k : ℕ) (u : View) : Type 0 where
   pub found : Option Status
   pub step : Appends g v (probe_entry (Caller by) p.number k found) u
-  pub stands : Stands g u.front q
+  pub stands : PartStands g u.front q
   pub number : q.number ≡ p.number
   pub slots : q.slots ≡ p.slots
   pub arms : q.arms ≡ p.arms
@@ -101,7 +101,7 @@ pub record LooksAtSome (g : Settings) (v : View) (by now : ℕ) (p q : Part) (fr
   pub founds : List (Option Status)
   pub call : TakesPlace g v (probes_from by p.number from founds) u
   pub count : from + length founds ≡ to
-  pub stands : Stands g u.front q
+  pub stands : PartStands g u.front q
   pub number : q.number ≡ p.number
   pub slots : q.slots ≡ p.slots
   pub arms : q.arms ≡ p.arms
@@ -128,7 +128,7 @@ pub record LooksAround (g : Settings) (v : View) (by now : ℕ) (p q : Part) (u 
   pub probes : List Entry
   pub finds : FindsRound by now p.number q round probes
   pub call : TakesPlace g v probes u
-  pub stands : Stands g u.front q
+  pub stands : PartStands g u.front q
   pub number : q.number ≡ p.number
   pub slots : q.slots ≡ p.slots
   pub arms : q.arms ≡ p.arms
@@ -145,7 +145,7 @@ pub record FindsNone (by now : ℕ) (p q : Part) (probes : List Entry) : Type 0 
 
 -- a slot that can take a timer is found, or none is after looks at a round
 abbrev pub FindsSlot : ℕ → ℕ → Part → Part → Option ℕ → List Entry → Type 0
-FindsSlot by now p q (Some slot) probes = IsFree q slot
+FindsSlot by now p q (Some slot) probes = CanTakeTimer q slot
 FindsSlot by now p q None probes = FindsNone by now p q probes
 
 -- slots were looked at, and one that can take a timer was found, or none
@@ -153,7 +153,7 @@ pub record TakesSlot (g : Settings) (v : View) (by now : ℕ) (p q : Part) (slot
   pub probes : List Entry
   pub are_probes : AreProbes (Caller by) p.number probes
   pub call : TakesPlace g v probes u
-  pub stands : Stands g u.front q
+  pub stands : PartStands g u.front q
   pub number : q.number ≡ p.number
   pub slots : q.slots ≡ p.slots
   pub arms : q.arms ≡ p.arms

@@ -6,7 +6,7 @@ use Rattle.ert_defs.specs.declared.settings.Settings.{Settings}
 use Rattle.ert_effects.specs.WheelCalls.{Try, AllMaySweep, AreOnce, orphan_entries}
 use Rattle.ert_table.specs.Takes.{TakesPlace}
 use Rattle.ert_table.specs.declared.view.View.{View}
-use Rattle.ert_timers.specs.Parts.{Part, Stands}
+use Rattle.ert_timers.specs.Parts.{Part, PartStands}
 use Rattle.ert_timers.specs.Passed.{HoldsNone, LosesRows}
 
 -- some of them were tried
@@ -17,7 +17,7 @@ pub record SweepsSome (g : Settings) (v : View) (by process : ℕ) (p q : Part) 
   pub none : HoldsNone q tries
   pub loses : LosesRows p q
   pub call : TakesPlace g v (orphan_entries by p.number tries) u
-  pub stands : Stands g u.front q
+  pub stands : PartStands g u.front q
   pub number : q.number ≡ p.number
   pub rows : (state g u.front).rows p.number ≡ (state g v.front).rows p.number
   pub exited : (state g u.front).exited process ≡ true

@@ -10,12 +10,12 @@ use Rattle.ert_defs.specs.declared.entry.Entry.{Entry}
 use Rattle.ert_defs.specs.declared.memory.NoMemory.{NoMemory}
 use Rattle.ert_defs.specs.declared.settings.Settings.{Settings}
 use Rattle.ert_effects.specs.SomeCalls.{AreTried, AdvancesSome}
-use Rattle.ert_effects.specs.WheelCalls.{Try, expiry_entries, hits, AllSettled, AllDue, AreOnce}
+use Rattle.ert_effects.specs.WheelCalls.{Try, expiry_entries, hits, AllMissesSettled, AllDue, AreOnce}
 use Rattle.ert_table.specs.Calls.{IsMade}
 use Rattle.ert_table.specs.Takes.{TakesPlace}
 use Rattle.ert_table.specs.declared.view.View.{View}
 use Rattle.ert_timers.specs.FiredLists.{Queue}
-use Rattle.ert_timers.specs.Parts.{Part, Stands}
+use Rattle.ert_timers.specs.Parts.{Part, PartStands}
 use Rattle.ert_timers.specs.Passed.{HoldsEach, HoldsNone, LosesRows, HasPassed}
 use Rattle.ert_wheel.specs.Rows.{key_in}
 use Rattle.ert_wheel.specs.declared.row.Key.{Key}
@@ -26,7 +26,7 @@ fired_in g h w = ((state g h).scheds w).fired
 
 -- the part stands for a history, and this is the time of the scheduler's last look
 pub record IsLooked (g : Settings) (h : List Entry) (p : Part) (to : ℕ) : Type 0 where
-  pub stands : Stands g h p
+  pub stands : PartStands g h p
   pub told : pos to ≡ down g ((state g h).looked (Sched p.number))
 
 -- so many timers were tried that are due by a time, and their rows went
@@ -34,7 +34,7 @@ pub record TriesRows (g : Settings) (v : View) (p q : Part) (to n : ℕ) (old ne
   pub tries : List Try
   pub gained : List Row
   pub tried : length tries ≡ n
-  pub settled : AllSettled tries
+  pub settled : AllMissesSettled tries
   pub due : AllDue ((state g v.front).rows p.number) to tries
   pub once : AreOnce tries
   pub held : HoldsEach p tries

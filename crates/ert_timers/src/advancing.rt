@@ -15,7 +15,7 @@ impl WheelPart {
     ghost use Rattle.ert_defs.specs.declared.entry.Actor.TheVariants.{Sched};
     ghost use Rattle.ert_table.specs.Desks.{settings_of, view_of, front_of, Belongs};
     ghost use Rattle.ert_timers.specs.Expiring.{Expires, ExpiresSome, IsReady, IsTried, IsAdvanced};
-    ghost use Rattle.ert_timers.specs.Parts.{HoldsSched, Stands, last_timer};
+    ghost use Rattle.ert_timers.specs.Parts.{HoldsSched, PartStands, last_timer};
     ghost use Rattle.ert_timers.specs.Passed.{HasPassed, LosesRows};
     ghost use Rattle.ert_wheel.specs.Rows.{key_in, key_of};
 
@@ -34,10 +34,10 @@ impl WheelPart {
     ) -> Result<u64, NoMemory>
         requires belongs { Belongs desk.now pass.old }
         requires holds { HoldsSched (view_of pass.old) self.old.number }
-        requires stands { Stands (settings_of desk.now) (front_of pass.old) self.old }
+        requires stands { PartStands (settings_of desk.now) (front_of pass.old) self.old }
         ensures belongs { Belongs desk.now pass.new }
         ensures number { self.new.number ≡ self.old.number }
-        ensures stands { Stands (settings_of desk.now) (front_of pass.new) self.new }
+        ensures stands { PartStands (settings_of desk.now) (front_of pass.new) self.new }
         ensures call { IsAdvanced (settings_of desk.now) (view_of pass.old) self.old.number result fired.old fired.new (view_of pass.new) }
         ensures passed { IfOk result (λ to. HasPassed self.new to) }
         ensures loses { LosesRows self.old self.new }
@@ -60,7 +60,7 @@ impl WheelPart {
     ) -> Result<u64, NoMemory>
         requires belongs { Belongs desk.now pass.old }
         requires holds { HoldsSched (view_of pass.old) self.old.number }
-        requires stands { Stands (settings_of desk.now) (front_of pass.old) self.old }
+        requires stands { PartStands (settings_of desk.now) (front_of pass.old) self.old }
         ensures belongs { Belongs desk.now pass.new }
         ensures call { IsTried (settings_of desk.now) (view_of pass.old) self.old self.new result fired.old fired.new (view_of pass.new) }
         ensures on { IfOk result (λ to. to < self.new.passed) }
@@ -102,7 +102,7 @@ impl WheelPart {
     pub(crate) fn expire(&mut self, desk: &Desk, pass: &mut Pass, row: Row, fired: &mut FiredList)
         requires belongs { Belongs desk.now pass.old }
         requires holds { HoldsSched (view_of pass.old) self.old.number }
-        requires stands { Stands (settings_of desk.now) (front_of pass.old) self.old }
+        requires stands { PartStands (settings_of desk.now) (front_of pass.old) self.old }
         requires held { key_in self.old.keys row.slot ≡ Some (key_of row) }
         requires low { row.slot < length self.old.slots }
         requires first { IsNext (settings_of desk.now) (state (settings_of desk.now) (front_of pass.old)) (Sched self.old.number)

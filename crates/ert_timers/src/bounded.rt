@@ -12,7 +12,7 @@ impl WheelPart {
     ghost use Rattle.std.specs.Prelude.{◌≡◌, ◌≤◌, IfOk, ℕ, MatchBool, count_by, min};
     ghost use Rattle.ert_effects.specs.SomeCalls.{AreTried};
     ghost use Rattle.ert_table.specs.Desks.{settings_of, view_of, front_of, Belongs};
-    ghost use Rattle.ert_timers.specs.Parts.{HoldsSched, Stands};
+    ghost use Rattle.ert_timers.specs.Parts.{HoldsSched, PartStands};
     ghost use Rattle.ert_timers.specs.Passed.{LosesRows};
     ghost use Rattle.ert_timers.specs.Trying.{IsLooked, IsLeft, IsAdvancedSome, HasDue, IsTriedSome, LosesSome};
     ghost use Rattle.ert_wheel.specs.FirstDue.{NoRowDue};
@@ -30,10 +30,10 @@ impl WheelPart {
     ) -> Result<(u64, bool), NoMemory>
         requires belongs { Belongs desk.now pass.old }
         requires holds { HoldsSched (view_of pass.old) self.old.number }
-        requires stands { Stands (settings_of desk.now) (front_of pass.old) self.old }
+        requires stands { PartStands (settings_of desk.now) (front_of pass.old) self.old }
         ensures belongs { Belongs desk.now pass.new }
         ensures number { self.new.number ≡ self.old.number }
-        ensures stands { Stands (settings_of desk.now) (front_of pass.new) self.new }
+        ensures stands { PartStands (settings_of desk.now) (front_of pass.new) self.new }
         ensures call { IsAdvancedSome (settings_of desk.now) (view_of pass.old) self.old self.new most result fired.old fired.new (view_of pass.new) }
         ensures left { IfOk result (λ answer. IsLeft self.new answer.0 answer.1) }
         ensures fewer { IfOk result (λ answer. LosesSome answer.1 most self.old self.new) }

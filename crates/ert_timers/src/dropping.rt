@@ -13,7 +13,7 @@ impl WheelPart {
     ghost use Rattle.ert_table.specs.Desks.{settings_of, view_of, front_of, actors_of, Belongs};
     ghost use Rattle.ert_table.specs.Held.{IsWhole};
     ghost use Rattle.ert_timers.specs.Dropping.{DropsRow, DropsRows};
-    ghost use Rattle.ert_timers.specs.Parts.{Stands};
+    ghost use Rattle.ert_timers.specs.Parts.{PartStands};
     ghost use Rattle.ert_timers.specs.Passed.{LosesRows};
     ghost use Rattle.ert_timers.specs.Tidy.{IsTidy};
 
@@ -24,10 +24,10 @@ impl WheelPart {
     pub fn drop_settled(&mut self, desk: &Desk, pass: &mut Pass)
         requires belongs { Belongs desk.now pass.old }
         requires whole { IsWhole (settings_of desk.now) (actors_of pass.old) }
-        requires stands { Stands (settings_of desk.now) (front_of pass.old) self.old }
+        requires stands { PartStands (settings_of desk.now) (front_of pass.old) self.old }
         ensures belongs { Belongs desk.now pass.new }
         ensures same { view_of pass.new ≡ view_of pass.old }
-        ensures stands { Stands (settings_of desk.now) (front_of pass.old) self.new }
+        ensures stands { PartStands (settings_of desk.now) (front_of pass.old) self.new }
         ensures loses { LosesRows self.old self.new }
         ensures tidy { IsTidy (state (settings_of desk.now) (front_of pass.old)) self.new }
     {
@@ -41,7 +41,7 @@ impl WheelPart {
     fn drop_settled_row(&mut self, desk: &Desk, pass: &mut Pass, slot: u32)
         requires belongs { Belongs desk.now pass.old }
         requires whole { IsWhole (settings_of desk.now) (actors_of pass.old) }
-        requires stands { Stands (settings_of desk.now) (front_of pass.old) self.old }
+        requires stands { PartStands (settings_of desk.now) (front_of pass.old) self.old }
         requires low { slot < length self.old.slots }
         ensures belongs { Belongs desk.now pass.new }
         ensures same { view_of pass.new ≡ view_of pass.old }

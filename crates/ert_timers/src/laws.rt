@@ -1,17 +1,17 @@
 //! Laws of the timers of a scheduler, each the contract of a function that does nothing.
 
-ghost use Rattle.ert_timers.specs.Laws.{LawOfStanding, LawOfStarts, LawOfAdvances, LawOfSweeps, LawOfRooms, LawOfTidyCounts, LawOfCancels};
+ghost use Rattle.ert_timers.specs.Laws.{LawOfStandingParts, LawOfStartEntries, LawOfAdvanceEntries, LawOfSweeps, LawOfRooms, LawOfTidyCounts, LawOfWholeCancels};
 
 /// A part stands on while its wheel has no more entries, whatever others do meanwhile.
 pub fn parts_stand_on()
-    ensures { LawOfStanding }
+    ensures { LawOfStandingParts }
 {}
 
 /// Each call on a part makes entries of the caller or scheduler and of that wheel alone. So every other part
 /// of the service stands on.
 pub fn calls_leave_other_parts()
-    ensures starts { LawOfStarts }
-    ensures advances { LawOfAdvances }
+    ensures starts { LawOfStartEntries }
+    ensures advances { LawOfAdvanceEntries }
     ensures sweeps { LawOfSweeps }
     ensures rooms { LawOfRooms }
 {}
@@ -24,5 +24,5 @@ pub fn tidy_parts_hold_what_is_armed()
 /// A cancel by a pass that holds every actor leaves a tidy part tidy but for its timer. So `forget` makes it
 /// tidy again.
 pub fn cancels_leave_other_timers_tidy()
-    ensures { LawOfCancels }
+    ensures { LawOfWholeCancels }
 {}

@@ -66,7 +66,7 @@ pub struct Tally {
 }
 
 impl Model for WheelPart {
-    ghost use Rattle.ert_timers.specs.Parts.{Part, part_code, AreFit};
+    ghost use Rattle.ert_timers.specs.Parts.{Part, part_code, AreFieldsFit};
     ghost use Rattle.ert_words.specs.Free.{free_set};
 
     ghost Value = { Part };
@@ -85,14 +85,14 @@ impl Model for WheelPart {
       passed = p.wheel.passed;
     } };
 
-    ghost invariant = { λ p. AreFit p.processes p.wheel.values p.wheel.keys (free_set p.free) p.wheel.owners p.arms p.expires p.orphans };
+    ghost invariant = { λ p. AreFieldsFit p.processes p.wheel.values p.wheel.keys (free_set p.free) p.wheel.owners p.arms p.expires p.orphans };
 }
 
 impl WheelPart {
     ghost use Rattle.std.specs.Option.{is_some};
     ghost use Rattle.std.specs.Prelude.{◌≡◌, ◌<◌, ◌≤◌, IfOk, IfSome, ℕ, length, count_by, [], option_map};
     ghost use Rattle.ert_defs.specs.Settings.{IsChecked};
-    ghost use Rattle.ert_timers.specs.Parts.{Stands, held_row};
+    ghost use Rattle.ert_timers.specs.Parts.{PartStands, held_row};
     ghost use Rattle.ert_timers.specs.Expiring.{AreDue};
     ghost use Rattle.ert_timers.specs.Changes.{NextOf, gone_on};
     ghost use Rattle.ert_timers.specs.NextDue.{IsNextHeld};
@@ -103,7 +103,7 @@ impl WheelPart {
         requires checked { IsChecked settings.now }
         requires in_range { wheel < settings.now.schedulers }
         ensures number { IfOk result (λ part. part.number ≡ wheel) }
-        ensures stands { IfOk result (Stands settings.now []) }
+        ensures stands { IfOk result (PartStands settings.now []) }
         ensures passed { IfOk result (λ part. part.passed ≡ 0) }
     {
         let unused = Slot::new(0, 0, 0, 0, Kind::Wrapped);

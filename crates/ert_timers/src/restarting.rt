@@ -17,7 +17,7 @@ impl WheelPart {
     ghost use Rattle.ert_table.specs.Desks.{settings_of, view_of, front_of, state_of, Belongs};
     ghost use Rattle.ert_timers.specs.Changes.{dropped};
     ghost use Rattle.ert_timers.specs.Freeing.{IsLast};
-    ghost use Rattle.ert_timers.specs.Parts.{HoldsCaller, Stands, last_timer};
+    ghost use Rattle.ert_timers.specs.Parts.{HoldsCaller, PartStands, last_timer};
     ghost use Rattle.ert_timers.specs.Passed.{GainsOne};
     ghost use Rattle.ert_timers.specs.Restarting.{CanRenew, IsForecast};
     ghost use Rattle.ert_timers.specs.Starting.{Arms, IsUseFor};
@@ -38,14 +38,14 @@ impl WheelPart {
     ) -> Result<TimerRef, StartErr>
         requires belongs { Belongs desk.now pass.old }
         requires holds { HoldsCaller (settings_of desk.now) (view_of pass.old) by self.old.number }
-        requires stands { Stands (settings_of desk.now) (front_of pass.old) self.old }
+        requires stands { PartStands (settings_of desk.now) (front_of pass.old) self.old }
         requires dest { start.now.dest < (settings_of desk.now).processes }
         requires last { IsLast self.old timer }
         requires settled { (state_of desk.now pass.old).status timer ≢ Some Armed }
         requires forecast { IsForecast (settings_of desk.now) start.now forecast }
         ensures belongs { Belongs desk.now pass.new }
         ensures number { self.new.number ≡ self.old.number }
-        ensures stands { Stands (settings_of desk.now) (front_of pass.new) self.new }
+        ensures stands { PartStands (settings_of desk.now) (front_of pass.new) self.new }
         ensures call { IsMade (settings_of desk.now) (view_of pass.old) (Starts (settings_of desk.now) by self.old.number start.now result) (view_of pass.new) }
         ensures memory { result ≢ Err NoMemory }
         ensures rows { GainsOne (dropped self.old timer.slot) self.new result }
@@ -76,13 +76,13 @@ impl WheelPart {
     ) -> Result<TimerRef, StartErr>
         requires belongs { Belongs desk.now pass.old }
         requires holds { HoldsCaller (settings_of desk.now) (view_of pass.old) by self.old.number }
-        requires stands { Stands (settings_of desk.now) (front_of pass.old) self.old }
+        requires stands { PartStands (settings_of desk.now) (front_of pass.old) self.old }
         requires dest { start.now.dest < (settings_of desk.now).processes }
         requires last { IsLast self.old timer }
         requires settled { (state_of desk.now pass.old).status timer ≢ Some Armed }
         ensures belongs { Belongs desk.now pass.new }
         ensures number { self.new.number ≡ self.old.number }
-        ensures stands { Stands (settings_of desk.now) (front_of pass.new) self.new }
+        ensures stands { PartStands (settings_of desk.now) (front_of pass.new) self.new }
         ensures call { IsMade (settings_of desk.now) (view_of pass.old) (Starts (settings_of desk.now) by self.old.number start.now result) (view_of pass.new) }
         ensures memory { result ≢ Err NoMemory }
         ensures rows { GainsOne (dropped self.old timer.slot) self.new result }
@@ -104,7 +104,7 @@ impl WheelPart {
     ) -> TimerRef
         requires belongs { Belongs desk.now pass.old }
         requires holds { HoldsCaller (settings_of desk.now) (view_of pass.old) by self.old.number }
-        requires stands { Stands (settings_of desk.now) (front_of pass.old) (dropped self.old slot) }
+        requires stands { PartStands (settings_of desk.now) (front_of pass.old) (dropped self.old slot) }
         requires can { CanRenew self.old slot }
         requires usable { timers.is_taken ((state_of desk.now pass.old).status (last_timer self.old.number self.old.slots slot)) ≡ false }
         requires dest { start.now.dest < (settings_of desk.now).processes }

@@ -20,7 +20,7 @@ impl WheelPart {
     ghost use Rattle.ert_effects.specs.RoomCalls.{TellsRoom};
     ghost use Rattle.ert_table.specs.Calls.{IsMade};
     ghost use Rattle.ert_table.specs.Desks.{settings_of, view_of, front_of, Belongs};
-    ghost use Rattle.ert_timers.specs.Parts.{HoldsCaller, Stands};
+    ghost use Rattle.ert_timers.specs.Parts.{HoldsCaller, PartStands};
     ghost use Rattle.ert_timers.specs.Rooms.{SeesSlot, SeesAll};
 
     /// Looks at the time and at every slot: how many slots can take a timer now, and from when on one more
@@ -30,9 +30,9 @@ impl WheelPart {
     pub fn room(&self, desk: &Desk, pass: &mut Pass, by: u32) -> Room
         requires belongs { Belongs desk.now pass.old }
         requires holds { HoldsCaller (settings_of desk.now) (view_of pass.old) by self.now.number }
-        requires stands { Stands (settings_of desk.now) (front_of pass.old) self.now }
+        requires stands { PartStands (settings_of desk.now) (front_of pass.old) self.now }
         ensures belongs { Belongs desk.now pass.new }
-        ensures stands { Stands (settings_of desk.now) (front_of pass.new) self.now }
+        ensures stands { PartStands (settings_of desk.now) (front_of pass.new) self.now }
         ensures call { IsMade (settings_of desk.now) (view_of pass.old) (TellsRoom (settings_of desk.now) by self.now.number result) (view_of pass.new) }
     {
         let room = self.see_slots(desk, pass, by);
@@ -47,7 +47,7 @@ impl WheelPart {
     fn see_slots(&self, desk: &Desk, pass: &mut Pass, by: u32) -> Room
         requires belongs { Belongs desk.now pass.old }
         requires holds { HoldsCaller (settings_of desk.now) (view_of pass.old) by self.now.number }
-        requires stands { Stands (settings_of desk.now) (front_of pass.old) self.now }
+        requires stands { PartStands (settings_of desk.now) (front_of pass.old) self.now }
         ensures belongs { Belongs desk.now pass.new }
         ensures call { SeesAll (settings_of desk.now) (view_of pass.old) by self.now result (view_of pass.new) }
     {
@@ -71,7 +71,7 @@ impl WheelPart {
     ) -> Room
         requires belongs { Belongs desk.now pass.old }
         requires holds { HoldsCaller (settings_of desk.now) (view_of pass.old) by self.now.number }
-        requires stands { Stands (settings_of desk.now) (front_of pass.old) self.now }
+        requires stands { PartStands (settings_of desk.now) (front_of pass.old) self.now }
         requires low { slot < length self.now.slots }
         requires few { before.free ≤ slot }
         ensures belongs { Belongs desk.now pass.new }

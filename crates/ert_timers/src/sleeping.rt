@@ -7,7 +7,7 @@ impl WheelPart {
     ghost use Rattle.ert_defs.specs.declared.entry.Entry.{Entry};
     ghost use Rattle.ert_defs.specs.declared.settings.Settings.{Settings};
     ghost use Rattle.ert_timers.specs.NextDue.{NoneArmedBefore, IsNearest, IsNextHeld};
-    ghost use Rattle.ert_timers.specs.Parts.{Stands};
+    ghost use Rattle.ert_timers.specs.Parts.{PartStands};
     ghost use Rattle.ert_timers.specs.Tidy.{IsTidy};
 
     /// How early a timer may be due, in whole milliseconds since the start time, as `advance` answers; None
@@ -19,8 +19,8 @@ impl WheelPart {
     /// late. No entry is made.
     pub fn next_due(&self) -> Option<u64>
         ensures held { IsNextHeld self.now result }
-        ensures armed { (g : Settings) (h : List Entry) → Stands g h self.now → NoneArmedBefore (state g h) self.now.number result }
-        ensures nearest { (g : Settings) (h : List Entry) → Stands g h self.now → IsTidy (state g h) self.now
+        ensures armed { (g : Settings) (h : List Entry) → PartStands g h self.now → NoneArmedBefore (state g h) self.now.number result }
+        ensures nearest { (g : Settings) (h : List Entry) → PartStands g h self.now → IsTidy (state g h) self.now
             → IsNearest (state g h) self.now.number self.now.passed result }
     {
         self.first_due()

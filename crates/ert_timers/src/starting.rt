@@ -21,8 +21,8 @@ impl WheelPart {
     ghost use Rattle.ert_defs.specs.States.{state};
     ghost use Rattle.ert_table.specs.Desks.{settings_of, view_of, front_of, state_of, Belongs};
     ghost use Rattle.ert_table.specs.Calls.{IsMade};
-    ghost use Rattle.ert_timers.specs.Changes.{IsFree};
-    ghost use Rattle.ert_timers.specs.Parts.{HoldsCaller, Stands, slot_at, last_timer};
+    ghost use Rattle.ert_timers.specs.Changes.{CanTakeTimer};
+    ghost use Rattle.ert_timers.specs.Parts.{HoldsCaller, PartStands, slot_at, last_timer};
     ghost use Rattle.ert_timers.specs.Passed.{GainsOne};
     ghost use Rattle.ert_timers.specs.Starting.{HoldsTimer, IsUseFor, Orphans, Arms, Ends, LooksAt, LooksAtSome, LooksAround, TakesSlot};
 
@@ -46,11 +46,11 @@ impl WheelPart {
     ) -> Result<TimerRef, StartErr>
         requires belongs { Belongs desk.now pass.old }
         requires holds { HoldsCaller (settings_of desk.now) (view_of pass.old) by self.old.number }
-        requires stands { Stands (settings_of desk.now) (front_of pass.old) self.old }
+        requires stands { PartStands (settings_of desk.now) (front_of pass.old) self.old }
         requires dest { start.now.dest < (settings_of desk.now).processes }
         ensures belongs { Belongs desk.now pass.new }
         ensures number { self.new.number ≡ self.old.number }
-        ensures stands { Stands (settings_of desk.now) (front_of pass.new) self.new }
+        ensures stands { PartStands (settings_of desk.now) (front_of pass.new) self.new }
         ensures call { IsMade (settings_of desk.now) (view_of pass.old) (Starts (settings_of desk.now) by self.old.number start.now result) (view_of pass.new) }
         ensures memory { result ≢ Err NoMemory }
         ensures rows { GainsOne self.old self.new result }
@@ -75,7 +75,7 @@ impl WheelPart {
     fn take_slot(&mut self, desk: &Desk, pass: &mut Pass, by: u32, ahead: Ahead) -> Option<u32>
         requires belongs { Belongs desk.now pass.old }
         requires holds { HoldsCaller (settings_of desk.now) (view_of pass.old) by self.old.number }
-        requires stands { Stands (settings_of desk.now) (front_of pass.old) self.old }
+        requires stands { PartStands (settings_of desk.now) (front_of pass.old) self.old }
         requires now { ahead.now ≡ natural (down (settings_of desk.now) (state_of desk.now pass.old).clock.now) }
         ensures belongs { Belongs desk.now pass.new }
         ensures call { TakesSlot (settings_of desk.now) (view_of pass.old) by ahead.now self.old self.new result (view_of pass.new) }
@@ -94,7 +94,7 @@ impl WheelPart {
     fn look_around(&mut self, desk: &Desk, pass: &mut Pass, by: u32, now: u64)
         requires belongs { Belongs desk.now pass.old }
         requires holds { HoldsCaller (settings_of desk.now) (view_of pass.old) by self.old.number }
-        requires stands { Stands (settings_of desk.now) (front_of pass.old) self.old }
+        requires stands { PartStands (settings_of desk.now) (front_of pass.old) self.old }
         requires past { now ≤ natural (down (settings_of desk.now) (state_of desk.now pass.old).clock.now) }
         requires none { (slot : ℕ) → set.contains self.old.free slot ≡ false }
         ensures belongs { Belongs desk.now pass.new }
@@ -112,7 +112,7 @@ impl WheelPart {
     fn look_at_some(&mut self, desk: &Desk, pass: &mut Pass, by: u32, now: u64, from: u32, to: u32)
         requires belongs { Belongs desk.now pass.old }
         requires holds { HoldsCaller (settings_of desk.now) (view_of pass.old) by self.old.number }
-        requires stands { Stands (settings_of desk.now) (front_of pass.old) self.old }
+        requires stands { PartStands (settings_of desk.now) (front_of pass.old) self.old }
         requires past { now ≤ natural (down (settings_of desk.now) (state_of desk.now pass.old).clock.now) }
         requires order { from ≤ to }
         requires low { to ≤ length self.old.slots }
@@ -130,7 +130,7 @@ impl WheelPart {
     fn look_at(&mut self, desk: &Desk, pass: &mut Pass, by: u32, slot: u32, now: u64)
         requires belongs { Belongs desk.now pass.old }
         requires holds { HoldsCaller (settings_of desk.now) (view_of pass.old) by self.old.number }
-        requires stands { Stands (settings_of desk.now) (front_of pass.old) self.old }
+        requires stands { PartStands (settings_of desk.now) (front_of pass.old) self.old }
         requires past { now ≤ natural (down (settings_of desk.now) (state_of desk.now pass.old).clock.now) }
         requires low { slot < length self.old.slots }
         requires away { set.contains self.old.free slot ≡ false }
@@ -163,8 +163,8 @@ impl WheelPart {
     ) -> TimerRef
         requires belongs { Belongs desk.now pass.old }
         requires holds { HoldsCaller (settings_of desk.now) (view_of pass.old) by self.old.number }
-        requires stands { Stands (settings_of desk.now) (front_of pass.old) self.old }
-        requires free { IsFree self.old slot }
+        requires stands { PartStands (settings_of desk.now) (front_of pass.old) self.old }
+        requires free { CanTakeTimer self.old slot }
         requires usable { timers.is_taken ((state (settings_of desk.now) (front_of pass.old)).status (last_timer self.old.number self.old.slots slot)) ≡ false }
         requires dest { start.now.dest < (settings_of desk.now).processes }
         requires next { IsUseFor (settings_of desk.now) (state_of desk.now pass.old) by self.old.number slot start.now next }
@@ -191,7 +191,7 @@ impl WheelPart {
     )
         requires belongs { Belongs desk.now pass.old }
         requires holds { HoldsCaller (settings_of desk.now) (view_of pass.old) by self.old.number }
-        requires stands { Stands (settings_of desk.now) (front_of pass.old) self.old }
+        requires stands { PartStands (settings_of desk.now) (front_of pass.old) self.old }
         requires held { HoldsTimer self.old timer deadline }
         requires dest { (slot_at self.old.slots timer.slot).dest ≡ dest }
         requires in_range { dest < (settings_of desk.now).processes }
@@ -216,7 +216,7 @@ impl WheelPart {
     )
         requires belongs { Belongs desk.now pass.old }
         requires holds { HoldsCaller (settings_of desk.now) (view_of pass.old) by self.old.number }
-        requires stands { Stands (settings_of desk.now) (front_of pass.old) self.old }
+        requires stands { PartStands (settings_of desk.now) (front_of pass.old) self.old }
         requires held { HoldsTimer self.old timer deadline }
         requires exited { (state (settings_of desk.now) (front_of pass.old)).exited (slot_at self.old.slots timer.slot).dest ≡ true }
         ensures belongs { Belongs desk.now pass.new }

@@ -12,7 +12,7 @@ impl WheelPart {
     ghost use Rattle.ert_table.specs.Calls.{IsMade};
     ghost use Rattle.ert_timers.specs.Changes.{given_back, reused};
     ghost use Rattle.ert_timers.specs.Freeing.{IsHeld, IsLast, IsLetGo};
-    ghost use Rattle.ert_timers.specs.Parts.{HoldsCaller, Stands};
+    ghost use Rattle.ert_timers.specs.Parts.{HoldsCaller, PartStands};
     ghost use Rattle.ert_timers.specs.Passed.{LosesRows};
     ghost use Rattle.ert_defs.specs.declared.settings.Settings.{Settings};
     ghost use Rattle.ert_defs.specs.declared.timer.Status.TheVariants.{Armed};
@@ -25,12 +25,12 @@ impl WheelPart {
     pub fn sweep(&mut self, desk: &Desk, pass: &mut Pass, by: u32, process: u32)
         requires belongs { Belongs desk.now pass.old }
         requires holds { HoldsCaller (settings_of desk.now) (view_of pass.old) by self.old.number }
-        requires stands { Stands (settings_of desk.now) (front_of pass.old) self.old }
+        requires stands { PartStands (settings_of desk.now) (front_of pass.old) self.old }
         requires in_range { process < (settings_of desk.now).processes }
         requires exited { (state (settings_of desk.now) (front_of pass.old)).exited process ≡ true }
         ensures belongs { Belongs desk.now pass.new }
         ensures number { self.new.number ≡ self.old.number }
-        ensures stands { Stands (settings_of desk.now) (front_of pass.new) self.new }
+        ensures stands { PartStands (settings_of desk.now) (front_of pass.new) self.new }
         ensures call { IsMade (settings_of desk.now) (view_of pass.old) (Sweeps (settings_of desk.now) by self.old.number process) (view_of pass.new) }
         ensures loses { LosesRows self.old self.new }
         ensures swept { IsSwept (state (settings_of desk.now) (front_of pass.new)) self.old.number process }
@@ -48,11 +48,11 @@ impl WheelPart {
     /// no memory, and reads neither key nor what is kept of the slot.
     #[inline]
     pub fn forget(&mut self, pass: &Pass, timer: TimerRef)
-        requires stands { (g : Settings) → (view_of pass.now).settings ≡ Some g → Stands g (front_of pass.now) self.old }
+        requires stands { (g : Settings) → (view_of pass.now).settings ≡ Some g → PartStands g (front_of pass.now) self.old }
         requires last { IsLast self.old timer }
         requires settled { (g : Settings) → (view_of pass.now).settings ≡ Some g → (state g (front_of pass.now)).status timer ≢ Some Armed }
         ensures number { self.new.number ≡ self.old.number }
-        ensures stands { (g : Settings) → (view_of pass.now).settings ≡ Some g → Stands g (front_of pass.now) self.new }
+        ensures stands { (g : Settings) → (view_of pass.now).settings ≡ Some g → PartStands g (front_of pass.now) self.new }
         ensures forgotten { IsHeld self.new timer → ⊥ }
         ensures loses { LosesRows self.old self.new }
         ensures held { IsHeld self.old timer → self.new ≡ given_back self.old timer.slot false }
@@ -72,11 +72,11 @@ impl WheelPart {
     /// and takes no memory.
     #[inline]
     pub fn reuse(&mut self, pass: &Pass, timer: TimerRef)
-        requires stands { (g : Settings) → (view_of pass.now).settings ≡ Some g → Stands g (front_of pass.now) self.old }
+        requires stands { (g : Settings) → (view_of pass.now).settings ≡ Some g → PartStands g (front_of pass.now) self.old }
         requires let_go { IsLetGo self.old timer }
         requires handed { (g : Settings) → (view_of pass.now).settings ≡ Some g → is_taken ((state g (front_of pass.now)).status timer) ≡ false }
         ensures number { self.new.number ≡ self.old.number }
-        ensures stands { (g : Settings) → (view_of pass.now).settings ≡ Some g → Stands g (front_of pass.now) self.new }
+        ensures stands { (g : Settings) → (view_of pass.now).settings ≡ Some g → PartStands g (front_of pass.now) self.new }
         ensures freed { self.new ≡ reused self.old timer.slot }
     {
         // For the prover alone, as in `forget`.

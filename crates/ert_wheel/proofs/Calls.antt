@@ -8,8 +8,8 @@ use Rattle.std.specs.List.{range_with_len}
 use Rattle.std.specs.Option.{IsSome}
 use Rattle.ert_wheel.proofs.Parts.{IsSlot, IsHead, slot_is, head_is, node_is, placed_apart, put_chains, take_chains}
 use Rattle.ert_wheel.specs.Chained.{Shape, Spliced, Unspliced}
-use Rattle.ert_wheel.specs.Links.{next_at, prev_at, alone, no_link}
-use Rattle.ert_wheel.specs.Rings.{Rings, HasLinks, Place, order_of, shape, AreChains, MayTake, Puts, PutsInHome, Takes, slot_at, Finds, FindsOldest}
+use Rattle.ert_wheel.specs.Links.{next_at, prev_at, lone_link, no_link}
+use Rattle.ert_wheel.specs.Rings.{Rings, HasLinks, Place, order_of, shape, AreChains, MayTake, Puts, PutsInHome, GivesUpPlace, node_slot, Finds, FindsOldest}
 use Rattle.ert_wheel.specs.declared.links.Link.{Link}
 
 -- a slot is put in: `lent` is what the links are while they are written
@@ -48,15 +48,15 @@ unsplices old slots homes before lent after slot is e unspliced =
 pub takes : (old : Rings) (slots homes : ℕ) (before after : List Link) (slot : ℕ)
     → record { slots = slots; homes = homes; links = before } ≡ old → slot < old.slots
     → Unspliced (next_at old.links) (prev_at old.links) (next_at after) (prev_at after) slot
-    → Takes old (record { slots = slots; homes = homes; links = after }) slot
+    → GivesUpPlace old (record { slots = slots; homes = homes; links = after }) slot
 takes old slots homes before after slot is low unspliced =
-    subst (λ (r : Rings). Takes old r slot) (sym (ap (λ (r : Rings). let n : Rings = record r { links = after } in n) is))
+    subst (λ (r : Rings). GivesUpPlace old r slot) (sym (ap (λ (r : Rings). let n : Rings = record r { links = after } in n) is))
     (λ places are. take_chains old places slot after are low unspliced)
 
 -- a slot isn't alone just where it has a place
-pub is_placed : (r : Rings) (slot : ℕ) (alone : Bool) (places : ℕ → Option Place) → AreChains r places → slot < r.slots
-    → IsTrue alone ↔ (next_at r.links slot ≡ slot) → IsTrue (not alone) ↔ IsSome (places slot)
-is_placed r slot alone places are low tells = at alone (places slot) refl tells
+pub is_placed : (r : Rings) (slot : ℕ) (lone_link : Bool) (places : ℕ → Option Place) → AreChains r places → slot < r.slots
+    → IsTrue lone_link ↔ (next_at r.links slot ≡ slot) → IsTrue (not lone_link) ↔ IsSome (places slot)
+is_placed r slot lone_link places are low tells = at lone_link (places slot) refl tells
   where
     at : (b : Bool) (o : Option Place) → places slot ≡ o → IsTrue b ↔ (next_at r.links slot ≡ slot) → IsTrue (not b) ↔ IsSome o
     at false None none tells = (λ t. absurd (false≢true (tells.1 (are.alone slot low none).forth)), λ s. absurd (false≢true s))
@@ -125,13 +125,13 @@ greatest_of r places x home bound are on at_home top j p low has same lower =
 finds : (r : Rings) (places : ℕ → Option Place) (x home bound : ℕ) → AreChains r places
     → (shape r.slots r.homes places).on x ≡ true → (shape r.slots r.homes places).home x ≡ home
     → (shape r.slots r.homes places).top x ≡ bound
-    → Finds r places home bound (slot_at r.slots (next_at r.links x))
+    → Finds r places home bound (node_slot r.slots (next_at r.links x))
 finds r places x home bound are on at_home top =
     let n : ℕ = next_at r.links x in
     let down : (shape r.slots r.homes places).low n ≤ (shape r.slots r.homes places).top x = are.chained.down x on in
     elim (node_is r.slots r.homes places n (are.chained.after_on x on)) [
       | inl (p, s) ↦
-          let some : Some n ≡ slot_at r.slots n = sym (ap (λ b. cond b (Some n) None) (lt-ltb n r.slots s.low)) in
+          let some : Some n ≡ node_slot r.slots n = sym (ap (λ b. cond b (Some n) None) (lt-ltb n r.slots s.low)) in
           let e : order_of (places n) ≡ p.order = ap order_of s.has in
           subst (λ (f : Option ℕ). Finds r places home bound f) some
           (record {
@@ -141,7 +141,7 @@ finds r places x home bound are on at_home top =
                 omega (arith, s.bound, greatest_of r places x home bound are on at_home top j p low has same lower);
           })
       | inr h ↦
-          let none : None ≡ slot_at r.slots n = sym (ap (λ b. cond b (Some n) None) (le-ltb n r.slots h.high)) in
+          let none : None ≡ node_slot r.slots n = sym (ap (λ b. cond b (Some n) None) (le-ltb n r.slots h.high)) in
           subst (λ (f : Option ℕ). Finds r places home bound f) none
           (record {
             stands = tt;
@@ -153,7 +153,7 @@ finds r places x home bound are on at_home top =
 
 -- a look from a home's head, and from a slot
 pub newest_at : (r : Rings) (home : ℕ) → home < r.homes → (places : ℕ → Option Place) → AreChains r places
-    → Finds r places home (2 ^ 64) (slot_at r.slots (next_at r.links (r.slots + home)))
+    → Finds r places home (2 ^ 64) (node_slot r.slots (next_at r.links (r.slots + home)))
 newest_at r home low places are =
     let h : IsHead r.slots r.homes places (r.slots + home) =
     head_is r.slots r.homes places (r.slots + home) (omega arith) (omega arith) in
@@ -162,39 +162,39 @@ newest_at r home low places are =
 
 older_at : (r : Rings) (slot : ℕ) → slot < r.slots → (places : ℕ → Option Place) (place : Place)
     → AreChains r places → places slot ≡ Some place
-    → Finds r places place.home place.order (slot_at r.slots (next_at r.links slot))
+    → Finds r places place.home place.order (node_slot r.slots (next_at r.links slot))
 older_at r slot low places place are has =
     let s : IsSlot r.slots r.homes places slot place = slot_is r.slots r.homes places slot place low has in
     finds r places slot place.home place.order are s.on s.at_home s.top
 
 pub finds_newest : (n : Rings) (slots homes : ℕ) (links lent : List Link) (home node : ℕ) (found : Option ℕ)
     → record { slots = slots; homes = homes; links = links } ≡ n → lent ≡ links → home < n.homes
-    → node ≡ next_at lent (slots + home) → found ≡ slot_at n.slots node → (places : ℕ → Option Place)
+    → node ≡ next_at lent (slots + home) → found ≡ node_slot n.slots node → (places : ℕ → Option Place)
     → AreChains n places → Finds n places home (2 ^ 64) found
 finds_newest n slots homes links lent home node found is same low read e places are =
-    let P : Rings → Type 0 = λ n. home < n.homes → found ≡ slot_at n.slots node → AreChains n places
+    let P : Rings → Type 0 = λ n. home < n.homes → found ≡ node_slot n.slots node → AreChains n places
     → Finds n places home (2 ^ 64) found in
     let r : Rings = record { slots = slots; homes = homes; links = links } in
     subst P is
     (λ low e are.
-    let is_found : found ≡ slot_at slots (next_at links (slots + home)) =
-    e ∙ ap (slot_at slots) (read ∙ ap (λ (l : List Link). next_at l (slots + home)) same) in
+    let is_found : found ≡ node_slot slots (next_at links (slots + home)) =
+    e ∙ ap (node_slot slots) (read ∙ ap (λ (l : List Link). next_at l (slots + home)) same) in
     subst (λ (f : Option ℕ). Finds r places home (2 ^ 64) f) (sym is_found) (newest_at r home low places are))
     low e are
 
 pub finds_older : (n : Rings) (slots homes : ℕ) (links lent : List Link) (slot node : ℕ) (found : Option ℕ)
     → record { slots = slots; homes = homes; links = links } ≡ n → lent ≡ links → slot < n.slots
-    → node ≡ next_at lent slot → found ≡ slot_at n.slots node → (places : ℕ → Option Place)
+    → node ≡ next_at lent slot → found ≡ node_slot n.slots node → (places : ℕ → Option Place)
     (place : Place) → AreChains n places → places slot ≡ Some place
     → Finds n places place.home place.order found
 finds_older n slots homes links lent slot node found is same low read e places place are in_place =
-    let P : Rings → Type 0 = λ n. slot < n.slots → found ≡ slot_at n.slots node → AreChains n places
+    let P : Rings → Type 0 = λ n. slot < n.slots → found ≡ node_slot n.slots node → AreChains n places
     → Finds n places place.home place.order found in
     let r : Rings = record { slots = slots; homes = homes; links = links } in
     subst P is
     (λ low e are.
-    let is_found : found ≡ slot_at slots (next_at links slot) =
-    e ∙ ap (slot_at slots) (read ∙ ap (λ (l : List Link). next_at l slot) same) in
+    let is_found : found ≡ node_slot slots (next_at links slot) =
+    e ∙ ap (node_slot slots) (read ∙ ap (λ (l : List Link). next_at l slot) same) in
     subst (λ (f : Option ℕ). Finds r places place.home place.order f) (sym is_found) (older_at r slot low places place are in_place))
     low e are
 
@@ -202,7 +202,7 @@ finds_older n slots homes links lent slot node found is same low read e places p
 finds_back : (r : Rings) (x : ℕ) (places : ℕ → Option Place) (home bound : ℕ) → AreChains r places
     → (shape r.slots r.homes places).on x ≡ true → (shape r.slots r.homes places).home x ≡ home
     → (shape r.slots r.homes places).low x ≡ bound
-    → FindsOldest r places home bound (slot_at r.slots (prev_at r.links x))
+    → FindsOldest r places home bound (node_slot r.slots (prev_at r.links x))
 finds_back r x places home bound are x_on x_home x_low =
     let a : Shape = shape r.slots r.homes places in
     let n : ℕ = prev_at r.links x in
@@ -218,7 +218,7 @@ finds_back r x places home bound are x_on x_home x_low =
     ]) in
     elim (node_is r.slots r.homes places n on) [
       | inl (p, s) ↦
-          let some : Some n ≡ slot_at r.slots n = sym (ap (λ b. cond b (Some n) None) (lt-ltb n r.slots s.low)) in
+          let some : Some n ≡ node_slot r.slots n = sym (ap (λ b. cond b (Some n) None) (lt-ltb n r.slots s.low)) in
           let e : order_of (places n) ≡ p.order = ap order_of s.has in
           subst (λ (f : Option ℕ). FindsOldest r places home bound f) some
           (record {
@@ -228,7 +228,7 @@ finds_back r x places home bound are x_on x_home x_low =
             none = λ no. (let bad : Some n ≡ None = no in cc);
           })
       | inr t ↦
-          let none : None ≡ slot_at r.slots n = sym (ap (λ b. cond b (Some n) None) (le-ltb n r.slots t.high)) in
+          let none : None ≡ node_slot r.slots n = sym (ap (λ b. cond b (Some n) None) (le-ltb n r.slots t.high)) in
           subst (λ (f : Option ℕ). FindsOldest r places home bound f) none
           (record {
             stands = tt;
@@ -244,7 +244,7 @@ finds_back r x places home bound are x_on x_home x_low =
 
 -- from a home's head that is its oldest
 oldest_at : (r : Rings) (home : ℕ) → home < r.homes → (places : ℕ → Option Place) → AreChains r places
-    → FindsOldest r places home 0 (slot_at r.slots (prev_at r.links (r.slots + home)))
+    → FindsOldest r places home 0 (node_slot r.slots (prev_at r.links (r.slots + home)))
 oldest_at r home low places are =
     let h : IsHead r.slots r.homes places (r.slots + home) =
     head_is r.slots r.homes places (r.slots + home) (omega arith) (omega arith) in
@@ -253,45 +253,45 @@ oldest_at r home low places are =
 -- and from a slot the next newer one
 newer_at : (r : Rings) (slot : ℕ) → slot < r.slots → (places : ℕ → Option Place) (place : Place)
     → AreChains r places → places slot ≡ Some place
-    → FindsOldest r places place.home (place.order + 1) (slot_at r.slots (prev_at r.links slot))
+    → FindsOldest r places place.home (place.order + 1) (node_slot r.slots (prev_at r.links slot))
 newer_at r slot low places place are has =
     let s : IsSlot r.slots r.homes places slot place = slot_is r.slots r.homes places slot place low has in
     finds_back r slot places place.home (place.order + 1) are s.on s.at_home s.bound
 
 pub finds_oldest : (n : Rings) (slots homes : ℕ) (links lent : List Link) (home node : ℕ) (found : Option ℕ)
     → record { slots = slots; homes = homes; links = links } ≡ n → lent ≡ links → home < n.homes
-    → node ≡ prev_at lent (slots + home) → found ≡ slot_at n.slots node → (places : ℕ → Option Place)
+    → node ≡ prev_at lent (slots + home) → found ≡ node_slot n.slots node → (places : ℕ → Option Place)
     → AreChains n places → FindsOldest n places home 0 found
 finds_oldest n slots homes links lent home node found is same low read e places are =
-    let P : Rings → Type 0 = λ n. home < n.homes → found ≡ slot_at n.slots node → AreChains n places
+    let P : Rings → Type 0 = λ n. home < n.homes → found ≡ node_slot n.slots node → AreChains n places
     → FindsOldest n places home 0 found in
     let r : Rings = record { slots = slots; homes = homes; links = links } in
     subst P is
     (λ low e are.
-    let is_found : found ≡ slot_at slots (prev_at links (slots + home)) =
-    e ∙ ap (slot_at slots) (read ∙ ap (λ (l : List Link). prev_at l (slots + home)) same) in
+    let is_found : found ≡ node_slot slots (prev_at links (slots + home)) =
+    e ∙ ap (node_slot slots) (read ∙ ap (λ (l : List Link). prev_at l (slots + home)) same) in
     subst (λ (f : Option ℕ). FindsOldest r places home 0 f) (sym is_found) (oldest_at r home low places are))
     low e are
 
 pub finds_newer : (n : Rings) (slots homes : ℕ) (links lent : List Link) (slot node : ℕ) (found : Option ℕ)
     → record { slots = slots; homes = homes; links = links } ≡ n → lent ≡ links → slot < n.slots
-    → node ≡ prev_at lent slot → found ≡ slot_at n.slots node → (places : ℕ → Option Place)
+    → node ≡ prev_at lent slot → found ≡ node_slot n.slots node → (places : ℕ → Option Place)
     (place : Place) → AreChains n places → places slot ≡ Some place
     → FindsOldest n places place.home (place.order + 1) found
 finds_newer n slots homes links lent slot node found is same low read e places place are in_place =
-    let P : Rings → Type 0 = λ n. slot < n.slots → found ≡ slot_at n.slots node → AreChains n places
+    let P : Rings → Type 0 = λ n. slot < n.slots → found ≡ node_slot n.slots node → AreChains n places
     → FindsOldest n places place.home (place.order + 1) found in
     let r : Rings = record { slots = slots; homes = homes; links = links } in
     subst P is
     (λ low e are.
-    let is_found : found ≡ slot_at slots (prev_at links slot) =
-    e ∙ ap (slot_at slots) (read ∙ ap (λ (l : List Link). prev_at l slot) same) in
+    let is_found : found ≡ node_slot slots (prev_at links slot) =
+    e ∙ ap (node_slot slots) (read ∙ ap (λ (l : List Link). prev_at l slot) same) in
     subst (λ (f : Option ℕ). FindsOldest r places place.home (place.order + 1) f) (sym is_found) (newer_at r slot low places place are in_place))
     low e are
 
 -- nodes that are alone
-pub links_alone : (n x : ℕ) → x < n → get_or (map alone (range_with_len 0 n)) x no_link ≡ record { next = x; prev = x }
-links_alone n x low = get_or-map-range_with_len alone 0 n x x no_link low (omega arith)
+pub links_alone : (n x : ℕ) → x < n → get_or (map lone_link (range_with_len 0 n)) x no_link ≡ record { next = x; prev = x }
+links_alone n x low = get_or-map-range_with_len lone_link 0 n x x no_link low (omega arith)
 
 -- where no slot has a place only heads are on
 only_heads : (slots homes x : ℕ) → (shape slots homes (λ _. None)).on x ≡ true → IsHead slots homes (λ _. None) x
@@ -301,10 +301,10 @@ only_heads slots homes x on =
 
 -- all chains empty
 pub empty_chains : (slots homes : ℕ)
-    → AreChains (record { slots = slots; homes = homes; links = map alone (range_with_len 0 (slots + homes)) }) (λ _. None)
+    → AreChains (record { slots = slots; homes = homes; links = map lone_link (range_with_len 0 (slots + homes)) }) (λ _. None)
 empty_chains slots homes =
     let a : Shape = shape slots homes (λ _. None) in
-    let links : List Link = map alone (range_with_len 0 (slots + homes)) in
+    let links : List Link = map lone_link (range_with_len 0 (slots + homes)) in
     let is : (x : ℕ) → x < slots + homes → get_or links x no_link ≡ record { next = x; prev = x } =
     λ x low. links_alone (slots + homes) x low in
     let next : (x : ℕ) → a.on x ≡ true → next_at links x ≡ x =
@@ -332,9 +332,9 @@ empty_chains slots homes =
 
 -- there is a link for each
 pub has_links : (slots homes : ℕ) → slots ≤ 2 ^ 30 → homes ≤ 2 ^ 30
-    → HasLinks (record { slots = slots; homes = homes; links = map alone (range_with_len 0 (slots + homes)) })
+    → HasLinks (record { slots = slots; homes = homes; links = map lone_link (range_with_len 0 (slots + homes)) })
 has_links slots homes few few_homes = record {
-  len = length-map-range_with_len alone 0 (slots + homes);
+  len = length-map-range_with_len lone_link 0 (slots + homes);
   few = few;
   few_homes = few_homes;
 }

@@ -6,9 +6,9 @@ use Rattle.ert_wheel.proofs.Collect.{key_low}
 use Rattle.ert_wheel.proofs.Levels.{home_stays, home_stays_near, home_falls, home_next, home_far}
 use Rattle.ert_wheel.proofs.Parts.{with_place_here, with_place_there}
 use Rattle.ert_wheel.proofs.Views.{place_is}
-use Rattle.ert_wheel.specs.Rings.{Rings, Place, AreChains, with_place, Takes, PutsInHome, FindsOldest}
+use Rattle.ert_wheel.specs.Rings.{Rings, Place, AreChains, with_place, GivesUpPlace, PutsInHome, FindsOldest}
 use Rattle.ert_wheel.specs.Rows.{key_in}
-use Rattle.ert_wheel.specs.Walks.{MayMove, MayCascade}
+use Rattle.ert_wheel.specs.Walks.{MayMoveOn, MayCascade}
 use Rattle.ert_wheel.specs.Wheels.{bucket_of, home_by, place_of, places}
 use Rattle.ert_wheel.specs.declared.row.Key.{Key}
 
@@ -176,7 +176,7 @@ beside keys home slot j p h =
 
 -- the chains after it was moved
 pub cascade_one : (chains taken new : Rings) (keys : List (Option Key)) (was next bucket bound slot home : ℕ) (key : Key)
-    → Cascades chains keys was next bucket bound slot key → home ≡ home_by next key → Takes chains taken slot
+    → Cascades chains keys was next bucket bound slot key → home ≡ home_by next key → GivesUpPlace chains taken slot
     → PutsInHome taken new slot home → AreChains new (places (partly was next bucket (key.order + 1)) keys)
 cascade_one chains taken new keys was next bucket bound slot home key s e takes puts =
     let P : ℕ → Option Place = places (partly was next bucket bound) keys in
@@ -269,12 +269,12 @@ near_place keys was next j (Some key) left near held =
     (sym (home_stays_near 3 was next (max key.deadline was) near) ∙ ap (bucket_of next) (sym (left j key held)))
 
 -- in another there is a bucket to be emptied
-pub far_cascades : (chains : Rings) (keys : List (Option Key)) (was next bucket : ℕ) → MayMove chains keys was next
+pub far_cascades : (chains : Rings) (keys : List (Option Key)) (was next bucket : ℕ) → MayMoveOn chains keys was next
     → bucket ≡ bucket_of was next → next / 512 ≢ was / 512 → MayCascade chains keys was next bucket
 far_cascades chains keys was next bucket may is far =
     record { move = may; is = is; high = omega (arith, is, home_far 3 next was far) }
 
-pub near_chains : (chains : Rings) (keys : List (Option Key)) (was next : ℕ) → MayMove chains keys was next
+pub near_chains : (chains : Rings) (keys : List (Option Key)) (was next : ℕ) → MayMoveOn chains keys was next
     → next / 512 ≡ was / 512 → AreChains chains (places (home_by next) keys)
 near_chains chains keys was next may near =
     subst (λ (p : ℕ → Option Place). AreChains chains p)

@@ -4,7 +4,7 @@ use Rattle.std.proofs.Common.{◌≡◌, ℕ, ◌+◌, ◌-◌, ◌<◌, ◌≤�
 use Rattle.ert_wheel.proofs.Parts.{with_place_here}
 use Rattle.ert_wheel.proofs.Cascade.{Moves, partly, Cascades, moves, stays, stands, cascade_one, cascade_all, cascade_none}
 use Rattle.ert_wheel.proofs.Views.{place_is, held_in}
-use Rattle.ert_wheel.specs.Rings.{Rings, Place, AreChains, StandsIn, order_of, with_place, MayPut, Takes, PutsInHome, FindsOldest}
+use Rattle.ert_wheel.specs.Rings.{Rings, Place, AreChains, StandsIn, order_of, with_place, MayPut, GivesUpPlace, PutsInHome, FindsOldest}
 use Rattle.ert_wheel.specs.Rows.{key_in}
 use Rattle.ert_wheel.specs.Walks.{MayCascade}
 use Rattle.ert_wheel.specs.Wheels.{held_keys, bucket_of, home_by, place_of, places}
@@ -61,7 +61,7 @@ turn first chains stored was next bucket slot here d may same s is =
     }
 
 pub turn_puts : (chains taken : Rings) (keys : List (Option Key)) (was next bucket slot home : ℕ) (key : Key)
-    → Turn chains keys was next bucket slot key → Takes chains taken slot → taken.slots ≡ chains.slots
+    → Turn chains keys was next bucket slot key → GivesUpPlace chains taken slot → taken.slots ≡ chains.slots
     → taken.homes ≡ BUCKETS → home < BUCKETS → MayPut taken slot home
 turn_puts chains taken keys was next bucket slot home key t takes slots homes low =
     let P : ℕ → Option Place = places (partly was next bucket t.bound) keys in
@@ -143,7 +143,7 @@ turn_finds chains new keys was next bucket slot key (Some newer) t same f =
 
 -- what comes after it
 pub turn_on : (chains taken new : Rings) (keys : List (Option Key)) (was next bucket slot home : ℕ) (key : Key) (oldest : Option ℕ)
-    → (t : Turn chains keys was next bucket slot key) → home ≡ bucket_of next key.deadline → Takes chains taken slot
+    → (t : Turn chains keys was next bucket slot key) → home ≡ bucket_of next key.deadline → GivesUpPlace chains taken slot
     → PutsInHome taken new slot home → new.slots ≡ chains.slots
     → FindsOldest chains (places (partly was next bucket t.bound) keys) bucket (key.order + 1) oldest
     → IsCascading new keys was next bucket oldest
@@ -181,7 +181,7 @@ falls_to chains keys was next bucket bound (Some slot) m are f some few =
     omega (arith, high.1)
 
 pub turn_falls : (chains taken new : Rings) (keys : List (Option Key)) (was next bucket slot home : ℕ) (key : Key) (here oldest : Option ℕ)
-    → (t : Turn chains keys was next bucket slot key) → home ≡ bucket_of next key.deadline → Takes chains taken slot
+    → (t : Turn chains keys was next bucket slot key) → home ≡ bucket_of next key.deadline → GivesUpPlace chains taken slot
     → PutsInHome taken new slot home → new.slots ≡ chains.slots
     → FindsOldest chains (places (partly was next bucket t.bound) keys) bucket (key.order + 1) oldest
     → here ≡ Some slot → orders_left keys oldest < orders_left keys here

@@ -4,7 +4,7 @@ use Rattle.std.proofs.Common.{◌≡◌, ℕ, suc, ◌+◌, ◌-◌, ◌*◌, �
 use Rattle.std.proofs.Math.Nat.{suc-mul, mul_assoc, mul-le-mul_right}
 use Rattle.std.proofs.lemmas.Bool.{cases_lt}
 use Rattle.std.proofs.lemmas.Nat.{pow-add}
-use Rattle.ert_wheel.specs.NextDue.{LawOfNearAnswers, LawOfCloserAnswers, LawOfLaterAnswers}
+use Rattle.ert_wheel.specs.NextDue.{LawOfNearAnswers, LawOfCloserAnswers, LawOfLaterDue}
 
 -- a multiple of a window is one of each narrower window
 narrower : (n l level : ℕ) → l ≤ level → n * 512 ^ level ≡ n * 512 ^ (level - l) * 512 ^ l
@@ -49,7 +49,7 @@ closer_answers was keys earlier passed first second least none none_now l m slep
           ))
     ]
 
-pub later_answers : LawOfLaterAnswers
+pub later_answers : LawOfLaterDue
 later_answers keys passed time to n left went =
     elim n.near [
       | inl due ↦ omega (arith, left due.slot due.key due.has, due.at)

@@ -8,7 +8,7 @@ use Rattle.ert_wheel.proofs.Parts.{IsSlot, IsHead, slot_is, head_is, node_is}
 use Rattle.ert_wheel.specs.Chained.{Shape, Spliced, Unspliced}
 use Rattle.ert_wheel.specs.Links.{next_at, prev_at}
 use Rattle.ert_wheel.specs.Marks.{mark_of, newest_node, AreMarked, FirstUsed}
-use Rattle.ert_wheel.specs.Rings.{Rings, IsOnlyOf, HasOthers, Place, AreChains, shape, slot_at, Finds}
+use Rattle.ert_wheel.specs.Rings.{Rings, IsOnlyOf, HasOthers, Place, AreChains, shape, node_slot, Finds}
 use Rattle.ert_wheel.specs.declared.row.TheConstants.{BUCKETS}
 
 -- the head of a bucket before a slot
@@ -151,7 +151,7 @@ used_at r marks from end found places m f most are =
             | inl less ↦
                 let in_range : p.home < BUCKETS = omega arith in
                 let n : ℕ = newest_node r p.home in
-                let none : slot_at r.slots n ≡ None =
+                let none : node_slot r.slots n ≡ None =
                 ap (λ b. cond b (Some n) None) (le-ltb n r.slots (m.clear p.home in_range (f.below p.home up less))) in
                 let g : Finds r places p.home (2 ^ 64) None =
                 subst (λ (o : Option ℕ). Finds r places p.home (2 ^ 64) o) none (newest_at r p.home (omega (arith, m.homes)) places are) in
@@ -161,7 +161,7 @@ used_at r marks from end found places m f most are =
       has_slot = λ less.
           let in_range : found < BUCKETS = omega arith in
           let n : ℕ = newest_node r found in
-          let some : slot_at r.slots n ≡ Some n =
+          let some : node_slot r.slots n ≡ Some n =
           ap (λ b. cond b (Some n) None) (lt-ltb n r.slots (m.used found in_range (f.here less))) in
           let g : Finds r places found (2 ^ 64) (Some n) =
           subst (λ (o : Option ℕ). Finds r places found (2 ^ 64) o) some (newest_at r found (omega (arith, m.homes)) places are) in

@@ -6,7 +6,7 @@ use Rattle.std.proofs.lemmas.List.Sums.{sum_by-cons}
 use Rattle.std.specs.Option.{is_some, IsSome}
 use Rattle.ert_wheel.proofs.Collect.{InBucket, Steps, key_low, found, at_key}
 use Rattle.ert_wheel.proofs.Views.{held_in}
-use Rattle.ert_wheel.specs.NextDue.{MayWalk, NoRow, HasRow, IsDueIn, IsLeastIn, BeginsIn, IsEarlyIn}
+use Rattle.ert_wheel.specs.NextDue.{MayWalk, NoRow, HasSomeRow, IsDueIn, IsLeastIn, BeginsIn, IsEarlyIn}
 use Rattle.ert_wheel.specs.Rings.{Rings, Place, AreChains, bound_of, order_of, Finds}
 use Rattle.ert_wheel.specs.Rows.{key_in}
 use Rattle.ert_wheel.specs.Wheels.{held_keys, home_by, place_of, places, IsWheel}
@@ -21,11 +21,11 @@ no_row (None ∷ keys) none zero = refl
 no_row (None ∷ keys) none (suc slot) =
     no_row keys (omega (arith, sum_by-cons (λ (o : Option Key). cond (is_some o) 1 0) None keys)) slot
 
-pub has_row : (keys : List (Option Key)) → count_by is_some keys ≢ 0 → HasRow keys
+pub has_row : (keys : List (Option Key)) → count_by is_some keys ≢ 0 → HasSomeRow keys
 has_row [] some = absurd (some refl)
 has_row (Some key ∷ keys) some = record { slot = 0; key = key; has = refl }
 has_row (None ∷ keys) some =
-    let row : HasRow keys =
+    let row : HasSomeRow keys =
     has_row keys (λ none. some (omega (arith, sum_by-cons (λ (o : Option Key). cond (is_some o) 1 0) None keys))) in
     record { slot = suc row.slot; key = row.key; has = row.has }
 

@@ -8,7 +8,7 @@ use Rattle.ert_wheel.proofs.LevelBits.{bucket_low, pos512}
 use Rattle.ert_wheel.proofs.Levels.{home_up, home_next, home_near, window_of, one_window, later_window}
 use Rattle.ert_wheel.proofs.Views.{place_is}
 use Rattle.ert_wheel.specs.Marks.{FirstUsed}
-use Rattle.ert_wheel.specs.NextDue.{NoRow, HasRow, NoneBefore, IsDueAt, Begins, IsNextDue, IsDueIn, IsLeastIn, BeginsIn, IsEarlyIn}
+use Rattle.ert_wheel.specs.NextDue.{NoRow, HasSomeRow, NoneBefore, IsDueAt, WindowBegins, IsNextDue, IsDueIn, IsLeastIn, BeginsIn, IsEarlyIn}
 use Rattle.ert_wheel.specs.Rings.{Rings, Place, AreChains}
 use Rattle.ert_wheel.specs.Rows.{key_in}
 use Rattle.ert_wheel.specs.Wheels.{bucket_of, home_by, places, IsWheel}
@@ -39,7 +39,7 @@ row_home {next = next} {keys = keys} j key f has =
 
 -- where there is a row it is one of the buckets
 pub home_low : {next count first home : ℕ} {keys : List (Option Key)} {chains : Rings}
-    → IsFirst next count first home keys chains → HasRow keys → home < BUCKETS
+    → IsFirst next count first home keys chains → HasSomeRow keys → home < BUCKETS
 home_low {next = next} f row =
     omega (
       arith,
@@ -94,7 +94,7 @@ before_window n d p some less =
 -- and that is the deadline itself, or the begin of a window that wasn't passed
 pub near_window : {next count first home time : ℕ} {keys : List (Option Key)} {chains : Rings}
     → IsFirst next count first home keys chains → first < home → home < BUCKETS → BeginsIn keys (home_by next) home time
-    → IsDueAt keys time ⊎ Begins keys next time
+    → IsDueAt keys time ⊎ WindowBegins keys next time
 near_window {next = next} {first = first} {home = home} f less low b =
     let key : Key = b.key in
     let level : ℕ = home / 512 in
@@ -159,7 +159,7 @@ some_early {next = next} {home = home} {keys = keys} f low none =
 
 -- what is told of the first bucket is told of all
 pub early_due : {next count first home : ℕ} {keys : List (Option Key)} {chains : Rings} (answer : Option ℕ)
-    → IsFirst next count first home keys chains → first < home → HasRow keys → IsEarlyIn keys (home_by next) home answer
+    → IsFirst next count first home keys chains → first < home → HasSomeRow keys → IsEarlyIn keys (home_by next) home answer
     → MatchOption answer (NoRow keys) (IsNextDue keys next)
 early_due None f less row told = absurd (some_early f (home_low f row) told)
 early_due {next = next} {keys = keys} (Some time) f less row told =
@@ -177,7 +177,7 @@ early_due {next = next} {keys = keys} (Some time) f less row told =
 
 -- where no row is late those of the next time's own bucket are due at it
 pub due_next : {next count floor first home : ℕ} {keys : List (Option Key)} {chains : Rings}
-    → IsFirst next count first home keys chains → home ≡ first → HasRow keys → NoneBefore keys floor → next ≤ floor
+    → IsFirst next count first home keys chains → home ≡ first → HasSomeRow keys → NoneBefore keys floor → next ≤ floor
     → IsNextDue keys next next
 due_next {next = next} {floor = floor} {first = first} {home = home} {keys = keys} f e row above up =
     let h = f.used.has_slot (home_low f row) in

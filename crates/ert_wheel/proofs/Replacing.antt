@@ -6,7 +6,7 @@ use Rattle.std.specs.Option.{is_some}
 use Rattle.ert_wheel.proofs.Parts.{IsSlot, changed_at, slot_is, node_is, has_place, kept_place, with_place_here, with_place_there}
 use Rattle.ert_wheel.specs.Chained.{Shape, Chained}
 use Rattle.ert_wheel.specs.Links.{next_at, prev_at}
-use Rattle.ert_wheel.specs.Rings.{Rings, Place, shape, home_of, order_of, AreChains, with_place, MayTake, MayPut, Takes, Puts, Moves, Finds}
+use Rattle.ert_wheel.specs.Rings.{Rings, Place, shape, home_of, order_of, AreChains, with_place, MayTake, MayPut, GivesUpPlace, Puts, MovesSlot, Finds}
 use Rattle.ert_wheel.specs.Wheels.{places}
 
 -- a place that is given twice
@@ -21,14 +21,14 @@ with_twice places slot x y j =
     ]
 
 -- a slot that was taken out is put in again
-pub moves_by : (old taken new : Rings) (slot home : ℕ) → Takes old taken slot → Puts taken new slot home → Moves old new slot home
+pub moves_by : (old taken new : Rings) (slot home : ℕ) → GivesUpPlace old taken slot → Puts taken new slot home → MovesSlot old new slot home
 moves_by old taken new slot home takes puts places order are fits above =
     let here : Option Place = Some (record { home = home; order = order }) in
     subst (λ (p : ℕ → Option Place). AreChains new p) (λ i j. with_twice places slot None here j i)
     (puts (with_place places slot None) order (takes places are) (with_place_here places slot None) fits
     (λ j p is. above j p (kept_place places slot j p is)))
 
-pub may_put_again : (old taken : Rings) (slot home : ℕ) → MayTake old slot → Takes old taken slot → taken.slots ≡ old.slots
+pub may_put_again : (old taken : Rings) (slot home : ℕ) → MayTake old slot → GivesUpPlace old taken slot → taken.slots ≡ old.slots
     → home < taken.homes → MayPut taken slot home
 may_put_again old taken slot home may takes slots low = record {
   places = with_place may.places slot None;
@@ -228,7 +228,7 @@ raises r places slot home order place t = record {
 
 -- a slot that is the newest of a home stays where it is
 pub moves_none : (r : Rings) (slot home : ℕ) → ((places : ℕ → Option Place) → AreChains r places → Finds r places home (2 ^ 64) (Some slot))
-    → Moves r r slot home
+    → MovesSlot r r slot home
 moves_none r slot home finds places order are fits above =
     let found = finds places are in
     let stands = found.stands.1 in

@@ -9,10 +9,10 @@ use Rattle.std.specs.Bool.{IsTrue}
 use Rattle.std.specs.Option.{is_some, IsSome}
 use Rattle.ert_wheel.proofs.Views.{AreStored, held_at, key_alone, key_apart, held_is, key_set, stored_held, stored_set, stored_less, chains_set, counts_more, counts_less, counts_same, place_is}
 use Rattle.ert_wheel.specs.Links.{next_at}
-use Rattle.ert_wheel.specs.Rings.{Rings, Place, AreChains, with_place, MayPut, Puts, MayTake, Takes, Moves}
-use Rattle.ert_wheel.specs.Rows.{Held, key_in, times, due_at, left_at}
-use Rattle.ert_wheel.specs.Walks.{MayMove}
-use Rattle.ert_wheel.specs.Wheels.{no_key, held_keys, home_by, place_of, places, IsWheel, IsKept}
+use Rattle.ert_wheel.specs.Rings.{Rings, Place, AreChains, with_place, MayPut, Puts, MayTake, GivesUpPlace, MovesSlot}
+use Rattle.ert_wheel.specs.Rows.{Held, key_in, times, times_due, left_at}
+use Rattle.ert_wheel.specs.Walks.{MayMoveOn}
+use Rattle.ert_wheel.specs.Wheels.{no_key, held_keys, home_by, place_of, places, IsWheel, IsWheelKept}
 use Rattle.ert_wheel.specs.declared.row.Key.{Key}
 use Rattle.ert_wheel.specs.declared.row.Row.{Row}
 use Rattle.ert_wheel.specs.declared.row.TheConstants.{BUCKETS}
@@ -24,7 +24,7 @@ pub record Sees (next count floor : ℕ) (stored : List Key) (seen : List (Optio
   pub are_stored : AreStored stored seen
 
 pub sees : {T : Type 0} {next count floor : ℕ} {stored : List Key} {chains owners : Rings} {values : List T} {passed : ℕ} {held : Held T}
-    → IsKept next count floor (held_keys chains stored) chains
+    → IsWheelKept next count floor (held_keys chains stored) chains
     → ◌≡◌ {A = Held T} (record { keys = held_keys chains stored; owners = owners; values = values; passed = passed }) held
     → Sees next count floor stored held.keys chains
 sees {T} {next = next} {count = count} {floor = floor} {stored = stored} {chains = chains} w is =
@@ -54,9 +54,9 @@ is_held {next = next} {stored = stored} {seen = seen} {chains = chains} s =
     held_is chains (home_by next) stored seen s.wheel.slots s.are_stored s.wheel.are
 
 pub is_kept : {next count floor : ℕ} {stored : List Key} {seen : List (Option Key)} {chains : Rings}
-    → Sees next count floor stored seen chains → IsKept next count floor (held_keys chains stored) chains
+    → Sees next count floor stored seen chains → IsWheelKept next count floor (held_keys chains stored) chains
 is_kept {next = next} {count = count} {floor = floor} {chains = chains} s =
-    subst (λ (ks : List (Option Key)). IsKept next count floor ks chains) (sym (is_held s)) (record { wheel = s.wheel; above = s.above })
+    subst (λ (ks : List (Option Key)). IsWheelKept next count floor ks chains) (sym (is_held s)) (record { wheel = s.wheel; above = s.above })
 
 -- a slot without a row can be put into a chain
 pub may_put : {next count floor : ℕ} {stored : List Key} {seen : List (Option Key)} {chains : Rings} {slot home : ℕ}
@@ -140,11 +140,11 @@ inserted {next = next} {seen = seen} {chains = chains} {new = new} {slot = slot}
 -- the wheel with another row of a slot
 pub replaced : {next count floor floor' : ℕ} {stored : List Key} {seen : List (Option Key)} {chains new : Rings} {slot : ℕ} {key : Key} {home : ℕ}
     → Sees next count floor stored seen chains → CanStore seen slot key → IsSome (key_in seen slot) → home ≡ home_by next key
-    → new.slots ≡ chains.slots → new.homes ≡ chains.homes → Moves chains new slot home → floor' ≡ min floor key.deadline
+    → new.slots ≡ chains.slots → new.homes ≡ chains.homes → MovesSlot chains new slot home → floor' ≡ min floor key.deadline
     → Sees next count floor' (set stored slot key) (set seen slot (Some key)) new
 replaced {next = next} {seen = seen} {chains = chains} {new = new} {slot = slot} {key = key} s can held e slots homes moves low' =
     let h : Key → ℕ = home_by next in
-    let moves_key : Moves chains new slot (h key) = subst (λ (n : ℕ). Moves chains new slot n) e moves in
+    let moves_key : MovesSlot chains new slot (h key) = subst (λ (n : ℕ). MovesSlot chains new slot n) e moves in
     stored_row s can slots homes low' (s.wheel.counts ∙ sym (counts_same seen slot key can.low held))
     (moves_key (places h seen) key.order s.wheel.are can.order (orders_below h seen key.order can.newest))
 
@@ -179,7 +179,7 @@ count_holds {seen = seen} {slot = slot} {key = key} s low held =
 -- the wheel with a row taken out
 pub removed : {next count floor : ℕ} {stored : List Key} {seen : List (Option Key)} {chains new : Rings} {slot : ℕ} {key : Key}
     → Sees next count floor stored seen chains → slot < length seen → key_in seen slot ≡ Some key
-    → new.slots ≡ chains.slots → new.homes ≡ chains.homes → Takes chains new slot
+    → new.slots ≡ chains.slots → new.homes ≡ chains.homes → GivesUpPlace chains new slot
     → Sees next (count - 1) floor stored (set seen slot None) new
 removed {next = next} {stored = stored} {seen = seen} {new = new} {slot = slot} {key = key} s low held slots homes takes = record {
   are_stored = stored_less stored seen slot s.are_stored low;
@@ -212,7 +212,7 @@ vacant_view seen slot none = sym (set-get_or seen slot None) ∙ ap (set seen sl
 -- time may move on where all that is passed is gone
 pub may_move : {next next' count : ℕ} {keys : List (Option Key)} {chains : Rings} (to : ℕ) → IsWheel next count keys chains
     → ((j : ℕ) → IfSome (key_in keys j) (λ key. to < key.deadline)) → next ≤ next' → next' ≤ max next (to + 1)
-    → next' < 2 ^ 45 - 1 → MayMove chains keys next next'
+    → next' < 2 ^ 45 - 1 → MayMoveOn chains keys next next'
 may_move to w none up low fits = record {
   slots = w.slots;
   homes = w.homes;
@@ -256,7 +256,7 @@ pub record TakesOut {T : Type 0} (old now : Held T) (rows : List Row) : Type 0 w
   pub values : now.values ≡ old.values
   pub passed : now.passed ≡ old.passed
 
-left_of : (to : ℕ) (was : Option Key) (count : ℕ) (now : Option Key) → count ≡ due_at to was
+left_of : (to : ℕ) (was : Option Key) (count : ℕ) (now : Option Key) → count ≡ times_due to was
     → (count ≡ 0 → now ≡ was) → (0 < count → now ≡ None) → now ≡ left_at to was
 left_of to None count now e stays gone = stays e
 left_of to (Some key) count now e stays gone =
@@ -270,7 +270,7 @@ left_of to (Some key) count now e stays gone =
     ]
 
 pub taken_out : {T : Type 0} (to : ℕ) (old now : Held T) (rows : List Row) → TakesOut old now rows
-    → ((j : ℕ) → times j rows ≡ due_at to (key_in old.keys j)) → now.keys ≡ map (left_at to) old.keys
+    → ((j : ℕ) → times j rows ≡ times_due to (key_in old.keys j)) → now.keys ≡ map (left_at to) old.keys
 taken_out to old now rows t each =
     ext_get_or None now.keys (map (left_at to) old.keys) (t.len ∙ sym (length-map old.keys (left_at to))) (λ j low.
     left_of to (key_in old.keys j) (times j rows) (key_in now.keys j) (each j) (t.stays j) (t.gone j)

@@ -4,8 +4,8 @@ use Rattle.std.specs.Prelude.{ℕ, List, slice_index_or}
 use Rattle.ert_wheel.specs.declared.links.Link.{Link}
 
 -- the link of a node that is alone in its ring
-abbrev pub alone : ℕ → Link
-alone node = record { next = node; prev = node }
+abbrev pub lone_link : ℕ → Link
+lone_link node = record { next = node; prev = node }
 
 -- what is read past the end
 abbrev pub no_link : Link

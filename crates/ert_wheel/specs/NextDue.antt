@@ -11,7 +11,7 @@ abbrev pub NoRow : List (Option Key) → Type 0
 NoRow keys = (slot : ℕ) → key_in keys slot ≡ None
 
 -- there is a row
-pub record HasRow (keys : List (Option Key)) : Type 0 where
+pub record HasSomeRow (keys : List (Option Key)) : Type 0 where
   pub slot : ℕ
   pub key : Key
   pub has : key_in keys slot ≡ Some key
@@ -29,7 +29,7 @@ pub record IsDueAt (keys : List (Option Key)) (time : ℕ) : Type 0 where
 
 -- A window of a level above the lowest begins at a time after the first that wasn't passed, and some row is due in it. A
 -- window of level l is 512 ^ l milliseconds wide, and begins at a multiple of that.
-pub record Begins (keys : List (Option Key)) (passed time : ℕ) : Type 0 where
+pub record WindowBegins (keys : List (Option Key)) (passed time : ℕ) : Type 0 where
   pub later : passed < time
   pub level : ℕ
   pub above : 1 ≤ level
@@ -43,9 +43,9 @@ pub record Begins (keys : List (Option Key)) (passed time : ℕ) : Type 0 where
 
 -- there are rows, none is due before a time, and either one is due at it, or a window begins there that has one
 pub record IsNextDue (keys : List (Option Key)) (passed time : ℕ) : Type 0 where
-  pub some : HasRow keys
+  pub some : HasSomeRow keys
   pub none_before : NoneBefore keys time
-  pub near : IsDueAt keys time ⊎ Begins keys passed time
+  pub near : IsDueAt keys time ⊎ WindowBegins keys passed time
 
 -- the least deadline of the rows
 pub record IsLeastDeadline (keys : List (Option Key)) (least : ℕ) : Type 0 where
@@ -64,11 +64,11 @@ LawOfNearAnswers = (keys : List (Option Key)) (passed time least : ℕ) → IsNe
 abbrev pub LawOfCloserAnswers : Type 0
 LawOfCloserAnswers = (was keys : List (Option Key)) (earlier passed first second least : ℕ) → NoneBefore was first
     → NoneBefore keys second → IsLeastDeadline was least → IsLeastDeadline keys least → first ≤ passed
-    → (b : Begins was earlier first) → (c : Begins keys passed second) → c.level < b.level
+    → (b : WindowBegins was earlier first) → (c : WindowBegins keys passed second) → c.level < b.level
 
 -- Answers go on: where a time was passed and no row is left that was due by it, the answer is later.
-abbrev pub LawOfLaterAnswers : Type 0
-LawOfLaterAnswers = (keys : List (Option Key)) (passed time to : ℕ) → IsNextDue keys passed time
+abbrev pub LawOfLaterDue : Type 0
+LawOfLaterDue = (keys : List (Option Key)) (passed time to : ℕ) → IsNextDue keys passed time
     → ((slot : ℕ) (key : Key) → key_in keys slot ≡ Some key → to < key.deadline) → to < passed → to < time
 
 -- the chains are those of the keys, by some homes

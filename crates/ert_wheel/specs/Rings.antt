@@ -93,8 +93,8 @@ PutsInHome old new slot home =
     → AreChains new (with_place places slot (Some (record { home = home; order = order })))
 
 -- in every assignment that fits, the slot gets this home, with any order above all, whether it had a place or not
-abbrev pub Moves : Rings → Rings → ℕ → ℕ → Type 0
-Moves old new slot home =
+abbrev pub MovesSlot : Rings → Rings → ℕ → ℕ → Type 0
+MovesSlot old new slot home =
     (places : ℕ → Option Place) (order : ℕ) → AreChains old places → order < 2 ^ 64
     → ((j : ℕ) (p : Place) → places j ≡ Some p → p.order < order)
     → AreChains new (with_place places slot (Some (record { home = home; order = order })))
@@ -106,8 +106,8 @@ pub record MayTake (r : Rings) (slot : ℕ) : Type 0 where
   pub low : slot < r.slots
 
 -- in every assignment that fits, the slot gives its place up, where it has one
-abbrev pub Takes : Rings → Rings → ℕ → Type 0
-Takes old new slot =
+abbrev pub GivesUpPlace : Rings → Rings → ℕ → Type 0
+GivesUpPlace old new slot =
     (places : ℕ → Option Place) → AreChains old places → AreChains new (with_place places slot None)
 
 -- a slot stands in the chain of a home
@@ -117,8 +117,8 @@ pub record StandsIn (places : ℕ → Option Place) (home slot : ℕ) : Type 0 w
   pub at_home : place.home ≡ home
 
 -- the slot of a node, and none of a head
-abbrev pub slot_at : ℕ → ℕ → Option ℕ
-slot_at slots node = if nat_lt node slots then Some node else None
+abbrev pub node_slot : ℕ → ℕ → Option ℕ
+node_slot slots node = if nat_lt node slots then Some node else None
 
 -- one above the order of a slot, and 0 of none
 abbrev pub bound_of : (ℕ → Option Place) → Option ℕ → ℕ

@@ -50,6 +50,6 @@ pub record IsWheel (next_time count : ℕ) (keys : List (Option Key)) (chains : 
   pub are : AreChains chains (places (home_by next_time) keys)
 
 -- and no row is due before a floor
-pub record IsKept (next_time count floor : ℕ) (keys : List (Option Key)) (chains : Rings) : Type 0 where
+pub record IsWheelKept (next_time count floor : ℕ) (keys : List (Option Key)) (chains : Rings) : Type 0 where
   pub wheel : IsWheel next_time count keys chains
   pub above : (slot : ℕ) (key : Key) → key_in keys slot ≡ Some key → floor ≤ key.deadline

@@ -31,8 +31,8 @@ impl Chains {
     ghost use Rattle.std.specs.Prelude.{◌≡◌, ◌↔◌, ◌+◌, ◌<◌, ◌≤◌, ◌^◌, ℕ, Option, Some, None, IfOk, IsTrue, MatchOption};
     ghost use Rattle.ert_wheel.specs.Chained.{Spliced, Unspliced};
     ghost use Rattle.ert_wheel.specs.Links.{next_at, prev_at};
-    ghost use Rattle.ert_wheel.specs.Rings.{Place, AreChains, MayPut, Puts, PutsInHome, MayTake, Takes, Finds, FindsOldest};
-    ghost use Rattle.ert_wheel.specs.Rings.{slot_at, IsOnlyOf, HasOthers};
+    ghost use Rattle.ert_wheel.specs.Rings.{Place, AreChains, MayPut, Puts, PutsInHome, MayTake, GivesUpPlace, Finds, FindsOldest};
+    ghost use Rattle.ert_wheel.specs.Rings.{node_slot, IsOnlyOf, HasOthers};
 
     /// All chains empty. No call takes memory after this.
     pub fn new(alloc: Global, slots: u32, homes: u32) -> Result<Chains, NoMemory>
@@ -80,7 +80,7 @@ impl Chains {
         requires { MayTake self.old slot }
         ensures slots { self.new.slots ≡ self.old.slots }
         ensures homes { self.new.homes ≡ self.old.homes }
-        ensures chains { Takes self.old self.new slot }
+        ensures chains { GivesUpPlace self.old self.new slot }
         ensures unspliced { Unspliced (next_at self.old.links) (prev_at self.old.links)
             (next_at self.new.links) (prev_at self.new.links) slot }
     {
@@ -167,7 +167,7 @@ impl Chains {
     // The slot of a node, and none of a head.
     #[inline]
     fn slot_at(&self, node: u32) -> Option<u32>
-        ensures { result ≡ slot_at self.now.slots node }
+        ensures { result ≡ node_slot self.now.slots node }
     {
         (node < self.slots).then_some(node)
     }

@@ -3,7 +3,7 @@
 ghost use Rattle.std.specs.Prelude.{◌≡◌, ◌≢◌, ◌<◌, ℕ, length, map, IfOk};
 ghost use Rattle.std.specs.List.{range_with_len};
 ghost use Rattle.ert_wheel.specs.Chained.{Changed, Spliced, Unspliced};
-ghost use Rattle.ert_wheel.specs.Links.{next_at, prev_at, alone};
+ghost use Rattle.ert_wheel.specs.Links.{next_at, prev_at, lone_link};
 
 use std::alloc::{AllocError, Global};
 
@@ -16,7 +16,7 @@ pub struct Link {
 
 /// So many nodes, each alone in its ring.
 pub fn alone(alloc: Global, count: u32) -> Result<Vec<Link>, AllocError>
-    ensures { IfOk result (λ links. links.items ≡ map alone (range_with_len 0 count)) }
+    ensures { IfOk result (λ links. links.items ≡ map lone_link (range_with_len 0 count)) }
 {
     (0..count)
         .map(|node| Link {

@@ -29,7 +29,7 @@ impl MarkedChains {
     ghost use Rattle.std.specs.Prelude.{◌≡◌, ◌↔◌, ◌+◌, ◌<◌, ◌≤◌, ◌^◌, ℕ, Option, None, IfOk, IsTrue};
     ghost use Rattle.ert_wheel.specs.Links.{next_at};
     ghost use Rattle.ert_wheel.specs.Marks.{FirstUsed};
-    ghost use Rattle.ert_wheel.specs.Rings.{Place, AreChains, MayPut, Puts, PutsInHome, MayTake, Takes, Moves, Finds, FindsOldest};
+    ghost use Rattle.ert_wheel.specs.Rings.{Place, AreChains, MayPut, Puts, PutsInHome, MayTake, GivesUpPlace, MovesSlot, Finds, FindsOldest};
     ghost use Rattle.ert_wheel.specs.declared.row.TheConstants.{BUCKETS};
 
     /// All chains empty. No call takes memory after this.
@@ -75,7 +75,7 @@ impl MarkedChains {
         requires { MayTake self.old slot }
         ensures slots { self.new.slots ≡ self.old.slots }
         ensures homes { self.new.homes ≡ self.old.homes }
-        ensures chains { Takes self.old self.new slot }
+        ensures chains { GivesUpPlace self.old self.new slot }
     {
         let only = self.chains.only_of(slot);
         self.chains.take(slot);
@@ -91,7 +91,7 @@ impl MarkedChains {
         requires home { home < BUCKETS }
         ensures slots { self.new.slots ≡ self.old.slots }
         ensures homes { self.new.homes ≡ self.old.homes }
-        ensures chains { Moves self.old self.new slot home }
+        ensures chains { MovesSlot self.old self.new slot home }
     {
         if self.chains.is_newest(slot, home) {
             return;

@@ -38,7 +38,7 @@ pub struct Wheel<T> {
 
 impl<T> Model for Wheel<T> {
     ghost use Rattle.ert_wheel.specs.Rows.{Held};
-    ghost use Rattle.ert_wheel.specs.Wheels.{held_keys, IsKept};
+    ghost use Rattle.ert_wheel.specs.Wheels.{held_keys, IsWheelKept};
 
     ghost Value = { Held T };
 
@@ -49,7 +49,7 @@ impl<T> Model for Wheel<T> {
       passed = w.next_time;
     } };
 
-    ghost invariant = { λ w. IsKept w.next_time w.len w.floor (held_keys w.buckets w.kept.keys) w.buckets };
+    ghost invariant = { λ w. IsWheelKept w.next_time w.len w.floor (held_keys w.buckets w.kept.keys) w.buckets };
 }
 
 impl<T: Copy> Wheel<T> {
@@ -59,8 +59,8 @@ impl<T: Copy> Wheel<T> {
     ghost use Rattle.std.specs.List.Sorted.{IsSortedBy};
     ghost use Rattle.std.specs.Option.{is_some};
     ghost use Rattle.ert_wheel.specs.NextDue.{NoRow, IsNextDue};
-    ghost use Rattle.ert_wheel.specs.Rings.{Place, AreChains, MayPut, Puts, PutsInHome, MayTake, Takes, Finds};
-    ghost use Rattle.ert_wheel.specs.Rows.{key_in, key_of, row_at, times, due_at, left_at, comes_before};
+    ghost use Rattle.ert_wheel.specs.Rings.{Place, AreChains, MayPut, Puts, PutsInHome, MayTake, GivesUpPlace, Finds};
+    ghost use Rattle.ert_wheel.specs.Rows.{key_in, key_of, row_at, times, times_due, left_at, comes_before};
     ghost use Rattle.ert_wheel.specs.declared.row.TheConstants.{NEVER, LAST};
 
     /// A wheel without rows, with room for one of each slot below `slots`, and with this value of each. The numbers of
@@ -203,7 +203,7 @@ impl<T: Copy> Wheel<T> {
         ensures passed { self.new.passed ≡ self.old.passed }
         ensures slots { self.new.owners.slots ≡ self.old.owners.slots }
         ensures homes { self.new.owners.homes ≡ self.old.owners.homes }
-        ensures disowned { Takes self.old.owners self.new.owners slot }
+        ensures disowned { GivesUpPlace self.old.owners self.new.owners slot }
     {
         self.owners.take(slot);
     }
@@ -232,7 +232,7 @@ impl<T: Copy> Wheel<T> {
     /// which is cleared first and has room for one row of each slot.
     pub fn due(&self, to: u64, out: &mut Vec<Row>)
         requires { length self.now.keys ≤ vec_capacity out.old }
-        ensures each { (slot : ℕ) → times slot out.new.items ≡ due_at to (key_in self.now.keys slot) }
+        ensures each { (slot : ℕ) → times slot out.new.items ≡ times_due to (key_in self.now.keys slot) }
         ensures rows { All (λ row. key_in self.now.keys row.slot ≡ Some (key_of row)) out.new.items }
         ensures sorted { IsSortedBy comes_before out.new.items }
         ensures capacity { vec_capacity out.new ≡ vec_capacity out.old }
@@ -294,7 +294,7 @@ impl<T: Copy> Wheel<T> {
     /// Takes the rows with a deadline at most `to` out, and writes them into `out` as `due` does.
     pub fn advance(&mut self, to: u64, out: &mut Vec<Row>)
         requires { length self.old.keys ≤ vec_capacity out.old }
-        ensures each { (slot : ℕ) → times slot out.new.items ≡ due_at to (key_in self.old.keys slot) }
+        ensures each { (slot : ℕ) → times slot out.new.items ≡ times_due to (key_in self.old.keys slot) }
         ensures rows { All (λ row. key_in self.old.keys row.slot ≡ Some (key_of row)) out.new.items }
         ensures sorted { IsSortedBy comes_before out.new.items }
         ensures capacity { vec_capacity out.new ≡ vec_capacity out.old }

@@ -7,13 +7,13 @@ use Rattle.ert_defs.specs.declared.timer.Status.{Status}
 use Rattle.ert_words.specs.Ranges.{IsTime, IsTimer, shown_generation}
 
 -- times of one word are one
-abbrev pub LawOfTimes : Type 0
-LawOfTimes = (start now other : ℤ) → IsTime now start → IsTime other start
+abbrev pub LawOfTimeWords : Type 0
+LawOfTimeWords = (start now other : ℤ) → IsTime now start → IsTime other start
     → time_word now start ≡ time_word other start → now ≡ other
 
 -- offsets of one word are one, and both are final or neither is
-abbrev pub LawOfOffsets : Type 0
-LawOfOffsets = (offset other : ℤ) (final other_final : Bool) → IsOffset offset → IsOffset other
+abbrev pub LawOfOffsetWords : Type 0
+LawOfOffsetWords = (offset other : ℤ) (final other_final : Bool) → IsOffset offset → IsOffset other
     → offset_word offset final ≡ offset_word other other_final → (offset ≡ other) × (final ≡ other_final)
 
 -- timers of one word have one status and deadline, and what it shows of their generations is one: so two

@@ -1,16 +1,16 @@
 //! That two values have two words. Each law is the contract of a function that does nothing, so that
 //! it is proved wherever this crate is.
 
-ghost use Rattle.ert_words.specs.Laws.{LawOfTimes, LawOfOffsets, LawOfTimers, LawOfIdle};
+ghost use Rattle.ert_words.specs.Laws.{LawOfTimeWords, LawOfOffsetWords, LawOfTimers, LawOfIdle};
 
 /// Two times have two words, at one start time.
 pub fn times_have_words()
-    ensures { LawOfTimes }
+    ensures { LawOfTimeWords }
 {}
 
 /// Two offsets have two words, and so have a final offset and one that isn't.
 pub fn offsets_have_words()
-    ensures { LawOfOffsets }
+    ensures { LawOfOffsetWords }
 {}
 
 /// The words of two timers differ where their statuses, deadlines or generations do, and differ from the

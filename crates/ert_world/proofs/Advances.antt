@@ -30,7 +30,7 @@ use Rattle.ert_timers.proofs.LawsHold.{advances_only}
 use Rattle.ert_timers.specs.Expiring.{HasExpired, HasNotExpired}
 use Rattle.ert_timers.specs.Trying.{fired_in}
 use Rattle.ert_timers.specs.FiredLists.{Queue}
-use Rattle.ert_timers.specs.Parts.{Part, Stands as WheelStands}
+use Rattle.ert_timers.specs.Parts.{Part, PartStands as WheelStands}
 use Rattle.ert_timers.specs.Passed.{LosesRows}
 use Rattle.ert_world.proofs.Armed.{AreCalm}
 use Rattle.ert_world.proofs.Calls.{Has, Does, parts_in, finish, schedulers_at}

@@ -5,7 +5,7 @@ use Rattle.ert_clock.specs.Ticks.{tick_entries}
 use Rattle.ert_clock.specs.declared.clock.ClockErr.{ClockErr}
 use Rattle.ert_clock.specs.declared.clock.ClockErr.TheVariants.{BadReading, OffsetWide}
 use Rattle.ert_clock.specs.declared.clock.Moved.{Moved}
-use Rattle.ert_effects.specs.ClockCalls.{RefusesTick, Acts, Finalizes, FinalizesFrom, TellsTime, TellsOffset, TellsSystemTime}
+use Rattle.ert_effects.specs.ClockCalls.{RefusesTick, TakesReading, Finalizes, FinalizesFrom, TellsTime, TellsOffset, TellsSystemTime}
 use Rattle.ert_effects.specs.MailCalls.{HandsOver, Takes, Monitors, Demonitors, Tells}
 use Rattle.ert_effects.specs.RequestCalls.{Asks, Picks}
 use Rattle.ert_effects.specs.TimerCalls.{Reads, read_entries}
@@ -121,7 +121,7 @@ refused_quiet g by r act BadReading s es refused = quiet_as (ticking by) es [] r
 refused_quiet g by r act (OffsetWide value) s es refused = quiet_as (ticking by) es [] refused.none (record { only = tt; calm = tt })
 
 pub acts_quiet : (g : Settings) (by : ℕ) (r : Reading) (act : Act) (answer : Result Moved ClockErr) (s : State) (es : List Entry)
-    → Acts g by r act answer s es → IsQuiet (Keeper ∷ (Caller by ∷ [])) es
+    → TakesReading g by r act answer s es → IsQuiet (Keeper ∷ (Caller by ∷ [])) es
 acts_quiet g by r act (Ok m) s es acts = quiet_as (ticking by) es _ acts.entries (moves_quiet by r act m.now m.shift)
 acts_quiet g by r act (Err e) s es acts = refused_quiet g by r act e s es acts
 

@@ -22,7 +22,7 @@ use Rattle.ert_defs.specs.declared.timer.Status.TheVariants.{Armed}
 use Rattle.ert_defs.specs.declared.timer.TimerRef.{TimerRef}
 use Rattle.ert_table.proofs.Parts.{of_one}
 use Rattle.ert_table.specs.Calls.{AreOnlyOf}
-use Rattle.ert_world.specs.Worlds.{left_by, cancelled_by}
+use Rattle.ert_world.specs.Worlds.{left_for, cancelled_by}
 
 -- a timer that a cancel spares: any, where nothing was cancelled, and else any other
 abbrev pub Spared : Option ℕ → TimerRef → TimerRef → Type 0
@@ -85,7 +85,7 @@ read_at g s by timer now false answer r armed apart = armed
 read_at g s by timer now true answer r armed apart = armed
 
 asked_settles : (kind : RequestKind) (g : Settings) (w : ℕ) (timer : TimerRef) (left : Option ℕ) (s : State) (es : List Entry)
-    → DoesAsked kind g w timer left s es → LegalFrom g s es → Settles g s es timer (left_by kind left)
+    → DoesAsked kind g w timer left s es → LegalFrom g s es → Settles g s es timer (left_for kind left)
 asked_settles ToCancel g w timer left s es does legal = cancel_settles g (Sched w) timer left s es does legal
 asked_settles ToRead g w timer left s es does legal =
     subst (λ l. Settles g s l timer None) (sym does.entries) (read_at g s (Sched w) timer does.now (names_timer g timer) left)
@@ -95,11 +95,11 @@ pub answer_settles : (g : Settings) (w : ℕ) (request : Request) (answer : Resu
     → Answers g w request answer s es → LegalFrom g s es → Settles g s es request.timer (cancelled_by request answer)
 answer_settles g w request (Ok left) s es answers legal =
     let last : List Entry = answer_entry w request.reply_to left ∷ [] in
-    let steps : Settles g s answers.steps request.timer (left_by request.kind left) =
+    let steps : Settles g s answers.steps request.timer (left_for request.kind left) =
     asked_settles request.kind g w request.timer left s answers.steps answers.done
     (legal_first g s answers.steps last (subst (LegalFrom g s) answers.entries legal)) in
     let whole : run g s (answers.steps ++ last) ≡ run g (run g s answers.steps) last = run-append g s answers.steps last in
-    subst (λ l. Settles g s l request.timer (left_by request.kind left)) (sym answers.entries)
+    subst (λ l. Settles g s l request.timer (left_for request.kind left)) (sym answers.entries)
     (λ r armed apart. subst (λ (t : State). t.status r ≡ Some Armed) (sym whole) (steps r armed apart))
 answer_settles g w request (Err e) s es answers legal =
     subst (λ l. Settles g s l request.timer None) (sym answers) (λ r armed apart. armed)

@@ -13,7 +13,7 @@ use Rattle.ert_table.specs.declared.desk.Desk.{Desk}
 use Rattle.ert_table.specs.declared.desk.Pass.{Pass}
 use Rattle.ert_table.specs.declared.view.View.{View}
 use Rattle.ert_timers.proofs.Passing.{loses_none, loses_then}
-use Rattle.ert_timers.specs.Parts.{Part, Stands}
+use Rattle.ert_timers.specs.Parts.{Part, PartStands}
 use Rattle.ert_timers.specs.Passed.{LosesRows}
 use Rattle.ert_timers.specs.Tidy.{IsTidy}
 use Rattle.ert_world.proofs.Returned.{at_place}
@@ -23,11 +23,11 @@ use Rattle.ert_world.specs.Worlds.{Seen, seen, HoldsRest, AreFit, AreTidy, AreSo
 
 -- the first so many wheels have dropped them
 pub record HaveDropped (g : Settings) (h : List Entry) (ws vs : List Part) (n : ℕ) : Type 0 where
-  pub ordered : AreOrdered (λ p. p.number) (Stands g h) Wheel [] g.schedulers vs
+  pub ordered : AreOrdered (λ p. p.number) (PartStands g h) Wheel [] g.schedulers vs
   pub rows : (i : ℕ) (d : Part) → LosesRows (slice_index_or ws i d) (slice_index_or vs i d)
   pub tidy : (i : ℕ) (d : Part) → i < n → IsTidy (state g h) (slice_index_or vs i d)
 
-pub none_dropped : (g : Settings) (h : List Entry) (ws : List Part) → AreOrdered (λ p. p.number) (Stands g h) Wheel [] g.schedulers ws
+pub none_dropped : (g : Settings) (h : List Entry) (ws : List Part) → AreOrdered (λ p. p.number) (PartStands g h) Wheel [] g.schedulers ws
     → HaveDropped g h ws ws 0
 none_dropped g h ws ordered = record {
   ordered = ordered;
@@ -37,7 +37,7 @@ none_dropped g h ws ordered = record {
 
 -- and one more
 pub one_dropped : (g : Settings) (h : List Entry) (ws vs : List Part) (n : ℕ) (old new : Part) → HaveDropped g h ws vs n → n < g.schedulers
-    → old ≡ slice_index_or vs n old → Stands g h new → LosesRows old new → IsTidy (state g h) new → HaveDropped g h ws (slice_set vs n new) (n + 1)
+    → old ≡ slice_index_or vs n old → PartStands g h new → LosesRows old new → IsTidy (state g h) new → HaveDropped g h ws (slice_set vs n new) (n + 1)
 one_dropped g h ws vs n old new far low lent stands loses tidy =
     let wide : n < length vs = rw far.ordered.counted low in
     record {
@@ -46,7 +46,7 @@ one_dropped g h ws vs n old new far low lent stands loses tidy =
         named = λ i d below.
             at_place (λ (y : Part). y.number ≡ i) vs n i new d wide
             (λ one. loses.number ∙ (ap (λ (p : Part). p.number) lent ∙ (far.ordered.named n old low ∙ sym one))) (λ other. far.ordered.named i d below);
-        stand = λ i d below left. at_place (Stands g h) vs n i new d wide (λ one. stands) (λ other. far.ordered.stand i d below left);
+        stand = λ i d below left. at_place (PartStands g h) vs n i new d wide (λ one. stands) (λ other. far.ordered.stand i d below left);
       };
       rows = λ i d. loses_then (slice_index_or ws i d) (slice_index_or vs i d) (slice_index_or (slice_set vs n new) i d) (far.rows i d)
           (rows_set vs n old new wide lent loses i d);
@@ -56,12 +56,12 @@ one_dropped g h ws vs n old new far low lent stands loses tidy =
 
 -- so parts that fit are those of a world
 pub kept_then : (d e : Desk) (p q : Pass) (parts : AllParts) (ws : List Part) → d ≡ e → AreFit e p 1 parts → Belongs d q → view_of q ≡ view_of p
-    → AreOrdered (λ p. p.number) (Stands (settings_of d) (front_of p)) Wheel [] (settings_of d).schedulers ws → AreTidy (settings_of d) (front_of p) ws
+    → AreOrdered (λ p. p.number) (PartStands (settings_of d) (front_of p)) Wheel [] (settings_of d).schedulers ws → AreTidy (settings_of d) (front_of p) ws
     → AreSound e q 1 (record parts { wheels = ws })
 kept_then d e p q parts ws same fit belongs view ordered tidy =
     let front : front_of q ≡ front_of p = ap (λ (v : View). v.front) view in
-    let mine : AreOrdered (λ p. p.number) (Stands (settings_of e) (front_of p)) Wheel [] (settings_of e).schedulers ws =
-    subst (λ (x : Desk). AreOrdered (λ p. p.number) (Stands (settings_of x) (front_of p)) Wheel [] (settings_of x).schedulers ws) same ordered in
+    let mine : AreOrdered (λ p. p.number) (PartStands (settings_of e) (front_of p)) Wheel [] (settings_of e).schedulers ws =
+    subst (λ (x : Desk). AreOrdered (λ p. p.number) (PartStands (settings_of x) (front_of p)) Wheel [] (settings_of x).schedulers ws) same ordered in
     let stand : Stand (settings_of e) (front_of p) [] (record parts { wheels = ws }) = record {
       legal = fit.stand.legal;
       keeper = fit.stand.keeper;

@@ -7,7 +7,7 @@ use Rattle.std.proofs.lemmas.Bool.{le-leb, lt-ltb}
 use Rattle.std.proofs.lemmas.List.{set-get_or}
 use Rattle.std.proofs.lemmas.List.Elements.{filter-append}
 use Rattle.std.proofs.lemmas.List.Sums.{count_by-le-length}
-use Rattle.ert_calls.specs.Left.{AtLastStep, IsLeft, Tells, TellsLeft}
+use Rattle.ert_calls.specs.Left.{AtLastStep, IsLeftByLook, CallTells, TellsLeft}
 use Rattle.ert_defs.proofs.Slots.{ordered}
 use Rattle.ert_defs.specs.Actors.{IsFree, has_actor, of}
 use Rattle.ert_defs.specs.Entries.{is_ours, look_entry}
@@ -36,7 +36,7 @@ use Rattle.ert_timers.proofs.Tried.{held_found}
 use Rattle.ert_timers.specs.Changes.{given_back}
 use Rattle.ert_timers.specs.Freeing.{IsHeld}
 use Rattle.ert_timers.specs.HeldFor.{IsHeldFor}
-use Rattle.ert_timers.specs.Parts.{Part, Stands as WheelStands, IsLive, last_timer, held_row}
+use Rattle.ert_timers.specs.Parts.{Part, PartStands as WheelStands, IsLive, last_timer, held_row}
 use Rattle.ert_timers.specs.Passed.{LosesRows}
 use Rattle.ert_wheel.proofs.Collect.{key_low}
 use Rattle.ert_wheel.proofs.Views.{counts_less}
@@ -120,10 +120,10 @@ none_behind [] ys none = none
 none_behind (x ∷ xs) ys none = absurd cc
 
 -- a cancel that found nothing left leaves its timer unarmed
-missed_over : (g : Settings) (v : View) (by : Actor) (timer : TimerRef) (w : View) (told : Tells g v by timer None (Cancels g by timer None) w) → names_timer g timer ≡ true
+missed_over : (g : Settings) (v : View) (by : Actor) (timer : TimerRef) (w : View) (told : CallTells g v by timer None (Cancels g by timer None) w) → names_timer g timer ≡ true
     → IsFree told.call.call.later (Wheel timer.wheel) → (state g w.front).status timer ≢ Some Armed
 missed_over g v by timer w told names free =
-    let left : AtLastStep g w.front (IsLeft g by timer None) = subst (λ (b : Bool). TellsLeft b g by timer None w) names told.left in
+    let left : AtLastStep g w.front (IsLeftByLook g by timer None) = subst (λ (b : Bool). TellsLeft b g by timer None w) names told.left in
     let later : List Entry = told.call.call.later in
     let over : (state g left.before).status timer ≢ Some Armed = λ is. (let some = left.held.armed.1 is in cc) in
     ⊎_elim
@@ -147,7 +147,7 @@ missed_over g v by timer w told names free =
 pub ended_over : (before : Seen) (b : Inside) (d : Desk) (q : Pass) (old : Part) (timer : TimerRef) (left : Option ℕ) → Has before b d
     → timer.wheel < before.settings.schedulers → old ≡ slice_index_or b.wheels.items timer.wheel old → IsHeld old timer
     → DoesBut timer left before d q b.next (parts_in b) (λ w. By w (λ g. Cancels g (Caller 0) timer left))
-    → Tells (settings_of d) (view_of b.pass) (Caller 0) timer left (Cancels (settings_of d) (Caller 0) timer left) (view_of q)
+    → CallTells (settings_of d) (view_of b.pass) (Caller 0) timer left (Cancels (settings_of d) (Caller 0) timer left) (view_of q)
     → (state (settings_of d) (front_of q)).status timer ≢ Some Armed
 ended_over before b d q old timer (Some left) has low lent held done told = done.goes.gone.1
 ended_over before b d q old timer None has low lent held done told =

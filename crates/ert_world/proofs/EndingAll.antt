@@ -23,7 +23,7 @@ use Rattle.ert_wheel.specs.Rows.{key_in}
 use Rattle.ert_wheel.specs.declared.row.Key.{Key}
 use Rattle.ert_world.proofs.Alone.{went}
 use Rattle.ert_world.proofs.Composed.{goes_more, goes_nothing}
-use Rattle.ert_world.specs.Cancelling.{Ended, cancelled, IsOther, AreOnce, CancelsOne, CancelsOn, numbered, IsHeldAt}
+use Rattle.ert_world.specs.Cancelling.{Ended, cancelled_of, IsOther, AreEndedOnce, CancelsOne, CancelsOn, numbered, IsHeldAt}
 use Rattle.ert_world.specs.Held.{HoldsFewer}
 use Rattle.ert_world.specs.Stepping.{Stays}
 use Rattle.ert_world.specs.Worlds.{Seen, Goes, By, HasForgotten, LoseRows}
@@ -66,15 +66,15 @@ other_push timer [] e all one = (one, tt)
 other_push timer (x ∷ es) e all one = (all.0, other_push timer es e all.1 one)
 
 -- a timer that is held is none of those that are gone
-once_push : (w : Seen) (es : List Ended) (e : Ended) → AllGone w es → AreOnce es → ((d : Part) → IsHeld (slice_index_or w.wheels e.timer.wheel d) e.timer)
-    → AreOnce (es ++ e ∷ [])
+once_push : (w : Seen) (es : List Ended) (e : Ended) → AllGone w es → AreEndedOnce es → ((d : Part) → IsHeld (slice_index_or w.wheels e.timer.wheel d) e.timer)
+    → AreEndedOnce (es ++ e ∷ [])
 once_push w [] e gone once held = (tt, tt)
 once_push w (x ∷ es) e gone once held =
     let apart : e.timer ≢ x.timer = λ is.
     gone.0 no_part (subst (λ (t : TimerRef). IsHeld (slice_index_or w.wheels t.wheel no_part) t) is (held no_part)) in
     (other_push x.timer es e once.0 apart, once_push w es e gone.1 once.1 held)
 
-cancelled_push : (es : List Ended) (e : Ended) → cancelled (es ++ e ∷ []) ≡ cancelled es + cond (is_some e.left) 1 0
+cancelled_push : (es : List Ended) (e : Ended) → cancelled_of (es ++ e ∷ []) ≡ cancelled_of es + cond (is_some e.left) 1 0
 cancelled_push [] e = omega arith
 cancelled_push (x ∷ es) e = let more = cancelled_push es e in omega (arith, more)
 
@@ -89,9 +89,9 @@ one_ended a b w process e held goes =
 -- timers of a wheel were ended so far
 pub record EndsSome (a b : Seen) (w process count : ℕ) : Type 0 where
   pub es : List Ended
-  pub once : AreOnce es
+  pub once : AreEndedOnce es
   pub gone : AllGone b es
-  pub count_is : count ≡ cancelled es
+  pub count_is : count ≡ cancelled_of es
   pub runs : Goes a (λ way. Many (CancelsOne a.settings way w process) es) b
   pub bound : count + rows_at b w ≤ rows_at a w
 

@@ -15,7 +15,7 @@ use Rattle.ert_defs.specs.declared.timer.TimerRef.{TimerRef}
 use Rattle.ert_effects.specs.RequestCalls.{DoesAsked, Answers}
 use Rattle.ert_effects.specs.TimerCalls.{Cancels, cancel_entries, read_entries}
 use Rattle.ert_world.proofs.Sparing.{CancelOnly}
-use Rattle.ert_world.specs.Worlds.{left_by}
+use Rattle.ert_world.specs.Worlds.{left_for}
 
 cancel_at : (by : Actor) (timer : TimerRef) (now : ℤ) (names : Bool) (found answer : Option ℕ)
     → CancelOnly timer answer (look_entry by now ∷ cancel_entries names by timer found answer)
@@ -34,7 +34,7 @@ read_at by timer now false answer = (λ t n is. cc, tt)
 read_at by timer now true answer = (λ t n is. cc, (λ t n is. cc, tt))
 
 asked_cancels : (kind : RequestKind) (g : Settings) (w : ℕ) (timer : TimerRef) (left : Option ℕ) (s : State) (es : List Entry)
-    → DoesAsked kind g w timer left s es → CancelOnly timer (left_by kind left) es
+    → DoesAsked kind g w timer left s es → CancelOnly timer (left_for kind left) es
 asked_cancels ToCancel g w timer left s es does = cancel_cancels g (Sched w) timer left s es does
 asked_cancels ToRead g w timer left s es does =
     subst (CancelOnly timer None) (sym does.entries) (read_at (Sched w) timer does.now (names_timer g timer) left)
@@ -45,8 +45,8 @@ then_answer w process left timer x [] only = (λ t n is. cc, tt)
 then_answer w process left timer x (e ∷ es) only = (only.0, then_answer w process left timer x es only.1)
 
 pub answer_cancels : (g : Settings) (w : ℕ) (request : Request) (left : Option ℕ) (s : State) (es : List Entry) → Answers g w request (Ok left) s es
-    → CancelOnly request.timer (left_by request.kind left) es
+    → CancelOnly request.timer (left_for request.kind left) es
 answer_cancels g w request left s es answers =
-    subst (CancelOnly request.timer (left_by request.kind left)) (sym answers.entries)
-    (then_answer w request.reply_to left request.timer (left_by request.kind left) answers.steps
+    subst (CancelOnly request.timer (left_for request.kind left)) (sym answers.entries)
+    (then_answer w request.reply_to left request.timer (left_for request.kind left) answers.steps
     (asked_cancels request.kind g w request.timer left s answers.steps answers.done))

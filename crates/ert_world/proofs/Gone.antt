@@ -25,7 +25,7 @@ use Rattle.ert_defs.specs.declared.settings.Settings.{Settings}
 use Rattle.ert_defs.specs.declared.timer.Status.{Status}
 use Rattle.ert_defs.specs.declared.timer.Status.TheVariants.{Armed, Cancelled}
 use Rattle.ert_defs.specs.declared.timer.TimerRef.{TimerRef}
-use Rattle.ert_world.specs.Worlds.{left_by}
+use Rattle.ert_world.specs.Worlds.{left_for}
 use Rattle.ert_table.specs.Calls.{AreOnlyOf, IsMade}
 use Rattle.ert_table.specs.Desks.{settings_of, view_of, front_of}
 use Rattle.ert_table.specs.Held.{is_held}
@@ -119,13 +119,13 @@ cancels_hit g by timer left s es cancels =
     (at.0, subst (HasOne (IsHit timer)) (sym cancels.entries) at.1)
 
 asked_hit : (kind : RequestKind) (g : Settings) (w : ℕ) (timer : TimerRef) (left : Option ℕ) (n : ℕ) (s : State) (es : List Entry)
-    → DoesAsked kind g w timer left s es → left_by kind left ≡ Some n → Hits g timer es
+    → DoesAsked kind g w timer left s es → left_for kind left ≡ Some n → Hits g timer es
 asked_hit ToCancel g w timer (Some m) n s es does is = cancels_hit g (Sched w) timer m s es does
 asked_hit ToCancel g w timer None n s es does is = absurd cc
 asked_hit ToRead g w timer left n s es does is = absurd cc
 
 pub answers_hit : (g : Settings) (w : ℕ) (request : Request) (left : Option ℕ) (n : ℕ) (s : State) (es : List Entry) → Answers g w request (Ok left) s es
-    → left_by request.kind left ≡ Some n → Hits g request.timer es
+    → left_for request.kind left ≡ Some n → Hits g request.timer es
 answers_hit g w request left n s es answers is =
     let asked = asked_hit request.kind g w request.timer left n s answers.steps answers.done is in (
       asked.0,

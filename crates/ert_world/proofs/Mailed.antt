@@ -12,7 +12,7 @@ use Rattle.ert_effects.specs.Ways.{Way}
 use Rattle.ert_effects.specs.declared.answers.Taken.{Taken}
 use Rattle.ert_effects.specs.declared.answers.Taken.TheVariants.{Mail as Took}
 use Rattle.ert_mail.specs.Lists.{IsNextIn, LooksForMail, exits_seen, life_seen}
-use Rattle.ert_mail.specs.Mailboxes.{Mailbox, seen as box}
+use Rattle.ert_mail.specs.Mailboxes.{Mailbox, mailbox_seen as box}
 use Rattle.ert_table.specs.Calls.{AreOnlyOf, IsMade}
 use Rattle.ert_table.specs.Desks.{settings_of, view_of, front_of, state_of, Belongs}
 use Rattle.ert_table.specs.declared.desk.Desk.{Desk}

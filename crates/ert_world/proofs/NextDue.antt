@@ -8,7 +8,7 @@ use Rattle.ert_defs.specs.declared.settings.Settings.{Settings}
 use Rattle.ert_table.specs.Desks.{settings_of, front_of}
 use Rattle.ert_table.specs.declared.desk.Desk.{Desk}
 use Rattle.ert_timers.specs.NextDue.{NoneArmedBefore, IsNearest, IsNextHeld}
-use Rattle.ert_timers.specs.Parts.{Part, Stands as WheelStands}
+use Rattle.ert_timers.specs.Parts.{Part, PartStands as WheelStands}
 use Rattle.ert_timers.specs.Tidy.{IsTidy}
 use Rattle.ert_world.specs.Worlds.{Seen}
 use Rattle.ert_world.specs.declared.world.World.TheInside.{Inside}

@@ -27,7 +27,7 @@ use Rattle.ert_timers.proofs.LawsHold.{starts_only}
 use Rattle.ert_timers.proofs.Passing.{loses_none, loses_row}
 use Rattle.ert_timers.specs.Changes.{dropped}
 use Rattle.ert_timers.specs.Freeing.{IsHeld, IsLast}
-use Rattle.ert_timers.specs.Parts.{Part, Stands as WheelStands}
+use Rattle.ert_timers.specs.Parts.{Part, PartStands as WheelStands}
 use Rattle.ert_timers.specs.Passed.{GainsOne, LosesRows}
 use Rattle.ert_wheel.proofs.Collect.{key_low}
 use Rattle.ert_wheel.specs.Rows.{key_in}

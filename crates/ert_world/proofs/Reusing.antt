@@ -5,7 +5,7 @@ use Rattle.std.specs.Prelude.{slice_set}
 use Rattle.ert_defs.specs.States.{State, state}
 use Rattle.ert_table.specs.Desks.{settings_of, front_of}
 use Rattle.ert_table.specs.declared.desk.Desk.{Desk}
-use Rattle.ert_timers.specs.Parts.{Part, Stands as WheelStands}
+use Rattle.ert_timers.specs.Parts.{Part, PartStands as WheelStands}
 use Rattle.ert_timers.specs.Changes.{reused}
 use Rattle.ert_timers.specs.Passed.{LosesRows}
 use Rattle.ert_timers.proofs.Passing.{same_last}

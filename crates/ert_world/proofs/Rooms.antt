@@ -12,7 +12,7 @@ use Rattle.ert_table.specs.Calls.{AreOnlyOf, IsMade}
 use Rattle.ert_table.specs.Desks.{settings_of, view_of, front_of, Belongs}
 use Rattle.ert_table.specs.declared.desk.Desk.{Desk}
 use Rattle.ert_table.specs.declared.desk.Pass.{Pass}
-use Rattle.ert_timers.specs.Parts.{Part, Stands as WheelStands}
+use Rattle.ert_timers.specs.Parts.{Part, PartStands as WheelStands}
 use Rattle.ert_world.proofs.Armed.{AreCalm}
 use Rattle.ert_world.proofs.Calls.{Does, parts_in, seen_at}
 use Rattle.ert_world.proofs.WheelCalls.{wheel_stepped}

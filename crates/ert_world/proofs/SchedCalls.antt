@@ -15,12 +15,12 @@ use Rattle.ert_defs.specs.declared.entry.Actor.TheVariants.{Wheel, Inbox, Sched,
 use Rattle.ert_defs.specs.declared.entry.Entry.{Entry}
 use Rattle.ert_defs.specs.declared.mail.Request.{Request}
 use Rattle.ert_defs.specs.declared.settings.Settings.{Settings}
-use Rattle.ert_mail.specs.Inboxes.{Waiting, picked, Stands as InboxStands}
+use Rattle.ert_mail.specs.Inboxes.{Waiting, after_pick, InboxStands}
 use Rattle.ert_laws.proofs.Requests.{held_have_askers}
 use Rattle.ert_laws.proofs.RowRanges.{first_placed}
 use Rattle.ert_laws.specs.Ranges.{IsPlaced}
 use Rattle.ert_mail.proofs.LawsHold.{handing_only, answers_only, picks_only}
-use Rattle.ert_mail.specs.Mailboxes.{Mailbox, IsScheds, handed, answered, Stands as MailStands}
+use Rattle.ert_mail.specs.Mailboxes.{Mailbox, HoldsMailbox, handed, after_answer, MailboxStands as MailStands}
 use Rattle.ert_world.proofs.Calm.{picks_calm, hands_calm}
 use Rattle.ert_world.proofs.Returned.{inbox_back, mail_back, sched_back}
 use Rattle.ert_world.specs.Parts.{AllParts, Stand, SchedStands}
@@ -38,7 +38,7 @@ use Rattle.ert_world.proofs.Cancelled.{answer_settles}
 use Rattle.ert_world.proofs.Gone.{answers_hit}
 use Rattle.ert_world.proofs.Forgotten.{answer_cancels}
 use Rattle.ert_world.proofs.Standing.{free_kept}
-use Rattle.ert_world.specs.Worlds.{Seen, seen, IsHandedIn, By, sched_of, cancelled_by}
+use Rattle.ert_world.specs.Worlds.{Seen, seen, IsHandedIn, By, world_sched, cancelled_by}
 use Rattle.ert_world.specs.declared.world.World.TheInside.{Inside}
 
 -- a scheduler's part stands that has what the state has
@@ -86,22 +86,22 @@ now_stands before b d q n x t has low at made hand fired =
     sched_stands g (front_of q) x t (rw at (schedulers_at has n low)) (subst (λ m. (state g (front_of q)).scheds m ≡ t) (sym at) made) hand fired
 
 -- the process that is to get the answer to a request in a hand is in range
-pub asker_low : (before : Seen) (b : Inside) (d : Desk) (n : ℕ) (request : Request) → Has before b d → (sched_of before n).hand ≡ Some request
+pub asker_low : (before : Seen) (b : Inside) (d : Desk) (n : ℕ) (request : Request) → Has before b d → (world_sched before n).hand ≡ Some request
     → request.reply_to < (settings_of d).processes
 asker_low before b d n request has hand =
     held_have_askers (settings_of d) (front_of b.pass) n request has.fit.stand.legal
-    (subst (λ (w : Seen). (sched_of w n).hand ≡ Some request) (sym has.is) hand)
+    (subst (λ (w : Seen). (world_sched w n).hand ≡ Some request) (sym has.is) hand)
 
 -- the first expired timer is in range
-pub fired_placed : (before : Seen) (b : Inside) (d : Desk) (n : ℕ) (fired : Row) → Has before b d → first_of (sched_of before n).fired ≡ Some fired
+pub fired_placed : (before : Seen) (b : Inside) (d : Desk) (n : ℕ) (fired : Row) → Has before b d → first_of (world_sched before n).fired ≡ Some fired
     → IsPlaced (settings_of d) n fired
 fired_placed before b d n fired has first =
     first_placed (settings_of d) (front_of b.pass) n fired has.fit.stand.legal
-    (subst (λ (w : Seen). first_of (sched_of w n).fired ≡ Some fired) (sym has.is) first)
+    (subst (λ (w : Seen). first_of (world_sched w n).fired ≡ Some fired) (sym has.is) first)
 
 -- a world holds a scheduler and a mailbox in range
 pub sched_holds : (before : Seen) (b : Inside) (d : Desk) (n i p : ℕ) → Has before b d → n < (settings_of d).schedulers → i < (settings_of d).processes → p ≡ i
-    → IsScheds (settings_of d) (view_of b.pass) n p
+    → HoldsMailbox (settings_of d) (view_of b.pass) n p
 sched_holds before b d n i p has low ranged named = record {
   sched = has.fit.holds.rest (Sched n) low tt;
   below = low;
@@ -113,7 +113,7 @@ pub pick_called : (before : Seen) (b : Inside) (d : Desk) (q : Pass) (i : ℕ) (
     → Has before b d → Belongs d q → i < before.settings.schedulers → old ≡ slice_index_or b.inboxes.items i old
     → part ≡ slice_index_or b.scheds.items i part → new.wheel ≡ old.wheel → InboxStands (settings_of d) (front_of q) new
     → IsMade (settings_of d) (view_of b.pass) (Picks (settings_of d) old.wheel got) (view_of q)
-    → (state (settings_of d) (front_of q)).scheds old.wheel ≡ picked got ((state (settings_of d) (front_of b.pass)).scheds old.wheel)
+    → (state (settings_of d) (front_of q)).scheds old.wheel ≡ after_pick got ((state (settings_of d) (front_of b.pass)).scheds old.wheel)
     → x.wheel ≡ part.wheel → x.hand ≡ got → x.fired ≡ part.fired
     → Does before d q b.next (record (parts_in b) { inboxes = slice_set b.inboxes.items i new; scheds = slice_set b.scheds.items i x }) (λ w. By w (λ g. Picks g i got))
 pick_called before b d q i old new part x got has belongs low lent lent_part named stands made sched wheel hand fired =
@@ -123,9 +123,9 @@ pick_called before b d q i old new part x got has belongs low lent lent_part nam
     let one : old.wheel ≡ i = inbox_named g (front_of b.pass) [] (parts_in b) i old has.fit.stand below lent in
     let was : Had b d i part = had before b d i part has low lent_part in
     let made_i : IsMade g (view_of b.pass) (Picks g i got) (view_of q) = subst (λ n. IsMade g (view_of b.pass) (Picks g n got) (view_of q)) one made in
-    let sched_i : (state g (front_of q)).scheds i ≡ picked got (s.scheds i) = subst (λ n. (state g (front_of q)).scheds n ≡ picked got (s.scheds n)) one sched in
+    let sched_i : (state g (front_of q)).scheds i ≡ after_pick got (s.scheds i) = subst (λ n. (state g (front_of q)).scheds n ≡ after_pick got (s.scheds n)) one sched in
     let at : x.wheel ≡ i = wheel ∙ was.wheel in
-    let now : SchedStands g (front_of q) x = now_stands before b d q i x (picked got (s.scheds i)) has low at sched_i hand (ap (λ (f : Queue). f.rows) fired ∙ was.fired) in
+    let now : SchedStands g (front_of q) x = now_stands before b d q i x (after_pick got (s.scheds i)) has low at sched_i hand (ap (λ (f : Queue). f.rows) fired ∙ was.fired) in
     let after : AllParts = record (parts_in b) { scheds = slice_set b.scheds.items i x } in
     called_with before b d q (record after { inboxes = slice_set b.inboxes.items i new }) (Sched i ∷ (Inbox i ∷ [])) (λ g. Picks g i got) has belongs made_i
     (picks_only g i got s made_i.entries made_i.allowed) (picks_calm g i got s made_i.entries made_i.allowed) (refl, (refl, tt)) refl refl
@@ -144,10 +144,10 @@ mail_and_sched before b d q i n old new x has low ranged lent named stands at no
 
 -- the request in the hand was answered, and the hand is empty
 pub answered_now : (before : Seen) (b : Inside) (d : Desk) (q : Pass) (n : ℕ) (old new : Mailbox) (request : Request) (left : Option ℕ) (part x : SchedPart)
-    → Has before b d → Belongs d q → n < before.settings.schedulers → (sched_of before n).hand ≡ Some request
+    → Has before b d → Belongs d q → n < before.settings.schedulers → (world_sched before n).hand ≡ Some request
     → old ≡ slice_index_or b.mails.items request.reply_to old → new.process ≡ old.process → MailStands (settings_of d) (front_of q) new
     → IsMade (settings_of d) (view_of b.pass) (Answers (settings_of d) n request (Ok left)) (view_of q)
-    → (state (settings_of d) (front_of q)).scheds n ≡ answered (Ok left) ((state (settings_of d) (front_of b.pass)).scheds n)
+    → (state (settings_of d) (front_of q)).scheds n ≡ after_answer (Ok left) ((state (settings_of d) (front_of b.pass)).scheds n)
     → part ≡ slice_index_or b.scheds.items n part → x.wheel ≡ part.wheel → x.hand ≡ None → x.fired ≡ part.fired
     → DoesBut request.timer (cancelled_by request (Ok left)) before d q b.next
     (record (parts_in b) { mails = slice_set b.mails.items request.reply_to new; scheds = slice_set b.scheds.items n x })
@@ -158,7 +158,7 @@ answered_now before b d q n old new request left part x has belongs low hand len
     let i : ℕ = request.reply_to in
     let was : Had b d n part = had before b d n part has low lent_part in
     let at : x.wheel ≡ n = wheel ∙ was.wheel in
-    let now = now_stands before b d q n x (answered (Ok left) (s.scheds n)) has low at sched empty (ap (λ (f : Queue). f.rows) fired ∙ was.fired) in
+    let now = now_stands before b d q n x (after_answer (Ok left) (s.scheds n)) has low at sched empty (ap (λ (f : Queue). f.rows) fired ∙ was.fired) in
     finish_but before b d q (record (parts_in b) { mails = slice_set b.mails.items i new; scheds = slice_set b.scheds.items n x }) made.entries (Sched n ∷ (MailOf i ∷ []))
     request.timer (cancelled_by request (Ok left)) (λ w. By w (λ g. Answers g n request (Ok left))) has belongs made.call
     (answers_only g n request (Ok left) s made.entries made.allowed) (refl, (refl, tt)) (λ j. refl)
@@ -169,7 +169,7 @@ answered_now before b d q n old new request left part x has belongs low hand len
 
 -- the first expired timer was handed over, and is out of the list
 pub handed_now : (before : Seen) (b : Inside) (d : Desk) (q : Pass) (n : ℕ) (old new : Mailbox) (fired : Row) (how : Handed) (part x : SchedPart)
-    → Has before b d → Belongs d q → n < before.settings.schedulers → first_of (sched_of before n).fired ≡ Some fired
+    → Has before b d → Belongs d q → n < before.settings.schedulers → first_of (world_sched before n).fired ≡ Some fired
     → old ≡ slice_index_or b.mails.items fired.dest old → new.process ≡ old.process → MailStands (settings_of d) (front_of q) new
     → IsMade (settings_of d) (view_of b.pass) (HandsOver (settings_of d) fired.timer.wheel fired (Ok how)) (view_of q)
     → (state (settings_of d) (front_of q)).scheds fired.timer.wheel ≡ handed (Ok how) ((state (settings_of d) (front_of b.pass)).scheds fired.timer.wheel)
@@ -193,24 +193,24 @@ handed_now before b d q n old new fired how part x has belongs low first lent na
     (mail_and_sched before b d q fired.dest n old new x has low placed.dest lent named stands at now)
     (λ m grown own. record {
       fired = fired;
-      first = subst (λ (w : Seen). first_of (sched_of w n).fired ≡ Some fired) (sym has.is) first;
+      first = subst (λ (w : Seen). first_of (world_sched w n).fired ≡ Some fired) (sym has.is) first;
       step = subst (HandsOver g n fired (Ok how) s) (sym own) made.allowed;
     })
 
 -- what a scheduler has after its first expired timer was handed over
 pub hands_on : (before : Seen) (b : Inside) (d : Desk) (q : Pass) (n : ℕ) (fired : Row) (how : Handed) → Has before b d
-    → first_of (sched_of before n).fired ≡ Some fired
+    → first_of (world_sched before n).fired ≡ Some fired
     → (state (settings_of d) (front_of q)).scheds fired.timer.wheel ≡ handed (Ok how) ((state (settings_of d) (front_of b.pass)).scheds fired.timer.wheel)
-    → ((state (settings_of d) (front_of q)).scheds n).fired ≡ others_of (sched_of before n).fired
+    → ((state (settings_of d) (front_of q)).scheds n).fired ≡ others_of (world_sched before n).fired
 hands_on before b d q n fired how has first sched =
     let g : Settings = settings_of d in
     let placed : IsPlaced g n fired = fired_placed before b d n fired has first in
     let mine = subst (λ m. (state g (front_of q)).scheds m ≡ handed (Ok how) ((state g (front_of b.pass)).scheds m)) placed.wheel sched in
-    ap (λ (s : SchedState). s.fired) mine ∙ ap (λ (w : Seen). others_of (sched_of w n).fired) has.is
+    ap (λ (s : SchedState). s.fired) mine ∙ ap (λ (w : Seen). others_of (world_sched w n).fired) has.is
 
 -- its slot can be used again
 pub handed_in : (before : Seen) (b : Inside) (d : Desk) (q : Pass) (n : ℕ) (fired : Row) (how : Handed) → Has before b d → n < before.settings.schedulers
-    → first_of (sched_of before n).fired ≡ Some fired
+    → first_of (world_sched before n).fired ≡ Some fired
     → IsMade (settings_of d) (view_of b.pass) (HandsOver (settings_of d) fired.timer.wheel fired (Ok how)) (view_of q)
     → IsHandedIn (seen d q b.next b.keeper b.wheels.items) fired.timer
 handed_in before b d q n fired how has low first made =
@@ -221,7 +221,7 @@ handed_in before b d q n fired how has low first made =
     let below : w < g.schedulers = subst (λ m. m < g.schedulers) (sym placed.wheel) (schedulers_at has n low) in
     let first_w : first_of ((state g h).scheds w).fired ≡ Some fired =
     subst (λ m. first_of ((state g h).scheds m).fired ≡ Some fired) (sym placed.wheel)
-    (subst (λ (w : Seen). first_of (sched_of w n).fired ≡ Some fired) (sym has.is) first) in
+    (subst (λ (w : Seen). first_of (world_sched w n).fired ≡ Some fired) (sym has.is) first) in
     let free = free_kept g (view_of b.pass) made.entries (view_of q) (Sched w ∷ (MailOf fired.dest ∷ [])) (Wheel w) made.call
     (handing_only g w fired (Ok how) (state g h) made.entries made.allowed) (has.fit.holds.rest (Wheel w) below tt) refl in (
       below,

@@ -17,7 +17,7 @@ use Rattle.ert_table.specs.Held.{is_held}
 use Rattle.ert_table.specs.declared.desk.Desk.{Desk}
 use Rattle.ert_table.specs.declared.desk.Pass.{Pass}
 use Rattle.ert_timers.proofs.Passing.{rows_lost}
-use Rattle.ert_timers.specs.Parts.{Part, Stands as WheelStands}
+use Rattle.ert_timers.specs.Parts.{Part, PartStands as WheelStands}
 use Rattle.ert_timers.specs.Passed.{LosesRows}
 use Rattle.ert_timers.specs.Trying.{HasExpiredSome, HasRefusedSome, IsLeft, LosesSome}
 use Rattle.ert_world.proofs.Advances.{AreOfAdvance, LeaveHand, advances_are, advance_still, advanced, counted}

@@ -25,7 +25,7 @@ use Rattle.ert_table.specs.Desks.{settings_of, front_of}
 use Rattle.ert_table.specs.declared.desk.Desk.{Desk}
 use Rattle.ert_timers.proofs.Settled.{HasOne, IsHit}
 use Rattle.ert_timers.specs.Freeing.{IsHeld}
-use Rattle.ert_timers.specs.Parts.{Part, Stands as WheelStands}
+use Rattle.ert_timers.specs.Parts.{Part, PartStands as WheelStands}
 use Rattle.ert_timers.specs.Passed.{GainsOne, WasHeld}
 use Rattle.ert_wheel.proofs.Collect.{key_low}
 use Rattle.ert_wheel.specs.Rows.{key_in}

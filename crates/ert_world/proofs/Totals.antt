@@ -18,9 +18,9 @@ use Rattle.ert_laws.specs.Counts.{Counts as Numbers, Agrees, counts_of, count_at
 use Rattle.ert_mail.specs.Mailboxes.{Mailbox}
 use Rattle.ert_table.specs.Desks.{settings_of, front_of}
 use Rattle.ert_timers.proofs.Counted.{tidy_counts}
-use Rattle.ert_timers.specs.Parts.{Part, Stands as WheelStands}
+use Rattle.ert_timers.specs.Parts.{Part, PartStands as WheelStands}
 use Rattle.ert_timers.specs.Tidy.{IsTidy}
-use Rattle.ert_world.specs.Worlds.{Seen, AreSound, sched_of}
+use Rattle.ert_world.specs.Worlds.{Seen, AreSound, world_sched}
 use Rattle.ert_world.specs.contracts.world.World.{the_view}
 use Rattle.ert_world.specs.declared.sched_part.SchedPart.{SchedPart}
 use Rattle.ert_world.specs.declared.world.World.TheInside.{Inside}
@@ -116,13 +116,13 @@ wheel_rows before b i p is fit low lent alone =
     (subst (λ n. count_by is_some p.keys ≡ count_at s Armed n) named (tidy_counts g (front_of b.pass) p stands mine))
 
 pub sched_waits : (before : Seen) (b : Inside) (i : ℕ) (p : SchedPart) → the_view b ≡ before → AreSound (arc_value b.desk) b.pass b.next (parts_in b) → i < before.settings.schedulers
-    → p ≡ slice_index_or b.scheds.items i p → length p.fired.rows ≡ length (sched_of before i).fired
+    → p ≡ slice_index_or b.scheds.items i p → length p.fired.rows ≡ length (world_sched before i).fired
 sched_waits before b i p is fit low lent =
     let g : Settings = settings_of (arc_value b.desk) in
     let below : i < g.schedulers = subst (λ (w : Seen). i < w.settings.schedulers) (sym is) low in
     let stands = subst (λ (x : SchedPart). x.fired.rows ≡ ((state g (front_of b.pass)).scheds x.wheel).fired) (sym lent) (fit.fit.stand.scheds.stand i p below refl).fired in
     let named : p.wheel ≡ i = ap (λ (x : SchedPart). x.wheel) lent ∙ fit.fit.stand.scheds.named i p below in
-    ap (λ (l : List _). length l) (stands ∙ (ap (λ n. ((state g (front_of b.pass)).scheds n).fired) named ∙ ap (λ (w : Seen). (sched_of w i).fired) is))
+    ap (λ (l : List _). length l) (stands ∙ (ap (λ n. ((state g (front_of b.pass)).scheds n).fired) named ∙ ap (λ (w : Seen). (world_sched w i).fired) is))
 
 pub mail_delivered : (before : Seen) (b : Inside) (i : ℕ) (m : Mailbox) → the_view b ≡ before → AreSound (arc_value b.desk) b.pass b.next (parts_in b) → i < before.settings.processes
     → m ≡ slice_index_or b.mails.items i m → m.delivered ≡ deliveries i before.history
@@ -194,7 +194,7 @@ pub counted : (w : Seen) {arms expires orphans rows expired delivered : ℕ} →
     → expires ≡ total (λ i. entries_of is_expire i w.history) w.settings.schedulers
     → orphans ≡ total (λ i. entries_of is_orphan i w.history) w.settings.schedulers
     → rows ≡ count_in (state w.settings w.history) Armed w.settings.schedulers
-    → expired ≡ total (λ i. length (sched_of w i).fired) w.settings.schedulers
+    → expired ≡ total (λ i. length (world_sched w i).fired) w.settings.schedulers
     → delivered ≡ total (λ p. deliveries p w.history) w.settings.processes
     → AreCounted (counts_of w.settings (state w.settings w.history)) arms expires orphans rows expired delivered
 counted w {arms} {expires} {orphans} {rows} {expired} {delivered} legal arms_is expires_is orphans_is rows_is expired_is delivered_is =

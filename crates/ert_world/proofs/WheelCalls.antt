@@ -28,7 +28,7 @@ use Rattle.ert_table.specs.declared.desk.Pass.{Pass}
 use Rattle.ert_timers.proofs.LawsHold.{sweeps_only}
 use Rattle.ert_timers.proofs.Passing.{loses_none}
 use Rattle.ert_timers.specs.Passed.{GainsOne, HasPassed, LosesRows}
-use Rattle.ert_timers.specs.Parts.{Part, Stands as WheelStands}
+use Rattle.ert_timers.specs.Parts.{Part, PartStands as WheelStands}
 use Rattle.ert_world.proofs.Armed.{is_cancel, AreCalm}
 use Rattle.ert_world.proofs.Calm.{calm_as}
 use Rattle.ert_world.proofs.Calls.{Has, Does, Makes, parts_in, seen_at, has_at, does_at, exact, after, finish, makes, schedulers_at}

@@ -20,9 +20,9 @@ pub record Ended : Type 0 where
   pub left : Option ℕ
 
 -- how many of them were cancelled
-abbrev pub cancelled : List Ended → ℕ
-cancelled [] = 0
-cancelled (e ∷ es) = cond (is_some e.left) 1 0 + cancelled es
+abbrev pub cancelled_of : List Ended → ℕ
+cancelled_of [] = 0
+cancelled_of (e ∷ es) = cond (is_some e.left) 1 0 + cancelled_of es
 
 -- none of them is this timer
 abbrev pub IsOther : TimerRef → List Ended → Type 0
@@ -30,9 +30,9 @@ IsOther timer [] = Unit {0}
 IsOther timer (e ∷ es) = (e.timer ≢ timer) × IsOther timer es
 
 -- no timer was tried twice
-abbrev pub AreOnce : List Ended → Type 0
-AreOnce [] = Unit {0}
-AreOnce (e ∷ es) = IsOther e.timer es × AreOnce es
+abbrev pub AreEndedOnce : List Ended → Type 0
+AreEndedOnce [] = Unit {0}
+AreEndedOnce (e ∷ es) = IsOther e.timer es × AreEndedOnce es
 
 -- a timer of a wheel for a process is cancelled, or had been settled before
 pub record CancelsOne (g : Settings) (way : Way) (w process : ℕ) (one : Ended) (h m : List Entry) : Type 0 where
@@ -42,9 +42,9 @@ pub record CancelsOne (g : Settings) (way : Way) (w process : ℕ) (one : Ended)
 -- timers of a wheel for a process are cancelled, so many, one after the other. Then none that is for it is armed
 pub record CancelsOn (g : Settings) (way : Way) (process : ℕ) (at : ℕ × ℕ) (h m : List Entry) : Type 0 where
   pub ended : List Ended
-  pub once : AreOnce ended
+  pub once : AreEndedOnce ended
   pub runs : Many (CancelsOne g way at.0 process) ended h m
-  pub count : at.1 ≡ cancelled ended
+  pub count : at.1 ≡ cancelled_of ended
   pub swept : IsSwept (state g (h ++ m)) at.0 process
 
 -- the wheels from one on, each with its number

@@ -9,8 +9,8 @@ use Rattle.ert_timers.specs.Parts.{Part}
 use Rattle.ert_world.specs.Worlds.{Seen}
 
 -- a wheel of a world holds so many rows
-abbrev pub HoldsRows : Seen → ℕ → ℕ → Type 0
-HoldsRows w i n = (d : Part) → n ≡ count_by is_some (slice_index_or w.wheels i d).keys
+abbrev pub HoldsSoManyRows : Seen → ℕ → ℕ → Type 0
+HoldsSoManyRows w i n = (d : Part) → n ≡ count_by is_some (slice_index_or w.wheels i d).keys
 
 -- where no seat was given out, so many timers of a wheel are armed
 abbrev pub AreArmed : Seen → ℕ → ℕ → Type 0

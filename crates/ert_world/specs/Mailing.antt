@@ -8,7 +8,7 @@ use Rattle.ert_effects.specs.MailCalls.{Takes}
 use Rattle.ert_effects.specs.Ways.{Growth, Way, Then, Many}
 use Rattle.ert_effects.specs.declared.answers.Taken.TheVariants.{Mail as Took, Empty, Exited}
 use Rattle.ert_mail.specs.Lists.{LooksForMail}
-use Rattle.ert_world.specs.Worlds.{Seen, Goes, By, HasExited}
+use Rattle.ert_world.specs.Worlds.{Seen, Goes, By, HasProcessExited}
 use Rattle.ert_world.specs.declared.mailing.TakeEnd.{TakeEnd}
 use Rattle.ert_world.specs.declared.mailing.TakeEnd.TheVariants.{Most, Empty as FoundEmpty, Exited as HadExited}
 
@@ -18,8 +18,8 @@ mail_of w process = ((state w.settings w.history).mails process).queue
 
 -- a process in range hasn't exited and has mail, or each that has mail has exited
 abbrev pub IsNextMail : Seen → Option ℕ → Type 0
-IsNextMail w (Some process) = (process < w.settings.processes) × (HasExited w process → ⊥) × (mail_of w process ≢ [])
-IsNextMail w None = (process : ℕ) → process < w.settings.processes → mail_of w process ≢ [] → HasExited w process
+IsNextMail w (Some process) = (process < w.settings.processes) × (HasProcessExited w process → ⊥) × (mail_of w process ≢ [])
+IsNextMail w None = (process : ℕ) → process < w.settings.processes → mail_of w process ≢ [] → HasProcessExited w process
 
 -- `next_mail`: a process with mail is looked for, by caller 0, and the wheels stay
 pub record FindsMail (old : Seen) (answer : Option ℕ) (new : Seen) : Type 0 where

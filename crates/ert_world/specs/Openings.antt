@@ -3,7 +3,7 @@
 use Rattle.std.specs.Prelude.{◌≡◌, ℕ, ◌<◌, List, [], length, slice_index_or, None}
 use Rattle.ert_defs.specs.declared.settings.Settings.{Settings}
 use Rattle.ert_mail.specs.Inboxes.{Waiting}
-use Rattle.ert_timers.specs.Parts.{Part, Stands}
+use Rattle.ert_timers.specs.Parts.{Part, PartStands}
 use Rattle.ert_world.specs.Worlds.{Seen, StandsFor}
 use Rattle.ert_world.specs.declared.sched_part.SchedPart.{SchedPart}
 
@@ -20,7 +20,7 @@ pub record AreNew {X : Type 0} (is_new : ℕ → X → Type 0) (count : ℕ) (xs
 -- the wheel of a scheduler that has no timer yet
 pub record IsNewWheel (g : Settings) (number : ℕ) (p : Part) : Type 0 where
   pub named : p.number ≡ number
-  pub stands : Stands g [] p
+  pub stands : PartStands g [] p
 
 -- the inbox of a scheduler in which no request waits
 abbrev pub IsNewInbox : ℕ → Waiting → Type 0

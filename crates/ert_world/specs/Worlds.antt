@@ -3,7 +3,7 @@
 use Rattle.std.specs.Prelude.{◌≡◌, ◌≢◌, ℕ, ◌<◌, ◌≤◌, ◌⊎◌, ◌++◌, Bool, true, false, List, [], ◌∷◌, filter, slice_index_or, Option, Some, None, Result, Ok, Err}
 use Rattle.atomic_table.specs.Seated.{TableId}
 use Rattle.ert_effects.specs.Ways.{Growth, Way, Grows, alone}
-use Rattle.ert_clock.specs.Shown.{Shown, Stands as ClockStands}
+use Rattle.ert_clock.specs.Shown.{Shown, ClockStands}
 use Rattle.ert_defs.specs.Legal.{Legal}
 use Rattle.ert_defs.specs.Mails.{SchedState}
 use Rattle.ert_defs.specs.Settings.{IsChecked}
@@ -172,21 +172,21 @@ pub record StandsFor (g : Settings) (h : List Entry) (w : Seen) : Type 0 where
   pub clock : ClockStands g h w.clock
 
 -- a process has exited in the history of a world
-abbrev pub HasExited : Seen → ℕ → Type 0
-HasExited w process = HasExitedIn w.settings w.history process
+abbrev pub HasProcessExited : Seen → ℕ → Type 0
+HasProcessExited w process = HasExitedIn w.settings w.history process
 
 -- what a scheduler has in the history of a world
-abbrev pub sched_of : Seen → ℕ → SchedState
-sched_of w n = sched_after w.settings w.history n
+abbrev pub world_sched : Seen → ℕ → SchedState
+world_sched w n = sched_after w.settings w.history n
 
 -- what was left of a timer that was cancelled for a request; None where the request was to read it
-abbrev pub left_by : RequestKind → Option ℕ → Option ℕ
-left_by ToCancel left = left
-left_by ToRead left = None
+abbrev pub left_for : RequestKind → Option ℕ → Option ℕ
+left_for ToCancel left = left
+left_for ToRead left = None
 
 -- the same, by what the answer to a request gave; None for want of memory
 abbrev pub cancelled_by : Request → Result (Option ℕ) NoMemory → Option ℕ
-cancelled_by request (Ok left) = left_by request.kind left
+cancelled_by request (Ok left) = left_for request.kind left
 cancelled_by request (Err e) = None
 
 -- no wheel of a world holds the row of a timer that was started before and that it had forgotten

@@ -7,7 +7,7 @@ use ert_defs::{Actor, OffsetState, Reading};
 impl World {
     ghost use Rattle.std.specs.Prelude.{◌≡◌, ◌+ℤ◌};
     ghost use Rattle.ert_effects.specs.ClockCalls.{Ticks, Finalizes, TellsTime, TellsOffset, TellsSystemTime};
-    ghost use Rattle.ert_clock.specs.Ticks.{act_of, Gives, FinalizesFrom};
+    ghost use Rattle.ert_clock.specs.Ticks.{act_of, Gives, ClockFinalizesFrom};
     ghost use Rattle.ert_defs.specs.declared.entry.Actor.TheVariants.{Caller};
     ghost use Rattle.ert_world.specs.Worlds.{Goes, GoesOnClock, By};
 
@@ -27,7 +27,7 @@ impl World {
     ///
     /// It is refused where the clock refuses it (`ClockErr`), and then it makes no entry.
     pub fn finalize(&mut self, reading: Reading) -> Result<(OffsetState, Moved), ClockErr>
-        ensures gives { FinalizesFrom self.old.clock.face.state self.old.clock reading result self.new.clock }
+        ensures gives { ClockFinalizesFrom self.old.clock.face.state self.old.clock reading result self.new.clock }
         ensures call { GoesOnClock self.old (By self.old (λ g. Finalizes g 0 reading result)) self.new }
     {
         self.keeper

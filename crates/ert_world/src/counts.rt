@@ -24,7 +24,7 @@ impl World {
     ghost use Rattle.ert_defs.specs.declared.timer.Status.TheVariants.{Armed};
     ghost use Rattle.ert_laws.specs.Counts.{counts_of, count_in, entries_of, is_arm, is_expire, is_orphan, deliveries, total};
     ghost use Rattle.ert_world.specs.Counted.{numbers_of};
-    ghost use Rattle.ert_world.specs.Worlds.{sched_of};
+    ghost use Rattle.ert_world.specs.Worlds.{world_sched};
 
     /// Counts the timers by their status, of a world that gave out no seat. No entry is made.
     pub fn counts(&self) -> Counts
@@ -71,7 +71,7 @@ impl World {
 
     /// How many expired timers wait at all schedulers.
     fn waiting(&self) -> u64
-        ensures { result ≡ total (λ w. length (sched_of self.now w).fired) self.now.settings.schedulers }
+        ensures { result ≡ total (λ w. length (world_sched self.now w).fired) self.now.settings.schedulers }
     {
         let mut all = 0;
         for sched in 0..self.desk.settings().schedulers {

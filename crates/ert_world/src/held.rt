@@ -4,8 +4,8 @@ use crate::world::World;
 impl World {
     ghost use Rattle.std.specs.Prelude.{◌≡◌, ◌<◌, length};
     ghost use Rattle.ert_defs.specs.States.{state};
-    ghost use Rattle.ert_world.specs.Held.{HoldsRows, AreArmed};
-    ghost use Rattle.ert_world.specs.Worlds.{sched_of};
+    ghost use Rattle.ert_world.specs.Held.{HoldsSoManyRows, AreArmed};
+    ghost use Rattle.ert_world.specs.Worlds.{world_sched};
 
     /// How many timers the wheel of a scheduler holds. No entry is made.
     ///
@@ -13,7 +13,7 @@ impl World {
     /// holds it until it would be due.
     pub fn held(&self, sched: u32) -> u64
         requires { sched < self.now.settings.schedulers }
-        ensures rows { HoldsRows self.now sched result }
+        ensures rows { HoldsSoManyRows self.now sched result }
         ensures armed { AreArmed self.now sched result }
     {
         self.wheels[sched as usize].tally().rows
@@ -22,7 +22,7 @@ impl World {
     /// How many expired timers of a scheduler wait to be handed over. No entry is made.
     pub fn expired(&self, sched: u32) -> u64
         requires { sched < self.now.settings.schedulers }
-        ensures { result ≡ length (sched_of self.now sched).fired }
+        ensures { result ≡ length (world_sched self.now sched).fired }
     {
         self.scheds[sched as usize].fired.len() as u64
     }

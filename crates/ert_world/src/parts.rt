@@ -3,7 +3,7 @@ ghost use Rattle.std.specs.Prelude.{◌≡◌, ℕ, [], slice_index_or};
 ghost use Rattle.ert_defs.specs.declared.entry.Actor.TheVariants.{Wheel};
 ghost use Rattle.ert_table.specs.Desks.{settings_of, view_of, front_of, actors_of, Belongs};
 ghost use Rattle.ert_table.specs.Held.{IsWhole};
-ghost use Rattle.ert_timers.specs.Parts.{Part, Stands};
+ghost use Rattle.ert_timers.specs.Parts.{Part, PartStands};
 ghost use Rattle.ert_timers.specs.Passed.{LosesRows};
 ghost use Rattle.ert_world.specs.Parts.{AreOrdered};
 ghost use Rattle.ert_world.specs.Worlds.{AreTidy};
@@ -96,10 +96,10 @@ impl World {
 fn drop_all_settled(desk: &Desk, pass: &mut Pass, wheels: &mut Vec<WheelPart>)
     requires belongs { Belongs desk.now pass.old }
     requires whole { IsWhole (settings_of desk.now) (actors_of pass.old) }
-    requires ordered { AreOrdered (λ p. p.number) (Stands (settings_of desk.now) (front_of pass.old)) Wheel [] (settings_of desk.now).schedulers wheels.old.items }
+    requires ordered { AreOrdered (λ p. p.number) (PartStands (settings_of desk.now) (front_of pass.old)) Wheel [] (settings_of desk.now).schedulers wheels.old.items }
     ensures belongs { Belongs desk.now pass.new }
     ensures same { view_of pass.new ≡ view_of pass.old }
-    ensures ordered { AreOrdered (λ p. p.number) (Stands (settings_of desk.now) (front_of pass.old)) Wheel [] (settings_of desk.now).schedulers wheels.new.items }
+    ensures ordered { AreOrdered (λ p. p.number) (PartStands (settings_of desk.now) (front_of pass.old)) Wheel [] (settings_of desk.now).schedulers wheels.new.items }
     ensures rows { (i : ℕ) (d : Part) → LosesRows (slice_index_or wheels.old.items i d) (slice_index_or wheels.new.items i d) }
     ensures tidy { AreTidy (settings_of desk.now) (front_of pass.old) wheels.new.items }
 {

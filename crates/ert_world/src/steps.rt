@@ -1,6 +1,6 @@
 //! The single steps of schedulers and of callers, of which the chains are made.
 ghost use Rattle.std.specs.Prelude.{◌≡◌, ◌<◌, ◌≤◌, ℕ, true, List, [], ◌∷◌, Some, length, IfOk, OnOk};
-ghost use Rattle.ert_effects.specs.Chains.{Holds, AdvancesWheel, Hands, SweepsWheel};
+ghost use Rattle.ert_effects.specs.Chains.{HoldsRequest, AdvancesWheel, Hands, SweepsWheel};
 ghost use Rattle.ert_effects.specs.RequestCalls.{Answers};
 ghost use Rattle.ert_effects.specs.Ways.{Way, Grows};
 ghost use Rattle.ert_effects.specs.WheelCalls.{MarksExit};
@@ -43,7 +43,7 @@ pub trait SchedSteps {
     /// The request in a scheduler's hand. Where the hand is empty, the first of the inbox is taken into it.
     fn hold(&mut self, sched: u32) -> Option<Request>
         requires { acts self.old sched }
-        ensures call { Grows (Holds (settings self.old) (way (settings self.old) (mark self.old) sched) sched result) (history self.old) (history self.new) }
+        ensures call { Grows (HoldsRequest (settings self.old) (way (settings self.old) (mark self.old) sched) sched result) (history self.old) (history self.new) }
         ensures legal { is_legal self.new }
         ensures hand { ((state (settings self.new) (history self.new)).scheds sched).hand ≡ result }
         ensures stays { stays self.old self.new };

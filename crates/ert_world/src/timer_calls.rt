@@ -19,7 +19,7 @@ impl World {
     ghost use Rattle.ert_defs.specs.Timers.{is_taken};
     ghost use Rattle.ert_world.specs.Restarts.{HasNoDeadline};
     ghost use Rattle.ert_world.specs.Stepping.{Stays};
-    ghost use Rattle.ert_world.specs.Worlds.{Goes, HasForgotten, StayForgotten, By, HasExited, IsLetGoIn};
+    ghost use Rattle.ert_world.specs.Worlds.{Goes, HasForgotten, StayForgotten, By, HasProcessExited, IsLetGoIn};
 
     /// Starts a timer on a wheel (`erlang` module reference, `start_timer` and `send_after`).
     ///
@@ -96,7 +96,7 @@ impl World {
         requires { process < self.old.settings.processes }
         ensures call { Goes self.old (By self.old (λ g. MarksExit g (Caller 0) process result)) self.new }
         ensures stays { Stays self.old self.new }
-        ensures exited { HasExited self.new process }
+        ensures exited { HasProcessExited self.new process }
     {
         mark_exit(&self.desk, &mut self.pass, Actor::Caller(CALLER), process)
     }

@@ -1,6 +1,6 @@
 //! The calls of schedulers: to serve requests, to advance the wheel, to deliver messages, and all three.
 ghost use Rattle.std.specs.Prelude.{◌≡◌};
-ghost use Rattle.ert_world.specs.Worlds.{left_by};
+ghost use Rattle.ert_world.specs.Worlds.{left_for};
 
 use crate::chains;
 use crate::mailing::may_get_mail;
@@ -16,7 +16,7 @@ impl World {
     ghost use Rattle.ert_defs.specs.Legal.{Legal};
     ghost use Rattle.ert_defs.specs.Mails.{first_of, others_of};
     ghost use Rattle.ert_defs.specs.States.{state};
-    ghost use Rattle.ert_world.specs.Worlds.{Goes, HasPassedAt, By, IsNextHeldAt, IsNearestAt, IsHandedIn, sched_of};
+    ghost use Rattle.ert_world.specs.Worlds.{Goes, HasPassedAt, By, IsNextHeldAt, IsNearestAt, IsHandedIn, world_sched};
     ghost use Rattle.ert_timers.specs.NextDue.{NoneArmedBefore};
     ghost use Rattle.ert_world.specs.Stepping.{Stays};
 
@@ -35,7 +35,7 @@ impl World {
     /// The request in a scheduler's hand.
     pub(crate) fn hand(&self, sched: u32) -> Option<Request>
         requires { sched < self.now.settings.schedulers }
-        ensures hand { result ≡ (sched_of self.now sched).hand }
+        ensures hand { result ≡ (world_sched self.now sched).hand }
         ensures legal { Legal self.now.settings self.now.history }
     {
         self.scheds[sched as usize].hand
@@ -44,10 +44,10 @@ impl World {
     /// Takes the first request of the inbox into the empty hand.
     pub(crate) fn pick(&mut self, sched: u32) -> Option<Request>
         requires sched { sched < self.old.settings.schedulers }
-        requires empty { (sched_of self.old sched).hand ≡ None }
+        requires empty { (world_sched self.old sched).hand ≡ None }
         ensures stays { Stays self.old self.new }
         ensures call { Goes self.old (By self.old (λ g. Picks g sched result)) self.new }
-        ensures hand { (sched_of self.new sched).hand ≡ result }
+        ensures hand { (world_sched self.new sched).hand ≡ result }
     {
         let got = self.inboxes[sched as usize].pick(&self.desk, &mut self.pass);
         self.scheds[sched as usize].hand = got;
@@ -101,10 +101,10 @@ impl World {
     #[inline(always)]
     pub(crate) fn hand_over(&mut self, sched: u32, fired: &Fired) -> Result<Handed, NoMemory>
         requires sched { sched < self.old.settings.schedulers }
-        requires first { first_of (sched_of self.old sched).fired ≡ Some fired.now }
+        requires first { first_of (world_sched self.old sched).fired ≡ Some fired.now }
         ensures call { Goes self.old (λ way. Hands self.old.settings way sched result) self.new }
         ensures stays { Stays self.old self.new }
-        ensures fired { OnOk result ((sched_of self.new sched).fired ≡ others_of (sched_of self.old sched).fired) }
+        ensures fired { OnOk result ((world_sched self.new sched).fired ≡ others_of (world_sched self.old sched).fired) }
         ensures handed { OnOk result (IsHandedIn self.new fired.now.timer) }
     {
         may_get_mail(&mut self.list, fired.dest);
@@ -129,7 +129,7 @@ impl World {
 
 /// What was left of a timer that was cancelled for a request; None where it wasn't, or was only read.
 pub(crate) fn cancelled_left(kind: RequestKind, left: Option<u64>) -> Option<u64>
-    ensures { result ≡ left_by kind left }
+    ensures { result ≡ left_for kind left }
 {
     match kind {
         RequestKind::Cancel => left,

@@ -4,7 +4,7 @@ ghost use Rattle.std.specs.Prelude.{◌≡◌, ◌≤◌, ◌<◌, ◌++◌, [],
 ghost use Rattle.ert_defs.specs.Timers as timers;
 ghost use Rattle.ert_timers.specs.Changes as changes;
 ghost use Rattle.ert_timers.specs.Owners.{MayJoin, Joins};
-ghost use Rattle.ert_wheel.specs.Rings.{Place, AreChains, MayTake, Takes, StandsIn};
+ghost use Rattle.ert_wheel.specs.Rings.{Place, AreChains, MayTake, GivesUpPlace, StandsIn};
 ghost use Rattle.ert_words.specs.Free.{free_set};
 
 use super::{Use, WheelPart, is_long};
@@ -71,7 +71,7 @@ impl WheelPart {
     ghost use Rattle.std.specs.FinSet as set;
     ghost use Rattle.std.specs.Prelude.{◌≡◌, ◌↔◌, ◌<◌, ◌≤◌, IfSome, IfNone, IsSome, IsTrue, ℕ, false, true, length, None};
     ghost use Rattle.ert_timers.specs.Parts.{slot_at, last_timer};
-    ghost use Rattle.ert_timers.specs.Changes.{IsFree, freed, picked, kept, dropped, let_go, given_back, reused, LostRow};
+    ghost use Rattle.ert_timers.specs.Changes.{CanTakeTimer, freed, picked, kept, dropped, let_go, given_back, reused, LostRow};
     ghost use Rattle.ert_timers.specs.Freeing.{IsHeld, IsLetGo};
     ghost use Rattle.ert_wheel.specs.Rows.{key_in};
 
@@ -86,7 +86,7 @@ impl WheelPart {
         ensures unchanged { IfNone result (self.new ≡ self.old) }
         ensures held { IfSome result (λ slot. set.contains self.old.free slot ≡ true) }
         ensures picked { IfSome result (λ slot. self.new ≡ picked self.old slot) }
-        ensures usable { IfSome result (IsFree self.new) }
+        ensures usable { IfSome result (CanTakeTimer self.new) }
     {
         let slot = self.free.pick()?;
         let above = self.wheel.value(slot).above();
@@ -199,7 +199,7 @@ impl WheelPart {
     /// the slot stays in the chain of that, and no chain of a process is read or written but for one link.
     #[inline(always)]
     pub(crate) fn keep(&mut self, slot: u32, start: &Start, next: Use) -> TimerRef
-        requires free { IsFree self.old slot }
+        requires free { CanTakeTimer self.old slot }
         requires dest { start.now.dest < self.old.processes }
         requires deadline { next.deadline ≤ 8796093022207 }
         requires few { self.old.arms < 9007199254740992 }
@@ -271,7 +271,7 @@ fn take_out(wheel: &mut Wheel<Slot>, slot: u32)
     ensures passed { wheel.new.passed ≡ wheel.old.passed }
     ensures slots { wheel.new.owners.slots ≡ wheel.old.owners.slots }
     ensures homes { wheel.new.owners.homes ≡ wheel.old.owners.homes }
-    ensures taken { Takes wheel.old.owners wheel.new.owners slot }
+    ensures taken { GivesUpPlace wheel.old.owners wheel.new.owners slot }
 {
     if wheel.is_owned(slot) {
         wheel.disown(slot);

@@ -1,5 +1,5 @@
 //! An interval over timely and late turns, and one whose process exits.
-ghost use Rattle.ert_interval.specs.Intervals.{AreKept};
+ghost use Rattle.ert_interval.specs.Intervals.{AreIntervalsKept};
 
 use crate::tests::compare::same;
 use crate::tests::settings::SMALL;
@@ -27,7 +27,7 @@ enum Step {
 
 /// Makes each call in turn.
 fn go(rt: &impl Abort, service: &mut IntervalWorld, steps: &[Step])
-    requires { AreKept service.old.world service.old.intervals.items }
+    requires { AreIntervalsKept service.old.world service.old.intervals.items }
 {
     for (at, step) in steps.iter().enumerate() {
         go_on(rt, service, at, step);
@@ -35,8 +35,8 @@ fn go(rt: &impl Abort, service: &mut IntervalWorld, steps: &[Step])
 }
 
 fn go_on(rt: &impl Abort, service: &mut IntervalWorld, at: usize, step: &Step)
-    requires { AreKept service.old.world service.old.intervals.items }
-    ensures { AreKept service.new.world service.new.intervals.items }
+    requires { AreIntervalsKept service.old.world service.old.intervals.items }
+    ensures { AreIntervalsKept service.new.world service.new.intervals.items }
 {
     match *step {
         Step::Tick(milliseconds) => {

@@ -2,7 +2,7 @@ use Rattle.std.proofs.Common.{◌≡◌, ◌∙◌, sym, subst, ap, Some, false,
 use Rattle.ert_c.proofs.Sharing.{opens_shard, none_there, cuts_some, taken_back, given_next}
 use Rattle.ert_c.proofs.hub_exports.ert_hub_shard.Goals as goal
 use Rattle.ert_c.specs.Places.{is_there}
-use Rattle.ert_shard.specs.Hubs.{Rest, IsNext, TakesBack}
+use Rattle.ert_shard.specs.Hubs.{Rest, IsLastOut, TakesBack}
 use Rattle.ert_shard.specs.Shards.{Owned}
 
 pub join-requires-clause-table : goal.join-requires-clause-table
@@ -15,7 +15,7 @@ join-requires-clause-settings c =
 
 pub join-requires-clause-next : goal.join-requires-clause-next
 join-requires-clause-next c =
-    subst (λ (o : Owned). IsNext c.shard.new.self o) (sym c.in-Err.ensures.value_returned)
+    subst (λ (o : Owned). IsLastOut c.shard.new.self o) (sym c.in-Err.ensures.value_returned)
     (given_next c.args.processes c.lend-rest.result.now c.shard.new.self c.in-Ok.given c.in-Ok.ensures.gives)
 
 pub returns-in-Err : goal.returns-in-Err

@@ -3,7 +3,7 @@ use Rattle.ert_c.proofs.Sharing.{made_through, below_home, above_home, at_home}
 use Rattle.ert_c.proofs.shard_waiting_exports.ert_shard_restart.Goals.{then-process-from-via-then-process-from, then-process-from-via-else-process-from+then-process-to}
 use Rattle.ert_c.specs.declared.shard_handle.ErtShard.{ErtShard}
 use Rattle.ert_c.specs.ShardCalls.{ShardRestartsBy}
-use Rattle.ert_c.specs.Told.{timer_of}
+use Rattle.ert_c.specs.Told.{timer_from_c}
 use Rattle.ert_defs.specs.declared.timer.Start.{Start}
 use Rattle.ert_defs.specs.declared.timer.TimerRef.{TimerRef}
 use Rattle.ert_c.proofs.shard_waiting_exports.ert_shard_restart.Goals as goal
@@ -23,7 +23,7 @@ returns c = made_through _ _ _ _ _ c.lend-own.result.now c.restart-answer.new.se
     (at_home _ _ c.lend-own.result.now.share c.args.start.now.dest c.from.result c.to.result c.if-process-from.false c.from.ensures
     c.if-process-to.false c.to.ensures (record {
       answer = c.restart-answer.result;
-      made = subst (λ (s : Start). ShardRestartsBy (timer_of c.args.timer.now) s c.restart-answer.result c.lend-own.result.now c.restart-answer.new.self) c.read-2.ensures
+      made = subst (λ (s : Start). ShardRestartsBy (timer_from_c c.args.timer.now) s c.restart-answer.result c.lend-own.result.now c.restart-answer.new.self) c.read-2.ensures
           (subst (λ (t : TimerRef). ShardRestartsBy t c.read-2.result c.restart-answer.result c.lend-own.result.now c.restart-answer.new.self) c.read.ensures
           (record { goes = c.restart-answer.ensures.call; forgotten = c.restart-answer.ensures.forgotten }));
       told = search rules;

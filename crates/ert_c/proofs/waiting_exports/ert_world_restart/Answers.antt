@@ -1,7 +1,7 @@
 use Rattle.std.proofs.Common.{refl, ap, subst, ◌∙◌, rules, arith}
 use Rattle.ert_c.proofs.Ways.{through}
 use Rattle.ert_c.proofs.waiting_exports.ert_world_restart.Goals as goal
-use Rattle.ert_c.specs.Told.{timer_of}
+use Rattle.ert_c.specs.Told.{timer_from_c}
 use Rattle.ert_c.specs.Waiting.{RestartsBy}
 use Rattle.ert_defs.specs.declared.settings.Settings.{Settings}
 use Rattle.ert_defs.specs.declared.timer.Start.{Start}
@@ -12,7 +12,7 @@ returns c =
     through _ _ _ _ _ c.lend-service.result.now c.restart-answer.new.self (c.as_place.ensures.value ∙ c.lend-service.ensures.value) refl (record {
       below = λ _. record {
         answer = c.restart-answer.result;
-        made = subst (λ (s : Start). RestartsBy (timer_of c.args.timer.now) s c.restart-answer.result c.lend-service.result.now c.restart-answer.new.self) c.read-2.ensures
+        made = subst (λ (s : Start). RestartsBy (timer_from_c c.args.timer.now) s c.restart-answer.result c.lend-service.result.now c.restart-answer.new.self) c.read-2.ensures
             (subst (λ (t : TimerRef). RestartsBy t c.read-2.result c.restart-answer.result c.lend-service.result.now c.restart-answer.new.self) c.read.ensures c.restart-answer.ensures.call);
         told = search rules;
       };

@@ -1,7 +1,7 @@
 use Rattle.std.proofs.Common.{◌≡◌, ℕ, pos, cond, nat_eq, Bool, true, false, List, [], ◌∷◌, ◌++◌, Option, Some, None, refl, sym, ap, ◌∙◌, subst, arith, lit≤}
 use Rattle.ert_effects.proofs.Told.{advances_same, event_same}
-use Rattle.ert_effects.specs.WheelCalls.{Try, AllSettled, HasAdvanced, expires_by, expiry_entries, IsSettled, IsDueBy, AllDue, AreOnce}
-use Rattle.ert_effects.specs.Worked.{one, asked, missing}
+use Rattle.ert_effects.specs.WheelCalls.{Try, AllMissesSettled, HasAdvanced, expires_by, expiry_entries, IsSettled, IsDueBy, AllDue, AreOnce}
+use Rattle.ert_effects.specs.Worked.{one, asked_at_once, missing}
 use Rattle.ert_defs.specs.Entries.{probe_entry, expire_entry, advanced_entry}
 use Rattle.ert_defs.specs.States.{state}
 use Rattle.ert_defs.specs.Timers.{Row, same_timer}
@@ -20,7 +20,7 @@ use Rattle.ert_effects.proofs.worked.advances_are_judged.Goals as goal
 row : Row
 row = record { timer = timer; deadline = 1; dest = 0; msg = 7; kind = Wrapped }
 
-due : IsDueBy ((state one asked).rows 0) 1 timer
+due : IsDueBy ((state one asked_at_once).rows 0) 1 timer
 unfolding row
 due = record { row = row; stands = refl; due = lit≤ tt }
 
@@ -37,7 +37,7 @@ returns-clause-expired c =
     }
 
 -- a try that missed
-missed : HasAdvanced 0 (1, 0) (state one asked) (missing Cancelled)
+missed : HasAdvanced 0 (1, 0) (state one asked_at_once) (missing Cancelled)
 missed = record {
   now = pos 1000000;
   tries = (record { timer = timer; missed = Some (Some Cancelled) }) ∷ [];
@@ -53,7 +53,7 @@ returns-clause-missed c = missed
 
 pub returns-clause-miscounted : goal.returns-clause-miscounted
 returns-clause-miscounted c = λ is.
-    let both = advances_same one 0 (state one asked) (missing Cancelled) (1, 1) (1, 0) is missed in
+    let both = advances_same one 0 (state one asked_at_once) (missing Cancelled) (1, 1) (1, 0) is missed in
     subst (λ (p : ℕ × ℕ). cond (nat_eq p.1 1) (Unit {0}) ⊥) both tt
 
 -- a probe of an armed timer
@@ -75,7 +75,7 @@ not_recorded to same =
     let event : Probe 0 0 (Some Armed) ≡ Advanced 0 to = event_same probed (advanced_entry 0 to) same in cc
 
 -- so it doesn't come first
-not_first : (tries : List Try) (to : ℕ) (rest : List Entry) → AllSettled tries
+not_first : (tries : List Try) (to : ℕ) (rest : List Entry) → AllMissesSettled tries
     → probed ∷ rest ≡ expiry_entries 0 tries ++ advanced_entry 0 to ∷ [] → ⊥
 not_first [] to rest settled same = not_recorded to cc
 not_first (t ∷ tries) to rest settled same = not_tried t.timer t.missed settled.0 cc

@@ -1,7 +1,7 @@
 use Rattle.std.proofs.Common.{◌≡◌, ◌∙◌, pos, List, [], ◌∷◌, ◌++◌, Some, None, Ok, refl, rules, sym, ap, subst, append_assoc, lit≤}
 use Rattle.ert_effects.specs.Chains.{HasServed, ServesAll, AdvancesWheel, HasDelivered}
 use Rattle.ert_effects.specs.Ways.{alone}
-use Rattle.ert_effects.specs.Worked.{one, request, asked, serving, idling, advancing, delivering, turning}
+use Rattle.ert_effects.specs.Worked.{one, request_to_read, asked_at_once, serving, idling, advancing, delivering, turning}
 use Rattle.ert_effects.specs.declared.answers.Handed.TheVariants.{Put}
 use Rattle.ert_defs.specs.States.{state}
 use Rattle.ert_defs.specs.Timers.{Row}
@@ -14,7 +14,7 @@ use Rattle.ert_effects.proofs.worked.turns_are_judged.Goals as goal
 
 -- the scheduler takes the request
 abbrev picking : List Entry
-picking = by_sched (Some (Inbox 0)) (Pick 0 (Some request)) ∷ []
+picking = by_sched (Some (Inbox 0)) (Pick 0 (Some request_to_read)) ∷ []
 
 -- and reads the timer
 abbrev reading : List Entry
@@ -25,10 +25,10 @@ abbrev row : Row
 row = record { timer = timer; deadline = 1; dest = 0; msg = 7; kind = Wrapped }
 
 -- the request is served
-served : HasServed one (alone one) 0 asked serving
+served : HasServed one (alone one) 0 asked_at_once serving
 served =
     record {
-      request = request;
+      request = request_to_read;
       left = Some 0;
       steps = record {
         before = picking;
@@ -40,7 +40,7 @@ served =
     }
 
 -- and no other
-all_served : ServesAll one (alone one) 0 (Ok 1) asked (serving ++ idling)
+all_served : ServesAll one (alone one) 0 (Ok 1) asked_at_once (serving ++ idling)
 all_served = (
   search rules,
   record {
@@ -53,7 +53,7 @@ all_served = (
 )
 
 -- the timer expires
-advanced : AdvancesWheel one (alone one) 0 (Ok (1, 1)) (asked ++ (serving ++ idling)) advancing
+advanced : AdvancesWheel one (alone one) 0 (Ok (1, 1)) (asked_at_once ++ (serving ++ idling)) advancing
 advanced = record {
   now = pos 1000000;
   tries = (record { timer = timer; missed = None }) ∷ [];
@@ -65,7 +65,7 @@ advanced = record {
 }
 
 -- and is delivered
-delivered : HasDelivered one (alone one) 0 (1, 0) ((asked ++ (serving ++ idling)) ++ advancing) delivering
+delivered : HasDelivered one (alone one) 0 (1, 0) ((asked_at_once ++ (serving ++ idling)) ++ advancing) delivering
 delivered = record {
   hows = Put ∷ [];
   runs = record {
@@ -94,10 +94,10 @@ pub returns-clause-undelivered : goal.returns-clause-undelivered
 returns-clause-undelivered c turns =
     let rest = turns.other in
     let parts : turning ≡ turns.before ++ (rest.before ++ rest.after) = turns.joined ∙ ap (λ x. turns.before ++ x) rest.joined in
-    let whole : ((asked ++ turns.before) ++ rest.before) ++ rest.after ≡ asked ++ turning =
-    append_assoc (asked ++ turns.before) rest.before rest.after
-    ∙ (append_assoc asked turns.before (rest.before ++ rest.after) ∙ ap (λ x. asked ++ x) (sym parts)) in
-    let waits : ((state one (asked ++ turning)).scheds 0).fired ≡ row ∷ [] = refl in
-    let none : ((state one (asked ++ turning)).scheds 0).fired ≡ [] =
+    let whole : ((asked_at_once ++ turns.before) ++ rest.before) ++ rest.after ≡ asked_at_once ++ turning =
+    append_assoc (asked_at_once ++ turns.before) rest.before rest.after
+    ∙ (append_assoc asked_at_once turns.before (rest.before ++ rest.after) ∙ ap (λ x. asked_at_once ++ x) (sym parts)) in
+    let waits : ((state one (asked_at_once ++ turning)).scheds 0).fired ≡ row ∷ [] = refl in
+    let none : ((state one (asked_at_once ++ turning)).scheds 0).fired ≡ [] =
     subst (λ h. ((state one h).scheds 0).fired ≡ []) whole rest.other.done in
     absurd (cc (sym waits ∙ none))

@@ -8,14 +8,14 @@ use Rattle.ert_defs.specs.declared.entry.Entry.{Entry}
 use Rattle.ert_defs.specs.declared.timer.Kind.TheVariants.{Wrapped}
 use Rattle.ert_effects.specs.SomeCalls.{end_entries}
 use Rattle.ert_effects.specs.WheelCalls.{Try, hits, expiry_entries, IsDueBy}
-use Rattle.ert_effects.specs.Worked.{one, asked}
+use Rattle.ert_effects.specs.Worked.{one, asked_at_once}
 use Rattle.ert_effects.proofs.worked_some.bounded_advances_are_judged.Goals as goal
 
 -- the timer is due at the time of the advance
 row : Row
 row = record { timer = timer; deadline = 1; dest = 0; msg = 7; kind = Wrapped }
 
-due : IsDueBy ((state one asked).rows 0) 1 timer
+due : IsDueBy ((state one asked_at_once).rows 0) 1 timer
 unfolding row
 due = record { row = row; stands = refl; due = lit≤ tt }
 

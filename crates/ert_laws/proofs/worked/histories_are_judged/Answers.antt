@@ -1,7 +1,7 @@
 use Rattle.std.proofs.Common.{◌≡◌, ℕ, pos, ◌≤ℤ◌, List, [], ◌∷◌, ◌++◌, Some, refl, subst, rules, arith}
 use Rattle.std.proofs.lemmas.Int.{ints}
 use Rattle.ert_defs.proofs.Runs.{legal_parts, legal_one_more}
-use Rattle.ert_defs.specs.Legal.{IsNext, IsFirst, HasExited, CanAnswer}
+use Rattle.ert_defs.specs.Legal.{IsNext, IsFirst, HasDestExited, CanAnswer}
 use Rattle.ert_defs.specs.States.{state}
 use Rattle.ert_defs.specs.Timers.{Row}
 use Rattle.ert_defs.specs.Worked.{small, timer, started, expiry, exit, asked, answer, request}
@@ -43,7 +43,7 @@ returns-clause-delivered c =
     ((legal_parts (small No) (started 0) expiry).1 (search rules, search (rules, next, first)), refl)
 
 -- its destination has exited
-exited : HasExited (state (small No) exit) timer
+exited : HasDestExited (state (small No) exit) timer
 exited = record { row = row_due 5; stands = refl; exited = refl }
 
 pub returns-clause-orphaned : goal.returns-clause-orphaned

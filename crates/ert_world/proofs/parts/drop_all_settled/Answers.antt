@@ -4,7 +4,7 @@ use Rattle.ert_defs.specs.declared.settings.Settings.{Settings}
 use Rattle.ert_table.specs.Desks.{settings_of, front_of}
 use Rattle.ert_table.specs.Held.{IsWhole}
 use Rattle.ert_table.specs.declared.view.View.{View}
-use Rattle.ert_timers.specs.Parts.{Stands}
+use Rattle.ert_timers.specs.Parts.{PartStands}
 use Rattle.ert_timers.specs.Tidy.{IsTidy}
 use Rattle.ert_world.proofs.Dropping.{none_dropped, one_dropped}
 use Rattle.ert_world.proofs.parts.drop_all_settled.Goals as goal
@@ -24,8 +24,8 @@ pub drop_settled-requires-clause-stands : goal.drop_settled-requires-clause-stan
 drop_settled-requires-clause-stands c =
     let g = settings_of c.args.desk.now in
     let low : c.loop-wheel.wheel < g.schedulers = subst (λ (s : Settings). c.loop-wheel.wheel < s.schedulers) c.settings.ensures c.loop-wheel-test.true in
-    subst (λ (v : View). Stands g v.front c.index_mut.result.now) (sym c.loop-wheel.invariant.same)
-    (subst (Stands g (front_of c.args.pass.now)) (sym c.index_mut.ensures.value)
+    subst (λ (v : View). PartStands g v.front c.index_mut.result.now) (sym c.loop-wheel.invariant.same)
+    (subst (PartStands g (front_of c.args.pass.now)) (sym c.index_mut.ensures.value)
     (c.loop-wheel.invariant.dropped.ordered.stand c.loop-wheel.wheel c.index_mut.result.now low refl))
 
 pub loop-wheel-preserved : goal.loop-wheel-preserved
@@ -38,7 +38,7 @@ loop-wheel-preserved c =
       same = c.drop_settled.ensures.same ∙ c.loop-wheel.invariant.same;
       dropped = one_dropped g h c.args.wheels.now.items c.loop-wheel.wheels.items c.loop-wheel.wheel c.index_mut.result.now c.drop_settled.new.self
           c.loop-wheel.invariant.dropped low c.index_mut.ensures.value
-          (subst (λ (v : View). Stands g v.front c.drop_settled.new.self) c.loop-wheel.invariant.same c.drop_settled.ensures.stands)
+          (subst (λ (v : View). PartStands g v.front c.drop_settled.new.self) c.loop-wheel.invariant.same c.drop_settled.ensures.stands)
           c.drop_settled.ensures.loses
           (subst (λ (v : View). IsTidy (state g v.front) c.drop_settled.new.self) c.loop-wheel.invariant.same c.drop_settled.ensures.tidy);
     }

@@ -1,8 +1,8 @@
-use Rattle.ert_unique.specs.Passes.{Belongs}
+use Rattle.ert_unique.specs.Passes.{IsOpenedWith}
 use Rattle.ert_base_tests.proofs.tests.uniques.passes_draw_in_turn.Given as goal
 
 abbrev pub invariant-draws : goal.invariant-draws
 invariant-draws g l = record {
-  one : Belongs l.uniques l.one;
-  two : Belongs l.uniques l.two;
+  one : IsOpenedWith l.uniques l.one;
+  two : IsOpenedWith l.uniques l.two;
 }

@@ -1,6 +1,7 @@
 use Rattle.std.proofs.Common.{rules, FitsSigned, w64}
 use Rattle.std.proofs.lemmas.Int.{to_z-of_z}
-use Rattle.ert_clock.specs.Ticks.{state_by, keeper_entry, tick_entry, tick_entries}
+use Rattle.ert_defs.specs.Entries.{keeper_entry, tick_entry}
+use Rattle.ert_clock.specs.Ticks.{state_by, tick_entries}
 use Rattle.ert_defs.specs.declared.entry.Event.TheVariants.{Shift}
 use Rattle.ert_table.specs.Takes.{Appends}
 use Rattle.ert_calls.proofs.Steps.{Published, may_store_offset, tick_published, shift_published}

@@ -1,5 +1,5 @@
 use Rattle.std.proofs.Common.{◌∷◌, []}
-use Rattle.ert_clock.specs.Ticks.{keeper_entry}
+use Rattle.ert_defs.specs.Entries.{keeper_entry}
 use Rattle.ert_defs.specs.declared.entry.Event.TheVariants.{Off}
 use Rattle.ert_calls.proofs.Steps.{Published, off_published}
 use Rattle.ert_calls.proofs.keeper.KeeperPart.read_offset.Goals as goal

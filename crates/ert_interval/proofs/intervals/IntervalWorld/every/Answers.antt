@@ -5,7 +5,7 @@ use Rattle.ert_defs.specs.declared.settings.Settings.{Settings}
 use Rattle.ert_interval.specs.Calls.{HasBadArguments}
 use Rattle.ert_interval.specs.Deadlines.{start_at, base}
 use Rattle.ert_effects.specs.TimerCalls.{Starts}
-use Rattle.ert_interval.specs.Intervals.{AreKept}
+use Rattle.ert_interval.specs.Intervals.{AreIntervalsKept}
 use Rattle.ert_interval.specs.declared.interval.Interval.{Interval}
 use Rattle.ert_interval.specs.declared.interval.IntervalState.TheVariants.{Running}
 use Rattle.ert_interval.proofs.Plain.{starts_plain}
@@ -81,7 +81,7 @@ returns c =
     let last : c.push_reserved-2.new.self.items ≡ c.args.self.now.intervals.items ++ made ∷ [] =
     c.push_reserved-2.ensures.items ∙ ap (λ l. l ++ made ∷ []) c.reserve-else-is_err.ensures.items in
     record {
-      kept = subst (AreKept b) (sym last)
+      kept = subst (AreIntervalsKept b) (sym last)
           (pushed_kept a b _ c.args.self.now.intervals.items made call c.requires.kept
           (starts_plain a.settings 0 c.args.wheel (start_at c.args.first c.args.dest c.args.msg) (Ok c.in-Ok.last) (state a.settings a.history) grows.piece grows.made)
           legal c.requires.few

@@ -1,13 +1,13 @@
 use Rattle.std.proofs.Common.{◌≤◌}
 use Rattle.ert_interval.specs.Going.{KeepsSeats, StepsTo}
 use Rattle.ert_interval.specs.Calls.{Still}
-use Rattle.ert_interval.specs.Intervals.{AreKept}
+use Rattle.ert_interval.specs.Intervals.{AreIntervalsKept}
 use Rattle.ert_interval.proofs.Passing.{PassesTo}
 use Rattle.ert_interval.proofs.intervals.IntervalWorld.go_on_all.Given as goal
 
 abbrev pub invariant-loop-number : goal.invariant-loop-number
 invariant-loop-number l = record {
-  kept : AreKept l.self.world l.self.intervals.items;
+  kept : AreIntervalsKept l.self.world l.self.intervals.items;
   still : Still l.fn.self.world l.self.world;
   stays : KeepsSeats l.fn.self.world l.self.world;
   few : l.armed ≤ l.number;

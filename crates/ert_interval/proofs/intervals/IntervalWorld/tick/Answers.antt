@@ -1,5 +1,5 @@
 use Rattle.ert_defs.specs.States.{state}
-use Rattle.ert_interval.specs.Intervals.{AreKept}
+use Rattle.ert_interval.specs.Intervals.{AreIntervalsKept}
 use Rattle.ert_world.specs.Worlds.{Seen}
 use Rattle.ert_interval.proofs.Plain.{ticks_plain}
 use Rattle.ert_interval.proofs.Tables.{all_kept}
@@ -10,7 +10,7 @@ returns-clause-kept c =
     let b = c.tick.new.self in
     let a : Seen = record c.args.self.now.world { clock = b.clock } in
     let was = c.requires.kept in
-    let kept : AreKept a c.args.self.now.intervals.items =
+    let kept : AreIntervalsKept a c.args.self.now.intervals.items =
     record { lone = was.lone; legal = was.legal; idle = was.idle; each = was.each; few = was.few; apart = was.apart } in
     let goes = c.tick.ensures.call in
     let grows = goes.lone kept.lone in

@@ -3,7 +3,7 @@ use Rattle.ert_effects.specs.RequestCalls.{Asks}
 use Rattle.ert_defs.specs.declared.mail.Request.{Request}
 use Rattle.ert_table.specs.Calls.{IsMade}
 use Rattle.ert_table.specs.Desks.{settings_of, view_of}
-use Rattle.ert_mail.specs.Inboxes.{Waiting, IsAskers, Stands}
+use Rattle.ert_mail.specs.Inboxes.{Waiting, IsAskers, InboxStands}
 use Rattle.ert_mail.specs.contracts.inbox.InboxPart.{the_view}
 use Rattle.ert_mail.proofs.InboxStanding.{ask_made, stands_asked}
 use Rattle.ert_mail.proofs.inbox.InboxPart.ask.Goals as goal
@@ -22,7 +22,7 @@ returns-clause-stands c =
     let v = view_of c.args.pass.now in
     let q : Waiting = the_view c.self.inside in
     let holds = subst (λ (q : Waiting). IsAskers g v c.args.by q.wheel) (sym c.self.view_is) c.requires.holds in
-    let stands = subst (Stands g v.front) (sym c.self.view_is) c.requires.stands in
+    let stands = subst (InboxStands g v.front) (sym c.self.view_is) c.requires.stands in
     let more : c.push_back_reserved.new.self.items ≡ c.self.inside.queue.items ++ c.args.request ∷ [] =
     c.push_back_reserved.ensures.items ∙ ap (λ (xs : List Request). xs ++ c.args.request ∷ []) c.in_ok-reserve.ensures.items in
     stands_asked g v (view_of c.load_time.new.self) c.args.by c.args.request q _ holds.inbox stands c.load_time.ensures.step refl more

@@ -4,7 +4,7 @@ use Rattle.ert_defs.specs.Mails.{message_of}
 use Rattle.ert_defs.specs.declared.mail.Mail.{Mail}
 use Rattle.ert_effects.specs.declared.answers.Handed.TheVariants.{Put, Dropped}
 use Rattle.ert_table.specs.Desks.{settings_of, view_of}
-use Rattle.ert_mail.specs.Mailboxes.{Mailbox, seen}
+use Rattle.ert_mail.specs.Mailboxes.{Mailbox, mailbox_seen}
 use Rattle.ert_mail.specs.contracts.part.MailPart.{the_view}
 use Rattle.ert_mail.proofs.Handings.{stands_handed, count_fits}
 use Rattle.ert_mail.proofs.part.MailPart.deliver.Goals as goal
@@ -12,7 +12,7 @@ use Rattle.ert_mail.proofs.part.MailPart.deliver.Goals as goal
 pub returns-in-Dropped-clause-stands : goal.returns-in-Dropped-clause-stands
 returns-in-Dropped-clause-stands c =
     let m : Mailbox = the_view c.self.inside in
-    let n : Mailbox = seen c.self.inside.process c.reserve.new.self.items c.self.inside.monitors.items c.self.inside.next c.self.inside.delivered
+    let n : Mailbox = mailbox_seen c.self.inside.process c.reserve.new.self.items c.self.inside.monitors.items c.self.inside.next c.self.inside.delivered
     (deque_capacity c.reserve.new.self - deque_len c.reserve.new.self) in
     stands_handed (settings_of c.args.desk.now) (view_of c.args.pass.now) (view_of c.hand_over.new.pass) c.args.fired.now Dropped m n
     c.args.self.now c.self.view_is c.requires.dest c.requires.holds.mail c.requires.stands c.in-Dropped.ensures.steps refl
@@ -31,7 +31,7 @@ pub returns-clause-stands : goal.returns-clause-stands
 returns-clause-stands c =
     let fired = c.args.fired.now in
     let m : Mailbox = the_view c.self.inside in
-    let n : Mailbox = seen c.self.inside.process c.push_back_reserved.new.self.items c.self.inside.monitors.items c.self.inside.next
+    let n : Mailbox = mailbox_seen c.self.inside.process c.push_back_reserved.new.self.items c.self.inside.monitors.items c.self.inside.next
     (c.self.inside.delivered + 1) (deque_capacity c.push_back_reserved.new.self - deque_len c.push_back_reserved.new.self) in
     let queue : c.push_back_reserved.new.self.items ≡ m.held.queue ++ message_of fired ∷ [] =
     c.push_back_reserved.ensures.items

@@ -2,7 +2,7 @@ use Rattle.std.proofs.Common.{sym, subst, refl}
 use Rattle.ert_effects.specs.MailCalls.{Demonitors}
 use Rattle.ert_table.specs.Calls.{IsMade}
 use Rattle.ert_table.specs.Desks.{settings_of, view_of}
-use Rattle.ert_mail.specs.Mailboxes.{Mailbox, Stands, IsCallers}
+use Rattle.ert_mail.specs.Mailboxes.{Mailbox, MailboxStands, IsCallers}
 use Rattle.ert_mail.specs.contracts.part.MailPart.{the_view}
 use Rattle.ert_mail.proofs.Watchings.{unwatch_made, stands_unwatched}
 use Rattle.ert_mail.proofs.part.MailPart.demonitor.Goals as goal
@@ -21,6 +21,6 @@ returns-clause-stands c =
     let v = view_of c.args.pass.now in
     let m : Mailbox = the_view c.self.inside in
     let holds = subst (λ (m : Mailbox). IsCallers g v c.args.by m.process) (sym c.self.view_is) c.requires.holds in
-    let stands = subst (Stands g v.front) (sym c.self.view_is) c.requires.stands in
+    let stands = subst (MailboxStands g v.front) (sym c.self.view_is) c.requires.stands in
     stands_unwatched g v (view_of c.load_time.new.self) c.args.by c.args.monitor c.has_monitor-was.result m _ holds.mail stands
     c.load_time.ensures.step refl refl c.remove_monitor.ensures.monitors refl refl

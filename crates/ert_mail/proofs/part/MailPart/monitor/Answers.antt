@@ -2,7 +2,7 @@ use Rattle.std.proofs.Common.{◌≡◌, ℤ, rules, true, Ok, FitsSigned, List,
 use Rattle.ert_effects.specs.MailCalls.{Monitors}
 use Rattle.ert_table.specs.Calls.{IsMade}
 use Rattle.ert_table.specs.Desks.{settings_of, view_of}
-use Rattle.ert_mail.specs.Mailboxes.{Mailbox, Stands, IsCallers, AreMany}
+use Rattle.ert_mail.specs.Mailboxes.{Mailbox, MailboxStands, IsCallers, AreMany}
 use Rattle.ert_mail.specs.contracts.part.MailPart.{the_view}
 use Rattle.ert_defs.specs.Entries.{watch_entry}
 use Rattle.ert_defs.specs.declared.mail.Monitor.{Monitor}
@@ -38,7 +38,7 @@ returns-clause-stands c =
     let w = view_of c.load_offset-told.new.self in
     let m : Mailbox = the_view c.self.inside in
     let holds = subst (λ (m : Mailbox). IsCallers g v c.args.by m.process) (sym c.self.view_is) c.requires.holds in
-    let stands = subst (Stands g v.front) (sym c.self.view_is) c.requires.stands in
+    let stands = subst (MailboxStands g v.front) (sym c.self.view_is) c.requires.stands in
     let fits : FitsSigned w64 c.load_offset-told.result.0 = search rules in
     let told : ℤ = to_z w64 (of_z w64 c.load_offset-told.result.0) in
     let made : Monitor = record { number = c.self.inside.next; told = told } in

@@ -7,7 +7,7 @@ use Rattle.ert_table.specs.Calls.{IsMade}
 use Rattle.ert_table.specs.Desks.{settings_of, view_of}
 use Rattle.ert_table.specs.Takes.{Appends}
 use Rattle.ert_table.proofs.Parts.{popped}
-use Rattle.ert_mail.specs.Mailboxes.{Mailbox, Stands}
+use Rattle.ert_mail.specs.Mailboxes.{Mailbox, MailboxStands}
 use Rattle.ert_mail.specs.contracts.part.MailPart.{the_view}
 use Rattle.ert_mail.proofs.Takings.{marked, exited_made, may_take, first_made, empty_made, stands_taken}
 use Rattle.ert_mail.proofs.part.MailPart.take.Goals as goal
@@ -26,7 +26,7 @@ pub returns-then-mark-clause-stands : goal.returns-then-mark-clause-stands
 returns-then-mark-clause-stands c =
     let g = settings_of c.args.desk.now in
     let u = view_of c.mark.new.self in
-    subst (Stands g u.front) c.self.view_is
+    subst (MailboxStands g u.front) c.self.view_is
     (marked g (view_of c.args.pass.now) u c.args.by c.mark.result (the_view c.self.inside) c.args.self.now c.self.view_is
     c.requires.holds c.requires.stands c.mark.ensures.step).stands
 

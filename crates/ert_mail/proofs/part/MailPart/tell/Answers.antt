@@ -2,14 +2,14 @@ use Rattle.std.proofs.Common.{◌≡◌, ℤ, arith, rules, Ok, List, length, Fi
 use Rattle.ert_effects.specs.MailCalls.{Tells}
 use Rattle.ert_table.specs.Calls.{IsMade}
 use Rattle.ert_table.specs.Desks.{settings_of, view_of}
-use Rattle.ert_mail.specs.Mailboxes.{Mailbox, Stands, IsCallers}
+use Rattle.ert_mail.specs.Mailboxes.{Mailbox, MailboxStands, IsCallers}
 use Rattle.ert_mail.specs.contracts.part.MailPart.{the_view}
 use Rattle.ert_defs.specs.Entries.{tell_entry}
 use Rattle.ert_defs.specs.Mails.{changes_of, told_of}
 use Rattle.ert_defs.specs.declared.mail.Mail.{Mail}
 use Rattle.ert_defs.specs.declared.mail.Monitor.{Monitor}
 use Rattle.ert_table.specs.Takes.{Appends}
-use Rattle.ert_mail.specs.Mailboxes.{seen}
+use Rattle.ert_mail.specs.Mailboxes.{mailbox_seen}
 use Rattle.std.proofs.lemmas.List.{with_items_is}
 use Rattle.std.specs.Vec.{with_items}
 use Rattle.std.specs.VecDeque.{deque_len, deque_capacity}
@@ -22,7 +22,7 @@ returns-clause-call c =
     let v = view_of c.args.pass.now in
     let w = view_of c.load_offset-offset.new.self in
     let m : Mailbox = the_view c.self.inside in
-    let stands = subst (Stands g v.front) (sym c.self.view_is) c.requires.stands in
+    let stands = subst (MailboxStands g v.front) (sym c.self.view_is) c.requires.stands in
     let fits : FitsSigned w64 c.load_offset-offset.result.0 = search rules in
     let offset : ℤ = to_z w64 (of_z w64 c.load_offset-offset.result.0) in
     let step = subst (λ x. Appends g v (tell_entry c.args.by m.process x) w) (sym (to_z-of_z fits)) c.load_offset-offset.ensures.step in
@@ -37,7 +37,7 @@ returns-clause-stands c =
     let w = view_of c.load_offset-offset.new.self in
     let m : Mailbox = the_view c.self.inside in
     let holds = subst (λ (m : Mailbox). IsCallers g v c.args.by m.process) (sym c.self.view_is) c.requires.holds in
-    let stands = subst (Stands g v.front) (sym c.self.view_is) c.requires.stands in
+    let stands = subst (MailboxStands g v.front) (sym c.self.view_is) c.requires.stands in
     let fits : FitsSigned w64 c.load_offset-offset.result.0 = search rules in
     let offset : ℤ = to_z w64 (of_z w64 c.load_offset-offset.result.0) in
     let step = subst (λ x. Appends g v (tell_entry c.args.by m.process x) w) (sym (to_z-of_z fits)) c.load_offset-offset.ensures.step in
@@ -47,6 +47,6 @@ returns-clause-stands c =
     let kept : (with_items c.self.inside.monitors c.tell_monitors.new.monitors).items ≡ c.tell_monitors.new.monitors =
     with_items_is c.self.inside.monitors c.tell_monitors.new.monitors (omega arith) in
     let monitors = kept ∙ c.tell_monitors.ensures.monitors ∙ ap (λ (ms : List Monitor). told_of offset ms) c.deref_mut.ensures.value in
-    let n : Mailbox = seen c.self.inside.process c.tell_monitors.new.queue.items (with_items c.self.inside.monitors c.tell_monitors.new.monitors).items c.self.inside.next c.self.inside.delivered
+    let n : Mailbox = mailbox_seen c.self.inside.process c.tell_monitors.new.queue.items (with_items c.self.inside.monitors c.tell_monitors.new.monitors).items c.self.inside.next c.self.inside.delivered
     (deque_capacity c.tell_monitors.new.queue - deque_len c.tell_monitors.new.queue) in
     stands_told g v w c.args.by offset m n holds.mail stands step refl queue monitors refl refl

@@ -2,7 +2,7 @@ use Rattle.std.proofs.Common.{◌≡◌, suc, ◌<◌, List, length, slice_index
 use Rattle.std.proofs.lemmas.Option.{slice_get_read}
 use Rattle.std.specs.List.{All, slice_get}
 use Rattle.ert_shard.proofs.Returned.{come_more, come_begins, ours_left}
-use Rattle.ert_shard.specs.Hubs.{IsNext, AreOurs, ComeBack}
+use Rattle.ert_shard.specs.Hubs.{IsLastOut, AreOurs, ComeBack}
 use Rattle.ert_shard.specs.Shards.{Owned}
 use Rattle.ert_shard.proofs.hub.Hub.join_all.Goals as goal
 
@@ -18,8 +18,8 @@ loop-place-preserved c =
     let takes = c.join.ensures.takes in
     let low : place < length left = subst (λ (l : List Owned). place < length l) c.deref.ensures.value c.in-Some.ensures.some.0 in
     let at : slice_get left place ≡ Some shard = slice_get_read left (length left) place shard refl low c.remove-shard.ensures.value in
-    let next : IsNext mid shard = subst (λ (x : Owned). IsNext mid x) (sym c.remove-shard.ensures.value)
-    (subst (λ (l : List Owned). IsNext mid (slice_index_or l place shard)) c.deref.ensures.value (c.in-Some.ensures.some.1 shard)) in
+    let next : IsLastOut mid shard = subst (λ (x : Owned). IsLastOut mid x) (sym c.remove-shard.ensures.value)
+    (subst (λ (l : List Owned). IsLastOut mid (slice_index_or l place shard)) c.deref.ensures.value (c.in-Some.ensures.some.1 shard)) in
     record {
       count = suc i.count;
       back = subst (λ l. ComeBack (suc i.count) old shards c.join.new.self l) (sym c.remove-shard.ensures.items)
@@ -39,5 +39,5 @@ returns c =
       table = i.table;
       settings = i.settings;
       ours = i.ours;
-      none = subst (λ (l : List Owned). All (λ o. IsNext c.loop-place.self o → ⊥) l) c.deref.ensures.value (c.in_default.ensures.none refl);
+      none = subst (λ (l : List Owned). All (λ o. IsLastOut c.loop-place.self o → ⊥) l) c.deref.ensures.value (c.in_default.ensures.none refl);
     }

@@ -1,7 +1,7 @@
 use Rattle.std.proofs.Common.{ℕ, ◌<◌, slice_index_or}
-use Rattle.ert_shard.specs.Hubs.{IsNext}
+use Rattle.ert_shard.specs.Hubs.{IsLastOut}
 use Rattle.ert_shard.specs.Shards.{Owned}
 use Rattle.ert_shard.proofs.hub.Hub.next_of.Given as goal
 
 abbrev pub invariant-loop-place : goal.invariant-loop-place
-invariant-loop-place l = (k : ℕ) (d : Owned) → k < l.place → IsNext l.fn.self (slice_index_or l.fn.shards k d) → ⊥
+invariant-loop-place l = (k : ℕ) (d : Owned) → k < l.place → IsLastOut l.fn.self (slice_index_or l.fn.shards k d) → ⊥

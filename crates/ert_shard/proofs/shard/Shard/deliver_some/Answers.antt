@@ -3,7 +3,7 @@ use Rattle.std.specs.Option.{is_some}
 use Rattle.ert_effects.specs.Chains.{Hands, puts, drops}
 use Rattle.ert_effects.specs.declared.answers.Handed.TheVariants.{Put, Dropped}
 use Rattle.ert_shard.proofs.Deliveries.{one_handed, some_handed, some_unhanded}
-use Rattle.ert_shard.specs.Shards.{Steps}
+use Rattle.ert_shard.specs.Shards.{ShardSteps}
 use Rattle.ert_shard.specs.Turning.{fired_of}
 use Rattle.ert_world.proofs.Bounding.{at_most, are_left, none_left}
 use Rattle.ert_world.proofs.Chained.{puts_more, drops_more}
@@ -16,7 +16,7 @@ hands-preserved-in-Put c =
     record {
       hows = i.hows ++ Put ∷ [];
       handing = one_handed c.args.self.now b c.hand_first.new.self i.hows Put i.handing
-          (subst (λ how. Steps b (λ way. Hands b.settings way b.share.number (Ok how)) c.hand_first.new.self) c.in-Put.is c.in_ok-hand_first.ensures.call);
+          (subst (λ how. ShardSteps b (λ way. Hands b.settings way b.share.number (Ok how)) c.hand_first.new.self) c.in-Put.is c.in_ok-hand_first.ensures.call);
       put_is = ap (λ n. n + 1) i.put_is ∙ sym (puts_more i.hows Put);
       dropped_is = i.dropped_is ∙ sym (drops_more i.hows Put ∙ add-zero (drops i.hows));
       few = omega (arith, c.hands-test.true);
@@ -29,7 +29,7 @@ hands-preserved c =
     record {
       hows = i.hows ++ Dropped ∷ [];
       handing = one_handed c.args.self.now b c.hand_first.new.self i.hows Dropped i.handing
-          (subst (λ how. Steps b (λ way. Hands b.settings way b.share.number (Ok how)) c.hand_first.new.self) c.in-Dropped.is c.in_ok-hand_first.ensures.call);
+          (subst (λ how. ShardSteps b (λ way. Hands b.settings way b.share.number (Ok how)) c.hand_first.new.self) c.in-Dropped.is c.in_ok-hand_first.ensures.call);
       put_is = i.put_is ∙ sym (puts_more i.hows Dropped ∙ add-zero (puts i.hows));
       dropped_is = ap (λ n. n + 1) i.dropped_is ∙ sym (drops_more i.hows Dropped);
       few = omega (arith, c.hands-test.true);

@@ -8,7 +8,7 @@ use Rattle.ert_shard.proofs.Called.{Has, does_at, did_at, has_at, lost, mail_nam
 use Rattle.ert_shard.proofs.Gone.{named_stands}
 use Rattle.ert_shard.proofs.Deliveries.{own_first, step_refused, sched_holds, mail_stands, handed_now, hands_on, handed_in, named_free}
 use Rattle.ert_shard.specs.Turning.{fired_of}
-use Rattle.ert_shard.specs.Shards.{Owned, share_of, parts_of}
+use Rattle.ert_shard.specs.Shards.{Owned, share_of, shard_parts_of}
 use Rattle.ert_table.specs.Desks.{settings_of, front_of}
 use Rattle.ert_table.specs.declared.desk.Desk.{Desk}
 use Rattle.ert_world.proofs.Reusing.{loses_reused}
@@ -19,7 +19,7 @@ pub overflow_sub-place : goal.overflow_sub-place
 overflow_sub-place c =
     let b = c.self.inside in
     let s = share_of b.number b.from b.to in
-    let parts = parts_of b.wheel b.inbox b.sched b.mails.items in
+    let parts = shard_parts_of b.wheel b.inbox b.sched b.mails.items in
     let has : Has c.args.self.now (arc_value b.desk) b.pass s parts = record { is = c.self.view_is; fit = c.self.invariant } in
     let own = own_first c.args.self.now (arc_value b.desk) b.pass s parts c.args.fired.now has c.requires in
     own.home.0
@@ -28,7 +28,7 @@ pub index_mut-requires : goal.index_mut-requires
 index_mut-requires c =
     let b = c.self.inside in
     let s = share_of b.number b.from b.to in
-    let parts = parts_of b.wheel b.inbox b.sched b.mails.items in
+    let parts = shard_parts_of b.wheel b.inbox b.sched b.mails.items in
     let has : Has c.args.self.now (arc_value b.desk) b.pass s parts = record { is = c.self.view_is; fit = c.self.invariant } in
     let own = own_first c.args.self.now (arc_value b.desk) b.pass s parts c.args.fired.now has c.requires in
     rw b.mails.ok.0 (place_low has.fit c.args.fired.now.dest own.home)
@@ -37,7 +37,7 @@ pub deliver-requires-clause-holds : goal.deliver-requires-clause-holds
 deliver-requires-clause-holds c =
     let b = c.self.inside in
     let s = share_of b.number b.from b.to in
-    let parts = parts_of b.wheel b.inbox b.sched b.mails.items in
+    let parts = shard_parts_of b.wheel b.inbox b.sched b.mails.items in
     let has : Has c.args.self.now c.deref.result.now b.pass s parts = has_at c.deref.ensures c.self.view_is c.self.invariant in
     let own = own_first c.args.self.now c.deref.result.now b.pass s parts c.args.fired.now has c.requires in
     sched_holds c.deref.result.now b.pass s parts c.args.fired.now.timer.wheel c.args.fired.now.dest c.index_mut.result.now.process has.fit own.placed.wheel own.home
@@ -47,7 +47,7 @@ pub deliver-requires-clause-dest : goal.deliver-requires-clause-dest
 deliver-requires-clause-dest c =
     let b = c.self.inside in
     let s = share_of b.number b.from b.to in
-    let parts = parts_of b.wheel b.inbox b.sched b.mails.items in
+    let parts = shard_parts_of b.wheel b.inbox b.sched b.mails.items in
     let has : Has c.args.self.now c.deref.result.now b.pass s parts = has_at c.deref.ensures c.self.view_is c.self.invariant in
     let own = own_first c.args.self.now c.deref.result.now b.pass s parts c.args.fired.now has c.requires in
     sym (mail_named has.fit c.args.fired.now.dest c.index_mut.result.now own.home c.index_mut.ensures.value)
@@ -56,7 +56,7 @@ pub deliver-requires-clause-first : goal.deliver-requires-clause-first
 deliver-requires-clause-first c =
     let b = c.self.inside in
     let s = share_of b.number b.from b.to in
-    let parts = parts_of b.wheel b.inbox b.sched b.mails.items in
+    let parts = shard_parts_of b.wheel b.inbox b.sched b.mails.items in
     let has : Has c.args.self.now c.deref.result.now b.pass s parts = has_at c.deref.ensures c.self.view_is c.self.invariant in
     let own = own_first c.args.self.now c.deref.result.now b.pass s parts c.args.fired.now has c.requires in
     subst (λ n. first_of ((state (settings_of c.deref.result.now) (front_of b.pass)).scheds n).fired ≡ Some c.args.fired.now) (sym own.placed.wheel)
@@ -66,7 +66,7 @@ pub deliver-requires-clause-stands : goal.deliver-requires-clause-stands
 deliver-requires-clause-stands c =
     let b = c.self.inside in
     let s = share_of b.number b.from b.to in
-    let parts = parts_of b.wheel b.inbox b.sched b.mails.items in
+    let parts = shard_parts_of b.wheel b.inbox b.sched b.mails.items in
     let has : Has c.args.self.now c.deref.result.now b.pass s parts = has_at c.deref.ensures c.self.view_is c.self.invariant in
     let own = own_first c.args.self.now c.deref.result.now b.pass s parts c.args.fired.now has c.requires in
     mail_stands c.deref.result.now b.pass s parts c.args.fired.now.dest c.index_mut.result.now has.fit own.home c.index_mut.ensures.value
@@ -75,20 +75,20 @@ pub reuse-requires-clause-stands : goal.reuse-requires-clause-stands
 reuse-requires-clause-stands c =
     let b = c.self.inside in
     let s = share_of b.number b.from b.to in
-    let parts = parts_of b.wheel b.inbox b.sched b.mails.items in
+    let parts = shard_parts_of b.wheel b.inbox b.sched b.mails.items in
     let has : Has c.args.self.now c.deref.result.now b.pass s parts = has_at c.deref.ensures c.self.view_is c.self.invariant in
     let own = own_first c.args.self.now c.deref.result.now b.pass s parts c.args.fired.now has c.requires in
     let x : SchedPart = record { wheel = b.sched.wheel; hand = b.sched.hand; fired = c.pop.new.self } in
     let does = does_at c.deref.ensures (handed_now c.args.self.now c.deref.result.now b.pass c.deliver.new.pass s parts c.index_mut.result.now c.deliver.new.self c.args.fired.now
     c.in_ok-handed.handed x has c.deliver.ensures.belongs c.requires c.index_mut.ensures.value c.deliver.ensures.process c.deliver.ensures.stands c.in_ok-handed.ensures.call
     c.in_ok-handed.ensures.sched refl refl c.pop.ensures.others) in
-    named_stands (arc_value b.desk) c.deliver.new.pass s (parts_of b.wheel b.inbox x (slice_set b.mails.items (c.args.fired.now.dest - b.from) c.deliver.new.self)) does.fit
+    named_stands (arc_value b.desk) c.deliver.new.pass s (shard_parts_of b.wheel b.inbox x (slice_set b.mails.items (c.args.fired.now.dest - b.from) c.deliver.new.self)) does.fit
 
 pub reuse-requires-clause-let_go : goal.reuse-requires-clause-let_go
 reuse-requires-clause-let_go c =
     let b = c.self.inside in
     let s = share_of b.number b.from b.to in
-    let parts = parts_of b.wheel b.inbox b.sched b.mails.items in
+    let parts = shard_parts_of b.wheel b.inbox b.sched b.mails.items in
     let has : Has c.args.self.now c.deref.result.now b.pass s parts = has_at c.deref.ensures c.self.view_is c.self.invariant in
     let own = own_first c.args.self.now c.deref.result.now b.pass s parts c.args.fired.now has c.requires in
     let can = handed_in c.args.self.now c.deref.result.now b.pass c.deliver.new.pass s parts c.args.fired.now c.in_ok-handed.handed has c.requires c.in_ok-handed.ensures.call in
@@ -98,7 +98,7 @@ pub reuse-requires-clause-handed : goal.reuse-requires-clause-handed
 reuse-requires-clause-handed c =
     let b = c.self.inside in
     let s = share_of b.number b.from b.to in
-    let parts = parts_of b.wheel b.inbox b.sched b.mails.items in
+    let parts = shard_parts_of b.wheel b.inbox b.sched b.mails.items in
     let has : Has c.args.self.now c.deref.result.now b.pass s parts = has_at c.deref.ensures c.self.view_is c.self.invariant in
     let own = own_first c.args.self.now c.deref.result.now b.pass s parts c.args.fired.now has c.requires in
     let can = handed_in c.args.self.now c.deref.result.now b.pass c.deliver.new.pass s parts c.args.fired.now c.in_ok-handed.handed has c.requires c.in_ok-handed.ensures.call in
@@ -108,21 +108,21 @@ pub invariant_of-self-2 : goal.invariant_of-self-2
 invariant_of-self-2 c =
     let b = c.self.inside in
     let s = share_of b.number b.from b.to in
-    let parts = parts_of b.wheel b.inbox b.sched b.mails.items in
+    let parts = shard_parts_of b.wheel b.inbox b.sched b.mails.items in
     let has : Has c.args.self.now c.deref.result.now b.pass s parts = has_at c.deref.ensures c.self.view_is c.self.invariant in
     let own = own_first c.args.self.now c.deref.result.now b.pass s parts c.args.fired.now has c.requires in
     let x : SchedPart = record { wheel = b.sched.wheel; hand = b.sched.hand; fired = c.pop.new.self } in
     let does = does_at c.deref.ensures (handed_now c.args.self.now c.deref.result.now b.pass c.deliver.new.pass s parts c.index_mut.result.now c.deliver.new.self c.args.fired.now
     c.in_ok-handed.handed x has c.deliver.ensures.belongs c.requires c.index_mut.ensures.value c.deliver.ensures.process c.deliver.ensures.stands c.in_ok-handed.ensures.call
     c.in_ok-handed.ensures.sched refl refl c.pop.ensures.others) in
-    wheel_replaced (arc_value b.desk) c.deliver.new.pass s (parts_of b.wheel b.inbox x (slice_set b.mails.items (c.args.fired.now.dest - b.from) c.deliver.new.self)) c.reuse.new.self does.fit c.reuse.ensures.number
+    wheel_replaced (arc_value b.desk) c.deliver.new.pass s (shard_parts_of b.wheel b.inbox x (slice_set b.mails.items (c.args.fired.now.dest - b.from) c.deliver.new.self)) c.reuse.new.self does.fit c.reuse.ensures.number
     (c.reuse.ensures.stands _ does.fit.belongs.named)
 
 pub returns-clause-call : goal.returns-clause-call
 returns-clause-call c =
     let b = c.self.inside in
     let s = share_of b.number b.from b.to in
-    let parts = parts_of b.wheel b.inbox b.sched b.mails.items in
+    let parts = shard_parts_of b.wheel b.inbox b.sched b.mails.items in
     let has : Has c.args.self.now c.deref.result.now b.pass s parts = has_at c.deref.ensures c.self.view_is c.self.invariant in
     let own = own_first c.args.self.now c.deref.result.now b.pass s parts c.args.fired.now has c.requires in
     let x : SchedPart = record { wheel = b.sched.wheel; hand = b.sched.hand; fired = c.pop.new.self } in
@@ -136,7 +136,7 @@ pub returns-clause-fired : goal.returns-clause-fired
 returns-clause-fired c =
     let b = c.self.inside in
     let s = share_of b.number b.from b.to in
-    let parts = parts_of b.wheel b.inbox b.sched b.mails.items in
+    let parts = shard_parts_of b.wheel b.inbox b.sched b.mails.items in
     let has : Has c.args.self.now c.deref.result.now b.pass s parts = has_at c.deref.ensures c.self.view_is c.self.invariant in
     let own = own_first c.args.self.now c.deref.result.now b.pass s parts c.args.fired.now has c.requires in
     subst (λ (d : Desk). ((state (settings_of d) (front_of c.deliver.new.pass)).scheds b.number).fired ≡ others_of (fired_of c.args.self.now)) c.deref.ensures
@@ -146,7 +146,7 @@ pub invariant_of-self : goal.invariant_of-self
 invariant_of-self c =
     let b = c.self.inside in
     let s = share_of b.number b.from b.to in
-    let parts = parts_of b.wheel b.inbox b.sched b.mails.items in
+    let parts = shard_parts_of b.wheel b.inbox b.sched b.mails.items in
     let has : Has c.args.self.now c.deref.result.now b.pass s parts = has_at c.deref.ensures c.self.view_is c.self.invariant in
     let own = own_first c.args.self.now c.deref.result.now b.pass s parts c.args.fired.now has c.requires in
     let did = did_at c.deref.ensures (step_refused c.args.self.now c.deref.result.now b.pass c.deliver.new.pass s parts c.args.fired.now.dest c.index_mut.result.now c.deliver.new.self
@@ -163,7 +163,7 @@ pub returns-in_err-handed : goal.returns-in_err-handed
 returns-in_err-handed c =
     let b = c.self.inside in
     let s = share_of b.number b.from b.to in
-    let parts = parts_of b.wheel b.inbox b.sched b.mails.items in
+    let parts = shard_parts_of b.wheel b.inbox b.sched b.mails.items in
     let has : Has c.args.self.now c.deref.result.now b.pass s parts = has_at c.deref.ensures c.self.view_is c.self.invariant in
     let own = own_first c.args.self.now c.deref.result.now b.pass s parts c.args.fired.now has c.requires in
     let did = did_at c.deref.ensures (step_refused c.args.self.now c.deref.result.now b.pass c.deliver.new.pass s parts c.args.fired.now.dest c.index_mut.result.now c.deliver.new.self

@@ -1,7 +1,7 @@
 use Rattle.std.proofs.Common.{subst}
 use Rattle.std.specs.Arc.{arc_value}
 use Rattle.ert_shard.proofs.Stepped.{none_armed_in}
-use Rattle.ert_shard.specs.Shards.{Owned, share_of, parts_of}
+use Rattle.ert_shard.specs.Shards.{Owned, share_of, shard_parts_of}
 use Rattle.ert_timers.specs.NextDue.{IsNextHeld}
 use Rattle.ert_shard.proofs.shard.Shard.next_due.Goals as goal
 
@@ -11,5 +11,5 @@ returns-clause-held c = subst (λ (o : Owned). IsNextHeld o.wheel c.next_due.res
 pub returns-clause-armed : goal.returns-clause-armed
 returns-clause-armed c =
     let b = c.self.inside in
-    none_armed_in c.args.self.now (arc_value b.desk) b.pass (share_of b.number b.from b.to) (parts_of b.wheel b.inbox b.sched b.mails.items) c.next_due.result
+    none_armed_in c.args.self.now (arc_value b.desk) b.pass (share_of b.number b.from b.to) (shard_parts_of b.wheel b.inbox b.sched b.mails.items) c.next_due.result
     c.self.view_is c.self.invariant c.next_due.ensures.armed

@@ -1,6 +1,6 @@
 use Rattle.std.proofs.Common.{◌≡◌, Bool, ◌||◌, Ok, Err, inl, inr, rules, sym, ap, subst, ◌∙◌}
 use Rattle.ert_shard.proofs.Stepped.{turned_up_to, some_unadvanced, some_undelivered, passed_on, fewer_after}
-use Rattle.ert_shard.specs.Shards.{Steps, way_of}
+use Rattle.ert_shard.specs.Shards.{ShardSteps, shard_way}
 use Rattle.ert_shard.specs.Turning.{TurnsUpTo}
 use Rattle.ert_shard.specs.declared.turns.Turn.{Turn}
 use Rattle.ert_timers.specs.Trying.{IsLeft, LosesSome}
@@ -23,7 +23,7 @@ returns-then-due-clause-call c =
     let a = c.args.self.now in
     let e = c.deliver_some.new.self in
     let t : Turn = record { to = c.in_ok-to.to; fired = c.in_ok-to.fired; put = c.in_ok-put.put; dropped = c.in_ok-put.dropped } in
-    subst (λ (more : Bool). Steps a (λ way. TurnsUpTo a.settings way a.share.number c.args.most (Ok (t, more))) e)
+    subst (λ (more : Bool). ShardSteps a (λ way. TurnsUpTo a.settings way a.share.number c.args.most (Ok (t, more))) e)
     (ap (λ (due : Bool). due || c.in_ok-put.waits) c.if-due.true ∙ sym c.if-due.true)
     (turned_up_to c.args.most a c.advance_some.new.self e t c.in_ok-to.due c.in_ok-put.waits c.in_ok-to.ensures.call c.in_ok-put.ensures)
 
@@ -32,7 +32,7 @@ returns-else-due-clause-call c =
     let a = c.args.self.now in
     let e = c.deliver_some.new.self in
     let t : Turn = record { to = c.in_ok-to.to; fired = c.in_ok-to.fired; put = c.in_ok-put.put; dropped = c.in_ok-put.dropped } in
-    subst (λ (more : Bool). Steps a (λ way. TurnsUpTo a.settings way a.share.number c.args.most (Ok (t, more))) e)
+    subst (λ (more : Bool). ShardSteps a (λ way. TurnsUpTo a.settings way a.share.number c.args.most (Ok (t, more))) e)
     (ap (λ (due : Bool). due || c.in_ok-put.waits) c.if-due.false)
     (turned_up_to c.args.most a c.advance_some.new.self e t c.in_ok-to.due c.in_ok-put.waits c.in_ok-to.ensures.call c.in_ok-put.ensures)
 
@@ -51,4 +51,4 @@ pub returns-else-due-clause-done : goal.returns-else-due-clause-done
 returns-else-due-clause-done c = λ more.
     let b = c.advance_some.new.self in
     let grows = c.in_ok-put.ensures.goes.grows in
-    inl (delivered_most b.settings (way_of b) b.share.number c.args.most (c.in_ok-put.put, c.in_ok-put.dropped, c.in_ok-put.waits) b.history grows.piece grows.made more)
+    inl (delivered_most b.settings (shard_way b) b.share.number c.args.most (c.in_ok-put.put, c.in_ok-put.dropped, c.in_ok-put.waits) b.history grows.piece grows.made more)

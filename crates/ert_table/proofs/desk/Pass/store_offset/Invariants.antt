@@ -1,5 +1,5 @@
 use Rattle.ert_table.specs.Desks.{settings_of}
-use Rattle.ert_table.specs.Entries.{shift_entry}
+use Rattle.ert_defs.specs.Entries.{shift_entry}
 use Rattle.ert_table.proofs.desk.Pass.store_offset.Given as goal
 
 abbrev pub ghosts-store_offset_as : goal.ghosts-store_offset_as

@@ -3,7 +3,7 @@ use Rattle.std.specs.Int.{w64}
 use Rattle.std.proofs.lemmas.Int.{to_z-of_z}
 use Rattle.ert_defs.specs.Words.{offset_word, is_final}
 use Rattle.ert_defs.specs.declared.entry.Entry.{Entry}
-use Rattle.ert_table.specs.Entries.{shift_entry}
+use Rattle.ert_defs.specs.Entries.{shift_entry}
 use Rattle.ert_table.specs.Acts.{Acts}
 use Rattle.ert_table.proofs.ClockActs.{shift_is, shift_acts}
 use Rattle.ert_table.proofs.OneStep.{may_store_at}

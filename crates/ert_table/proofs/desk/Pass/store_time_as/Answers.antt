@@ -3,7 +3,7 @@ use Rattle.std.specs.Int.{w64}
 use Rattle.std.proofs.lemmas.Int.{to_z-of_z}
 use Rattle.ert_defs.specs.Words.{time_word}
 use Rattle.ert_defs.specs.declared.entry.Entry.{Entry}
-use Rattle.ert_table.specs.Entries.{tick_entry}
+use Rattle.ert_defs.specs.Entries.{tick_entry}
 use Rattle.ert_table.specs.Acts.{Acts}
 use Rattle.ert_table.proofs.ClockActs.{tick_is, tick_acts}
 use Rattle.ert_table.proofs.OneStep.{has_words, may_store_at}

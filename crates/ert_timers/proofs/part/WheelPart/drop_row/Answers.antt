@@ -1,7 +1,7 @@
 use Rattle.std.proofs.Common.{List, Option, refl, sym, subst}
 use Rattle.std.specs.Bool.{OnTrue}
 use Rattle.ert_timers.specs.Changes.{LostRow}
-use Rattle.ert_timers.specs.Parts.{AreFit, Part}
+use Rattle.ert_timers.specs.Parts.{AreFieldsFit, Part}
 use Rattle.ert_timers.specs.Slots.{Slot}
 use Rattle.ert_timers.specs.contracts.part.WheelPart.{the_view}
 use Rattle.ert_timers.proofs.Fit.{some_key, fit_removed, fit_lost}
@@ -15,7 +15,7 @@ pub invariant_of-self : goal.invariant_of-self
 invariant_of-self c =
     let p = c.self.inside in
     let left = c.remove.new.self in
-    subst (λ (slots : List Slot). AreFit p.processes slots left.keys (free_set p.free) left.owners p.arms p.expires p.orphans) (sym c.remove.ensures.values)
+    subst (λ (slots : List Slot). AreFieldsFit p.processes slots left.keys (free_set p.free) left.owners p.arms p.expires p.orphans) (sym c.remove.ensures.values)
     (fit_removed p.processes p.wheel.values p.wheel.keys left.keys (free_set p.free) p.wheel.owners left.owners p.arms p.expires p.orphans
     c.args.slot c.self.invariant c.remove.ensures.left c.remove.ensures.owners)
 

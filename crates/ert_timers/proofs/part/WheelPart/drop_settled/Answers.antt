@@ -3,7 +3,7 @@ use Rattle.ert_table.specs.Desks.{settings_of, front_of}
 use Rattle.ert_table.specs.Held.{IsWhole}
 use Rattle.ert_table.specs.declared.view.View.{View}
 use Rattle.ert_timers.specs.Dropping.{DropsRow}
-use Rattle.ert_timers.specs.Parts.{Stands}
+use Rattle.ert_timers.specs.Parts.{PartStands}
 use Rattle.ert_timers.proofs.Dropped.{drops_first, drops_more, left_tidy}
 use Rattle.ert_timers.proofs.part.WheelPart.drop_settled.Goals as goal
 
@@ -24,7 +24,7 @@ drop_settled_row-requires-clause-whole c =
 
 pub drop_settled_row-requires-clause-stands : goal.drop_settled_row-requires-clause-stands
 drop_settled_row-requires-clause-stands c =
-    subst (λ (v : View). Stands (settings_of c.args.desk.now) v.front c.loop-slot.self) (sym c.loop-slot.invariant.same) c.loop-slot.invariant.drops.stands
+    subst (λ (v : View). PartStands (settings_of c.args.desk.now) v.front c.loop-slot.self) (sym c.loop-slot.invariant.same) c.loop-slot.invariant.drops.stands
 
 pub loop-slot-preserved : goal.loop-slot-preserved
 loop-slot-preserved c =

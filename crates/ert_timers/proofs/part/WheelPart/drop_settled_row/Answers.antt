@@ -9,7 +9,7 @@ use Rattle.ert_table.specs.Desks.{settings_of, front_of}
 use Rattle.ert_table.specs.Settlings.{shown_in}
 use Rattle.ert_table.specs.declared.view.View.{View}
 use Rattle.ert_timers.specs.Freeing.{IsLast}
-use Rattle.ert_timers.specs.Parts.{Stands, last_timer}
+use Rattle.ert_timers.specs.Parts.{PartStands, last_timer}
 use Rattle.ert_timers.specs.Starting.{status_shown}
 use Rattle.ert_timers.proofs.Dropped.{drops_none, drops_one, drops_empty, settled_seen, told_some, told_none}
 use Rattle.ert_timers.proofs.part.WheelPart.drop_settled_row.Goals as goal
@@ -37,8 +37,8 @@ pub forget-requires-clause-stands : goal.forget-requires-clause-stands
 forget-requires-clause-stands c = λ g named.
     let same : Some (settings_of c.args.desk.now) ≡ Some g = sym c.see_timer-shown.ensures.belongs.named ∙ named in
     let mine : settings_of c.args.desk.now ≡ g = cc in
-    subst (λ (x : Settings). Stands x (front_of c.see_timer-shown.new.self) c.args.self.now) mine
-    (subst (λ (v : View). Stands (settings_of c.args.desk.now) v.front c.args.self.now) (sym c.see_timer-shown.ensures.same) c.requires.stands)
+    subst (λ (x : Settings). PartStands x (front_of c.see_timer-shown.new.self) c.args.self.now) mine
+    (subst (λ (v : View). PartStands (settings_of c.args.desk.now) v.front c.args.self.now) (sym c.see_timer-shown.ensures.same) c.requires.stands)
 
 pub forget-requires-clause-last : goal.forget-requires-clause-last
 forget-requires-clause-last c =
@@ -77,7 +77,7 @@ returns-clause-drops c =
     let last : c.timer.result.timer ≡ last_timer p.number p.slots k =
     ap (λ (r : Row). r.timer) c.timer.ensures ∙ ap (λ (r : WheelRow). last_timer p.number p.slots r.slot) (sym has.2) in
     drops_one g (front_of c.args.pass.now) p c.forget.new.self k c.timer.result.timer last c.requires.low
-    (subst (λ (v : View). Stands g v.front c.forget.new.self) c.see_timer-shown.ensures.same
+    (subst (λ (v : View). PartStands g v.front c.forget.new.self) c.see_timer-shown.ensures.same
     (c.forget.ensures.stands g c.see_timer-shown.ensures.belongs.named)) c.forget.ensures.loses c.forget.ensures.forgotten
 
 pub returns-in_default-clause-drops : goal.returns-in_default-clause-drops

@@ -1,7 +1,7 @@
 use Rattle.std.proofs.Common.{◌≡◌, true, None, refl, sym, ap, subst, ◌∙◌}
 use Rattle.ert_defs.specs.States.{state}
 use Rattle.ert_table.specs.Desks.{view_of}
-use Rattle.ert_timers.specs.Parts.{Part, Stands}
+use Rattle.ert_timers.specs.Parts.{Part, PartStands}
 use Rattle.ert_timers.proofs.Fit.{some_key, none_key, set_none}
 use Rattle.ert_timers.proofs.Forgotten.{forgot}
 use Rattle.ert_timers.proofs.Passing.{loses_none, loses_row}
@@ -17,7 +17,7 @@ returns-then-drop_row-clause-stands c = λ g named.
     let k = c.args.timer.slot in
     let h = (view_of c.args.pass.now).front in
     let has = some_key (key_in p.keys k) (c.drop_row.ensures.found.0 c.if-drop_row.true) in
-    subst (λ (q : Part). Stands g h q) (sym (c.free_after.ensures ∙ ap (λ (q : Part). reused q k) c.drop_row.ensures.left))
+    subst (λ (q : Part). PartStands g h q) (sym (c.free_after.ensures ∙ ap (λ (q : Part). reused q k) c.drop_row.ensures.left))
     (forgot g h p k has.0 (c.requires.stands g named) c.requires.last.low has.1
     (λ armed. c.requires.settled g named (ap (state g h).status c.requires.last.named ∙ armed)))
 
@@ -27,7 +27,7 @@ returns-else-drop_row-clause-stands c = λ g named.
     let k = c.args.timer.slot in
     let none : key_in p.keys k ≡ None =
     none_key (key_in p.keys k) (λ is. let found : c.drop_row.result ≡ true = c.drop_row.ensures.found.1 is in cc) in
-    subst (λ (q : Part). Stands g (view_of c.args.pass.now).front q)
+    subst (λ (q : Part). PartStands g (view_of c.args.pass.now).front q)
     (sym (c.drop_row.ensures.left ∙ ap (λ keys. let q : Part = record p { keys = keys } in q) (set_none p.keys k none))) (c.requires.stands g named)
 
 pub returns-then-drop_row-clause-loses : goal.returns-then-drop_row-clause-loses

@@ -1,7 +1,7 @@
 use Rattle.std.proofs.Common.{◌≡◌, ◌+◌, ◌<◌, List, length, Option, refl, sym, ap, subst, ◌∙◌, set, arith}
-use Rattle.ert_timers.specs.Changes.{IsFree, slot_for}
+use Rattle.ert_timers.specs.Changes.{CanTakeTimer, slot_for}
 use Rattle.ert_timers.specs.Owners.{MayJoin, Joins}
-use Rattle.ert_timers.specs.Parts.{Part, AreFit, slot_at, unused}
+use Rattle.ert_timers.specs.Parts.{Part, AreFieldsFit, slot_at, unused}
 use Rattle.ert_timers.specs.contracts.part.WheelPart.{the_view}
 use Rattle.ert_timers.specs.Slots.{Slot}
 use Rattle.std.proofs.lemmas.Option.{get_or_from_slice_get}
@@ -41,7 +41,7 @@ invariant_of-self c =
     let p = c.self.inside in
     let seen : Part = the_view p in
     let k = c.args.slot in
-    let free = subst (λ (q : Part). IsFree q k) (sym c.self.view_is) c.requires.free in
+    let free = subst (λ (q : Part). CanTakeTimer q k) (sym c.self.view_is) c.requires.free in
     let dest = subst (λ (q : Part). c.args.start.now.dest < q.processes) (sym c.self.view_is) c.requires.dest in
     let read : slot_at p.wheel.values k ≡ c.value-last.result = get_or_from_slice_get p.wheel.values k c.value-last.result unused c.value-last.ensures in
     let start = c.args.start.now in
@@ -57,9 +57,9 @@ invariant_of-self c =
       orders = fit.chained.orders;
       stands = c.is_with-stays.ensures fit.chained.places fit.chained.are (λ place is. fit.chained.lasts k place is ∙ ap (λ (s : Slot). s.dest) read);
     }) in
-    subst (λ (slots : List Slot). AreFit p.processes slots new.keys (free_set p.free) new.owners (p.arms + 1) p.expires p.orphans)
+    subst (λ (slots : List Slot). AreFieldsFit p.processes slots new.keys (free_set p.free) new.owners (p.arms + 1) p.expires p.orphans)
     (sym (c.join.ensures.values ∙ (c.insert.ensures.values ∙ ap (set p.wheel.values k) is)))
-    (subst (λ (keys : List (Option Key)). AreFit p.processes (set p.wheel.values k (slot_for c.args.next (slot_at p.wheel.values k).above start)) keys
+    (subst (λ (keys : List (Option Key)). AreFieldsFit p.processes (set p.wheel.values k (slot_for c.args.next (slot_at p.wheel.values k).above start)) keys
     (free_set p.free) new.owners (p.arms + 1) p.expires p.orphans) (sym (c.join.ensures.keys ∙ c.insert.ensures.keys))
     (fit_kept seen (free_set p.free) p.wheel.owners new.owners k start c.args.next fit refl free
     (subst (λ (q : Part). q.arms < 9007199254740992) (sym c.self.view_is) c.requires.few) dest

@@ -1,5 +1,5 @@
 use Rattle.std.proofs.Common.{◌≡◌, ◌<◌, List, Option, None, length, sym, subst}
-use Rattle.ert_timers.specs.Parts.{AreFit, Part}
+use Rattle.ert_timers.specs.Parts.{AreFieldsFit, Part}
 use Rattle.ert_timers.specs.Slots.{Slot}
 use Rattle.ert_timers.proofs.Fit.{fit_owned, may_leave}
 use Rattle.ert_timers.proofs.Keeping.{owned_thinned}
@@ -22,8 +22,8 @@ invariant_of-self c =
     let new = c.disown.new.self in
     let chained = c.self.invariant.chained in
     let none = subst (λ (q : Part). key_in q.keys c.args.slot ≡ None) (sym c.self.view_is) c.requires.vacant in
-    subst (λ (slots : List Slot). AreFit p.processes slots new.keys (free_set p.free) new.owners p.arms p.expires p.orphans) (sym c.disown.ensures.values)
-    (subst (λ (keys : List (Option Key)). AreFit p.processes p.wheel.values keys (free_set p.free) new.owners p.arms p.expires p.orphans) (sym c.disown.ensures.keys)
+    subst (λ (slots : List Slot). AreFieldsFit p.processes slots new.keys (free_set p.free) new.owners p.arms p.expires p.orphans) (sym c.disown.ensures.values)
+    (subst (λ (keys : List (Option Key)). AreFieldsFit p.processes p.wheel.values keys (free_set p.free) new.owners p.arms p.expires p.orphans) (sym c.disown.ensures.keys)
     (fit_owned p.processes p.wheel.values p.wheel.keys (free_set p.free) p.wheel.owners new.owners p.arms p.expires p.orphans c.self.invariant
     c.disown.ensures.slots c.disown.ensures.homes
     (owned_thinned p.wheel.values p.wheel.keys p.wheel.owners new.owners p.arms (with_place chained.places c.args.slot None) chained

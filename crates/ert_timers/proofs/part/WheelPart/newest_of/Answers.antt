@@ -1,6 +1,6 @@
 use Rattle.std.proofs.Common.{◌≡◌, ◌<◌, ◌∙◌, ℕ, List, Option, sym, subst, arith}
 use Rattle.ert_timers.specs.Changes.{NextOf}
-use Rattle.ert_timers.specs.Parts.{AreFit, Part}
+use Rattle.ert_timers.specs.Parts.{AreFieldsFit, Part}
 use Rattle.ert_timers.specs.Slots.{Slot}
 use Rattle.ert_timers.specs.contracts.part.WheelPart.{the_view}
 use Rattle.ert_timers.proofs.Fit.{fit_owned}
@@ -27,8 +27,8 @@ invariant_of-self c =
     let fit = c.self.invariant in
     let new = c.find_row.new.wheel in
     let finds = c.find_row.ensures.finds fit.chained.places fit.chained.are in
-    subst (λ (slots : List Slot). AreFit p.processes slots new.keys (free_set p.free) new.owners p.arms p.expires p.orphans) (sym c.find_row.ensures.values)
-    (subst (λ keys. AreFit p.processes p.wheel.values keys (free_set p.free) new.owners p.arms p.expires p.orphans) (sym c.find_row.ensures.keys)
+    subst (λ (slots : List Slot). AreFieldsFit p.processes slots new.keys (free_set p.free) new.owners p.arms p.expires p.orphans) (sym c.find_row.ensures.values)
+    (subst (λ keys. AreFieldsFit p.processes p.wheel.values keys (free_set p.free) new.owners p.arms p.expires p.orphans) (sym c.find_row.ensures.keys)
     (fit_owned p.processes p.wheel.values p.wheel.keys (free_set p.free) p.wheel.owners new.owners p.arms p.expires p.orphans fit c.find_row.ensures.slots
     c.find_row.ensures.homes
     (owned_thinned p.wheel.values p.wheel.keys p.wheel.owners new.owners p.arms finds.left fit.chained finds.thinned)))

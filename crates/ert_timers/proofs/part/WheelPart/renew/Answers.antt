@@ -1,7 +1,7 @@
 use Rattle.std.proofs.Common.{◌≡◌, ◌+◌, ◌<◌, nat_eq, List, length, Option, refl, sym, ap, subst, ◌∙◌, set, arith, eqb-true}
 use Rattle.ert_timers.specs.Changes.{dropped, slot_for}
 use Rattle.ert_timers.specs.Owners.{MayJoin, Joins}
-use Rattle.ert_timers.specs.Parts.{Part, AreFit, slot_at, unused}
+use Rattle.ert_timers.specs.Parts.{Part, AreFieldsFit, slot_at, unused}
 use Rattle.ert_timers.specs.Restarting.{CanRenew}
 use Rattle.ert_timers.specs.contracts.part.WheelPart.{the_view}
 use Rattle.ert_timers.specs.Slots.{Slot}
@@ -57,9 +57,9 @@ invariant_of-self c =
       stands = λ stays.
           subst (λ n. StandsIn fit.chained.places n k) (ap (λ (s : Slot). s.dest) read ∙ (sym c.dest.ensures ∙ eqb-true _ _ stays)) (fit.chained.held k has.0 has.1);
     }) in
-    subst (λ (slots : List Slot). AreFit p.processes slots new.keys (free_set p.free) new.owners (p.arms + 1) p.expires p.orphans)
+    subst (λ (slots : List Slot). AreFieldsFit p.processes slots new.keys (free_set p.free) new.owners (p.arms + 1) p.expires p.orphans)
     (sym (c.join.ensures.values ∙ (c.replace.ensures.values ∙ ap (set p.wheel.values k) is)))
-    (subst (λ (keys : List (Option Key)). AreFit p.processes (set p.wheel.values k (slot_for c.args.next (slot_at p.wheel.values k).above start)) keys
+    (subst (λ (keys : List (Option Key)). AreFieldsFit p.processes (set p.wheel.values k (slot_for c.args.next (slot_at p.wheel.values k).above start)) keys
     (free_set p.free) new.owners (p.arms + 1) p.expires p.orphans) (set_twice p.wheel.keys k _ _ ∙ sym (c.join.ensures.keys ∙ c.replace.ensures.keys))
     (fit_kept (dropped seen k) (free_set p.free) p.wheel.owners new.owners k start c.args.next less refl (free_again seen k can)
     can.few dest

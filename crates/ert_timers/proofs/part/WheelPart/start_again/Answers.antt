@@ -1,14 +1,14 @@
 use Rattle.std.proofs.Common.{Some, refl, sym, subst}
 use Rattle.ert_table.specs.Desks.{settings_of, view_of, front_of}
 use Rattle.ert_timers.specs.Changes.{dropped}
-use Rattle.ert_timers.specs.Parts.{Stands}
+use Rattle.ert_timers.specs.Parts.{PartStands}
 use Rattle.ert_timers.proofs.Anew.{stands_after, takes_after, untaken_after}
 use Rattle.ert_timers.proofs.Starts.{bad_arg, use_ahead, is_started, gains_started}
 use Rattle.ert_timers.proofs.part.WheelPart.start_again.Goals as goal
 
 pub returns-in_default-clause-stands : goal.returns-in_default-clause-stands
 returns-in_default-clause-stands c =
-    subst (Stands (settings_of c.args.desk.now) (front_of c.look_as_forecast.new.pass)) (sym c.drop_row.ensures.left)
+    subst (PartStands (settings_of c.args.desk.now) (front_of c.look_as_forecast.new.pass)) (sym c.drop_row.ensures.left)
     (stands_after (settings_of c.args.desk.now) (view_of c.args.pass.now) c.args.by c.args.start.now c.look_as_forecast.result
     (view_of c.look_as_forecast.new.pass) c.args.self.now c.args.timer
     (record {

@@ -7,14 +7,14 @@ use Rattle.ert_table.specs.Calls.{IsMade}
 use Rattle.ert_table.specs.Desks.{settings_of, view_of, front_of}
 use Rattle.ert_timers.proofs.Anew.{gains_anew}
 use Rattle.ert_timers.proofs.Orphaned.{still_caller}
-use Rattle.ert_timers.specs.Parts.{Stands}
+use Rattle.ert_timers.specs.Parts.{PartStands}
 use Rattle.ert_timers.proofs.part.WheelPart.start_anew.Goals as goal
 
 pub forget-requires-clause-stands : goal.forget-requires-clause-stands
 forget-requires-clause-stands c = λ g named.
     let same : Some (settings_of c.args.desk.now) ≡ Some g = sym c.requires.belongs.named ∙ named in
     let mine : settings_of c.args.desk.now ≡ g = cc in
-    subst (λ (x : Settings). Stands x (front_of c.args.pass.now) c.args.self.now) mine c.requires.stands
+    subst (λ (x : Settings). PartStands x (front_of c.args.pass.now) c.args.self.now) mine c.requires.stands
 
 pub forget-requires-clause-settled : goal.forget-requires-clause-settled
 forget-requires-clause-settled c = λ g named.

@@ -1,7 +1,7 @@
 use Rattle.std.proofs.Common.{sym, ap, subst, ◌∙◌}
 use Rattle.std.specs.FinSet as sets
 use Rattle.ert_table.specs.Desks.{settings_of, view_of}
-use Rattle.ert_timers.specs.Parts.{HoldsCaller, Part, Stands}
+use Rattle.ert_timers.specs.Parts.{HoldsCaller, Part, PartStands}
 use Rattle.ert_timers.proofs.Takings.{takes_first, takes_then}
 use Rattle.ert_timers.proofs.part.WheelPart.take_slot.Goals as goal
 
@@ -22,7 +22,7 @@ look_around-requires-clause-holds c =
 
 pub look_around-requires-clause-stands : goal.look_around-requires-clause-stands
 look_around-requires-clause-stands c =
-    subst (λ (p : Part). Stands (settings_of c.args.desk.now) (view_of c.args.pass.now).front p) (sym c.in_default.ensures.unchanged)
+    subst (λ (p : Part). PartStands (settings_of c.args.desk.now) (view_of c.args.pass.now).front p) (sym c.in_default.ensures.unchanged)
     c.requires.stands
 
 pub returns-clause-call : goal.returns-clause-call

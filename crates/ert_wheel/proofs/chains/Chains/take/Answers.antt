@@ -4,7 +4,7 @@ use Rattle.ert_wheel.proofs.Calls.{unsplices, takes, before_low, after_low}
 use Rattle.ert_wheel.proofs.chains.Chains.take.Goals as goal
 use Rattle.ert_wheel.specs.Chained.{Unspliced}
 use Rattle.ert_wheel.specs.Links.{next_at, prev_at}
-use Rattle.ert_wheel.specs.Rings.{Takes}
+use Rattle.ert_wheel.specs.Rings.{GivesUpPlace}
 use Rattle.ert_wheel.specs.declared.links.Link.{Link}
 
 pub unlink-requires-clause-prev : goal.unlink-requires-clause-prev
@@ -27,7 +27,7 @@ returns-clause-unspliced c =
 pub returns-clause-chains : goal.returns-clause-chains
 returns-clause-chains c =
     let old = c.self.inside in
-    subst (λ (links : List Link). Takes c.args.self.now (record { slots = old.slots; homes = old.homes; links = links }) c.args.slot)
+    subst (λ (links : List Link). GivesUpPlace c.args.self.now (record { slots = old.slots; homes = old.homes; links = links }) c.args.slot)
     (sym (with_items_is old.links c.unlink.new.links (omega (arith, c.unlink.auto.links, c.deref_mut.ensures.len))))
     (takes c.args.self.now old.slots old.homes old.links.items c.unlink.new.links c.args.slot c.self.view_is c.requires.low
     (unsplices c.args.self.now old.slots old.homes old.links.items c.deref_mut.result.now c.unlink.new.links c.args.slot c.self.view_is c.deref_mut.ensures.value c.unlink.ensures))

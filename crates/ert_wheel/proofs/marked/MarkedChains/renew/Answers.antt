@@ -1,7 +1,7 @@
 use Rattle.std.proofs.Common.{subst, arith, ap}
 use Rattle.ert_wheel.proofs.Replacing.{may_put_again, moves_by, moves_none}
 use Rattle.ert_wheel.proofs.marked.MarkedChains.renew.Goals as goal
-use Rattle.ert_wheel.specs.Rings.{Rings, Moves}
+use Rattle.ert_wheel.specs.Rings.{Rings, MovesSlot}
 
 pub put-requires : goal.put-requires
 put-requires c =
@@ -10,7 +10,7 @@ put-requires c =
 
 pub returns-then-is_newest-clause-chains : goal.returns-then-is_newest-clause-chains
 returns-then-is_newest-clause-chains c =
-    subst (λ (r : Rings). Moves r r c.args.slot c.args.home) c.self.view_is
+    subst (λ (r : Rings). MovesSlot r r c.args.slot c.args.home) c.self.view_is
     (moves_none c.self.inside.chains c.args.slot c.args.home (c.is_newest.ensures c.if-is_newest.true))
 
 pub returns-clause-chains : goal.returns-clause-chains

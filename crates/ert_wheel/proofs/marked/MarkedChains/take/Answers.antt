@@ -2,7 +2,7 @@ use Rattle.std.proofs.Common.{subst, sym, arith}
 use Rattle.ert_wheel.proofs.Calls.{after_in_range}
 use Rattle.ert_wheel.proofs.Following.{is_only, has_others, take_marked, take_cleared}
 use Rattle.ert_wheel.proofs.marked.MarkedChains.take.Goals as goal
-use Rattle.ert_wheel.specs.Rings.{Rings, MayTake, Takes}
+use Rattle.ert_wheel.specs.Rings.{Rings, MayTake, GivesUpPlace}
 
 pub clear-requires : goal.clear-requires
 clear-requires c =
@@ -27,8 +27,8 @@ invariant_of-self-in_default c =
 
 pub returns-in-Some-clause-chains : goal.returns-in-Some-clause-chains
 returns-in-Some-clause-chains c =
-    subst (λ (r : Rings). Takes r c.take.new.self c.args.slot) c.self.view_is c.take.ensures.chains
+    subst (λ (r : Rings). GivesUpPlace r c.take.new.self c.args.slot) c.self.view_is c.take.ensures.chains
 
 pub returns-in_default-clause-chains : goal.returns-in_default-clause-chains
 returns-in_default-clause-chains c =
-    subst (λ (r : Rings). Takes r c.take.new.self c.args.slot) c.self.view_is c.take.ensures.chains
+    subst (λ (r : Rings). GivesUpPlace r c.take.new.self c.args.slot) c.self.view_is c.take.ensures.chains

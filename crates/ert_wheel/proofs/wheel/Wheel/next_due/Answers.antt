@@ -4,7 +4,7 @@ use Rattle.ert_wheel.proofs.Least.{answer_is, no_row, has_row, may_walk, visits_
 use Rattle.ert_wheel.proofs.NextDue.{first_is, home_low, early_due, due_next, least_due, none_before_least, due_at_of}
 use Rattle.ert_wheel.proofs.Writes.{sees, keys_of, passed_of}
 use Rattle.ert_wheel.proofs.wheel.Wheel.next_due.Goals as goal
-use Rattle.ert_wheel.specs.NextDue.{NoRow, HasRow, IsNextDue}
+use Rattle.ert_wheel.specs.NextDue.{NoRow, HasSomeRow, IsNextDue}
 use Rattle.ert_wheel.specs.declared.row.TheConstants.{BUCKETS}
 
 pub returns-then-is_empty : goal.returns-then-is_empty
@@ -56,7 +56,7 @@ pub returns : goal.returns
 returns g c =
     let keys = c.args.self.now.keys in
     let some : count_by is_some keys ≢ 0 = λ none. (search (rules, none)) in
-    let row : HasRow keys = has_row keys some in
+    let row : HasSomeRow keys = has_row keys some in
     let w = (sees c.self.invariant c.self.view_is).wheel in
     let f = first_is w c.first_bucket-first.ensures.is c.first_used-home.ensures.first in
     answer_is (NoRow keys) c.least_in.result c.least_in.ensures.all c.least_in.ensures.least (λ least looked.

@@ -3,14 +3,14 @@ use Rattle.ert_wheel.proofs.Writes.{sees, is_held, is_kept, may_move, moved}
 use Rattle.ert_wheel.proofs.Writes.{keys_of, owners_of, passed_of}
 use Rattle.ert_wheel.proofs.wheel.Wheel.pass.Goals as goal
 use Rattle.ert_wheel.specs.Rings.{AreChains}
-use Rattle.ert_wheel.specs.Walks.{MayMove}
+use Rattle.ert_wheel.specs.Walks.{MayMoveOn}
 use Rattle.ert_wheel.specs.Wheels.{places, home_by}
 use Rattle.ert_wheel.specs.declared.row.Key.{Key}
 
 pub move_on-requires : goal.move_on-requires
 move_on-requires g c =
     let chains = c.self.inside.buckets in
-    subst (λ (keys : List (Option Key)). MayMove chains keys c.self.inside.next_time c.max-next_time.result)
+    subst (λ (keys : List (Option Key)). MayMoveOn chains keys c.self.inside.next_time c.max-next_time.result)
     (sym (ap keys_of c.self.view_is))
     (may_move c.args.to (sees c.self.invariant c.self.view_is).wheel c.requires
     (omega (arith, c.max-next_time.ensures)) (omega (arith, c.max-next_time.ensures, c.min-after.ensures))

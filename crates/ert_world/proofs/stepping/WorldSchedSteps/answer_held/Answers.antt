@@ -3,7 +3,7 @@ use Rattle.std.specs.Arc.{arc_value}
 use Rattle.std.specs.Option.{is_some}
 use Rattle.std.specs.Prelude.{slice_set}
 use Rattle.ert_effects.specs.RequestCalls.{Answers}
-use Rattle.ert_mail.specs.Mailboxes.{Stands}
+use Rattle.ert_mail.specs.Mailboxes.{MailboxStands}
 use Rattle.ert_table.specs.Desks.{settings_of, front_of, state_of}
 use Rattle.ert_timers.specs.Freeing.{IsLast}
 use Rattle.ert_timers.specs.Parts.{Part}
@@ -13,7 +13,7 @@ use Rattle.ert_world.proofs.CancelCalls.{cancelled_not, cancelled_was, does_canc
 use Rattle.ert_world.proofs.Gone.{gone_some}
 use Rattle.ert_world.proofs.Listed.{list_low, listed_now, kept_by}
 use Rattle.ert_world.proofs.SchedCalls.{asker_low, sched_holds, answered_now, step_refused}
-use Rattle.ert_world.specs.Worlds.{Seen, seen, By, left_by}
+use Rattle.ert_world.specs.Worlds.{Seen, seen, By, left_for}
 use Rattle.ert_world.proofs.stepping.WorldSchedSteps.answer_held.Goals as goal
 
 pub may_get_mail-requires : goal.may_get_mail-requires
@@ -46,7 +46,7 @@ pub answer-requires-clause-stands : goal.answer-requires-clause-stands
 answer-requires-clause-stands c =
     let has : Has c.args.self.now c.self.inside c.deref.result.now = has_at c.deref.ensures c.self.view_is c.self.invariant.sound in
     let low = asker_low c.args.self.now c.self.inside c.deref.result.now c.args.sched c.args.request.now has c.requires.hand in
-    subst (Stands (settings_of c.deref.result.now) (front_of c.self.inside.pass)) (sym c.index_mut.ensures.value)
+    subst (MailboxStands (settings_of c.deref.result.now) (front_of c.self.inside.pass)) (sym c.index_mut.ensures.value)
     (has.fit.stand.mails.stand c.args.request.now.reply_to c.index_mut.result.now low refl)
 
 pub invariant_of-self : goal.invariant_of-self
@@ -87,7 +87,7 @@ invariant_of-self-then-is_none c =
     c.answer.ensures.stands c.in_ok-left.ensures.call c.in_ok-left.ensures.sched c.index_mut-2.ensures.value refl refl refl in
     (does_cancel_at c.deref.ensures (cancelled_not c.args.self.now c.self.inside c.deref.result.now c.answer.new.pass
     (record (parts_in c.self.inside) { mails = slice_set c.self.inside.mails.items c.args.request.now.reply_to c.answer.new.self; scheds = slice_set c.self.inside.scheds.items c.args.sched (record { wheel = c.index_mut-2.result.now.wheel; hand = None; fired = c.index_mut-2.result.now.fired }) })
-    c.args.request.now.timer (left_by c.args.request.now.kind c.in_ok-left.left) (λ w. By w (λ g. Answers g c.args.sched c.args.request.now (Ok c.in_ok-left.left)))
+    c.args.request.now.timer (left_for c.args.request.now.kind c.in_ok-left.left) (λ w. By w (λ g. Answers g c.args.sched c.args.request.now (Ok c.in_ok-left.left)))
     (subst (λ (x : Option _). is_some x ≡ false) c.cancelled_left.ensures c.if-is_none.ensures) has done))) in
     kept_by c.self.inside c.may_get_mail.new.list c.self.view_is all.fit all.goes.grows
     (listed_now (state_of (arc_value c.self.inside.desk) c.self.inside.pass) c.self.inside.list c.may_get_mail.new.list c.self.inside.mails.items c.args.request.now.reply_to c.answer.new.self c.may_get_mail.ensures c.self.invariant.listed
@@ -102,7 +102,7 @@ returns-then-is_none-clause-call c =
     c.answer.ensures.stands c.in_ok-left.ensures.call c.in_ok-left.ensures.sched c.index_mut-2.ensures.value refl refl refl in
     (does_cancel_at c.deref.ensures (cancelled_not c.args.self.now c.self.inside c.deref.result.now c.answer.new.pass
     (record (parts_in c.self.inside) { mails = slice_set c.self.inside.mails.items c.args.request.now.reply_to c.answer.new.self; scheds = slice_set c.self.inside.scheds.items c.args.sched (record { wheel = c.index_mut-2.result.now.wheel; hand = None; fired = c.index_mut-2.result.now.fired }) })
-    c.args.request.now.timer (left_by c.args.request.now.kind c.in_ok-left.left) (λ w. By w (λ g. Answers g c.args.sched c.args.request.now (Ok c.in_ok-left.left)))
+    c.args.request.now.timer (left_for c.args.request.now.kind c.in_ok-left.left) (λ w. By w (λ g. Answers g c.args.sched c.args.request.now (Ok c.in_ok-left.left)))
     (subst (λ (x : Option _). is_some x ≡ false) c.cancelled_left.ensures c.if-is_none.ensures) has done)).goes.grows
 
 pub returns-then-is_none-clause-stays : goal.returns-then-is_none-clause-stays
@@ -114,7 +114,7 @@ returns-then-is_none-clause-stays c =
     c.answer.ensures.stands c.in_ok-left.ensures.call c.in_ok-left.ensures.sched c.index_mut-2.ensures.value refl refl refl in
     (does_cancel_at c.deref.ensures (cancelled_not c.args.self.now c.self.inside c.deref.result.now c.answer.new.pass
     (record (parts_in c.self.inside) { mails = slice_set c.self.inside.mails.items c.args.request.now.reply_to c.answer.new.self; scheds = slice_set c.self.inside.scheds.items c.args.sched (record { wheel = c.index_mut-2.result.now.wheel; hand = None; fired = c.index_mut-2.result.now.fired }) })
-    c.args.request.now.timer (left_by c.args.request.now.kind c.in_ok-left.left) (λ w. By w (λ g. Answers g c.args.sched c.args.request.now (Ok c.in_ok-left.left)))
+    c.args.request.now.timer (left_for c.args.request.now.kind c.in_ok-left.left) (λ w. By w (λ g. Answers g c.args.sched c.args.request.now (Ok c.in_ok-left.left)))
     (subst (λ (x : Option _). is_some x ≡ false) c.cancelled_left.ensures c.if-is_none.ensures) has done)).stays
 
 pub forget-requires-clause-stands : goal.forget-requires-clause-stands
@@ -124,9 +124,9 @@ forget-requires-clause-stands c =
     c.index_mut-2.result.now (record { wheel = c.index_mut-2.result.now.wheel; hand = None; fired = c.index_mut-2.result.now.fired })
     has c.answer.ensures.belongs c.requires.acts c.requires.hand c.index_mut.ensures.value c.answer.ensures.process
     c.answer.ensures.stands c.in_ok-left.ensures.call c.in_ok-left.ensures.sched c.index_mut-2.ensures.value refl refl refl in
-    let some : is_some (left_by c.args.request.now.kind c.in_ok-left.left) ≡ true =
+    let some : is_some (left_for c.args.request.now.kind c.in_ok-left.left) ≡ true =
     subst (λ (x : Option _). is_some x ≡ true) c.cancelled_left.ensures c.if-is_none.ensures in
-    let gone = gone_some (seen c.deref.result.now c.answer.new.pass c.self.inside.next c.self.inside.keeper c.self.inside.wheels.items) c.args.request.now.timer (left_by c.args.request.now.kind c.in_ok-left.left) some done.goes.gone in
+    let gone = gone_some (seen c.deref.result.now c.answer.new.pass c.self.inside.next c.self.inside.keeper c.self.inside.wheels.items) c.args.request.now.timer (left_for c.args.request.now.kind c.in_ok-left.left) some done.goes.gone in
     stands_then c.deref.result.now c.answer.new.pass c.self.inside.next (record (parts_in c.self.inside) { mails = slice_set c.self.inside.mails.items c.args.request.now.reply_to c.answer.new.self; scheds = slice_set c.self.inside.scheds.items c.args.sched (record { wheel = c.index_mut-2.result.now.wheel; hand = None; fired = c.index_mut-2.result.now.fired }) })
     c.args.request.now.timer.wheel c.index_mut-3.result.now done.fit gone.0 c.index_mut-3.ensures.value
 
@@ -137,9 +137,9 @@ forget-requires-clause-last c =
     c.index_mut-2.result.now (record { wheel = c.index_mut-2.result.now.wheel; hand = None; fired = c.index_mut-2.result.now.fired })
     has c.answer.ensures.belongs c.requires.acts c.requires.hand c.index_mut.ensures.value c.answer.ensures.process
     c.answer.ensures.stands c.in_ok-left.ensures.call c.in_ok-left.ensures.sched c.index_mut-2.ensures.value refl refl refl in
-    let some : is_some (left_by c.args.request.now.kind c.in_ok-left.left) ≡ true =
+    let some : is_some (left_for c.args.request.now.kind c.in_ok-left.left) ≡ true =
     subst (λ (x : Option _). is_some x ≡ true) c.cancelled_left.ensures c.if-is_none.ensures in
-    let gone = gone_some (seen c.deref.result.now c.answer.new.pass c.self.inside.next c.self.inside.keeper c.self.inside.wheels.items) c.args.request.now.timer (left_by c.args.request.now.kind c.in_ok-left.left) some done.goes.gone in
+    let gone = gone_some (seen c.deref.result.now c.answer.new.pass c.self.inside.next c.self.inside.keeper c.self.inside.wheels.items) c.args.request.now.timer (left_for c.args.request.now.kind c.in_ok-left.left) some done.goes.gone in
     subst (λ (p : Part). IsLast p c.args.request.now.timer) (sym c.index_mut-3.ensures.value) (gone.2 c.index_mut-3.result.now)
 
 pub forget-requires-clause-settled : goal.forget-requires-clause-settled
@@ -149,9 +149,9 @@ forget-requires-clause-settled c =
     c.index_mut-2.result.now (record { wheel = c.index_mut-2.result.now.wheel; hand = None; fired = c.index_mut-2.result.now.fired })
     has c.answer.ensures.belongs c.requires.acts c.requires.hand c.index_mut.ensures.value c.answer.ensures.process
     c.answer.ensures.stands c.in_ok-left.ensures.call c.in_ok-left.ensures.sched c.index_mut-2.ensures.value refl refl refl in
-    let some : is_some (left_by c.args.request.now.kind c.in_ok-left.left) ≡ true =
+    let some : is_some (left_for c.args.request.now.kind c.in_ok-left.left) ≡ true =
     subst (λ (x : Option _). is_some x ≡ true) c.cancelled_left.ensures c.if-is_none.ensures in
-    let gone = gone_some (seen c.deref.result.now c.answer.new.pass c.self.inside.next c.self.inside.keeper c.self.inside.wheels.items) c.args.request.now.timer (left_by c.args.request.now.kind c.in_ok-left.left) some done.goes.gone in
+    let gone = gone_some (seen c.deref.result.now c.answer.new.pass c.self.inside.next c.self.inside.keeper c.self.inside.wheels.items) c.args.request.now.timer (left_for c.args.request.now.kind c.in_ok-left.left) some done.goes.gone in
     settled_then c.deref.result.now c.answer.new.pass c.args.request.now.timer done.fit.belongs gone.1
 
 pub invariant_of-self-2 : goal.invariant_of-self-2
@@ -162,11 +162,11 @@ invariant_of-self-2 c =
     c.index_mut-2.result.now (record { wheel = c.index_mut-2.result.now.wheel; hand = None; fired = c.index_mut-2.result.now.fired })
     has c.answer.ensures.belongs c.requires.acts c.requires.hand c.index_mut.ensures.value c.answer.ensures.process
     c.answer.ensures.stands c.in_ok-left.ensures.call c.in_ok-left.ensures.sched c.index_mut-2.ensures.value refl refl refl in
-    let some : is_some (left_by c.args.request.now.kind c.in_ok-left.left) ≡ true =
+    let some : is_some (left_for c.args.request.now.kind c.in_ok-left.left) ≡ true =
     subst (λ (x : Option _). is_some x ≡ true) c.cancelled_left.ensures c.if-is_none.ensures in
     (does_cancel_at c.deref.ensures (cancelled_was c.args.self.now c.self.inside c.deref.result.now c.answer.new.pass
     (record (parts_in c.self.inside) { mails = slice_set c.self.inside.mails.items c.args.request.now.reply_to c.answer.new.self; scheds = slice_set c.self.inside.scheds.items c.args.sched (record { wheel = c.index_mut-2.result.now.wheel; hand = None; fired = c.index_mut-2.result.now.fired }) })
-    c.args.request.now.timer (left_by c.args.request.now.kind c.in_ok-left.left) c.index_mut-3.result.now c.forget.new.self (λ w. By w (λ g. Answers g c.args.sched c.args.request.now (Ok c.in_ok-left.left)))
+    c.args.request.now.timer (left_for c.args.request.now.kind c.in_ok-left.left) c.index_mut-3.result.now c.forget.new.self (λ w. By w (λ g. Answers g c.args.sched c.args.request.now (Ok c.in_ok-left.left)))
     some has done c.index_mut-3.ensures.value c.forget.ensures.number
     (c.forget.ensures.stands (settings_of c.deref.result.now) done.fit.belongs.named) c.forget.ensures.loses c.forget.ensures.forgotten))) in
     kept_by c.self.inside c.may_get_mail.new.list c.self.view_is all.fit all.goes.grows
@@ -180,11 +180,11 @@ returns-clause-call c =
     c.index_mut-2.result.now (record { wheel = c.index_mut-2.result.now.wheel; hand = None; fired = c.index_mut-2.result.now.fired })
     has c.answer.ensures.belongs c.requires.acts c.requires.hand c.index_mut.ensures.value c.answer.ensures.process
     c.answer.ensures.stands c.in_ok-left.ensures.call c.in_ok-left.ensures.sched c.index_mut-2.ensures.value refl refl refl in
-    let some : is_some (left_by c.args.request.now.kind c.in_ok-left.left) ≡ true =
+    let some : is_some (left_for c.args.request.now.kind c.in_ok-left.left) ≡ true =
     subst (λ (x : Option _). is_some x ≡ true) c.cancelled_left.ensures c.if-is_none.ensures in
     (does_cancel_at c.deref.ensures (cancelled_was c.args.self.now c.self.inside c.deref.result.now c.answer.new.pass
     (record (parts_in c.self.inside) { mails = slice_set c.self.inside.mails.items c.args.request.now.reply_to c.answer.new.self; scheds = slice_set c.self.inside.scheds.items c.args.sched (record { wheel = c.index_mut-2.result.now.wheel; hand = None; fired = c.index_mut-2.result.now.fired }) })
-    c.args.request.now.timer (left_by c.args.request.now.kind c.in_ok-left.left) c.index_mut-3.result.now c.forget.new.self (λ w. By w (λ g. Answers g c.args.sched c.args.request.now (Ok c.in_ok-left.left)))
+    c.args.request.now.timer (left_for c.args.request.now.kind c.in_ok-left.left) c.index_mut-3.result.now c.forget.new.self (λ w. By w (λ g. Answers g c.args.sched c.args.request.now (Ok c.in_ok-left.left)))
     some has done c.index_mut-3.ensures.value c.forget.ensures.number
     (c.forget.ensures.stands (settings_of c.deref.result.now) done.fit.belongs.named) c.forget.ensures.loses c.forget.ensures.forgotten)).goes.grows
 
@@ -195,10 +195,10 @@ returns-clause-stays c =
     c.index_mut-2.result.now (record { wheel = c.index_mut-2.result.now.wheel; hand = None; fired = c.index_mut-2.result.now.fired })
     has c.answer.ensures.belongs c.requires.acts c.requires.hand c.index_mut.ensures.value c.answer.ensures.process
     c.answer.ensures.stands c.in_ok-left.ensures.call c.in_ok-left.ensures.sched c.index_mut-2.ensures.value refl refl refl in
-    let some : is_some (left_by c.args.request.now.kind c.in_ok-left.left) ≡ true =
+    let some : is_some (left_for c.args.request.now.kind c.in_ok-left.left) ≡ true =
     subst (λ (x : Option _). is_some x ≡ true) c.cancelled_left.ensures c.if-is_none.ensures in
     (does_cancel_at c.deref.ensures (cancelled_was c.args.self.now c.self.inside c.deref.result.now c.answer.new.pass
     (record (parts_in c.self.inside) { mails = slice_set c.self.inside.mails.items c.args.request.now.reply_to c.answer.new.self; scheds = slice_set c.self.inside.scheds.items c.args.sched (record { wheel = c.index_mut-2.result.now.wheel; hand = None; fired = c.index_mut-2.result.now.fired }) })
-    c.args.request.now.timer (left_by c.args.request.now.kind c.in_ok-left.left) c.index_mut-3.result.now c.forget.new.self (λ w. By w (λ g. Answers g c.args.sched c.args.request.now (Ok c.in_ok-left.left)))
+    c.args.request.now.timer (left_for c.args.request.now.kind c.in_ok-left.left) c.index_mut-3.result.now c.forget.new.self (λ w. By w (λ g. Answers g c.args.sched c.args.request.now (Ok c.in_ok-left.left)))
     some has done c.index_mut-3.ensures.value c.forget.ensures.number
     (c.forget.ensures.stands (settings_of c.deref.result.now) done.fit.belongs.named) c.forget.ensures.loses c.forget.ensures.forgotten)).stays

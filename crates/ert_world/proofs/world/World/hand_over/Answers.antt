@@ -3,7 +3,7 @@ use Rattle.std.specs.Arc.{arc_value}
 use Rattle.ert_effects.specs.Chains.{Hands}
 use Rattle.ert_defs.specs.Mails.{first_of, others_of}
 use Rattle.ert_defs.specs.States.{state}
-use Rattle.ert_mail.specs.Mailboxes.{Stands}
+use Rattle.ert_mail.specs.Mailboxes.{MailboxStands}
 use Rattle.ert_world.proofs.Alone.{stays_same}
 use Rattle.ert_world.proofs.Calls.{mail_named}
 use Rattle.ert_table.specs.Desks.{settings_of, front_of, state_of}
@@ -11,7 +11,7 @@ use Rattle.ert_table.specs.declared.desk.Desk.{Desk}
 use Rattle.ert_world.proofs.Calls.{Has, has_at, does_at, parts_in, schedulers_at}
 use Rattle.ert_world.proofs.Listed.{list_low, listed_now, kept_by}
 use Rattle.ert_world.proofs.SchedCalls.{fired_placed, hands_on, handed_in, sched_holds, handed_now, step_refused}
-use Rattle.ert_world.specs.Worlds.{Seen, seen, IsHandedIn, sched_of}
+use Rattle.ert_world.specs.Worlds.{Seen, seen, IsHandedIn, world_sched}
 use Rattle.ert_world.proofs.world.World.hand_over.Goals as goal
 
 pub may_get_mail-requires : goal.may_get_mail-requires
@@ -45,13 +45,13 @@ deliver-requires-clause-first c =
     let has : Has c.args.self.now c.self.inside c.deref.result.now = has_at c.deref.ensures c.self.view_is c.self.invariant.sound in
     let placed = fired_placed c.args.self.now c.self.inside c.deref.result.now c.args.sched c.args.fired.now (has_at c.deref.ensures c.self.view_is c.self.invariant.sound) c.requires.first in
     subst (λ n. first_of ((state (settings_of c.deref.result.now) (front_of c.self.inside.pass)).scheds n).fired ≡ Some c.args.fired.now) (sym placed.wheel)
-    (subst (λ (w : Seen). first_of (sched_of w c.args.sched).fired ≡ Some c.args.fired.now) (sym has.is) c.requires.first)
+    (subst (λ (w : Seen). first_of (world_sched w c.args.sched).fired ≡ Some c.args.fired.now) (sym has.is) c.requires.first)
 
 pub deliver-requires-clause-stands : goal.deliver-requires-clause-stands
 deliver-requires-clause-stands c =
     let has : Has c.args.self.now c.self.inside c.deref.result.now = has_at c.deref.ensures c.self.view_is c.self.invariant.sound in
     let placed = fired_placed c.args.self.now c.self.inside c.deref.result.now c.args.sched c.args.fired.now (has_at c.deref.ensures c.self.view_is c.self.invariant.sound) c.requires.first in
-    subst (Stands (settings_of c.deref.result.now) (front_of c.self.inside.pass)) (sym c.index_mut.ensures.value)
+    subst (MailboxStands (settings_of c.deref.result.now) (front_of c.self.inside.pass)) (sym c.index_mut.ensures.value)
     (has.fit.stand.mails.stand c.args.fired.now.dest c.index_mut.result.now placed.dest refl)
 
 pub returns-in_err-handed-clause-call : goal.returns-in_err-handed-clause-call
@@ -64,7 +64,7 @@ returns-in_err-handed-clause-call c =
     placed.dest c.index_mut.ensures.value c.deliver.ensures.process c.deliver.ensures.stands c.in_err-handed.ensures.call.same
     (λ m grown own. record {
       fired = c.args.fired.now;
-      first = subst (λ (w : Seen). first_of (sched_of w c.args.sched).fired ≡ Some c.args.fired.now) (sym has.is) c.requires.first;
+      first = subst (λ (w : Seen). first_of (world_sched w c.args.sched).fired ≡ Some c.args.fired.now) (sym has.is) c.requires.first;
       step = own;
     }))).goes
 
@@ -78,7 +78,7 @@ invariant_of-self c =
     placed.dest c.index_mut.ensures.value c.deliver.ensures.process c.deliver.ensures.stands c.in_err-handed.ensures.call.same
     (λ m grown own. record {
       fired = c.args.fired.now;
-      first = subst (λ (w : Seen). first_of (sched_of w c.args.sched).fired ≡ Some c.args.fired.now) (sym has.is) c.requires.first;
+      first = subst (λ (w : Seen). first_of (world_sched w c.args.sched).fired ≡ Some c.args.fired.now) (sym has.is) c.requires.first;
       step = own;
     })))) in
     kept_by c.self.inside c.may_get_mail.new.list c.self.view_is all.fit all.goes.grows
@@ -105,7 +105,7 @@ returns-clause-call c =
 
 pub returns-clause-fired : goal.returns-clause-fired
 returns-clause-fired c =
-    subst (λ (d : Desk). ((state (settings_of d) (front_of c.deliver.new.pass)).scheds c.args.sched).fired ≡ others_of (sched_of c.args.self.now c.args.sched).fired) c.deref.ensures
+    subst (λ (d : Desk). ((state (settings_of d) (front_of c.deliver.new.pass)).scheds c.args.sched).fired ≡ others_of (world_sched c.args.self.now c.args.sched).fired) c.deref.ensures
     (hands_on c.args.self.now c.self.inside c.deref.result.now c.deliver.new.pass c.args.sched c.args.fired.now c.in_ok-handed.handed (has_at c.deref.ensures c.self.view_is c.self.invariant.sound)
     c.requires.first c.in_ok-handed.ensures.sched)
 
@@ -134,7 +134,7 @@ returns-in_err-handed-clause-stays c =
     placed.dest c.index_mut.ensures.value c.deliver.ensures.process c.deliver.ensures.stands c.in_err-handed.ensures.call.same
     (λ m grown own. record {
       fired = c.args.fired.now;
-      first = subst (λ (w : Seen). first_of (sched_of w c.args.sched).fired ≡ Some c.args.fired.now) (sym has.is) c.requires.first;
+      first = subst (λ (w : Seen). first_of (world_sched w c.args.sched).fired ≡ Some c.args.fired.now) (sym has.is) c.requires.first;
       step = own;
     })) in
     stays_same done.goes (ap (λ (w : Seen). w.wheels) c.self.view_is) done.forgets

@@ -6,7 +6,7 @@ use Rattle.ert_defs.specs.declared.entry.Actor.TheVariants.{MailOf, Sched}
 use Rattle.ert_locks.proofs.Lent.{lent_out, has_part, has_user}
 use Rattle.ert_locks.proofs.Own.{hands_have}
 use Rattle.ert_locks.proofs.Scheds.{seat_after, handed_hand, handed_fired, hands, first_in}
-use Rattle.ert_mail.specs.Mailboxes.{handed, IsScheds}
+use Rattle.ert_mail.specs.Mailboxes.{handed, HoldsMailbox}
 use Rattle.ert_world.proofs.Calls.{if_ok_made}
 use Rattle.ert_table.specs.Calls.{IsMade}
 use Rattle.ert_table.specs.Desks.{settings_of, front_of, view_of}
@@ -18,7 +18,7 @@ deliver-handed-requires-clause-holds g c =
     let n = c.args.seat.now.part.wheel in
     let meets = c.meet.ensures.meets (Sched n) c.args.seat.now.fits.sits in
     let first = first_in c.args.fired.now c.meet.ensures.legal (c.meet.ensures.sched c.args.seat.now.part c.args.seat.now.fits) c.requires.first in
-    subst (λ m. IsScheds t (view_of c.meet.new.pass) m c.self.inside.part.process) (sym first.1) (record {
+    subst (λ m. HoldsMailbox t (view_of c.meet.new.pass) m c.self.inside.part.process) (sym first.1) (record {
       sched = has_user meets;
       below = subst (λ k. n < k.schedulers) (sym c.requires.desk.settings_is) c.args.seat.now.fits.stands.in_range;
       mail = has_part meets;
