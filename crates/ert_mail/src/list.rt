@@ -35,7 +35,7 @@ impl MailList {
     ghost use Rattle.ert_defs.specs.Legal.{Legal};
     ghost use Rattle.ert_table.specs.Calls.{IsMade};
     ghost use Rattle.ert_table.specs.Desks.{settings_of, view_of, front_of, state_of, Belongs};
-    ghost use Rattle.ert_mail.specs.Lists.{AreListed, CanLook, IsNextIn, LooksForMail};
+    ghost use Rattle.ert_mail.specs.Lists.{AreListed, CanLook, IsNextIn, LooksForMail, exited_from};
 
     /// A list with every process below a number.
     pub fn all(alloc: Global, processes: u32) -> Result<MailList, NoMemory>
@@ -71,25 +71,32 @@ impl MailList {
     }
 
     /// A process that hasn't exited and whose mailbox has mail; None exactly where there is none. It is put last, so that
-    /// each gets its turn.
+    /// each gets its turn. The mailboxes are those of the processes from `first` on, and the answer is counted from it.
     ///
     /// The caller looks whether the process whose turn it is has exited: then none of its messages can be taken, and it
     /// leaves the row.
-    pub fn next(&mut self, desk: &Desk, pass: &mut Pass, by: u32, mails: &[MailPart]) -> Option<u32>
+    pub fn next(
+        &mut self,
+        desk: &Desk,
+        pass: &mut Pass,
+        by: u32,
+        first: u32,
+        mails: &[MailPart],
+    ) -> Option<u32>
         requires belongs { Belongs desk.now pass.old }
         requires legal { Legal (settings_of desk.now) (front_of pass.old) }
-        requires caller { CanLook (settings_of desk.now) (view_of pass.old) by (length mails.now) }
-        requires listed { AreListed (state_of desk.now pass.old).exited self.old mails.now }
+        requires caller { CanLook (settings_of desk.now) (view_of pass.old) by first (length mails.now) }
+        requires listed { AreListed (exited_from first (state_of desk.now pass.old).exited) self.old mails.now }
         ensures belongs { Belongs desk.now pass.new }
-        ensures call { IsMade (settings_of desk.now) (view_of pass.old) (LooksForMail by result) (view_of pass.new) }
-        ensures listed { AreListed (state_of desk.now pass.new).exited self.new mails.now }
-        ensures next { IsNextIn (state_of desk.now pass.new).exited mails.now result }
+        ensures call { IsMade (settings_of desk.now) (view_of pass.old) (LooksForMail first by result) (view_of pass.new) }
+        ensures listed { AreListed (exited_from first (state_of desk.now pass.new).exited) self.new mails.now }
+        ensures next { IsNextIn (exited_from first (state_of desk.now pass.new).exited) mails.now result }
     {
         while let Some(process) = self.pick() {
             if mails[process as usize].waiting() == 0 {
                 continue;
             }
-            if !pass.mark(desk, Actor::Caller(by), process, false) {
+            if !pass.mark(desk, Actor::Caller(by), first + process, false) {
                 self.put(process);
                 return Some(process);
             }

@@ -51,26 +51,26 @@ next_told before b d mails None has same next =
     λ p low some. mine p none (mails_low before b d p has low) (λ empty. some (sym (queue_at before b d p none has low) ∙ empty))
 
 -- looks are made by their caller alone, and cancel nothing
-looks_quiet : (answer : Option ℕ) (s : State) (es : List Entry) → LooksForMail 0 answer s es → IsQuiet (Caller 0 ∷ []) es
+looks_quiet : (answer : Option ℕ) (s : State) (es : List Entry) → LooksForMail 0 0 answer s es → IsQuiet (Caller 0 ∷ []) es
 looks_quiet answer s es looks = subst (IsQuiet (Caller 0 ∷ [])) (sym looks.entries) (record { only = only looks.gone answer; calm = calm looks.gone answer })
   where
-    only : (gone : List ℕ) (answer : Option ℕ) → AreOnlyOf (Caller 0 ∷ []) (exits_seen 0 gone ++ life_seen 0 answer)
+    only : (gone : List ℕ) (answer : Option ℕ) → AreOnlyOf (Caller 0 ∷ []) (exits_seen 0 0 gone ++ life_seen 0 0 answer)
     only [] (Some p) = (refl, tt)
     only [] None = tt
     only (p ∷ gone) answer = (refl, only gone answer)
 
-    calm : (gone : List ℕ) (answer : Option ℕ) → AreCalm (exits_seen 0 gone ++ life_seen 0 answer)
+    calm : (gone : List ℕ) (answer : Option ℕ) → AreCalm (exits_seen 0 0 gone ++ life_seen 0 0 answer)
     calm [] (Some p) = (refl, tt)
     calm [] None = tt
     calm (p ∷ gone) answer = (refl, calm gone answer)
 
 -- a process with mail was looked for
 pub mail_found : (before : Seen) (b : Inside) (d e : Desk) (q : Pass) (mails : List Mailbox) (answer : Option ℕ) → d ≡ e → seen_at e b ≡ before
-    → AreSound e b.pass b.next (parts_in b) → Belongs d q → IsMade (settings_of d) (view_of b.pass) (LooksForMail 0 answer) (view_of q)
+    → AreSound e b.pass b.next (parts_in b) → Belongs d q → IsMade (settings_of d) (view_of b.pass) (LooksForMail 0 0 answer) (view_of q)
     → mails ≡ b.mails.items → IsNextIn (state_of d q).exited mails answer
     → AreSound e q b.next (parts_in b) × FindsMail before answer (seen e q b.next b.keeper b.wheels.items)
 mail_found before b d e q mails answer same is sound belongs made these next =
-    let all = alone_called before b d e q (λ g. LooksForMail 0 answer) same is sound belongs made (looks_quiet answer) in
+    let all = alone_called before b d e q (λ g. LooksForMail 0 0 answer) same is sound belongs made (looks_quiet answer) in
     let now : Inside = record b { pass = q } in (
       all.fit,
       record {

@@ -23,7 +23,7 @@ IsNextMail w None = (process : ℕ) → process < w.settings.processes → mail_
 
 -- `next_mail`: a process with mail is looked for, by caller 0, and the wheels stay
 pub record FindsMail (old : Seen) (answer : Option ℕ) (new : Seen) : Type 0 where
-  pub goes : Goes old (By old (λ g. LooksForMail 0 answer)) new
+  pub goes : Goes old (By old (λ g. LooksForMail 0 0 answer)) new
   pub wheels : new.wheels ≡ old.wheels
   pub next : IsNextMail new answer
 

@@ -47,7 +47,7 @@ impl World {
             Some(list) => list,
             None => MailList::all(*self.mails.allocator(), self.desk.settings().processes)?,
         };
-        let next = list.next(&self.desk, &mut self.pass, CALLER, &self.mails);
+        let next = list.next(&self.desk, &mut self.pass, CALLER, 0, &self.mails);
         self.list = Some(list);
         Ok(next)
     }
