@@ -1,6 +1,7 @@
 -- A process with mail, and takes of several messages.
 
-use Rattle.std.proofs.Common.{◌≡◌, ℕ, ◌<◌, true, false, List, [], ◌∷◌, ◌++◌, Option, Some, None, slice_index_or, refl, sym, ap, subst, ◌∙◌}
+use Rattle.std.proofs.Common.{◌≡◌, ℕ, ◌<◌, Bool, true, false, List, [], ◌∷◌, ◌++◌, Option, Some, None, slice_index_or, refl, sym, ap, subst, ◌∙◌}
+use Rattle.std.proofs.Math.Nat.{zero-add}
 use Rattle.ert_defs.specs.Mails.{MailState}
 use Rattle.ert_defs.specs.States.{State, state}
 use Rattle.ert_defs.specs.declared.entry.Actor.TheVariants.{Caller}
@@ -11,7 +12,7 @@ use Rattle.ert_effects.specs.MailCalls.{Takes}
 use Rattle.ert_effects.specs.Ways.{Way}
 use Rattle.ert_effects.specs.declared.answers.Taken.{Taken}
 use Rattle.ert_effects.specs.declared.answers.Taken.TheVariants.{Mail as Took}
-use Rattle.ert_mail.specs.Lists.{IsNextIn, LooksForMail, exits_seen, life_seen}
+use Rattle.ert_mail.specs.Lists.{AreListed, IsNextIn, LooksForMail, exited_from, exits_seen, life_seen}
 use Rattle.ert_mail.specs.Mailboxes.{Mailbox, mailbox_seen as box}
 use Rattle.ert_table.specs.Calls.{AreOnlyOf, IsMade}
 use Rattle.ert_table.specs.Desks.{settings_of, view_of, front_of, state_of, Belongs}
@@ -63,6 +64,18 @@ looks_quiet answer s es looks = subst (IsQuiet (Caller 0 ∷ [])) (sym looks.ent
     calm [] (Some p) = (refl, tt)
     calm [] None = tt
     calm (p ∷ gone) answer = (refl, calm gone answer)
+
+-- counted from process 0 are the processes themselves
+from_zero : (exited : ℕ → Bool) → exited_from 0 exited ≡ exited
+from_zero exited = λ i p. exited (zero-add p i)
+
+pub next_at_zero : (exited : ℕ → Bool) (mails : List Mailbox) (answer : Option ℕ) → IsNextIn (exited_from 0 exited) mails answer
+    → IsNextIn exited mails answer
+next_at_zero exited mails answer = subst (λ (e : ℕ → Bool). IsNextIn e mails answer) (from_zero exited)
+
+pub listed_at_zero : (exited : ℕ → Bool) (listed : List Bool) (mails : List Mailbox) → AreListed (exited_from 0 exited) listed mails
+    → AreListed exited listed mails
+listed_at_zero exited listed mails = subst (λ (e : ℕ → Bool). AreListed e listed mails) (from_zero exited)
 
 -- a process with mail was looked for
 pub mail_found : (before : Seen) (b : Inside) (d e : Desk) (q : Pass) (mails : List Mailbox) (answer : Option ℕ) → d ≡ e → seen_at e b ≡ before
