@@ -21,11 +21,11 @@
 //! a timer of a wheel, whose reference can be had (`IntervalWorld::firings`), and no message is sent but by
 //! a turn.
 //!
-//! **What it promises.** Each call keeps `AreKept` (specs/Intervals): the `j`-th timer of an interval has a
+//! **What it promises.** Each call keeps `AreIntervalsKept` (specs/Intervals): the `j`-th timer of an interval has a
 //! row in the history with the deadline of `first + j * period`, each but the last has expired, and had
 //! before the next was armed, and a stopped interval has no armed timer. In a later round of its slot, after
 //! 262143 uses, a deadline that has passed at the start of its timer counts as the time of the look then: the
-//! timer is late as it was, and the deadlines of the next ones stay (`IsTold`). Each call says how the states
+//! timer is late as it was, and the deadlines of the next ones stay (`HasToldDeadline`). Each call says how the states
 //! move (specs/Calls and specs/Turns). A turn adds to the history, after the world's own turn, exactly the
 //! entries of its intervals in order of number: the read of the last timer, the look at the destination and
 //! the start of the next timer (specs/Going). So each timer that a turn starts is the new firing of an interval.

@@ -29,7 +29,7 @@
 //! **What it promises.** Users see of a shard its desk, its settings, the history that it knows, its share and its wheel
 //! (`specs/Shards`, `Owned`). Each call says what it answers, and that the history grows by a piece in which the entries
 //! of the shard's own actors are just those that the call may make with this answer, by the relations of `ert_effects`,
-//! in the state before the piece (`Goes`, in the way `as_share`). Others make entries between. All these histories are
+//! in the state before the piece (`ShardGoes`, in the way `as_share`). Others make entries between. All these histories are
 //! beginnings of the desk's one legal history, in which each timer settles once, whoever cancels it: a cancel is one
 //! exchange on the timer's word. The calls of a hub are said in the same way (`specs/Hubs`, `Rest`).
 //!

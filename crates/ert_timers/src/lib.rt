@@ -61,7 +61,7 @@
 //! Each timer is tried once, by one exchange, and then its row goes. No call waits for anybody. Only `open`
 //! takes memory, and `advance` for its list of expired timers, before the first of them expires.
 //!
-//! **What it promises.** The part stands for the front of its pass (`specs/Parts`, `Stands`). Each call keeps
+//! **What it promises.** The part stands for the front of its pass (`specs/Parts`, `PartStands`). Each call keeps
 //! that, and takes place with exactly the entries that `ert_effects` says for its answer.
 //!
 //! Each timer that is held is armed, or was cancelled by one who told the part nothing. A part is tidy where none was
