@@ -1,4 +1,5 @@
 pub mod Hubs
+pub mod Receiving
 pub mod Renewing
 pub mod Shards
 pub mod Turning

@@ -21,6 +21,8 @@
 //! | `Shard::restart` | the shard's caller | gives an armed timer of any wheel a new deadline, on the shard's wheel | as a cancel and a start |
 //! | `Shard::exit` | the shard's caller | lets a process exit, and cancels its timers | those timers |
 //! | `Shard::take`, `monitor`, `demonitor`, `tell` | the shard's caller | calls on the mailbox of a process of the shard | constant, or the monitors of the process |
+//! | `Shard::take_some` | the shard's caller | takes the first messages of a process of the shard, so many at most | those messages |
+//! | `Shard::next_mail` | the shard's caller | finds a process of the shard that hasn't exited and has mail | as in `ert_world` |
 //! | `Shard::advance`, `deliver`, `turn` | the shard's scheduler | lets due timers expire; hands them over; both | as in `ert_world` |
 //! | `Shard::advance_some`, `deliver_some`, `turn_some` | the shard's scheduler | the same, of so many timers at most | as in `ert_world` |
 //! | `Shard::held`, `expired`, `mail_count` | | no entry: how much waits | constant |
@@ -43,8 +45,9 @@
 //! **What it hasn't.** A shard starts no timer for a process of another shard, and has no asynchronous requests (`ask`
 //! and `serve` of `ert_world`). A timer that another shard cancelled keeps its row and its slot until it would be due.
 //!
-//! **Memory.** `start`, `restart`, `cancel_timer`, `read_timer`, `take`, `exit`, the calls on the clock, `join` and
-//! `join_all` take none. Where there is none, `monitor` and `tell` change nothing, `advance` and `advance_some` let no
+//! **Memory.** `start`, `restart`, `cancel_timer`, `read_timer`, `take`, `take_some`, `exit`, the calls on the clock, `join`
+//! and `join_all` take none, and of the calls of `next_mail` only the first of a shard does, for its list. Where there is
+//! none, `next_mail`, `monitor` and `tell` change nothing, `advance` and `advance_some` let no
 //! timer expire, `deliver` and `deliver_some` keep what wasn't handed over, `shard` and `seat` leave everything as it was.
 //!
 //! It stands on `ert_defs`, `ert_clock`, `ert_effects`, `ert_table`, `ert_calls`, `ert_timers`, `ert_mail`
@@ -60,6 +63,7 @@ mod hub_calls;
 mod joining;
 mod laws;
 mod mail_calls;
+mod mailing;
 mod restart;
 mod seating;
 mod shard;

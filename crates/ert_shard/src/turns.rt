@@ -1,4 +1,5 @@
 //! The turns of a shard.
+use crate::mailing::may_get_mail;
 use crate::shard::Shard;
 use ert_defs::{Fired, NoMemory};
 use ert_mail::Handed;
@@ -71,8 +72,9 @@ impl Shard {
         ensures call { ShardSteps self.old (λ way. Hands self.old.settings way self.old.share.number result) self.new }
         ensures fired { OnOk result (fired_of self.new ≡ others_of (fired_of self.old)) }
     {
-        let place = (fired.dest - self.from) as usize;
-        let handed = self.mails[place].deliver(&self.desk, &mut self.pass, fired)?;
+        let place = fired.dest - self.from;
+        may_get_mail(&mut self.list, place);
+        let handed = self.mails[place as usize].deliver(&self.desk, &mut self.pass, fired)?;
         self.sched.fired.pop();
         self.wheel.reuse(&self.pass, fired.timer);
         Ok(handed)
