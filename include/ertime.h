@@ -1118,6 +1118,32 @@ int32_t ert_shard_exit(ert_shard *shard, uint32_t process, uint32_t *first);
 int32_t ert_shard_take(ert_shard *shard, uint32_t process, ert_mail *mail);
 
 /*
+ * Takes the first messages of a process of the shard, at most `room`, as ert_world_take_some does, and writes them to
+ * `mails` in their order and how many there are to `count`.
+ *
+ * The status tells how it ended, and the messages were taken in each case: ERT_OK, `room` of them, and more may be there;
+ * ERT_EMPTY, the mailbox is empty now; ERT_EXITED, the process has exited. `mails` has place for `room` messages, and may
+ * not be null.
+ *
+ * ERT_RANGE: the process is not of the shard. ERT_CLOSED. After these two `count` and `mails` are as they were. Work for
+ * the messages that are taken; no memory.
+ */
+int32_t ert_shard_take_some(ert_shard *shard, uint32_t process, ert_mail *mails, size_t room, size_t *count);
+
+/*
+ * Finds a process of the shard that has messages and hasn't exited, as ert_world_next_mail does, and writes its number to
+ * `process`.
+ *
+ * ERT_EMPTY is returned exactly if there is none. Each process has its turn: the next call finds another one, if another
+ * has messages.
+ *
+ * ERT_NO_MEMORY: there was no memory for the first such call of the shard, which makes a list of its processes, 5 bytes for
+ * each; nothing has changed, and the call can be made again. ERT_CLOSED. Otherwise constant work, amortized: a step for
+ * each process of the shard whose mailbox got messages since it was found empty or exited; no memory.
+ */
+int32_t ert_shard_next_mail(ert_shard *shard, uint32_t *process);
+
+/*
  * Makes a monitor of the time offset for a process of the shard, as ert_world_monitor does, and writes its number.
  *
  * ERT_FULL: the process has 64 monitors, or the last number was given. ERT_NO_MEMORY: nothing has changed. ERT_RANGE: the

@@ -244,6 +244,36 @@ impl Shard {
         Ok(done_or(status, ffi::ERT_EMPTY)?.then(|| mail(first)))
     }
 
+    /// Takes the first messages of a process of the shard, `most` at most, and puts them last into a vector; false if the
+    /// mailbox was empty before there were so many.
+    pub fn take_some(
+        &mut self,
+        process: u32,
+        most: usize,
+        mails: &mut Vec<Mail>,
+    ) -> Result<bool, Error> {
+        let mut places = vec![ffi::ert_mail::default(); most];
+        let mut count = 0;
+        let status = unsafe {
+            ffi::ert_shard_take_some(
+                &mut *self.handle,
+                process,
+                places.as_mut_ptr(),
+                most,
+                &mut count,
+            )
+        };
+        mails.extend(places[..count].iter().map(|place| mail(*place)));
+        done_or(status, ffi::ERT_EMPTY)
+    }
+
+    /// A process of the shard that has messages and hasn't exited; None if there is none. Each process has its turn.
+    pub fn next_mail(&mut self) -> Result<Option<u32>, Error> {
+        let mut process = 0;
+        let status = unsafe { ffi::ert_shard_next_mail(&mut *self.handle, &mut process) };
+        Ok(done_or(status, ffi::ERT_EMPTY)?.then_some(process))
+    }
+
     /// Makes a monitor of the time offset for a process of the shard.
     pub fn monitor(&mut self, process: u32) -> Result<u32, Error> {
         let mut monitor = 0;

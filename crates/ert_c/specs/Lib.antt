@@ -7,6 +7,7 @@ pub mod Opened
 pub mod Places
 pub mod SeatCalls
 pub mod ShardCalls
+pub mod ShardMailing
 pub mod Through
 pub mod Told
 pub mod Waiting

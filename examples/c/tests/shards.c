@@ -55,6 +55,7 @@ static void closed_handles(void) {
     uint64_t left = 7;
     uint32_t n = 7;
     uint32_t m = 7;
+    size_t taken = 7;
     ert_seat seat = ERT_INIT;
     IS(ert_hub_shard(&h, &s, 0), ERT_CLOSED);
     IS(ert_hub_seat(&h, &seat), ERT_CLOSED);
@@ -81,6 +82,8 @@ static void closed_handles(void) {
     IS(ert_shard_is_alive(&s, 9, &n), ERT_CLOSED);
     IS(ert_shard_exit(&s, 9, &n), ERT_CLOSED);
     IS(ert_shard_take(&s, 9, &mail), ERT_CLOSED);
+    IS(ert_shard_take_some(&s, 9, &mail, 1, &taken), ERT_CLOSED);
+    IS(ert_shard_next_mail(&s, &n), ERT_CLOSED);
     IS(ert_shard_monitor(&s, 9, &n), ERT_CLOSED);
     IS(ert_shard_demonitor(&s, 9, 0), ERT_CLOSED);
     IS(ert_shard_tell(&s, 9, &n), ERT_CLOSED);
@@ -94,6 +97,7 @@ static void closed_handles(void) {
     IS(left, 7);
     IS(n, 7);
     IS(m, 7);
+    IS(taken, 7);
     IS(moved.now, 7);
     IS(offset.offset, 7);
     IS(timer.slot, 7);
@@ -387,6 +391,55 @@ static void bounded_turns(void) {
     close_divided(&d);
 }
 
+static void mail_of_many(void) {
+    divided d;
+    open_divided(&d);
+    ert_mail mails[2];
+    ert_turned turned;
+    uint32_t process = 7;
+    uint32_t first;
+    size_t taken = 7;
+    IS(ert_shard_next_mail(&d.high, &process), ERT_EMPTY);
+    IS(process, 7);
+    IS(ert_shard_take_some(&d.high, 2, mails, 2, &taken), ERT_RANGE);
+    IS(ert_shard_take_some(&d.high, 5, mails, 2, &taken), ERT_RANGE);
+    IS(taken, 7);
+    IS(ert_shard_take_some(&d.high, 3, mails, 2, &taken), ERT_EMPTY);
+    IS(taken, 0);
+    start(&d.high, 0, 3, 1);
+    start(&d.high, 0, 3, 2);
+    start(&d.low, 0, 1, 9);
+    IS(ert_shard_turn(&d.high, &turned), ERT_OK);
+    IS(turned.put, 2);
+    start(&d.high, 0, 4, 3);
+    IS(ert_shard_turn(&d.high, &turned), ERT_OK);
+    IS(turned.put, 1);
+    /* Each has its turn, and the processes of the other shard are not found. */
+    IS(ert_shard_next_mail(&d.high, &process), ERT_OK);
+    IS(process, 3);
+    IS(ert_shard_next_mail(&d.high, &process), ERT_OK);
+    IS(process, 4);
+    IS(ert_shard_next_mail(&d.high, &process), ERT_OK);
+    IS(process, 3);
+    IS(ert_shard_take_some(&d.high, 3, mails, 1, &taken), ERT_OK);
+    IS(taken, 1);
+    IS(mails[0].msg, 1);
+    IS(ert_shard_take_some(&d.high, 3, mails, 2, &taken), ERT_EMPTY);
+    IS(taken, 1);
+    IS(mails[0].msg, 2);
+    /* The messages of one that has exited can't be taken, so it isn't found. */
+    IS(ert_shard_exit(&d.high, 4, &first), ERT_OK);
+    IS(first, 1);
+    IS(ert_shard_next_mail(&d.high, &process), ERT_EMPTY);
+    IS(ert_shard_take_some(&d.high, 4, mails, 2, &taken), ERT_EXITED);
+    IS(taken, 0);
+    IS(ert_shard_next_mail(&d.low, &process), ERT_EMPTY);
+    IS(ert_shard_turn(&d.low, &turned), ERT_OK);
+    IS(ert_shard_next_mail(&d.low, &process), ERT_OK);
+    IS(process, 1);
+    close_divided(&d);
+}
+
 static void turns(void) {
     divided d;
     open_divided(&d);
@@ -495,6 +548,7 @@ int main(void) {
     timers_of_both();
     restarts();
     bounded_turns();
+    mail_of_many();
     turns();
     exits();
     monitors();
