@@ -299,6 +299,8 @@ unsafe extern "C" {
         count: *mut usize,
     ) -> i32;
     pub fn ert_shard_next_mail(shard: *mut ert_shard, process: *mut u32) -> i32;
+    pub fn ert_shard_ask(shard: *mut ert_shard, request: *const ert_request) -> i32;
+    pub fn ert_shard_serve(shard: *mut ert_shard, served: *mut u32) -> i32;
     pub fn ert_shard_monitor(shard: *mut ert_shard, process: u32, monitor: *mut u32) -> i32;
     pub fn ert_shard_demonitor(shard: *mut ert_shard, process: u32, monitor: u32) -> i32;
     pub fn ert_shard_tell(shard: *mut ert_shard, process: u32, told: *mut u32) -> i32;

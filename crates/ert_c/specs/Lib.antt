@@ -8,6 +8,7 @@ pub mod Places
 pub mod SeatCalls
 pub mod ShardCalls
 pub mod ShardMailing
+pub mod ShardServing
 pub mod Through
 pub mod Told
 pub mod Waiting

@@ -112,7 +112,7 @@ home_kept before d p q s old es lent has takes only apart =
     has.fit.home
 
 -- a call that left the wheel as it was
-still : {before : Owned} {d e : Desk} (p : Pass) {q : Pass} {s : Share} (old new : ShardParts) {call : Owned → Way → Growth} → d ≡ e
+pub still : {before : Owned} {d e : Desk} (p : Pass) {q : Pass} {s : Share} (old new : ShardParts) {call : Owned → Way → Growth} → d ≡ e
     → owned e p s old.wheel ≡ before → new.wheel ≡ old.wheel → Does before d q s new call → Did before e q s new call
 still {before} {d} {e} p {q} {s} old new {call} same is kept done =
     let there : Does before e q s new call = does_at same done in

@@ -11,8 +11,10 @@ pub mod Parted
 pub mod Received
 pub mod Rejoined
 pub mod Renewed
+pub mod Requested
 pub mod Returned
 pub mod Seats
+pub mod Served
 pub mod StandOn
 pub mod Stepped
 pub mod Ticked

@@ -1,8 +1,7 @@
 -- A process of a shard with mail, and takes of several messages.
 
-use Rattle.std.proofs.Common.{◌≡◌, ℕ, ◌+◌, ◌-◌, ◌<◌, true, false, Bool, nat_eq, eq-eqb, List, [], ◌∷◌, ◌++◌, map, length, Option, Some, None, slice_index_or, refl, sym, ap, subst, ◌∙◌, arith, append-nil}
+use Rattle.std.proofs.Common.{◌≡◌, ℕ, ◌+◌, ◌-◌, ◌<◌, true, false, Bool, nat_eq, eq-eqb, List, [], ◌∷◌, ◌++◌, map, length, Option, Some, None, slice_index_or, refl, sym, ap, subst, ◌∙◌, arith}
 use Rattle.ert_defs.specs.Entries.{mark_entry}
-use Rattle.ert_defs.specs.Legal.{Legal}
 use Rattle.ert_defs.specs.Mails.{MailState}
 use Rattle.ert_defs.specs.States.{State, state}
 use Rattle.ert_defs.specs.declared.entry.Actor.TheVariants.{Caller}
@@ -16,7 +15,7 @@ use Rattle.ert_effects.specs.declared.answers.Taken.{Taken}
 use Rattle.ert_effects.specs.declared.answers.Taken.TheVariants.{Mail as Took, Empty, Exited}
 use Rattle.ert_mail.specs.Lists.{AreListed, IsNextIn, LooksForMail, exited_from, exits_seen, life_seen}
 use Rattle.ert_mail.specs.Mailboxes.{Mailbox, MailboxStands, mailbox_seen as box}
-use Rattle.ert_shard.proofs.Called.{Did, Has, alone_called, list_replaced, same_rows, rows_then, place_low}
+use Rattle.ert_shard.proofs.Called.{Did, Has, alone_called, list_replaced, rows_then, place_low}
 use Rattle.ert_shard.proofs.Stepped.{since, steps_as, steps_then}
 use Rattle.ert_shard.specs.Receiving.{shard_mail, IsShardsNextMail, process_from, ShardFindsMail, CallerTakesMails, CallerTakesSome}
 use Rattle.ert_shard.specs.Shards.{Share, IsHome, Owned, owned, shard_way, ShardSteps, ShardBy, ShardParts, AreShardPartsFit}
@@ -123,13 +122,6 @@ mail_found before d e p q s parts mails list answer same is fit belongs made the
         next = next_told (owned e q s parts.wheel) e q s parts answer (record { is = refl; fit = did.fit }) next_e;
       };
     }
-
--- no message was taken so far
-pub none_taken : (o : Owned) (process : ℕ) → Legal o.settings o.history → ShardSteps o (λ way. CallerTakesMails o.settings way (o.share.number + 1) process []) o
-none_taken o process legal = record {
-  goes = record { grows = record { piece = []; grown = sym (append-nil o.history); made = refl }; legal = legal; table = refl; settings = refl; share = refl };
-  rows = same_rows o.wheel;
-}
 
 -- one more message was taken
 pub took_more : (a b c : Owned) (process : ℕ) (mails : List Mail) (mail : Mail) (answer : Taken) → answer ≡ Took mail
