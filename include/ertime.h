@@ -1118,6 +1118,51 @@ int32_t ert_shard_exit(ert_shard *shard, uint32_t process, uint32_t *first);
 int32_t ert_shard_take(ert_shard *shard, uint32_t process, ert_mail *mail);
 
 /*
+ * Takes the first messages of a process of the shard, at most `room`, as ert_world_take_some does, and writes them to
+ * `mails` in their order and how many there are to `count`.
+ *
+ * The status tells how it ended, and the messages were taken in each case: ERT_OK, `room` of them, and more may be there;
+ * ERT_EMPTY, the mailbox is empty now; ERT_EXITED, the process has exited. `mails` has place for `room` messages, and may
+ * not be null.
+ *
+ * ERT_RANGE: the process is not of the shard. ERT_CLOSED. After these two `count` and `mails` are as they were. Work for
+ * the messages that are taken; no memory.
+ */
+int32_t ert_shard_take_some(ert_shard *shard, uint32_t process, ert_mail *mails, size_t room, size_t *count);
+
+/*
+ * Finds a process of the shard that has messages and hasn't exited, as ert_world_next_mail does, and writes its number to
+ * `process`.
+ *
+ * ERT_EMPTY is returned exactly if there is none. Each process has its turn: the next call finds another one, if another
+ * has messages.
+ *
+ * ERT_NO_MEMORY: there was no memory for the first such call of the shard, which makes a list of its processes, 5 bytes for
+ * each; nothing has changed, and the call can be made again. ERT_CLOSED. Otherwise constant work, amortized: a step for
+ * each process of the shard whose mailbox got messages since it was found empty or exited; no memory.
+ */
+int32_t ert_shard_next_mail(ert_shard *shard, uint32_t *process);
+
+/*
+ * Requests that the scheduler of the shard cancels or reads a timer, as ert_world_ask does, and sends the answer to a
+ * process of the shard. A turn of the shard serves it.
+ *
+ * The timer may be of any shard: one of another shard is cancelled as by ert_shard_cancel.
+ *
+ * ERT_BAD_KIND: `kind` is neither ERT_CANCEL nor ERT_READ; this is tested first. ERT_RANGE: the process `reply_to` is not of
+ * the shard. ERT_NO_MEMORY: nothing has changed, and the call can be made again. ERT_CLOSED.
+ */
+int32_t ert_shard_ask(ert_shard *shard, const ert_request *request);
+
+/*
+ * Serves one request of the shard, as ert_world_serve does, and writes 1 to `served`, or 0 if there was none.
+ *
+ * ERT_NO_MEMORY: the request stays, and is served by the next call. ERT_RANGE: its answer would go to a process of another
+ * shard; this never comes, since a shard takes requests for its own processes alone. ERT_CLOSED.
+ */
+int32_t ert_shard_serve(ert_shard *shard, uint32_t *served);
+
+/*
  * Makes a monitor of the time offset for a process of the shard, as ert_world_monitor does, and writes its number.
  *
  * ERT_FULL: the process has 64 monitors, or the last number was given. ERT_NO_MEMORY: nothing has changed. ERT_RANGE: the
@@ -1158,11 +1203,11 @@ int32_t ert_shard_advance(ert_shard *shard, ert_advanced *advanced);
 int32_t ert_shard_deliver(ert_shard *shard, ert_delivered *delivered);
 
 /*
- * Makes a turn of the shard: advances its wheel, and delivers what has expired. This is the call for the event loop of
- * its thread.
+ * Makes a turn of the shard: serves at most 64 of its requests, advances its wheel, and delivers what has expired. This is
+ * the call for the event loop of its thread.
  *
- * Writes what it did to `turned`; `served` is 0, since a shard has no requests. ERT_NO_MEMORY: what was done stays done and
- * is not reported, and the next turn goes on. ERT_CLOSED.
+ * Writes what it did to `turned`. ERT_NO_MEMORY: what was done stays done and is not reported, and the next turn goes on.
+ * ERT_CLOSED.
  */
 int32_t ert_shard_turn(ert_shard *shard, ert_turned *turned);
 
@@ -1172,8 +1217,8 @@ int32_t ert_shard_turn(ert_shard *shard, ert_turned *turned);
  *
  * Writes what it did to `turned`: `more` is 1 if timers are left that are due by `to` or have expired, and then the thread
  * should not sleep. The next turn goes on with them. If `more` is 0, no timer of the shard is due by `to`. With `most` 0 it
- * tells whether timers are due. `served` is 0, since a shard has no requests. A timer that another thread cancelled counts
- * as one of the `most` if it would be due.
+ * serves requests and tells whether timers are due. A timer that another thread cancelled counts as one of the `most` if it
+ * would be due.
  *
  * ERT_NO_MEMORY: as of ert_shard_turn. ERT_CLOSED. Work as of ert_world_turn_some.
  */

@@ -291,6 +291,16 @@ unsafe extern "C" {
     pub fn ert_shard_is_alive(shard: *mut ert_shard, process: u32, alive: *mut u32) -> i32;
     pub fn ert_shard_exit(shard: *mut ert_shard, process: u32, first: *mut u32) -> i32;
     pub fn ert_shard_take(shard: *mut ert_shard, process: u32, mail: *mut ert_mail) -> i32;
+    pub fn ert_shard_take_some(
+        shard: *mut ert_shard,
+        process: u32,
+        mails: *mut ert_mail,
+        room: usize,
+        count: *mut usize,
+    ) -> i32;
+    pub fn ert_shard_next_mail(shard: *mut ert_shard, process: *mut u32) -> i32;
+    pub fn ert_shard_ask(shard: *mut ert_shard, request: *const ert_request) -> i32;
+    pub fn ert_shard_serve(shard: *mut ert_shard, served: *mut u32) -> i32;
     pub fn ert_shard_monitor(shard: *mut ert_shard, process: u32, monitor: *mut u32) -> i32;
     pub fn ert_shard_demonitor(shard: *mut ert_shard, process: u32, monitor: u32) -> i32;
     pub fn ert_shard_tell(shard: *mut ert_shard, process: u32, told: *mut u32) -> i32;

@@ -4,8 +4,8 @@ use std::ops::Range;
 use std::ptr;
 
 use crate::{
-    Advanced, Delivered, Error, Mail, Moved, OffsetState, Reading, Seat, Settings, Start, Timer,
-    Turned, done, done_or, ffi, mail, state, turned_some,
+    Advanced, Delivered, Error, Mail, Moved, OffsetState, Reading, RequestKind, Seat, Settings,
+    Start, Timer, Turned, done, done_or, ffi, mail, state, turned_some,
 };
 
 /// The clock of a service that is divided among threads, and what was given to no shard. It is closed when it is dropped.
@@ -244,6 +244,60 @@ impl Shard {
         Ok(done_or(status, ffi::ERT_EMPTY)?.then(|| mail(first)))
     }
 
+    /// Takes the first messages of a process of the shard, `most` at most, and puts them last into a vector; false if the
+    /// mailbox was empty before there were so many.
+    pub fn take_some(
+        &mut self,
+        process: u32,
+        most: usize,
+        mails: &mut Vec<Mail>,
+    ) -> Result<bool, Error> {
+        let mut places = vec![ffi::ert_mail::default(); most];
+        let mut count = 0;
+        let status = unsafe {
+            ffi::ert_shard_take_some(
+                &mut *self.handle,
+                process,
+                places.as_mut_ptr(),
+                most,
+                &mut count,
+            )
+        };
+        mails.extend(places[..count].iter().map(|place| mail(*place)));
+        done_or(status, ffi::ERT_EMPTY)
+    }
+
+    /// A process of the shard that has messages and hasn't exited; None if there is none. Each process has its turn.
+    pub fn next_mail(&mut self) -> Result<Option<u32>, Error> {
+        let mut process = 0;
+        let status = unsafe { ffi::ert_shard_next_mail(&mut *self.handle, &mut process) };
+        Ok(done_or(status, ffi::ERT_EMPTY)?.then_some(process))
+    }
+
+    /// Asks the scheduler of the shard to cancel or to read a timer of whatever shard, in one of its next turns. The answer
+    /// comes to `reply_to`, a process of the shard, if it is Some; otherwise none is sent.
+    pub fn ask(
+        &mut self,
+        kind: RequestKind,
+        timer: &Timer,
+        reply_to: Option<u32>,
+    ) -> Result<(), Error> {
+        let request = ffi::ert_request {
+            kind: kind as u32,
+            timer: *timer,
+            reply_to: reply_to.unwrap_or(self.processes().start),
+            info: reply_to.is_some().into(),
+        };
+        done(unsafe { ffi::ert_shard_ask(&mut *self.handle, &request) })
+    }
+
+    /// Serves one request of the shard, and returns whether there was one.
+    pub fn serve(&mut self) -> Result<bool, Error> {
+        let mut served = 0;
+        done(unsafe { ffi::ert_shard_serve(&mut *self.handle, &mut served) })?;
+        Ok(served != 0)
+    }
+
     /// Makes a monitor of the time offset for a process of the shard.
     pub fn monitor(&mut self, process: u32) -> Result<u32, Error> {
         let mut monitor = 0;
@@ -278,7 +332,7 @@ impl Shard {
         Ok(delivered)
     }
 
-    /// Makes a turn of the shard: advances and delivers. `served` is 0, since a shard has no requests.
+    /// Makes a turn of the shard: serves, advances and delivers.
     pub fn turn(&mut self) -> Result<Turned, Error> {
         let mut turned = Turned::default();
         done(unsafe { ffi::ert_shard_turn(&mut *self.handle, &mut turned) })?;

@@ -1,6 +1,6 @@
 -- How a call through the handle of a hub or of a shard is shown.
 
-use Rattle.std.proofs.Common.{◌≡◌, ℕ, ◌<◌, ◌≤◌, ◌⊎◌, ◌+◌, ◌-◌, ℤ, Option, Some, None, Ok, inl, inr, refl, ap, ◌∙◌, subst, sym, false, arith}
+use Rattle.std.proofs.Common.{◌≡◌, ℕ, ◌<◌, ◌≤◌, ◌⊎◌, ◌+◌, ◌-◌, ◌↔◌, ℤ, Bool, true, IsTrue, Option, Some, None, Ok, inl, inr, refl, ap, ◌∙◌, subst, sym, false, arith}
 use Rattle.ert_c.specs.HubCalls.{OpensHub}
 use Rattle.ert_c.specs.Opened.{ReadsSettings}
 use Rattle.ert_c.specs.Places.{is_there}
@@ -10,7 +10,7 @@ use Rattle.ert_c.specs.declared.opening.ErtSettings.{ErtSettings}
 use Rattle.ert_c.specs.declared.status.TheConstants.{OK, NO_MEMORY, NO_SHARD}
 use Rattle.ert_defs.specs.declared.settings.Settings.{Settings}
 use Rattle.ert_shard.specs.Hubs.{Rest, IsFresh, GivesShard, TakesBack, IsLastOut}
-use Rattle.ert_shard.specs.Shards.{Share, Owned}
+use Rattle.ert_shard.specs.Shards.{Share, IsHome, Owned}
 use Rattle.ert_world.proofs.Given.{longer_same}
 use Rattle.ert_world.specs.Openings.{IsOpened}
 use Rattle.ert_world.specs.Worlds.{Seen}
@@ -38,6 +38,19 @@ at_home call refused s p from to low from_is high to_is made = record {
   home = λ _. made;
   below = λ h. absurd (omega (arith, low, from_is, h));
   above = λ h. absurd (omega (arith, high, to_is, h));
+}
+
+-- so a process is or isn't of a share, as the shard tells
+pub is_at_home : (call refused : Type 0) (s : Share) (p : ℕ) (told : Bool) → told ≡ true → (IsTrue told ↔ IsHome s p) → call → IfHome s p call refused
+is_at_home call refused s p told is home made =
+    let at = home.0 is in
+    record { home = λ _. made; below = λ h. absurd (let low = at.0 in omega (arith, low, h)); above = λ h. absurd (let high = at.1 in omega (arith, high, h)) }
+
+pub not_at_home : (call refused : Type 0) (s : Share) (p : ℕ) (told : Bool) → told ≡ false → (IsTrue told ↔ IsHome s p) → refused → IfHome s p call refused
+not_at_home call refused s p told is home r = record {
+  home = λ h. absurd (let said : told ≡ true = home.1 h in let both : true ≡ false = sym said ∙ is in cc);
+  below = λ _. r;
+  above = λ _. r;
 }
 
 -- for want of memory a closed handle of a hub stays closed

@@ -7,6 +7,8 @@ pub mod Opened
 pub mod Places
 pub mod SeatCalls
 pub mod ShardCalls
+pub mod ShardMailing
+pub mod ShardServing
 pub mod Through
 pub mod Told
 pub mod Waiting

@@ -185,24 +185,24 @@ ShardDeliversBy answer old new = ShardSteps old (λ way. Delivers old.settings w
 
 -- a shard makes a turn: what it did, or want of memory. Then each row of its wheel is due later than the time of the advance
 pub record ShardTurnsBy (answer : Result Turn WantOfMemory) (old new : Owned) : Type 0 where
-  pub steps : ShardSteps old (λ way. ShardTurns old.settings way old.share.number answer) new
+  pub steps : ShardSteps old (λ way. ShardTurns old.settings way old.share answer) new
   pub passed : IfOk answer (λ turned. HasPassed new.wheel turned.to)
 
--- what a turn of a shard did, which serves no requests, or want of memory
+-- what a turn of a shard did, or want of memory
 abbrev pub IsTurnTold : Result Turn WantOfMemory → ErtTurned → ℤ → ErtTurned → Type 0
-IsTurnTold = IsGiven (λ t. record { to = t.to; served = 0; fired = t.fired; put = t.put; dropped = t.dropped })
+IsTurnTold = IsGiven (λ t. record { to = t.to; served = t.served; fired = t.fired; put = t.put; dropped = t.dropped })
 
 -- a shard makes a turn in which so many timers at most expire and are handed over: what it did and whether there are more,
 -- or want of memory. Where there are no more each row of its wheel is due later than the time of the advance; where there
 -- are, it has done as much as it may
 pub record ShardTurnsSomeBy (most : ℕ) (answer : Result (Turn × Bool) WantOfMemory) (old new : Owned) : Type 0 where
-  pub steps : ShardSteps old (λ way. TurnsUpTo old.settings way old.share.number most answer) new
+  pub steps : ShardSteps old (λ way. TurnsUpTo old.settings way old.share most answer) new
   pub passed : IfOk answer (λ done. done.1 ≡ false → HasPassed new.wheel done.0.to)
   pub done : IfOk answer (λ turned. turned.1 ≡ true → HasTurnedMost old.wheel new.wheel most turned.0)
 
 -- what such a turn of a shard did, or want of memory
 abbrev pub IsTurnSomeTold : Result (Turn × Bool) WantOfMemory → ErtTurnedSome → ℤ → ErtTurnedSome → Type 0
-IsTurnSomeTold = IsGiven (λ p. record { to = p.0.to; served = 0; fired = p.0.fired; put = p.0.put; dropped = p.0.dropped; more = flag p.1 })
+IsTurnSomeTold = IsGiven (λ p. record { to = p.0.to; served = p.0.served; fired = p.0.fired; put = p.0.put; dropped = p.0.dropped; more = flag p.1 })
 
 -- what is told is how many rows the wheel of a shard holds, and nothing has changed
 pub record ShardTellsHeld (answer : ℕ) (old new : Owned) : Type 0 where

@@ -27,7 +27,7 @@
 //! | `opening`, `clock_calls`, `timer_calls`, `mail_calls`, `turn_calls`, `waiting_calls` | the structs that cross, what they mean, and how answers are told |
 //! | `clock_exports`, `timer_exports`, `mail_exports`, `turn_exports`, `waiting_exports`, `seat_exports`, `version_exports` | the exported functions of a world and of a seat, and the version |
 //! | `shard_handle` | the handles of a hub and of a shard |
-//! | `hub_exports`, `shard_exports`, `shard_mail_exports`, `shard_turn_exports`, `shard_waiting_exports` | their exported functions |
+//! | `hub_exports`, `shard_exports`, `shard_mail_exports`, `shard_request_exports`, `shard_turn_exports`, `shard_waiting_exports` | their exported functions |
 //!
 //! What C owes (pointers to values, one call at a time on a handle, no copy of an open handle) nothing checks;
 //! `docs/EMBEDDING.md` lists it. It stands on `ert_world`, `ert_shard` and what they name, and on the allocator.
@@ -46,6 +46,7 @@ mod seat_exports;
 mod shard_exports;
 mod shard_handle;
 mod shard_mail_exports;
+mod shard_request_exports;
 mod shard_turn_exports;
 mod shard_waiting_exports;
 mod status;

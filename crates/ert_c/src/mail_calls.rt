@@ -2,12 +2,15 @@
 ghost use Rattle.std.specs.Prelude.{◌≡◌, ◌<◌};
 ghost use Rattle.ert_defs.specs.Legal.{Legal};
 ghost use Rattle.ert_c.specs.Mailing.{end_as, IsNextTold, TakesPlaces};
+ghost use Rattle.ert_c.specs.ShardMailing.{ShardTakesPlaces};
+ghost use Rattle.ert_shard.specs.Shards.{IsHome};
 ghost use Rattle.ert_c.specs.Told.{no_timer, c_mail_of, mail_as, request_of, request_kind_at, IsTakeTold, IsAsked, IsMonitorTold, IsDemonitored};
 
 use crate::status::{EMPTY, EXITED, FULL, NO_MEMORY, NO_MONITOR, OK};
 use crate::timer_calls::ErtTimer;
 use ert_defs::{Mail, NoMemory, Request, RequestKind};
 use ert_effects::{MonitorErr, Taken};
+use ert_shard::Shard;
 use ert_world::{TakeEnd, World};
 
 /// A message. Fields that its kind has not are 0.
@@ -186,6 +189,28 @@ pub(crate) fn take_places(
     while taken < mails.len() {
         match world.take(process) {
             Taken::Mail(mail) => mails[taken] = mail_as(mail),
+            Taken::Empty => return (taken, TakeEnd::Empty),
+            Taken::Exited => return (taken, TakeEnd::Exited),
+        }
+        taken += 1;
+    }
+    (taken, TakeEnd::Most)
+}
+
+/// Takes messages of a process of a shard into places, and answers how many, and how that ended.
+pub(crate) fn take_shard_places(
+    shard: &mut Shard,
+    process: u32,
+    mails: &mut [ErtMail],
+) -> (usize, TakeEnd)
+    requires { IsHome shard.old.share process }
+    ensures { ShardTakesPlaces process shard.old mails.old mails.new result shard.new }
+{
+    shard.keeps_laws();
+    let mut taken = 0;
+    while taken < mails.len() {
+        match shard.take(process) {
+            Taken::Mail(first) => mails[taken] = mail_as(first),
             Taken::Empty => return (taken, TakeEnd::Empty),
             Taken::Exited => return (taken, TakeEnd::Exited),
         }

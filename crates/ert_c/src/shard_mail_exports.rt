@@ -1,9 +1,15 @@
 //! The exported calls of a shard on mailboxes and monitors.
+ghost use Rattle.std.specs.Prelude.{length};
+ghost use Rattle.ert_c.specs.Mailing.{IsNextTold, IsTookSome};
 ghost use Rattle.ert_c.specs.ShardCalls.{AnswersAtHome, ShardDemonitors, ShardTakesBy, ShardMonitorsBy, ShardTellsBy};
+ghost use Rattle.ert_c.specs.ShardMailing.{ShardFindsMailBy, ShardTakesSomeBy};
+ghost use Rattle.ert_c.specs.Through.{AnswersThrough};
 ghost use Rattle.ert_c.specs.Told.{IsTakeTold, IsMonitorTold, IsNumber};
 
 use crate::handle::opened;
-use crate::mail_calls::{ErtMail, tell_demonitored, tell_monitored, tell_taken};
+use crate::mail_calls::{
+    ErtMail, take_shard_places, tell_demonitored, tell_end, tell_monitored, tell_next, tell_taken,
+};
 use crate::shard_handle::{ErtShard, at_home};
 use crate::status::{CLOSED, RANGE};
 use crate::turn_calls::tell;
@@ -16,6 +22,32 @@ pub extern "C" fn ert_shard_take(shard: &mut ErtShard, process: u32, mail: &mut 
     let own = at_home!(shard, process);
     let answer = own.take(process);
     tell_taken(answer, mail)
+}
+
+/// Takes the first messages of a process of a shard, as many as there is room for at most.
+#[unsafe(no_mangle)]
+pub extern "C" fn ert_shard_take_some(
+    shard: &mut ErtShard,
+    process: u32,
+    mails: &mut [ErtMail],
+    count: &mut usize,
+) -> i32
+    ensures { AnswersAtHome process (ShardTakesSomeBy process (length mails.old)) IsTookSome (mails.old, count.old) (mails.new, count.new)
+        shard.old.place.value result shard.new.place.value }
+{
+    let own = at_home!(shard, process);
+    let (taken, ended) = take_shard_places(own, process, mails);
+    *count = taken;
+    tell_end(ended)
+}
+
+/// Tells a process of a shard that hasn't exited and has mail.
+#[unsafe(no_mangle)]
+pub extern "C" fn ert_shard_next_mail(shard: &mut ErtShard, process: &mut u32) -> i32
+    ensures { AnswersThrough ShardFindsMailBy IsNextTold process.old process.new shard.old.place.value result shard.new.place.value }
+{
+    let answer = opened!(shard).next_mail();
+    tell_next(answer, process)
 }
 
 /// Makes a monitor of the time offset for a process of a shard.

@@ -30,7 +30,7 @@ pub extern "C" fn ert_shard_deliver(shard: &mut ErtShard, delivered: &mut ErtDel
     tell_delivered(answer, delivered)
 }
 
-/// Makes a turn of a shard: advances and delivers.
+/// Makes a turn of a shard: serves, advances and delivers.
 #[unsafe(no_mangle)]
 pub extern "C" fn ert_shard_turn(shard: &mut ErtShard, turned: &mut ErtTurned) -> i32
     ensures { AnswersThrough ShardTurnsBy IsTurnTold turned.old turned.new shard.old.place.value result shard.new.place.value }
@@ -48,14 +48,14 @@ pub extern "C" fn ert_shard_next_due(shard: &mut ErtShard, due: &mut u64) -> i32
     tell_due(answer, due)
 }
 
-/// Tells C what a turn of a shard did. It serves no requests.
+/// Tells C what a turn of a shard did.
 fn tell_turn(answer: Result<Turn, NoMemory>, turned: &mut ErtTurned) -> i32
     ensures { IsTurnTold answer turned.old result turned.new }
 {
     tell(
         answer.map(|done| ErtTurned {
             to: done.to,
-            served: 0,
+            served: done.served,
             fired: done.fired,
             put: done.put,
             dropped: done.dropped,

@@ -68,14 +68,14 @@ pub extern "C" fn ert_shard_turn_some(
     tell_turn_some(answer, turned)
 }
 
-/// Tells C what a turn of a shard with a bound did. It serves no requests.
+/// Tells C what a turn of a shard with a bound did.
 fn tell_turn_some(answer: Result<(Turn, bool), NoMemory>, turned: &mut ErtTurnedSome) -> i32
     ensures { IsTurnSomeTold answer turned.old result turned.new }
 {
     tell(
         answer.map(|(done, more)| ErtTurnedSome {
             to: done.to,
-            served: 0,
+            served: done.served,
             fired: done.fired,
             put: done.put,
             dropped: done.dropped,

@@ -1,15 +1,16 @@
 //! What a program in C cannot do with a hub and its shards: shards that come back, a seat, and a world again. Each call
 //! that it can make is tested by `examples/c/tests/shards.c`, and calls of many threads by `fuzz/shards.c`.
-use crate::shard_calls::{cut, join, open, same, start, tick, whole};
-use ert_defs::NoMemory;
-use ert_shard::{Hub, Shard, ShardErr, Turn};
-use ert_world::SeatErr;
+use crate::shard_calls::{SETTINGS, cut, divide, join, open, same, start, tick, whole};
+use ert_defs::{NoMemory, Request, RequestKind, TimerRef};
+use ert_shard::{Hub, ServeErr, Shard, ShardErr, Turn};
+use ert_world::{SeatErr, World};
 use std::alloc::Global;
 use std::process::Abort;
 
 /// What a turn at this time does that puts so many messages.
 const fn turn(to: u64, put: u32) -> Turn {
     Turn {
+        served: 0,
         to,
         fired: put,
         put,
@@ -72,6 +73,32 @@ fn a_wheel_is_cut_again(rt: HostRuntime) -> Result<(), NoMemory> {
     tick(&rt, &mut hub, 5);
     same(&rt, &hub.published(), &5_000_000);
     same(&rt, &high.turn(), &Ok(turn(5, 1)));
+    Ok(())
+}
+
+/// A request for process 0 to cancel a timer of wheel 1 that was never started.
+const REQUEST: Request = Request {
+    kind: RequestKind::Cancel,
+    timer: TimerRef {
+        wheel: 1,
+        slot: 0,
+        generation: 1,
+    },
+    reply_to: 0,
+    info: true,
+};
+
+/// A shard doesn't serve a request of before the division whose answer is for a process that it hasn't.
+#[test]
+fn a_request_of_before_stays(rt: HostRuntime) -> Result<(), NoMemory> {
+    assert!(rt; SETTINGS.check().is_ok());
+    let mut world = World::open(rt.alloc(), &SETTINGS)?;
+    assert!(rt; world.settings().processes > 0);
+    same(&rt, &world.ask(REQUEST), &Ok(()));
+    let mut hub = divide(&rt, world)?;
+    let mut high = cut(&rt, &mut hub, 2);
+    same(&rt, &high.serve(), &Err(ServeErr::NotHome));
+    same(&rt, &high.turn(), &Ok(turn(0, 0)));
     Ok(())
 }
 

@@ -35,7 +35,7 @@ pub(crate) fn open(rt: &impl Abort, alloc: Global) -> Result<Hub, NoMemory> {
 }
 
 /// All of a world that has a caller for each scheduler, and one more.
-fn divide(rt: &impl Abort, world: World) -> Result<Hub, NoMemory> {
+pub(crate) fn divide(rt: &impl Abort, world: World) -> Result<Hub, NoMemory> {
     assert!(rt; world.seats() == 0);
     assert!(rt; world.settings().schedulers < world.settings().callers);
     Ok(Hub::new(world))

@@ -1,6 +1,6 @@
 -- A call of a part, or of an actor alone, is a call of the shard that has it.
 
-use Rattle.std.proofs.Common.{◌≡◌, ℕ, ◌+◌, ◌-◌, ◌<◌, false, arith, ne_eqb, List, [], ◌∷◌, ◌++◌, filter, length, slice_index_or, refl, sym, ap, subst, ◌∙◌}
+use Rattle.std.proofs.Common.{◌≡◌, ℕ, ◌+◌, ◌-◌, ◌<◌, Bool, false, Option, arith, ne_eqb, List, [], ◌∷◌, ◌++◌, filter, length, slice_index_or, refl, sym, ap, subst, ◌∙◌}
 use Rattle.std.specs.Prelude.{slice_set}
 use Rattle.std.proofs.Math.Nat.{le_refl, le_trans}
 use Rattle.std.proofs.lemmas.List.{length-set}
@@ -13,7 +13,7 @@ use Rattle.ert_defs.specs.declared.entry.Entry.{Entry}
 use Rattle.ert_defs.specs.declared.settings.Settings.{Settings}
 use Rattle.ert_effects.specs.Ways.{Growth, Way}
 use Rattle.ert_mail.specs.Mailboxes.{Mailbox, MailboxStands as MailStands}
-use Rattle.ert_shard.specs.Shards.{Share, IsHome, AreMails, is_by, Owned, owned, shard_way, ShardGoes, ShardSteps, ShardBy, HoldsShare, ShardParts, ShardPartsStand, AreHome, AreShardPartsFit}
+use Rattle.ert_shard.specs.Shards.{Share, counted_from, IsHome, AreMails, is_by, Owned, owned, shard_way, ShardGoes, ShardSteps, ShardBy, HoldsShare, ShardParts, ShardPartsStand, AreHome, AreShardPartsFit}
 use Rattle.ert_shard.proofs.Home.{home_on}
 use Rattle.ert_shard.proofs.Kept.{AreOwn, own_by, same_of, others_stand, self_own, home_own}
 use Rattle.ert_table.specs.Calls.{AreOnlyOf, IsMade}
@@ -25,6 +25,7 @@ use Rattle.ert_table.specs.declared.desk.Pass.{Pass}
 use Rattle.ert_timers.specs.Parts.{Part, PartStands as WheelStands}
 use Rattle.ert_timers.specs.Passed.{LosesRows}
 use Rattle.ert_world.proofs.Returned.{at_place}
+use Rattle.ert_world.specs.Worlds.{ListAll}
 
 -- the parts of a shard after a call: they fit, and what callers see of it goes on by the call
 pub record Does (before : Owned) (d : Desk) (q : Pass) (s : Share) (new : ShardParts) (call : Owned → Way → Growth) : Type 0 where
@@ -111,7 +112,7 @@ home_kept before d p q s old es lent has takes only apart =
     has.fit.home
 
 -- a call that left the wheel as it was
-still : {before : Owned} {d e : Desk} (p : Pass) {q : Pass} {s : Share} (old new : ShardParts) {call : Owned → Way → Growth} → d ≡ e
+pub still : {before : Owned} {d e : Desk} (p : Pass) {q : Pass} {s : Share} (old new : ShardParts) {call : Owned → Way → Growth} → d ≡ e
     → owned e p s old.wheel ≡ before → new.wheel ≡ old.wheel → Does before d q s new call → Did before e q s new call
 still {before} {d} {e} p {q} {s} old new {call} same is kept done =
     let there : Does before e q s new call = does_at same done in
@@ -157,6 +158,7 @@ alone_called before d e p q s old allows same is fit belongs made only =
       sched_is = stand.sched_is;
       sched = λ apart. stand.sched refl;
       mails = record { counted = stand.mails.counted; named = stand.mails.named; stand = λ i d low apart. stand.mails.stand i d low refl };
+      listed = stand.listed;
     })
     (makes d p q s old.wheel made.entries allows made.allowed))
 
@@ -186,6 +188,7 @@ wheel_stepped before d e p q s old new allows same is fit belongs named stands m
       sched_is = stand.sched_is;
       sched = λ apart. stand.sched refl;
       mails = record { counted = stand.mails.counted; named = stand.mails.named; stand = λ i d low apart. stand.mails.stand i d low refl };
+      listed = stand.listed;
     })
     (makes d p q s old.wheel it.entries (λ m. allows m m) it.allowed))
 
@@ -204,6 +207,27 @@ wheel_replaced d q s parts new fit named stands = record {
     sched_is = fit.stand.sched_is;
     sched = fit.stand.sched;
     mails = fit.stand.mails;
+    listed = fit.stand.listed;
+  };
+  home = fit.home;
+}
+
+-- a list of processes with mail that was made or read
+pub list_replaced : (d : Desk) (q : Pass) (s : Share) (parts : ShardParts) (list : Option (List Bool)) → AreShardPartsFit d q s parts
+    → ListAll (counted_from s.from (state (settings_of d) (front_of q))) list parts.mails → AreShardPartsFit d q s (record parts { list = list })
+list_replaced d q s parts list fit listed = record {
+  belongs = fit.belongs;
+  holds = fit.holds;
+  stand = record {
+    legal = fit.stand.legal;
+    wheel_is = fit.stand.wheel_is;
+    wheel = fit.stand.wheel;
+    inbox_is = fit.stand.inbox_is;
+    inbox = fit.stand.inbox;
+    sched_is = fit.stand.sched_is;
+    sched = fit.stand.sched;
+    mails = fit.stand.mails;
+    listed = listed;
   };
   home = fit.home;
 }
@@ -246,14 +270,20 @@ mails_back g h s lent mails process x home are named stands =
           (rw (ne_eqb process (s.from + j) (λ e. other (omega (arith, sum, e)))) left));
     }
 
+-- a list of processes with mail is one after a mailbox has changed
+abbrev pub IsListedOn : ShardParts → ℕ → Mailbox → Option (List Bool) → Type 0
+IsListedOn parts place new list =
+    (st : State) → ListAll st parts.list parts.mails → place < length parts.mails → ListAll st list (slice_set parts.mails place new)
+
 -- a step on a mailbox by the shard's caller
-pub mail_stepped : (before : Owned) (d e : Desk) (p q : Pass) (s : Share) (parts : ShardParts) (process : ℕ) (old new : Mailbox)
+pub mail_stepped : (before : Owned) (d e : Desk) (p q : Pass) (s : Share) (parts : ShardParts) (list : Option (List Bool)) (process : ℕ) (old new : Mailbox)
     (allows : ℕ → ℕ → Settings → State → List Entry → Type 0) → d ≡ e → owned e p s parts.wheel ≡ before → AreShardPartsFit e p s parts → Belongs d q → IsHome before.share process
     → old ≡ slice_index_or parts.mails (process - s.from) old → new.process ≡ old.process → MailStands (settings_of d) (front_of q) new
     → (Legal (settings_of d) (front_of p) → IsMade (settings_of d) (view_of p) (allows s.number old.process (settings_of d)) (view_of q))
     → ((n : ℕ) (st : State) (es : List Entry) → allows s.number n (settings_of d) st es → AreOnlyOf (Caller (s.number + 1) ∷ (MailOf n ∷ [])) es)
-    → Did before e q s (record parts { mails = slice_set parts.mails (process - s.from) new }) (λ o. ShardBy o (allows o.share.number process))
-mail_stepped before d e p q s parts process old new allows same is fit belongs home_in lent named stands made only =
+    → IsListedOn parts (process - s.from) new list
+    → Did before e q s (record parts { mails = slice_set parts.mails (process - s.from) new; list = list }) (λ o. ShardBy o (allows o.share.number process))
+mail_stepped before d e p q s parts list process old new allows same is fit belongs home_in lent named stands made only listed =
     let g : Settings = settings_of d in
     let n : ℕ = s.number in
     let home : IsHome s process = subst (λ (o : Owned). IsHome o.share process) (sym is) home_in in
@@ -262,8 +292,8 @@ mail_stepped before d e p q s parts process old new allows same is fit belongs h
     let it : IsMade g (view_of p) (allows n process g) (view_of q) = subst (λ i. IsMade g (view_of p) (allows n i g) (view_of q)) one (made has.fit.stand.legal) in
     let lending : List Actor = Caller (n + 1) ∷ (MailOf process ∷ []) in
     let mine = only process (state g (front_of p)) it.entries it.allowed in
-    still p parts (record parts { mails = slice_set parts.mails (process - s.from) new }) same is refl
-    (finish before d p q s parts (record parts { mails = slice_set parts.mails (process - s.from) new }) it.entries lending
+    still p parts (record parts { mails = slice_set parts.mails (process - s.from) new; list = list }) same is refl
+    (finish before d p q s parts (record parts { mails = slice_set parts.mails (process - s.from) new; list = list }) it.entries lending
     (λ o. ShardBy o (allows o.share.number process)) has belongs it.call mine
     (self_own (n + 1), (home_own s process home, tt))
     (home_kept before d p q s parts it.entries lending has it.call mine refl)
@@ -280,5 +310,6 @@ mail_stepped before d e p q s parts process old new allows same is fit belongs h
         named = stand.mails.named;
         stand = stand.mails.stand;
       }) (named ∙ one) stands;
+      listed = listed (counted_from s.from (state g (front_of q))) stand.listed (place_low fit process home);
     })
     (makes d p q s parts.wheel it.entries (λ m. allows m process) it.allowed))

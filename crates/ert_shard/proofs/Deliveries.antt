@@ -1,6 +1,6 @@
 -- The steps by which a shard's scheduler hands over its expired timers to processes of its share.
 
-use Rattle.std.proofs.Common.{◌≡◌, ℕ, ◌+◌, ◌-◌, ◌<◌, ◌≤◌, Bool, true, false, arith, length, List, [], ◌∷◌, ◌++◌, slice_index_or, Some, None, Ok, Err, refl, sym, ap, subst, ◌∙◌, append-nil}
+use Rattle.std.proofs.Common.{◌≡◌, ℕ, ◌+◌, ◌-◌, ◌<◌, ◌≤◌, Bool, true, false, arith, length, List, [], ◌∷◌, ◌++◌, slice_index_or, Option, Some, None, Ok, Err, refl, sym, ap, subst, ◌∙◌, append-nil}
 use Rattle.std.specs.Prelude.{slice_set}
 use Rattle.ert_defs.specs.Mails.{MailState, SchedState, first_of, others_of}
 use Rattle.ert_defs.specs.Legal.{Legal}
@@ -23,10 +23,10 @@ use Rattle.ert_laws.specs.Ranges.{IsPlaced}
 use Rattle.ert_mail.proofs.LawsHold.{handing_only}
 use Rattle.ert_mail.specs.Mailboxes.{Mailbox, HoldsMailbox, handed, MailboxStands as MailStands}
 use Rattle.ert_shard.specs.Turning.{fired_of}
-use Rattle.ert_shard.specs.Shards.{Share, IsHome, Owned, shard_way, ShardSteps, ShardParts, AreShardPartsFit}
+use Rattle.ert_shard.specs.Shards.{Share, counted_from, IsHome, Owned, shard_way, ShardSteps, ShardParts, AreShardPartsFit}
 use Rattle.ert_shard.proofs.Home.{first_home}
 use Rattle.ert_shard.proofs.Kept.{self_own, home_own}
-use Rattle.ert_shard.proofs.Called.{Does, Did, Has, Makes, finish, losing, same_rows, rows_then, home_kept, mail_named, mails_back, place_low}
+use Rattle.ert_shard.proofs.Called.{Does, Did, Has, Makes, IsListedOn, finish, losing, same_rows, rows_then, home_kept, mail_named, mails_back, place_low}
 use Rattle.ert_shard.proofs.Stepped.{since}
 use Rattle.ert_shard.proofs.Turned.{Had, had}
 use Rattle.ert_table.specs.Calls.{IsMade}
@@ -61,15 +61,16 @@ own_first before d p s parts fired has first =
     }
 
 -- it was handed over, and is out of the list
-pub handed_now : (before : Owned) (d : Desk) (p q : Pass) (s : Share) (parts : ShardParts) (old new : Mailbox) (fired : Row) (how : Handed) (x : SchedPart)
+pub handed_now : (before : Owned) (d : Desk) (p q : Pass) (s : Share) (parts : ShardParts) (list : Option (List Bool)) (old new : Mailbox) (fired : Row) (how : Handed) (x : SchedPart)
     → Has before d p s parts → Belongs d q → first_of (fired_of before) ≡ Some fired
     → old ≡ slice_index_or parts.mails (fired.dest - s.from) old → new.process ≡ old.process → MailStands (settings_of d) (front_of q) new
     → IsMade (settings_of d) (view_of p) (HandsOver (settings_of d) fired.timer.wheel fired (Ok how)) (view_of q)
     → (state (settings_of d) (front_of q)).scheds fired.timer.wheel ≡ handed (Ok how) ((state (settings_of d) (front_of p)).scheds fired.timer.wheel)
     → x.wheel ≡ parts.sched.wheel → x.hand ≡ parts.sched.hand → x.fired.rows ≡ others_of parts.sched.fired.rows
-    → Does before d q s (record parts { mails = slice_set parts.mails (fired.dest - s.from) new; sched = x })
+    → IsListedOn parts (fired.dest - s.from) new list
+    → Does before d q s (record parts { mails = slice_set parts.mails (fired.dest - s.from) new; sched = x; list = list })
     (λ o way. Hands o.settings way o.share.number (Ok how))
-handed_now before d p q s parts old new fired how x has belongs first lent named stands made_w sched wheel hand rows =
+handed_now before d p q s parts list old new fired how x has belongs first lent named stands made_w sched wheel hand rows listed =
     let g : Settings = settings_of d in
     let n : ℕ = s.number in
     let st : State = state g (front_of p) in
@@ -87,7 +88,7 @@ handed_now before d p q s parts old new fired how x has belongs first lent named
     (hand ∙ was.hand) (rows ∙ ap (λ (l : List Row). others_of l) was.fired) in
     let lending : List Actor = Sched n ∷ (MailOf fired.dest ∷ []) in
     let only = handing_only g n fired (Ok how) st made.entries made.allowed in
-    finish before d p q s parts (record parts { mails = slice_set parts.mails (fired.dest - s.from) new; sched = x }) made.entries lending
+    finish before d p q s parts (record parts { mails = slice_set parts.mails (fired.dest - s.from) new; sched = x; list = list }) made.entries lending
     (λ o way. Hands o.settings way o.share.number (Ok how)) has belongs made.call only (self_own n, (home_own s fired.dest own.home, tt))
     (home_kept before d p q s parts made.entries lending has made.call only refl)
     (λ stand. record {
@@ -100,6 +101,7 @@ handed_now before d p q s parts old new fired how x has belongs first lent named
       sched = λ apart. now;
       mails = mails_back g (front_of q) s [] parts.mails fired.dest new own.home
           (record { counted = stand.mails.counted; named = stand.mails.named; stand = stand.mails.stand }) (named ∙ one) stands;
+      listed = listed (counted_from s.from (state g (front_of q))) stand.listed (place_low has.fit fired.dest own.home);
     })
     (λ m grown mine. record {
       fired = fired;
@@ -180,18 +182,18 @@ named_free d q p timer belongs can g named =
     subst (λ t. is_taken ((state t (front_of q)).status timer) ≡ false) same can.free
 
 -- a step that found no memory changed nothing but the room of a mailbox
-pub step_refused : (before : Owned) (d : Desk) (p q : Pass) (s : Share) (parts : ShardParts) (process : ℕ) (old new : Mailbox) (call : Owned → Way → Growth)
+pub step_refused : (before : Owned) (d : Desk) (p q : Pass) (s : Share) (parts : ShardParts) (list : Option (List Bool)) (process : ℕ) (old new : Mailbox) (call : Owned → Way → Growth)
     → Has before d p s parts → Belongs d q → IsHome s process → old ≡ slice_index_or parts.mails (process - s.from) old → new.process ≡ old.process
-    → MailStands (settings_of d) (front_of q) new → view_of q ≡ view_of p → Makes d p q s parts.wheel [] call
-    → Did before d q s (record parts { mails = slice_set parts.mails (process - s.from) new }) call
-step_refused before d p q s parts process old new call has belongs home lent named stands same allowed =
+    → MailStands (settings_of d) (front_of q) new → view_of q ≡ view_of p → Makes d p q s parts.wheel [] call → IsListedOn parts (process - s.from) new list
+    → Did before d q s (record parts { mails = slice_set parts.mails (process - s.from) new; list = list }) call
+step_refused before d p q s parts list process old new call has belongs home lent named stands same allowed listed =
     let g : Settings = settings_of d in
     let one : old.process ≡ process = mail_named has.fit process old home lent in
     let takes : TakesPlace g (view_of p) [] (view_of q) =
     subst (λ w. TakesPlace g (view_of p) [] w) (sym same)
     (record { actors = refl; legal = has.fit.stand.legal; later = []; grown = sym (append-nil (front_of p)); ours = refl }) in
     losing has (same_rows parts.wheel)
-    (finish before d p q s parts (record parts { mails = slice_set parts.mails (process - s.from) new }) [] (MailOf process ∷ []) call has belongs takes tt
+    (finish before d p q s parts (record parts { mails = slice_set parts.mails (process - s.from) new; list = list }) [] (MailOf process ∷ []) call has belongs takes tt
     (home_own s process home, tt) (home_kept before d p q s parts [] (MailOf process ∷ []) has takes tt refl)
     (λ stand. record {
       legal = stand.legal;
@@ -203,6 +205,7 @@ step_refused before d p q s parts process old new call has belongs home lent nam
       sched = λ apart. stand.sched refl;
       mails = mails_back g (front_of q) s [] parts.mails process new home
           (record { counted = stand.mails.counted; named = stand.mails.named; stand = stand.mails.stand }) (named ∙ one) stands;
+      listed = listed (counted_from s.from (state g (front_of q))) stand.listed (place_low has.fit process home);
     })
     allowed)
 

@@ -1,9 +1,9 @@
 -- After a call that others stepped beside: whose the entries are, and which parts of a shard stand.
 
-use Rattle.std.proofs.Common.{◌≡◌, ℕ, ◌+◌, ◌<◌, Bool, true, false, List, [], ◌∷◌, filter, slice_index_or, refl, sym, ap, subst, ◌∙◌, arith, eq-eqb}
+use Rattle.std.proofs.Common.{◌≡◌, ℕ, ◌+◌, ◌<◌, Bool, true, false, List, [], ◌∷◌, filter, Option, Some, None, slice_index_or, refl, sym, ap, subst, ◌∙◌, arith, eq-eqb}
 use Rattle.std.proofs.lemmas.Bool.{lt-ltb, le-leb}
 use Rattle.std.specs.Prelude.{nat_eq}
-use Rattle.ert_defs.proofs.Runs.{legal_then}
+use Rattle.ert_defs.proofs.Runs.{legal_then, state-append, exit_stays}
 use Rattle.ert_defs.specs.Actors.{same_actor, of}
 use Rattle.ert_defs.specs.Entries.{is_ours}
 use Rattle.ert_defs.specs.Legal.{Legal, LegalFrom}
@@ -13,9 +13,11 @@ use Rattle.ert_defs.specs.declared.entry.Actor.TheVariants.{Wheel, Inbox, Sched,
 use Rattle.ert_defs.specs.declared.entry.Entry.{Entry}
 use Rattle.ert_defs.specs.declared.settings.Settings.{Settings}
 use Rattle.ert_mail.proofs.LawsHold.{inbox_on, mail_on}
+use Rattle.ert_mail.proofs.Listing.{listed_on}
+use Rattle.ert_mail.specs.Lists.{exited_from}
 use Rattle.ert_mail.specs.Mailboxes.{Mailbox}
 use Rattle.ert_shard.proofs.StandOn.{sched_on}
-use Rattle.ert_shard.specs.Shards.{Share, IsHome, is_own, is_by, HoldsShare, ShardParts, ShardPartsStand}
+use Rattle.ert_shard.specs.Shards.{Share, IsHome, is_own, is_by, HoldsShare, ShardParts, ShardPartsStand, counted_from}
 use Rattle.ert_table.proofs.Calls.{made_ours}
 use Rattle.ert_table.proofs.Closings.{maker_in_range}
 use Rattle.ert_table.proofs.Holders.{held_maker, same_actor-true}
@@ -26,6 +28,7 @@ use Rattle.ert_table.specs.Views.{Begins}
 use Rattle.ert_table.specs.declared.view.View.{View}
 use Rattle.ert_timers.proofs.LawsHold.{stand_on as wheel_on}
 use Rattle.ert_world.proofs.Standing.{grown_by, own_kept}
+use Rattle.ert_world.specs.Worlds.{ListAll}
 
 -- all of these actors are of a share
 abbrev pub AreOwn : Share → List Actor → Type 0
@@ -83,6 +86,15 @@ pub same_of : (g : Settings) (v : View) (es : List Entry) (w : View) (s : Share)
     → HoldsShare g v.actors s → IsActor g a → is_own s a ≡ true → is_held lent a ≡ false → of w.front a ≡ of v.front a
 same_of g v es w s lent a takes only holds ranged mine apart = own_kept g v es w lent a takes only (holds.own a ranged ∙ mine) apart
 
+-- more processes may have exited, of those that are listed
+pub list_on : (g : Settings) (f h : List Entry) (from : ℕ) (list : Option (List Bool)) (mails : List Mailbox) → Begins f h
+    → ListAll (counted_from from (state g f)) list mails → ListAll (counted_from from (state g h)) list mails
+list_on g f h from None mails more all = tt
+list_on g f h from (Some listed) mails more all =
+    listed_on (exited_from from (state g f).exited) (exited_from from (state g h).exited) listed mails
+    (λ p gone. ap (λ l. (state g l).exited (from + p)) more.grown
+    ∙ (ap (λ (st : State). st.exited (from + p)) (state-append g f more.later) ∙ exit_stays g (from + p) (state g f) more.later gone)) all
+
 pub others_stand : (g : Settings) (v : View) (es : List Entry) (w : View) (s : Share) (lent : List Actor) (parts : ShardParts) → TakesPlace g v es w
     → AreOnlyOf lent es → HoldsShare g v.actors s → ShardPartsStand g v.front s [] parts → ShardPartsStand g w.front s lent parts
 others_stand g v es w s lent parts takes only holds stand =
@@ -116,4 +128,5 @@ others_stand g v es w s lent parts takes only holds stand =
             (subst (λ n. of h (MailOf n) ≡ of f (MailOf n)) (sym (stand.mails.named i d low)) (same (MailOf p) ranged (home_own s p home) apart))
             (stand.mails.stand i d low refl);
       };
+      listed = list_on g f h s.from parts.list parts.mails more stand.listed;
     }

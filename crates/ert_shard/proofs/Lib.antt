@@ -8,10 +8,13 @@ pub mod Home
 pub mod Kept
 pub mod Lived
 pub mod Parted
+pub mod Received
 pub mod Rejoined
 pub mod Renewed
+pub mod Requested
 pub mod Returned
 pub mod Seats
+pub mod Served
 pub mod StandOn
 pub mod Stepped
 pub mod Ticked

@@ -85,6 +85,7 @@ advanced before d p q s parts new x allows has belongs named stands loses are ma
       sched_is = at;
       sched = λ apart. now;
       mails = record { counted = stand.mails.counted; named = stand.mails.named; stand = λ j d low apart. stand.mails.stand j d low refl };
+      listed = stand.listed;
     })
     (λ m grown own. subst (allows g i st) (sym own) made.allowed))
 
@@ -194,6 +195,7 @@ sweep_called before d p q s parts process new has belongs named stands loses mad
       sched_is = stand.sched_is;
       sched = λ apart. stand.sched refl;
       mails = record { counted = stand.mails.counted; named = stand.mails.named; stand = λ j d low apart. stand.mails.stand j d low refl };
+      listed = stand.listed;
     })
     (λ m grown own. record {
       steps = subst (Sweeps g (n + 1) n process st) (sym own) made.allowed;

@@ -1,4 +1,6 @@
 pub mod Hubs
+pub mod Receiving
 pub mod Renewing
+pub mod Serving
 pub mod Shards
 pub mod Turning

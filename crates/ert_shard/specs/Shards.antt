@@ -1,10 +1,10 @@
 -- What callers see of a shard, and how its calls make its history longer.
 
-use Rattle.std.specs.Prelude.{◌≡◌, ℕ, ◌+◌, ◌<◌, ◌≤◌, Bool, false, ◌&&◌, nat_eq, nat_le, nat_lt, List, [], ◌∷◌, length, slice_index_or}
+use Rattle.std.specs.Prelude.{◌≡◌, ℕ, ◌+◌, ◌<◌, ◌≤◌, Bool, false, ◌&&◌, nat_eq, nat_le, nat_lt, List, [], ◌∷◌, length, Option, slice_index_or}
 use Rattle.atomic_table.specs.Seated.{TableId}
 use Rattle.ert_defs.specs.Actors.{of}
 use Rattle.ert_defs.specs.Legal.{Legal}
-use Rattle.ert_defs.specs.States.{State}
+use Rattle.ert_defs.specs.States.{State, state}
 use Rattle.ert_defs.specs.declared.entry.Actor.{Actor}
 use Rattle.ert_defs.specs.declared.entry.Actor.TheVariants.{Keeper, Wheel, Inbox, Sched, MailOf, Caller}
 use Rattle.ert_defs.specs.declared.entry.Entry.{Entry}
@@ -14,6 +14,7 @@ use Rattle.ert_defs.specs.declared.settings.Settings.{Settings}
 use Rattle.ert_defs.specs.declared.timer.TimerRef.{TimerRef}
 use Rattle.ert_effects.specs.Ways.{Growth, Way, Grows}
 use Rattle.ert_mail.specs.Inboxes.{Waiting, InboxStands}
+use Rattle.ert_mail.specs.Lists.{exited_from}
 use Rattle.ert_mail.specs.Mailboxes.{Mailbox, MailboxStands as MailStands}
 use Rattle.ert_table.specs.Desks.{settings_of, front_of, actors_of, Belongs}
 use Rattle.ert_table.specs.Held.{is_held, IsActor}
@@ -24,6 +25,7 @@ use Rattle.ert_timers.specs.Parts.{Part, PartStands as WheelStands}
 use Rattle.ert_timers.specs.Passed.{LosesRows}
 use Rattle.ert_world.specs.Parts.{SchedStands}
 use Rattle.ert_world.specs.Ways.{among}
+use Rattle.ert_world.specs.Worlds.{ListAll}
 use Rattle.ert_world.specs.declared.sched_part.SchedPart.{SchedPart}
 
 -- what a shard has: the scheduler of this number, and the processes from one on, below another
@@ -114,9 +116,15 @@ pub record ShardParts : Type 0 where
   pub inbox : Waiting
   pub sched : SchedPart
   pub mails : List Mailbox
+  pub list : Option (List Bool)
 
-abbrev pub shard_parts_of : Part → Waiting → SchedPart → List Mailbox → ShardParts
-shard_parts_of wheel inbox sched mails = record { wheel = wheel; inbox = inbox; sched = sched; mails = mails }
+abbrev pub shard_parts_of : Part → Waiting → SchedPart → List Mailbox → Option (List Bool) → ShardParts
+shard_parts_of wheel inbox sched mails list =
+    record { wheel = wheel; inbox = inbox; sched = sched; mails = mails; list = list }
+
+-- a state in which it is counted from a first process which have exited
+abbrev pub counted_from : ℕ → State → State
+counted_from first st = record st { exited = exited_from first st.exited }
 
 -- the mailboxes of a share stand in order of number; each stands for the history but those that are lent
 pub record AreMails (g : Settings) (h : List Entry) (s : Share) (lent : List Actor) (mails : List Mailbox) : Type 0 where
@@ -124,7 +132,8 @@ pub record AreMails (g : Settings) (h : List Entry) (s : Share) (lent : List Act
   pub named : (i : ℕ) (d : Mailbox) → i < length mails → (slice_index_or mails i d).process ≡ s.from + i
   pub stand : (i : ℕ) (d : Mailbox) → i < length mails → is_held lent (MailOf (s.from + i)) ≡ false → MailStands g h (slice_index_or mails i d)
 
--- the parts of a shard stand for a history but those that are lent
+-- the parts of a shard stand for a history but those that are lent. Where its processes are listed, each that hasn't exited
+-- and whose mailbox has mail is
 pub record ShardPartsStand (g : Settings) (h : List Entry) (s : Share) (lent : List Actor) (parts : ShardParts) : Type 0 where
   pub legal : Legal g h
   pub wheel_is : parts.wheel.number ≡ s.number
@@ -134,6 +143,7 @@ pub record ShardPartsStand (g : Settings) (h : List Entry) (s : Share) (lent : L
   pub sched_is : parts.sched.wheel ≡ s.number
   pub sched : is_held lent (Sched s.number) ≡ false → SchedStands g h parts.sched
   pub mails : AreMails g h s lent parts.mails
+  pub listed : ListAll (counted_from s.from (state g h)) parts.list parts.mails
 
 -- an event starts a timer for a process of a share, if it starts one
 abbrev pub IsHomeEvent : Share → Event → Type 0

@@ -12,7 +12,8 @@ use Rattle.ert_effects.specs.Chains.{AdvancesWheel, Delivers, SweepsWheel}
 use Rattle.ert_effects.specs.SomeCalls.{AdvancesWheelSome}
 use Rattle.ert_effects.specs.WheelCalls.{MarksExit}
 use Rattle.ert_effects.specs.Ways.{Growth, Way, Then}
-use Rattle.ert_shard.specs.Shards.{Owned}
+use Rattle.ert_shard.specs.Serving.{ShardServesAll}
+use Rattle.ert_shard.specs.Shards.{Share, Owned}
 use Rattle.ert_shard.specs.declared.turns.Turn.{Turn}
 use Rattle.ert_timers.specs.Parts.{Part}
 use Rattle.ert_world.specs.Bounded.{DeliversSome}
@@ -21,32 +22,38 @@ use Rattle.ert_world.specs.Bounded.{DeliversSome}
 abbrev pub fired_of : Owned → List Row
 fired_of o = (sched_of o.settings o.history o.share.number).fired
 
--- a turn: the wheel is advanced, and all expired timers are handed over. There may be no memory for either, and what was
--- done before stays
-abbrev pub ShardTurns : Settings → Way → ℕ → Result Turn NoMemory → Growth
-ShardTurns g way n (Ok t) h m = Then (AdvancesWheel g way n (Ok (t.to, t.fired))) (Delivers g way n (Ok (t.put, t.dropped))) h m
-ShardTurns g way n (Err e) h m =
-    AdvancesWheel g way n (Err e) h m
-    ⊎ ((advanced : ℕ × ℕ) × Then (AdvancesWheel g way n (Ok advanced)) (Delivers g way n (Err e)) h m)
+-- a turn: requests are served, the wheel is advanced, and all expired timers are handed over. There may be no memory for one
+-- of these, and what was done before stays
+abbrev pub ShardTurns : Settings → Way → Share → Result Turn NoMemory → Growth
+ShardTurns g way s (Ok t) h m = Then (ShardServesAll g way s (Ok t.served))
+    (Then (AdvancesWheel g way s.number (Ok (t.to, t.fired))) (Delivers g way s.number (Ok (t.put, t.dropped)))) h m
+ShardTurns g way s (Err e) h m =
+    ShardServesAll g way s (Err e) h m
+    ⊎ ((served : ℕ) × Then (ShardServesAll g way s (Ok served)) (AdvancesWheel g way s.number (Err e)) h m)
+    ⊎ ((served : ℕ) × (advanced : ℕ × ℕ)
+    × Then (ShardServesAll g way s (Ok served)) (Then (AdvancesWheel g way s.number (Ok advanced)) (Delivers g way s.number (Err e))) h m)
 
 -- a turn with a bound did as much as it may: so many messages were handed over, or so many rows went at least
 abbrev pub HasTurnedMost : Part → Part → ℕ → Turn → Type 0
 HasTurnedMost old new most t = (t.put + t.dropped ≡ most) ⊎ (count_by is_some new.keys + most ≤ count_by is_some old.keys)
 
--- a turn in which so many timers at most expire, and so many are handed over; there are more where more are due, or expired
+-- a turn with a bound: requests are served, so many timers at most expire, and so many are handed over; there are more where more are due, or expired
 -- ones are left
-pub record HasTurnedUpTo (g : Settings) (way : Way) (n most : ℕ) (t : Turn) (more : Bool) (h m : List Entry) : Type 0 where
+pub record HasTurnedUpTo (g : Settings) (way : Way) (s : Share) (most : ℕ) (t : Turn) (more : Bool) (h m : List Entry) : Type 0 where
   pub due : Bool
   pub waits : Bool
   pub more_is : more ≡ (due || waits)
-  pub runs : Then (AdvancesWheelSome g way n most (Ok (t.to, t.fired, due))) (DeliversSome g way n most (Ok (t.put, t.dropped, waits))) h m
+  pub runs : Then (ShardServesAll g way s (Ok t.served))
+      (Then (AdvancesWheelSome g way s.number most (Ok (t.to, t.fired, due))) (DeliversSome g way s.number most (Ok (t.put, t.dropped, waits)))) h m
 
--- `turn_some` of a shard. There may be no memory to advance or to deliver, and what was done before stays
-abbrev pub TurnsUpTo : Settings → Way → ℕ → ℕ → Result (Turn × Bool) NoMemory → Growth
-TurnsUpTo g way n most (Ok answer) h m = HasTurnedUpTo g way n most answer.0 answer.1 h m
-TurnsUpTo g way n most (Err e) h m =
-    AdvancesWheelSome g way n most (Err e) h m
-    ⊎ ((advanced : ℕ × ℕ × Bool) × Then (AdvancesWheelSome g way n most (Ok advanced)) (DeliversSome g way n most (Err e)) h m)
+-- `turn_some` of a shard. There may be no memory to serve, to advance or to deliver, and what was done before stays
+abbrev pub TurnsUpTo : Settings → Way → Share → ℕ → Result (Turn × Bool) NoMemory → Growth
+TurnsUpTo g way s most (Ok answer) h m = HasTurnedUpTo g way s most answer.0 answer.1 h m
+TurnsUpTo g way s most (Err e) h m =
+    ShardServesAll g way s (Err e) h m
+    ⊎ ((served : ℕ) × Then (ShardServesAll g way s (Ok served)) (AdvancesWheelSome g way s.number most (Err e)) h m)
+    ⊎ ((served : ℕ) × (advanced : ℕ × ℕ × Bool)
+    × Then (ShardServesAll g way s (Ok served)) (Then (AdvancesWheelSome g way s.number most (Ok advanced)) (DeliversSome g way s.number most (Err e))) h m)
 
 -- the process exits, and where it hadn't before, the shard's wheel is swept, which has all its timers
 abbrev pub ShardExits : Settings → Way → ℕ → ℕ → Bool → Growth

@@ -56,15 +56,17 @@ impl Shard {
     /// It tells whether more timers are due, or expired ones wait: the next turn goes on with them, in their order.
     ///
     /// Where it tells that there are none, the wheel holds no row that is due by the time of the advance. With 0 at most it
-    /// tells what there is. After want of memory what was done stays done.
+    /// serves requests and tells what there is. After want of memory what was done stays done.
     pub fn turn_some(&mut self, most: u32) -> Result<(Turn, bool), NoMemory>
-        ensures call { ShardSteps self.old (λ way. TurnsUpTo self.old.settings way self.old.share.number most result) self.new }
+        ensures call { ShardSteps self.old (λ way. TurnsUpTo self.old.settings way self.old.share most result) self.new }
         ensures passed { IfOk result (λ answer. answer.1 ≡ false → HasPassed self.new.wheel answer.0.to) }
         ensures done { IfOk result (λ answer. answer.1 ≡ true → HasTurnedMost self.old.wheel self.new.wheel most answer.0) }
     {
+        let served = self.serve_all()?;
         let (to, fired, due) = self.advance_some(most)?;
         let (put, dropped, waits) = self.deliver_some(most)?;
         let turn = Turn {
+            served,
             to,
             fired,
             put,

@@ -79,6 +79,7 @@ impl Hub {
             inbox,
             sched,
             mails,
+            list: None,
         })
     }
 

@@ -17,6 +17,7 @@ impl Hub {
 
 impl Shard {
     ghost use Rattle.ert_defs.specs.Actors.{of};
+    ghost use Rattle.ert_defs.specs.Legal.{Legal};
     ghost use Rattle.ert_defs.specs.declared.entry.Actor.TheVariants.{Wheel};
     ghost use Rattle.ert_laws.specs.KeptLaws.{KeepsLaws};
     ghost use Rattle.ert_shard.specs.Shards.{AreHome};
@@ -24,6 +25,7 @@ impl Shard {
     /// What the shard knows is one legal history, with the same laws, and each timer that its wheel has had is for a
     /// process of the shard.
     pub fn keeps_laws(&self)
+        ensures legal { Legal self.now.settings self.now.history }
         ensures laws { KeepsLaws self.now.settings self.now.history }
         ensures home { AreHome self.now.share (of self.now.history (Wheel self.now.share.number)) }
     {

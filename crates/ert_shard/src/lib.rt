@@ -20,8 +20,11 @@
 //! | `Shard::start` | the shard's caller | starts a timer for a process of the shard | constant where a slot is known to be free, else 131,072 slots of the wheel at most |
 //! | `Shard::restart` | the shard's caller | gives an armed timer of any wheel a new deadline, on the shard's wheel | as a cancel and a start |
 //! | `Shard::exit` | the shard's caller | lets a process exit, and cancels its timers | those timers |
+//! | `Shard::ask` | the shard's caller | asks the shard's scheduler to cancel or to read a timer of any wheel | constant |
 //! | `Shard::take`, `monitor`, `demonitor`, `tell` | the shard's caller | calls on the mailbox of a process of the shard | constant, or the monitors of the process |
-//! | `Shard::advance`, `deliver`, `turn` | the shard's scheduler | lets due timers expire; hands them over; both | as in `ert_world` |
+//! | `Shard::take_some` | the shard's caller | takes the first messages of a process of the shard, so many at most | those messages |
+//! | `Shard::next_mail` | the shard's caller | finds a process of the shard that hasn't exited and has mail | as in `ert_world` |
+//! | `Shard::serve`, `advance`, `deliver`, `turn` | the shard's scheduler | serves a request; lets due timers expire; hands them over; all three | as in `ert_world` |
 //! | `Shard::advance_some`, `deliver_some`, `turn_some` | the shard's scheduler | the same, of so many timers at most | as in `ert_world` |
 //! | `Shard::held`, `expired`, `mail_count` | | no entry: how much waits | constant |
 //! | `Shard::next_due`, `Hub::published` | | no entry: how early a timer may be due; the last published time | as in `ert_world` |
@@ -40,11 +43,15 @@
 //! none that a wheel that stays has timers for. And a world whose wheels had timers before it was divided gives no
 //! shard (`ShardErr::Used`), since of those nothing is known: divide a world that was just opened.
 //!
-//! **What it hasn't.** A shard starts no timer for a process of another shard, and has no asynchronous requests (`ask`
-//! and `serve` of `ert_world`). A timer that another shard cancelled keeps its row and its slot until it would be due.
+//! A request goes to the shard's own inbox, and its answer to a process of the shard. A world may have had requests when it
+//! was divided: one whose answer is for a process of another shard isn't served (`ServeErr::NotHome`), and no other after
+//! it, until the shard comes back.
 //!
-//! **Memory.** `start`, `restart`, `cancel_timer`, `read_timer`, `take`, `exit`, the calls on the clock, `join` and
-//! `join_all` take none. Where there is none, `monitor` and `tell` change nothing, `advance` and `advance_some` let no
+//! **What it hasn't.** A shard starts no timer for a process of another shard, and asks no other shard's scheduler. A timer that another shard cancelled keeps its row and its slot until it would be due.
+//!
+//! **Memory.** `start`, `restart`, `cancel_timer`, `read_timer`, `take`, `take_some`, `exit`, the calls on the clock, `join`
+//! and `join_all` take none, and of the calls of `next_mail` only the first of a shard does, for its list. Where there is
+//! none, `next_mail`, `ask`, `monitor` and `tell` change nothing, `serve` keeps the request in the hand, `advance` and `advance_some` let no
 //! timer expire, `deliver` and `deliver_some` keep what wasn't handed over, `shard` and `seat` leave everything as it was.
 //!
 //! It stands on `ert_defs`, `ert_clock`, `ert_effects`, `ert_table`, `ert_calls`, `ert_timers`, `ert_mail`
@@ -60,6 +67,8 @@ mod hub_calls;
 mod joining;
 mod laws;
 mod mail_calls;
+mod mailing;
+mod requests;
 mod restart;
 mod seating;
 mod shard;
@@ -67,5 +76,6 @@ mod turns;
 
 pub use dividing::ShardErr;
 pub use hub::Hub;
+pub use requests::ServeErr;
 pub use shard::Shard;
 pub use turns::Turn;

@@ -1,4 +1,5 @@
 //! The calls of a shard on the mailboxes of its processes.
+use crate::mailing::may_get_mail;
 use crate::shard::Shard;
 use ert_defs::NoMemory;
 use ert_mail::{MonitorErr, Taken};
@@ -50,6 +51,8 @@ impl Shard {
         ensures { ShardSteps self.old (ShardBy self.old (λ g. Tells g (self.old.share.number + 1) process result)) self.new }
     {
         let by = self.number + 1;
-        self.mails[(process - self.from) as usize].tell(&self.desk, &mut self.pass, by)
+        let place = process - self.from;
+        may_get_mail(&mut self.list, place);
+        self.mails[place as usize].tell(&self.desk, &mut self.pass, by)
     }
 }

@@ -1,7 +1,7 @@
 //! The shard of a scheduler, and its calls on the clock and on timers.
 use ert_calls::{cancel_timer, is_alive, monotonic_time, read_timer, system_time, time_offset};
 use ert_defs::{Actor, OffsetState, Start, TimerRef};
-use ert_mail::{InboxPart, MailPart};
+use ert_mail::{InboxPart, MailList, MailPart};
 use ert_table::{Desk, Pass};
 use ert_timers::{StartErr, WheelPart};
 use ert_world::SchedPart;
@@ -26,6 +26,8 @@ pub struct Shard {
     pub(crate) inbox: InboxPart,
     pub(crate) sched: SchedPart,
     pub(crate) mails: Vec<MailPart>,
+    /// The processes whose mailboxes may have mail, counted from the first, from the first `next_mail` on.
+    pub(crate) list: Option<MailList>,
 }
 
 impl Model for Shard {
@@ -40,7 +42,7 @@ impl Model for Shard {
 
     ghost view = { λ s. owned (arc_value s.desk) s.pass (share_of s.number s.from s.to) s.wheel };
 
-    ghost invariant = { λ s. AreShardPartsFit (arc_value s.desk) s.pass (share_of s.number s.from s.to) (shard_parts_of s.wheel s.inbox s.sched s.mails.items) };
+    ghost invariant = { λ s. AreShardPartsFit (arc_value s.desk) s.pass (share_of s.number s.from s.to) (shard_parts_of s.wheel s.inbox s.sched s.mails.items s.list) };
 }
 
 impl Shard {

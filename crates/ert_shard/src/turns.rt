@@ -1,4 +1,5 @@
 //! The turns of a shard.
+use crate::mailing::may_get_mail;
 use crate::shard::Shard;
 use ert_defs::{Fired, NoMemory};
 use ert_mail::Handed;
@@ -6,6 +7,8 @@ use ert_mail::Handed;
 /// What a turn of a shard did.
 #[derive(Clone, Copy, Debug, PartialEq, Eq)]
 pub struct Turn {
+    /// How many requests were served, 0 to `SERVED_A_TURN` of `ert_effects`.
+    pub served: u32,
     /// The time of the advance, in whole milliseconds since the start time.
     pub to: u64,
     /// How many timers expired.
@@ -71,8 +74,9 @@ impl Shard {
         ensures call { ShardSteps self.old (λ way. Hands self.old.settings way self.old.share.number result) self.new }
         ensures fired { OnOk result (fired_of self.new ≡ others_of (fired_of self.old)) }
     {
-        let place = (fired.dest - self.from) as usize;
-        let handed = self.mails[place].deliver(&self.desk, &mut self.pass, fired)?;
+        let place = fired.dest - self.from;
+        may_get_mail(&mut self.list, place);
+        let handed = self.mails[place as usize].deliver(&self.desk, &mut self.pass, fired)?;
         self.sched.fired.pop();
         self.wheel.reuse(&self.pass, fired.timer);
         Ok(handed)
@@ -96,17 +100,21 @@ impl Shard {
         Ok((put, dropped))
     }
 
-    /// A turn of the shard: it lets due timers expire, and hands over all expired timers. Then the wheel holds no row
-    /// that is due by the time of the advance.
+    /// A turn of the shard: it serves requests until there is none, 64 at most, lets due timers expire, and hands over all
+    /// expired timers. Then the wheel holds no row that is due by the time of the advance.
+    ///
+    /// It serves none from one on whose answer is for a process of another shard (`ServeErr::NotHome`).
     ///
     /// After want of memory what was done stays done.
     pub fn turn(&mut self) -> Result<Turn, NoMemory>
-        ensures call { ShardSteps self.old (λ way. ShardTurns self.old.settings way self.old.share.number result) self.new }
+        ensures call { ShardSteps self.old (λ way. ShardTurns self.old.settings way self.old.share result) self.new }
         ensures passed { IfOk result (λ t. HasPassed self.new.wheel t.to) }
     {
+        let served = self.serve_all()?;
         let (to, fired) = self.advance()?;
         let (put, dropped) = self.deliver()?;
         Ok(Turn {
+            served,
             to,
             fired,
             put,

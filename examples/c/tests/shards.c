@@ -46,6 +46,7 @@ static void closed_handles(void) {
     ert_offset offset = {7, 7};
     ert_start start = {0, 0, 0, 0, 0};
     ert_timer timer = {7, 7, 7};
+    ert_request request = {0, {0, 0, 0}, 9, 1};
     ert_mail mail;
     ert_advanced advanced;
     ert_delivered delivered;
@@ -55,6 +56,7 @@ static void closed_handles(void) {
     uint64_t left = 7;
     uint32_t n = 7;
     uint32_t m = 7;
+    size_t taken = 7;
     ert_seat seat = ERT_INIT;
     IS(ert_hub_shard(&h, &s, 0), ERT_CLOSED);
     IS(ert_hub_seat(&h, &seat), ERT_CLOSED);
@@ -81,6 +83,10 @@ static void closed_handles(void) {
     IS(ert_shard_is_alive(&s, 9, &n), ERT_CLOSED);
     IS(ert_shard_exit(&s, 9, &n), ERT_CLOSED);
     IS(ert_shard_take(&s, 9, &mail), ERT_CLOSED);
+    IS(ert_shard_take_some(&s, 9, &mail, 1, &taken), ERT_CLOSED);
+    IS(ert_shard_next_mail(&s, &n), ERT_CLOSED);
+    IS(ert_shard_ask(&s, &request), ERT_CLOSED);
+    IS(ert_shard_serve(&s, &n), ERT_CLOSED);
     IS(ert_shard_monitor(&s, 9, &n), ERT_CLOSED);
     IS(ert_shard_demonitor(&s, 9, 0), ERT_CLOSED);
     IS(ert_shard_tell(&s, 9, &n), ERT_CLOSED);
@@ -94,6 +100,7 @@ static void closed_handles(void) {
     IS(left, 7);
     IS(n, 7);
     IS(m, 7);
+    IS(taken, 7);
     IS(moved.now, 7);
     IS(offset.offset, 7);
     IS(timer.slot, 7);
@@ -387,6 +394,107 @@ static void bounded_turns(void) {
     close_divided(&d);
 }
 
+static void mail_of_many(void) {
+    divided d;
+    open_divided(&d);
+    ert_mail mails[2];
+    ert_turned turned;
+    uint32_t process = 7;
+    uint32_t first;
+    size_t taken = 7;
+    IS(ert_shard_next_mail(&d.high, &process), ERT_EMPTY);
+    IS(process, 7);
+    IS(ert_shard_take_some(&d.high, 2, mails, 2, &taken), ERT_RANGE);
+    IS(ert_shard_take_some(&d.high, 5, mails, 2, &taken), ERT_RANGE);
+    IS(taken, 7);
+    IS(ert_shard_take_some(&d.high, 3, mails, 2, &taken), ERT_EMPTY);
+    IS(taken, 0);
+    start(&d.high, 0, 3, 1);
+    start(&d.high, 0, 3, 2);
+    start(&d.low, 0, 1, 9);
+    IS(ert_shard_turn(&d.high, &turned), ERT_OK);
+    IS(turned.put, 2);
+    start(&d.high, 0, 4, 3);
+    IS(ert_shard_turn(&d.high, &turned), ERT_OK);
+    IS(turned.put, 1);
+    /* Each has its turn, and the processes of the other shard are not found. */
+    IS(ert_shard_next_mail(&d.high, &process), ERT_OK);
+    IS(process, 3);
+    IS(ert_shard_next_mail(&d.high, &process), ERT_OK);
+    IS(process, 4);
+    IS(ert_shard_next_mail(&d.high, &process), ERT_OK);
+    IS(process, 3);
+    IS(ert_shard_take_some(&d.high, 3, mails, 1, &taken), ERT_OK);
+    IS(taken, 1);
+    IS(mails[0].msg, 1);
+    IS(ert_shard_take_some(&d.high, 3, mails, 2, &taken), ERT_EMPTY);
+    IS(taken, 1);
+    IS(mails[0].msg, 2);
+    /* The messages of one that has exited can't be taken, so it isn't found. */
+    IS(ert_shard_exit(&d.high, 4, &first), ERT_OK);
+    IS(first, 1);
+    IS(ert_shard_next_mail(&d.high, &process), ERT_EMPTY);
+    IS(ert_shard_take_some(&d.high, 4, mails, 2, &taken), ERT_EXITED);
+    IS(taken, 0);
+    IS(ert_shard_next_mail(&d.low, &process), ERT_EMPTY);
+    IS(ert_shard_turn(&d.low, &turned), ERT_OK);
+    IS(ert_shard_next_mail(&d.low, &process), ERT_OK);
+    IS(process, 1);
+    close_divided(&d);
+}
+
+static void requests(void) {
+    divided d;
+    open_divided(&d);
+    ert_request ask = {ERT_CANCEL, start(&d.high, 50, 3, 1), 4, 1};
+    ert_timer own = ask.timer;
+    ert_timer other = start(&d.low, 60, 1, 2);
+    ert_turned turned;
+    ert_mail mail;
+    uint32_t n = 7;
+    uint64_t left = 7;
+    IS(ert_shard_serve(&d.high, &n), ERT_OK);
+    IS(n, 0);
+    ask.kind = 2;
+    IS(ert_shard_ask(&d.high, &ask), ERT_BAD_KIND);
+    ask.kind = ERT_CANCEL;
+    ask.reply_to = 2;
+    IS(ert_shard_ask(&d.high, &ask), ERT_RANGE);
+    ask.reply_to = 5;
+    IS(ert_shard_ask(&d.high, &ask), ERT_RANGE);
+    ask.reply_to = 4;
+    IS(ert_shard_ask(&d.high, &ask), ERT_OK);
+    IS(ert_shard_read(&d.high, &own, &left), ERT_OK);
+    IS(ert_shard_serve(&d.high, &n), ERT_OK);
+    IS(n, 1);
+    IS(ert_shard_read(&d.high, &own, &left), ERT_NO_TIMER);
+    IS(held(&d.high), 0);
+    IS(ert_shard_next_mail(&d.high, &n), ERT_OK);
+    IS(n, 4);
+    IS(ert_shard_take(&d.high, 4, &mail), ERT_OK);
+    IS(mail.tag, ERT_CANCEL_DONE);
+    IS(is_same(mail.timer, own), 1);
+    IS(mail.has_left, 1);
+    IS(mail.left, 50);
+    /* A timer of another shard is read and cancelled in the next turn. */
+    ask.kind = ERT_READ;
+    ask.timer = other;
+    ask.reply_to = 3;
+    IS(ert_shard_ask(&d.high, &ask), ERT_OK);
+    ask.kind = ERT_CANCEL;
+    ask.info = 0;
+    IS(ert_shard_ask(&d.high, &ask), ERT_OK);
+    IS(ert_shard_turn(&d.high, &turned), ERT_OK);
+    IS(turned.served, 2);
+    IS(turned.put, 0);
+    IS(ert_shard_read(&d.low, &other, &left), ERT_NO_TIMER);
+    IS(ert_shard_take(&d.high, 3, &mail), ERT_OK);
+    IS(mail.tag, ERT_READ_DONE);
+    IS(mail.left, 60);
+    IS(ert_shard_take(&d.high, 3, &mail), ERT_EMPTY);
+    close_divided(&d);
+}
+
 static void turns(void) {
     divided d;
     open_divided(&d);
@@ -495,6 +603,8 @@ int main(void) {
     timers_of_both();
     restarts();
     bounded_turns();
+    mail_of_many();
+    requests();
     turns();
     exits();
     monitors();

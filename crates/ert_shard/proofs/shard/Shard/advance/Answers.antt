@@ -11,7 +11,7 @@ pub invariant_of-self : goal.invariant_of-self
 invariant_of-self c =
     let b = c.self.inside in
     let s = share_of b.number b.from b.to in
-    let parts = shard_parts_of b.wheel b.inbox b.sched b.mails.items in
+    let parts = shard_parts_of b.wheel b.inbox b.sched b.mails.items b.list in
     let x : SchedPart = record { wheel = b.sched.wheel; hand = b.sched.hand; fired = c.advance.new.fired } in
     (did_at c.deref.ensures (advance_refused c.args.self.now c.deref.result.now b.pass c.advance.new.pass s c.in_err-to.field-0.0 parts c.advance.new.self x
     (has_at c.deref.ensures c.self.view_is c.self.invariant) c.advance.ensures.belongs c.advance.ensures.number c.advance.ensures.stands c.advance.ensures.loses c.in_err-to.ensures.call refl refl)).fit
@@ -20,7 +20,7 @@ pub returns-in_err-to : goal.returns-in_err-to
 returns-in_err-to c =
     let b = c.self.inside in
     let s = share_of b.number b.from b.to in
-    let parts = shard_parts_of b.wheel b.inbox b.sched b.mails.items in
+    let parts = shard_parts_of b.wheel b.inbox b.sched b.mails.items b.list in
     let x : SchedPart = record { wheel = b.sched.wheel; hand = b.sched.hand; fired = c.advance.new.fired } in
     let result : c.from_residual.result ≡ Err c.in_err-to.field-0.0 = search rules in
     rw result (record {
@@ -41,7 +41,7 @@ pub invariant_of-self-2 : goal.invariant_of-self-2
 invariant_of-self-2 c =
     let b = c.self.inside in
     let s = share_of b.number b.from b.to in
-    let parts = shard_parts_of b.wheel b.inbox b.sched b.mails.items in
+    let parts = shard_parts_of b.wheel b.inbox b.sched b.mails.items b.list in
     let x : SchedPart = record { wheel = b.sched.wheel; hand = b.sched.hand; fired = c.advance.new.fired } in
     (did_at c.deref.ensures (advance_ok c.args.self.now c.deref.result.now b.pass c.advance.new.pass s c.in_ok-to.to c.len.result c.len-before.result parts c.advance.new.self x
     (has_at c.deref.ensures c.self.view_is c.self.invariant) c.advance.ensures.belongs c.advance.ensures.number c.advance.ensures.stands c.advance.ensures.loses c.in_ok-to.ensures.call refl refl c.len.ensures c.len-before.ensures)).fit
@@ -50,7 +50,7 @@ pub returns : goal.returns
 returns c =
     let b = c.self.inside in
     let s = share_of b.number b.from b.to in
-    let parts = shard_parts_of b.wheel b.inbox b.sched b.mails.items in
+    let parts = shard_parts_of b.wheel b.inbox b.sched b.mails.items b.list in
     let x : SchedPart = record { wheel = b.sched.wheel; hand = b.sched.hand; fired = c.advance.new.fired } in
     record {
       call = (did_at c.deref.ensures (advance_ok c.args.self.now c.deref.result.now b.pass c.advance.new.pass s c.in_ok-to.to c.len.result c.len-before.result parts c.advance.new.self x

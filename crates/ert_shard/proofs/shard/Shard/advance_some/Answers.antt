@@ -11,7 +11,7 @@ pub invariant_of-self : goal.invariant_of-self
 invariant_of-self c =
     let b = c.self.inside in
     let s = share_of b.number b.from b.to in
-    let parts = shard_parts_of b.wheel b.inbox b.sched b.mails.items in
+    let parts = shard_parts_of b.wheel b.inbox b.sched b.mails.items b.list in
     let x : SchedPart = record { wheel = b.sched.wheel; hand = b.sched.hand; fired = c.advance_some.new.fired } in
     (did_at c.deref.ensures (some_refused c.args.self.now c.deref.result.now b.pass c.advance_some.new.pass s c.args.most c.in_err-to.field-0.0 parts c.advance_some.new.self x
     (has_at c.deref.ensures c.self.view_is c.self.invariant) c.advance_some.ensures.belongs c.advance_some.ensures.number c.advance_some.ensures.stands
@@ -21,7 +21,7 @@ pub returns-in_err-to-clause-call : goal.returns-in_err-to-clause-call
 returns-in_err-to-clause-call c =
     let b = c.self.inside in
     let s = share_of b.number b.from b.to in
-    let parts = shard_parts_of b.wheel b.inbox b.sched b.mails.items in
+    let parts = shard_parts_of b.wheel b.inbox b.sched b.mails.items b.list in
     let x : SchedPart = record { wheel = b.sched.wheel; hand = b.sched.hand; fired = c.advance_some.new.fired } in
     let result : c.from_residual.result ≡ Err c.in_err-to.field-0.0 = search rules in
     rw result (did_at c.deref.ensures (some_refused c.args.self.now c.deref.result.now b.pass c.advance_some.new.pass s c.args.most c.in_err-to.field-0.0 parts c.advance_some.new.self x
@@ -41,7 +41,7 @@ pub invariant_of-self-2 : goal.invariant_of-self-2
 invariant_of-self-2 c =
     let b = c.self.inside in
     let s = share_of b.number b.from b.to in
-    let parts = shard_parts_of b.wheel b.inbox b.sched b.mails.items in
+    let parts = shard_parts_of b.wheel b.inbox b.sched b.mails.items b.list in
     let x : SchedPart = record { wheel = b.sched.wheel; hand = b.sched.hand; fired = c.advance_some.new.fired } in
     (did_at c.deref.ensures (some_ok c.args.self.now c.deref.result.now b.pass c.advance_some.new.pass s c.args.most c.in_ok-to.to c.len.result c.len-before.result c.in_ok-to.due parts
     c.advance_some.new.self x (has_at c.deref.ensures c.self.view_is c.self.invariant) c.advance_some.ensures.belongs c.advance_some.ensures.number c.advance_some.ensures.stands
@@ -51,7 +51,7 @@ pub returns-clause-call : goal.returns-clause-call
 returns-clause-call c =
     let b = c.self.inside in
     let s = share_of b.number b.from b.to in
-    let parts = shard_parts_of b.wheel b.inbox b.sched b.mails.items in
+    let parts = shard_parts_of b.wheel b.inbox b.sched b.mails.items b.list in
     let x : SchedPart = record { wheel = b.sched.wheel; hand = b.sched.hand; fired = c.advance_some.new.fired } in
     (did_at c.deref.ensures (some_ok c.args.self.now c.deref.result.now b.pass c.advance_some.new.pass s c.args.most c.in_ok-to.to c.len.result c.len-before.result c.in_ok-to.due parts
     c.advance_some.new.self x (has_at c.deref.ensures c.self.view_is c.self.invariant) c.advance_some.ensures.belongs c.advance_some.ensures.number c.advance_some.ensures.stands

@@ -15,7 +15,7 @@ pub invariant_of-self : goal.invariant_of-self
 invariant_of-self c =
     let b = c.self.inside in
     let s = share_of b.number b.from b.to in
-    (alone_called c.args.self.now c.deref.result.now _ b.pass c.cancel_timer.new.pass s (shard_parts_of b.wheel b.inbox b.sched b.mails.items)
+    (alone_called c.args.self.now c.deref.result.now _ b.pass c.cancel_timer.new.pass s (shard_parts_of b.wheel b.inbox b.sched b.mails.items b.list)
     (λ m g. Cancels g (Caller (m + 1)) c.args.timer c.cancel_timer.result) c.deref.ensures c.self.view_is c.self.invariant c.cancel_timer.ensures.belongs c.cancel_timer.ensures.call.call
     (cancel_only (settings_of c.deref.result.now) (Caller (b.number + 1)) c.args.timer c.cancel_timer.result)).fit
 
@@ -23,7 +23,7 @@ pub returns-clause-call : goal.returns-clause-call
 returns-clause-call c =
     let b = c.self.inside in
     let s = share_of b.number b.from b.to in
-    (alone_called c.args.self.now c.deref.result.now _ b.pass c.cancel_timer.new.pass s (shard_parts_of b.wheel b.inbox b.sched b.mails.items)
+    (alone_called c.args.self.now c.deref.result.now _ b.pass c.cancel_timer.new.pass s (shard_parts_of b.wheel b.inbox b.sched b.mails.items b.list)
     (λ m g. Cancels g (Caller (m + 1)) c.args.timer c.cancel_timer.result) c.deref.ensures c.self.view_is c.self.invariant c.cancel_timer.ensures.belongs c.cancel_timer.ensures.call.call
     (cancel_only (settings_of c.deref.result.now) (Caller (b.number + 1)) c.args.timer c.cancel_timer.result)).steps
 
@@ -31,14 +31,14 @@ pub returns-clause-last : goal.returns-clause-last
 returns-clause-last c =
     let b = c.self.inside in
     let s = share_of b.number b.from b.to in
-    gone_some c.deref.result.now _ b.pass c.cancel_timer.new.pass s (shard_parts_of b.wheel b.inbox b.sched b.mails.items) c.args.timer c.cancel_timer.result _
+    gone_some c.deref.result.now _ b.pass c.cancel_timer.new.pass s (shard_parts_of b.wheel b.inbox b.sched b.mails.items b.list) c.args.timer c.cancel_timer.result _
     c.deref.ensures c.self.invariant (c.requires ∙ sym (ap (λ (o : Owned). o.share.number) c.self.view_is)) c.cancel_timer.ensures.call.call (λ over. over.last)
 
 pub returns-clause-settled : goal.returns-clause-settled
 returns-clause-settled c =
     let b = c.self.inside in
     let s = share_of b.number b.from b.to in
-    gone_some c.deref.result.now _ b.pass c.cancel_timer.new.pass s (shard_parts_of b.wheel b.inbox b.sched b.mails.items) c.args.timer c.cancel_timer.result _
+    gone_some c.deref.result.now _ b.pass c.cancel_timer.new.pass s (shard_parts_of b.wheel b.inbox b.sched b.mails.items b.list) c.args.timer c.cancel_timer.result _
     c.deref.ensures c.self.invariant (c.requires ∙ sym (ap (λ (o : Owned). o.share.number) c.self.view_is)) c.cancel_timer.ensures.call.call
     (λ over. subst (λ (d : Desk). (state (settings_of d) (front_of c.cancel_timer.new.pass)).status c.args.timer ≢ Some Armed) c.deref.ensures over.over)
 
@@ -46,6 +46,6 @@ pub returns-clause-known : goal.returns-clause-known
 returns-clause-known c =
     let b = c.self.inside in
     let s = share_of b.number b.from b.to in
-    gone_some c.deref.result.now _ b.pass c.cancel_timer.new.pass s (shard_parts_of b.wheel b.inbox b.sched b.mails.items) c.args.timer c.cancel_timer.result _
+    gone_some c.deref.result.now _ b.pass c.cancel_timer.new.pass s (shard_parts_of b.wheel b.inbox b.sched b.mails.items b.list) c.args.timer c.cancel_timer.result _
     c.deref.ensures c.self.invariant (c.requires ∙ sym (ap (λ (o : Owned). o.share.number) c.self.view_is)) c.cancel_timer.ensures.call.call
     (λ over. subst (λ (d : Desk). (state (settings_of d) (front_of c.cancel_timer.new.pass)).status c.args.timer ≢ None) c.deref.ensures over.known)

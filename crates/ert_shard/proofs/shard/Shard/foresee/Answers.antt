@@ -20,7 +20,7 @@ invariant_of-self c =
     let here : c.settings.result.now ≡ g = c.settings.ensures ∙ ap settings_of (c.deref-2.ensures ∙ sym c.deref.ensures) in
     let told : IsNone c.foresee.result ↔ (deadline_of g c.args.start.now c.look-now.result ≡ None) =
     subst (λ (x : Settings). IsNone c.foresee.result ↔ (deadline_of x c.args.start.now c.look-now.result ≡ None)) here (simp to_z-of_z at c.foresee.ensures.none) in
-    (alone_called c.args.self.now c.deref.result.now _ b.pass c.look-now.new.pass s (shard_parts_of b.wheel b.inbox b.sched b.mails.items)
+    (alone_called c.args.self.now c.deref.result.now _ b.pass c.look-now.new.pass s (shard_parts_of b.wheel b.inbox b.sched b.mails.items b.list)
     (λ m x st es. LooksFor x (m + 1) c.args.start.now c.foresee.result es) c.deref.ensures c.self.view_is c.self.invariant c.look-now.ensures.belongs
     (step_made g (view_of b.pass) (look_entry (Caller (b.number + 1)) c.look-now.result) (view_of c.look-now.new.pass)
     (λ st es. LooksFor g (b.number + 1) c.args.start.now c.foresee.result es)
@@ -36,7 +36,7 @@ returns-clause-call c =
     let here : c.settings.result.now ≡ g = c.settings.ensures ∙ ap settings_of (c.deref-2.ensures ∙ sym c.deref.ensures) in
     let told : IsNone c.foresee.result ↔ (deadline_of g c.args.start.now c.look-now.result ≡ None) =
     subst (λ (x : Settings). IsNone c.foresee.result ↔ (deadline_of x c.args.start.now c.look-now.result ≡ None)) here (simp to_z-of_z at c.foresee.ensures.none) in
-    (alone_called c.args.self.now c.deref.result.now _ b.pass c.look-now.new.pass s (shard_parts_of b.wheel b.inbox b.sched b.mails.items)
+    (alone_called c.args.self.now c.deref.result.now _ b.pass c.look-now.new.pass s (shard_parts_of b.wheel b.inbox b.sched b.mails.items b.list)
     (λ m x st es. LooksFor x (m + 1) c.args.start.now c.foresee.result es) c.deref.ensures c.self.view_is c.self.invariant c.look-now.ensures.belongs
     (step_made g (view_of b.pass) (look_entry (Caller (b.number + 1)) c.look-now.result) (view_of c.look-now.new.pass)
     (λ st es. LooksFor g (b.number + 1) c.args.start.now c.foresee.result es)

@@ -11,5 +11,5 @@ returns-clause-held c = subst (λ (o : Owned). IsNextHeld o.wheel c.next_due.res
 pub returns-clause-armed : goal.returns-clause-armed
 returns-clause-armed c =
     let b = c.self.inside in
-    none_armed_in c.args.self.now (arc_value b.desk) b.pass (share_of b.number b.from b.to) (shard_parts_of b.wheel b.inbox b.sched b.mails.items) c.next_due.result
+    none_armed_in c.args.self.now (arc_value b.desk) b.pass (share_of b.number b.from b.to) (shard_parts_of b.wheel b.inbox b.sched b.mails.items b.list) c.next_due.result
     c.self.view_is c.self.invariant c.next_due.ensures.armed

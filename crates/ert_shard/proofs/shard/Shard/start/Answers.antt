@@ -11,7 +11,7 @@ pub invariant_of-self : goal.invariant_of-self
 invariant_of-self c =
     let b = c.self.inside in
     let s = share_of b.number b.from b.to in
-    (wheel_stepped c.args.self.now c.deref.result.now _ b.pass c.start.new.pass s (shard_parts_of b.wheel b.inbox b.sched b.mails.items) c.start.new.self
+    (wheel_stepped c.args.self.now c.deref.result.now _ b.pass c.start.new.pass s (shard_parts_of b.wheel b.inbox b.sched b.mails.items b.list) c.start.new.self
     (λ m n g. Starts g (m + 1) n c.args.start.now c.start.result) c.deref.ensures c.self.view_is c.self.invariant c.start.ensures.belongs c.start.ensures.number c.start.ensures.stands
     c.start.ensures.call (λ n. starts_only (settings_of c.deref.result.now) (b.number + 1) n c.args.start.now c.start.result)
     (λ n. starts_home s (settings_of c.deref.result.now) (b.number + 1) n c.args.start.now c.start.result (subst (λ (o : Owned). IsHome o.share c.args.start.now.dest) (sym c.self.view_is) c.requires))).fit
@@ -20,7 +20,7 @@ pub returns-clause-call : goal.returns-clause-call
 returns-clause-call c =
     let b = c.self.inside in
     let s = share_of b.number b.from b.to in
-    (wheel_stepped c.args.self.now c.deref.result.now _ b.pass c.start.new.pass s (shard_parts_of b.wheel b.inbox b.sched b.mails.items) c.start.new.self
+    (wheel_stepped c.args.self.now c.deref.result.now _ b.pass c.start.new.pass s (shard_parts_of b.wheel b.inbox b.sched b.mails.items b.list) c.start.new.self
     (λ m n g. Starts g (m + 1) n c.args.start.now c.start.result) c.deref.ensures c.self.view_is c.self.invariant c.start.ensures.belongs c.start.ensures.number c.start.ensures.stands
     c.start.ensures.call (λ n. starts_only (settings_of c.deref.result.now) (b.number + 1) n c.args.start.now c.start.result)
     (λ n. starts_home s (settings_of c.deref.result.now) (b.number + 1) n c.args.start.now c.start.result (subst (λ (o : Owned). IsHome o.share c.args.start.now.dest) (sym c.self.view_is) c.requires))).goes

@@ -15,7 +15,7 @@ pub invariant_of-self : goal.invariant_of-self
 invariant_of-self c =
     let b = c.self.inside in
     let s = share_of b.number b.from b.to in
-    (wheel_stepped c.args.self.now c.deref.result.now _ b.pass c.start_again.new.pass s (shard_parts_of b.wheel b.inbox b.sched b.mails.items) c.start_again.new.self
+    (wheel_stepped c.args.self.now c.deref.result.now _ b.pass c.start_again.new.pass s (shard_parts_of b.wheel b.inbox b.sched b.mails.items b.list) c.start_again.new.self
     (λ m n g. Starts g (m + 1) n c.args.start.now c.start_again.result) c.deref.ensures c.self.view_is c.self.invariant c.start_again.ensures.belongs c.start_again.ensures.number
     c.start_again.ensures.stands c.start_again.ensures.call (λ n. starts_only (settings_of c.deref.result.now) (b.number + 1) n c.args.start.now c.start_again.result)
     (λ n. starts_home s (settings_of c.deref.result.now) (b.number + 1) n c.args.start.now c.start_again.result
@@ -25,7 +25,7 @@ pub returns-clause-call : goal.returns-clause-call
 returns-clause-call c =
     let b = c.self.inside in
     let s = share_of b.number b.from b.to in
-    (wheel_stepped c.args.self.now c.deref.result.now _ b.pass c.start_again.new.pass s (shard_parts_of b.wheel b.inbox b.sched b.mails.items) c.start_again.new.self
+    (wheel_stepped c.args.self.now c.deref.result.now _ b.pass c.start_again.new.pass s (shard_parts_of b.wheel b.inbox b.sched b.mails.items b.list) c.start_again.new.self
     (λ m n g. Starts g (m + 1) n c.args.start.now c.start_again.result) c.deref.ensures c.self.view_is c.self.invariant c.start_again.ensures.belongs c.start_again.ensures.number
     c.start_again.ensures.stands c.start_again.ensures.call (λ n. starts_only (settings_of c.deref.result.now) (b.number + 1) n c.args.start.now c.start_again.result)
     (λ n. starts_home s (settings_of c.deref.result.now) (b.number + 1) n c.args.start.now c.start_again.result
@@ -36,7 +36,7 @@ returns-clause-forgotten c =
     let b = c.self.inside in
     let s = share_of b.number b.from b.to in
     λ own.
-    not_held c.deref.result.now _ b.pass c.start_again.new.pass s (shard_parts_of b.wheel b.inbox b.sched b.mails.items) c.start_again.new.self c.args.timer c.args.start.now
+    not_held c.deref.result.now _ b.pass c.start_again.new.pass s (shard_parts_of b.wheel b.inbox b.sched b.mails.items b.list) c.start_again.new.self c.args.timer c.args.start.now
     c.start_again.result c.deref.ensures c.self.invariant (subst (λ (o : Owned). IsLast o.wheel c.args.timer) (sym c.self.view_is) c.requires.last)
     (subst (λ (d : Desk). (state (settings_of d) (front_of b.pass)).status c.args.timer ≢ None) (sym c.deref.ensures)
     (subst (λ (o : Owned). (state o.settings o.history).status c.args.timer ≢ None) (sym c.self.view_is) c.requires.known))

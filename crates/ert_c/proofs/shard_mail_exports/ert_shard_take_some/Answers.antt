@@ -1,0 +1,24 @@
+use Rattle.std.proofs.Common.{refl, ap, ◌∙◌, rules}
+use Rattle.ert_c.proofs.Sharing.{made_through, below_home, above_home, at_home}
+use Rattle.ert_c.proofs.shard_mail_exports.ert_shard_take_some.Goals.{then-process-from-via-then-process-from, then-process-from-via-else-process-from+then-process-to}
+use Rattle.ert_c.specs.declared.shard_handle.ErtShard.{ErtShard}
+use Rattle.ert_c.proofs.shard_mail_exports.ert_shard_take_some.Goals as goal
+
+pub returns-then-process-from : goal.returns-then-process-from
+returns-then-process-from c = elim c.then-process-from.branch [
+  | then-process-from-via-then-process-from w ↦ made_through _ _ _ _ _ c.lend-own.result.now c.lend-own.result.now (c.as_place.ensures.value ∙ c.lend-own.ensures.value)
+      (ap (λ (s : ErtShard). s.place.value) w.shard-is)
+      (below_home _ _ c.lend-own.result.now.share c.args.process c.from.result w.if-process-from.true c.from.ensures (record { told = refl; unchanged = refl; same = refl }))
+  | then-process-from-via-else-process-from+then-process-to w ↦ made_through _ _ _ _ _ c.lend-own.result.now c.lend-own.result.now (c.as_place.ensures.value ∙ c.lend-own.ensures.value)
+      (ap (λ (s : ErtShard). s.place.value) w.shard-is)
+      (above_home _ _ c.lend-own.result.now.share c.args.process w.to.result w.if-process-to.true w.to.ensures (record { told = refl; unchanged = refl; same = refl }))
+]
+
+pub returns : goal.returns
+returns c = made_through _ _ _ _ _ c.lend-own.result.now c.take_shard_places-taken.new.shard (c.as_place.ensures.value ∙ c.lend-own.ensures.value) refl
+    (at_home _ _ c.lend-own.result.now.share c.args.process c.from.result c.to.result c.if-process-from.false c.from.ensures
+    c.if-process-to.false c.to.ensures (record {
+      answer = (c.take_shard_places-taken.ensures.mails, c.take_shard_places-taken.result.1);
+      made = c.take_shard_places-taken.ensures.makes;
+      told = search rules;
+    }))

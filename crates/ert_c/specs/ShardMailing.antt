@@ -1,0 +1,28 @@
+-- What a shard does by the calls that find a process with mail and take several messages, and how C is told the answers.
+
+use Rattle.std.specs.Prelude.{◌≡◌, ℕ, ◌+◌, List, length, Option, Result, IfOk, OnErr}
+use Rattle.ert_c.specs.Mailing.{StandFirst}
+use Rattle.ert_c.specs.declared.mail_calls.ErtMail.{ErtMail}
+use Rattle.ert_defs.specs.declared.mail.Mail.{Mail}
+use Rattle.ert_defs.specs.declared.memory.NoMemory.{NoMemory as WantOfMemory}
+use Rattle.ert_shard.specs.Receiving.{ShardFindsMail, CallerTakesSome}
+use Rattle.ert_shard.specs.Shards.{Owned, ShardSteps}
+use Rattle.ert_world.specs.declared.mailing.TakeEnd.{TakeEnd}
+
+-- a process of a shard that hasn't exited and has mail is told, or that there is none; after want of memory nothing has
+-- changed
+pub record ShardFindsMailBy (answer : Result (Option ℕ) WantOfMemory) (old new : Owned) : Type 0 where
+  pub next : IfOk answer (λ found. ShardFindsMail old found new)
+  pub memory : OnErr answer (new ≡ old)
+
+-- a shard takes messages of a process as its caller, so many at most: these, and how that ended
+abbrev pub ShardTakesSomeBy : ℕ → ℕ → List Mail × TakeEnd → Owned → Owned → Type 0
+ShardTakesSomeBy process most answer old new =
+    ShardSteps old (λ way. CallerTakesSome old.settings way (old.share.number + 1) process most answer.0 answer.1) new
+
+-- a shard's messages were taken into places, so many at most as there are, and counted
+pub record ShardTakesPlaces (process : ℕ) (old : Owned) (kept found : List ErtMail) (answer : ℕ × TakeEnd) (new : Owned) : Type 0 where
+  pub mails : List Mail
+  pub makes : ShardTakesSomeBy process (length kept) (mails, answer.1) old new
+  pub count : answer.0 ≡ length mails
+  pub places : StandFirst mails kept found
