@@ -1,6 +1,6 @@
 //! What a program in C cannot do with a hub and its shards: shards that come back, a seat, and a world again. Each call
 //! that it can make is tested by `examples/c/tests/shards.c`, and calls of many threads by `fuzz/shards.c`.
-use crate::shard_calls::{cut, join, open, same, start, tick, whole};
+use crate::tests::shard_calls::{cut, join, open, same, start, tick, whole};
 use ert_defs::NoMemory;
 use ert_shard::{Hub, Shard, ShardErr, Turn};
 use ert_world::SeatErr;
