@@ -1,11 +1,12 @@
 //! Steps of a test: calls of a world of one scheduler, each with the answer that is wanted.
-ghost use Rattle.std.specs.Prelude.{◌≡◌, ◌<◌};
+ghost use Rattle.std.specs.Prelude.{◌≡◌};
 
+use crate::tests::compare::same;
+use crate::tests::world_calls::{is_process, is_scheduler};
 use ert_clock::{ClockErr, Moved};
 use ert_defs::{Kind, Mode, NoMemory, OffsetState, Reading, Settings, Start, TimerRef, When};
 use ert_effects::StartErr;
 use ert_world::World;
-use std::fmt::Debug;
 use std::process::Abort;
 
 /// One scheduler of one slot, and two processes, by OS system time alone.
@@ -65,28 +66,11 @@ pub(crate) fn timer(slot: u32, generation: u64) -> TimerRef {
     }
 }
 
-fn is_scheduler(rt: &impl Abort, world: &World, sched: u32)
-    ensures { sched < world.now.settings.schedulers }
-{
-    assert!(rt; sched < world.settings().schedulers);
-}
-
-fn is_process(rt: &impl Abort, world: &World, process: u32)
-    ensures { process < world.now.settings.processes }
-{
-    assert!(rt; process < world.settings().processes);
-}
-
 /// A world gave out no seat.
 pub(crate) fn is_alone(rt: &impl Abort, world: &World)
     ensures { world.now.next ≡ 1 }
 {
     assert!(rt; world.seats() == 0);
-}
-
-/// An answer is the wanted one.
-pub(crate) fn same<T: PartialEq + Debug>(rt: &impl Abort, at: usize, got: &T, want: &T) {
-    assert!(rt; got == want, "step {at}: {got:?}, not {want:?}");
 }
 
 /// Makes one step, of which a message tells the number.

@@ -2,9 +2,9 @@
 //! comes of timers and of exits, and the order in which timers expire, is shown by `examples/ertime`.
 use crate::tests::steps::Step::{
     Advance, Cancel, CancelAlone, Counts, Deliver, Exit, Finalize, IsAlive, MarkExit, Monotonic,
-    Offset, Read, Start,
+    Offset, Read, Start, Tick,
 };
-use crate::tests::steps::{EIGHT_SLOTS, SETTINGS, timer, until};
+use crate::tests::steps::{EIGHT_SLOTS, SETTINGS, Step, timer, until};
 use crate::tests::worlds::{Left, make_all, make_all_to_end};
 use ert_clock::Moved;
 use ert_defs::OffsetState::{Final, Preliminary};
@@ -43,30 +43,64 @@ fn a_cancel_and_an_exit_are_published(rt: HostRuntime) -> Result<(), NoMemory> {
     make_all_to_end(&rt, rt.alloc(), &SETTINGS, &steps, left)
 }
 
+const ONE: TimerRef = TimerRef {
+    wheel: 0,
+    slot: 0,
+    generation: 1,
+};
+
+const OTHER_WHEEL: TimerRef = TimerRef { wheel: 1, ..ONE };
+
+const OTHER_SLOT: TimerRef = TimerRef { slot: 1, ..ONE };
+
+const EARLIER: TimerRef = TimerRef {
+    generation: 0,
+    ..ONE
+};
+
+const LATER: TimerRef = TimerRef {
+    generation: 2,
+    ..ONE
+};
+
+const FAR: TimerRef = TimerRef {
+    generation: 262_144,
+    ..ONE
+};
+
+const HALF: Reading = Reading {
+    mono: 0,
+    sys: 500_000,
+};
+
+const HALF_OVER: Moved = Moved {
+    now: 500_000,
+    shift: None,
+};
+
+const REFERENCES: [Step; 16] = [
+    Start(After(5), 0, 7, Ok(ONE)),
+    Tick(HALF, Ok(HALF_OVER)),
+    Cancel(OTHER_WHEEL, None),
+    Read(OTHER_WHEEL, None),
+    Cancel(OTHER_SLOT, None),
+    Read(OTHER_SLOT, None),
+    Cancel(EARLIER, None),
+    Read(EARLIER, None),
+    Cancel(LATER, None),
+    Read(LATER, None),
+    Cancel(FAR, None),
+    Read(FAR, None),
+    Read(ONE, Some(4)),
+    Cancel(ONE, Some(4)),
+    Read(ONE, None),
+    Cancel(ONE, None),
+];
+
 /// A reference of another wheel, slot or generation names no timer.
 #[test]
 fn a_reference_names_one_timer(rt: HostRuntime) -> Result<(), NoMemory> {
-    let one = timer(0, 1);
-    let wheel = TimerRef { wheel: 1, ..one };
-    let steps = [
-        Start(After(5), 0, 7, Ok(one)),
-        until(500_000),
-        Cancel(wheel, None),
-        Read(wheel, None),
-        Cancel(timer(1, 1), None),
-        Read(timer(1, 1), None),
-        Cancel(timer(0, 0), None),
-        Read(timer(0, 0), None),
-        Cancel(timer(0, 2), None),
-        Read(timer(0, 2), None),
-        Cancel(timer(0, 262_144), None),
-        Read(timer(0, 262_144), None),
-        Read(one, Some(4)),
-        Cancel(one, Some(4)),
-        Read(one, None),
-        Cancel(one, None),
-    ];
-    make_all(&rt, rt.alloc(), &SETTINGS, &steps)
+    make_all(&rt, rt.alloc(), &SETTINGS, &REFERENCES)
 }
 
 /// Each use of a slot has a reference of its own.
