@@ -6,7 +6,7 @@ use Rattle.ert_defs.specs.declared.entry.Event.{Event}
 use Rattle.ert_defs.specs.declared.entry.Event.TheVariants.{Tick, Shift, Look, Off, Arm, Probe, Peek, Cancel, Expire, Orphan, Deliver, Drop, Mark, Advanced, Ask, Pick, Answer, Take, Unwatch, Watch, Tell}
 use Rattle.ert_defs.specs.declared.settings.Settings.{Settings}
 use Rattle.ert_spelling.specs.Entries.{event_words, entry_words, settings_words}
-use Rattle.ert_spelling.specs.Events.{read_tick, read_shift, read_look, read_off, read_arm, read_probe, read_peek, read_cancel, read_expire, read_orphan, read_deliver, read_drop, read_mark, read_advanced, read_ask, read_pick, read_answer, read_take, read_unwatch, read_watch, read_tell, event_rows, read_event, read_one_entry, read_fields, settings_rows, read_settings}
+use Rattle.ert_spelling.specs.Events.{read_tick, read_shift, read_look, read_off, read_arm, read_probe, read_peek, read_cancel, read_expire, read_orphan, read_deliver, read_drop, read_mark, read_advanced, read_ask, read_pick, read_answer, read_take, read_unwatch, read_watch, read_tell, event_rows, read_event, read_one_entry, read_fields, read_later_fields, settings_rows, read_settings}
 use Rattle.ert_spelling.specs.Fits.{FitsEvent, FitsEntry, FitsSettings}
 use Rattle.ert_spelling.specs.Parts.{Word}
 use Rattle.ert_spelling.specs.Readers.{Reader}
@@ -237,7 +237,7 @@ entry = record {
 }
 
 fields : Gives (codes "settings" ∷ []) settings_words FitsSettings read_fields
-unfolding read_fields
+unfolding read_fields read_later_fields
 fields =
     then-gives mode _ _ (λ m _. then-gives truth _ _ (λ c _. then-gives integer _ _ (λ start f1.
     then-gives small _ _ (λ schedulers f2. then-gives small _ _ (λ processes f3.
@@ -245,7 +245,7 @@ fields =
     done-gives _ _ refl (record { start = f1; schedulers = f2; processes = f3; slots = f4; callers = f5; first = f6 })))))))))
 
 settings-again : (g : Settings) (rest : List Word) → FitsSettings g → read_settings (settings_words g ++ rest) ≡ Some (g, rest)
-unfolding read_settings read_fields
+unfolding read_settings read_fields read_later_fields
 settings-again g rest f = choice-again settings_rows (codes "settings") _ _ refl (
     then-again mode _ g.mode _ _ tt (then-again truth _ g.correction _ _ tt (
     then-again integer _ g.start _ _ f.start (then-again small _ g.schedulers _ _ f.schedulers (

@@ -10,7 +10,7 @@ use Rattle.ert_defs.specs.declared.timer.When.TheVariants.{After, At}
 use Rattle.ert_spelling.specs.Fits.{FitsReading, FitsTimer, FitsWhen, FitsStart, FitsRequest, FitsLeft, FitsMail}
 use Rattle.ert_spelling.specs.Parts.{Word, reading_words, timer_words, when_words, start_words, request_words, left_words, mail_words, status_word, option_words}
 use Rattle.ert_spelling.specs.Readers.{optional, natural_of, read_word}
-use Rattle.ert_spelling.specs.Reading.{read_natural, status_names, read_status, request_kind_names, read_request_kind, read_reading, read_timer, when_rows, read_when, read_start, read_request, read_left, mail_rows, read_mail}
+use Rattle.ert_spelling.specs.Reading.{read_natural, status_names, read_status, request_kind_names, read_request_kind, read_reading, read_timer, when_rows, read_when, read_start, read_request, read_left, read_timeout, read_bare, read_cancel_done, read_read_done, read_change, mail_rows, read_mail}
 use Rattle.ert_spelling.proofs.Formats.{IsFormat, done-gives, then-gives, then-again, then-none}
 use Rattle.ert_spelling.proofs.Tables.{choice-gives, choice-again, keyword-none, optional-format}
 use Rattle.ert_spelling.proofs.WordFormats.{small, natural, integer, truth, status, kind, request_kind}
@@ -88,7 +88,7 @@ pub picked : IsFormat (option_words request_words) (λ o. IfSome o FitsRequest) 
 picked = optional-format request no_request
 
 mail-again : (m : Mail) (rest : List Word) → FitsMail m → read_mail (mail_words m ++ rest) ≡ Some (m, rest)
-unfolding read_mail
+unfolding read_mail read_timeout read_bare read_cancel_done read_read_done read_change
 mail-again (Timeout t n) rest f = choice-again mail_rows (codes "timeout") _ _ refl (then-again timer _ t _ _ f.0 (then-again natural _ n rest _ f.1 refl))
 mail-again (BareMail n) rest f = choice-again mail_rows (codes "bare") _ _ refl (then-again natural _ n rest _ f refl)
 mail-again (CancelDone t l) rest f = choice-again mail_rows (codes "cancel_done") _ _ refl (then-again timer _ t _ _ f.0 (then-again left _ l rest _ f.1 refl))
@@ -96,7 +96,7 @@ mail-again (ReadDone t l) rest f = choice-again mail_rows (codes "read_done") _ 
 mail-again (Change n z) rest f = choice-again mail_rows (codes "change") _ _ refl (then-again small _ n _ _ f.0 (then-again integer _ z rest _ f.1 refl))
 
 mail : IsFormat mail_words FitsMail read_mail
-unfolding read_mail
+unfolding read_mail read_timeout read_bare read_cancel_done read_read_done read_change
 mail = record {
   gives = choice-gives mail_words FitsMail mail_rows (
     (refl, then-gives timer _ _ (λ t f. then-gives natural _ _ (λ n g. done-gives _ (Timeout t n) refl (f, g)))),

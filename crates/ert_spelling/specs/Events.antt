@@ -1,9 +1,10 @@
 -- The readers of events, entries and settings.
 
-use Rattle.std.specs.Prelude.{List, [], ◌∷◌, codes}
+use Rattle.std.specs.Prelude.{ℕ, ℤ, Bool, List, [], ◌∷◌, codes}
 use Rattle.ert_defs.specs.declared.entry.Entry.{Entry}
 use Rattle.ert_defs.specs.declared.entry.Event.{Event}
 use Rattle.ert_defs.specs.declared.entry.Event.TheVariants.{Tick, Shift, Look, Off, Arm, Probe, Peek, Cancel, Expire, Orphan, Deliver, Drop, Mark, Advanced, Ask, Pick, Answer, Take, Unwatch, Watch, Tell}
+use Rattle.ert_defs.specs.declared.settings.Mode.{Mode}
 use Rattle.ert_defs.specs.declared.settings.Settings.{Settings}
 use Rattle.ert_spelling.specs.Parts.{Word}
 use Rattle.ert_spelling.specs.Readers.{Reader, ◌>>=◌, done, choice, optional}
@@ -156,6 +157,20 @@ read_tell = do
   offset ← read_integer
   done (Tell process offset)
 
+-- the names of the events from the marking of a process on, and how the fields of each are read
+abbrev pub later_rows : List (Word × Reader Event)
+later_rows =
+    (codes "mark", read_mark)
+    ∷ (codes "advanced", read_advanced)
+    ∷ (codes "ask", read_ask)
+    ∷ (codes "pick", read_pick)
+    ∷ (codes "answer", read_answer)
+    ∷ (codes "take", read_take)
+    ∷ (codes "unwatch", read_unwatch)
+    ∷ (codes "watch", read_watch)
+    ∷ (codes "tell", read_tell)
+    ∷ []
+
 -- the name of each event, and how its fields are read
 abbrev pub event_rows : List (Word × Reader Event)
 event_rows =
@@ -171,16 +186,7 @@ event_rows =
     ∷ (codes "orphan", read_orphan)
     ∷ (codes "deliver", read_deliver)
     ∷ (codes "drop", read_drop)
-    ∷ (codes "mark", read_mark)
-    ∷ (codes "advanced", read_advanced)
-    ∷ (codes "ask", read_ask)
-    ∷ (codes "pick", read_pick)
-    ∷ (codes "answer", read_answer)
-    ∷ (codes "take", read_take)
-    ∷ (codes "unwatch", read_unwatch)
-    ∷ (codes "watch", read_watch)
-    ∷ (codes "tell", read_tell)
-    ∷ []
+    ∷ later_rows
 
 -- an event
 unfoldable pub read_event : Reader Event
@@ -194,13 +200,9 @@ read_one_entry = do
   event ← read_event
   done (record { by = by; with = with; event = event })
 
--- the fields of settings
-unfoldable pub read_fields : Reader Settings
-read_fields = do
-  mode ← read_mode
-  correction ← read_bool
-  start ← read_integer
-  schedulers ← read_small
+-- the fields of settings after these
+unfoldable pub read_later_fields : Mode → Bool → ℤ → ℕ → Reader Settings
+read_later_fields mode correction start schedulers = do
   processes ← read_small
   slots ← read_small
   callers ← read_small
@@ -215,6 +217,15 @@ read_fields = do
     callers = callers;
     first = first;
   })
+
+-- the fields of settings
+unfoldable pub read_fields : Reader Settings
+read_fields = do
+  mode ← read_mode
+  correction ← read_bool
+  start ← read_integer
+  schedulers ← read_small
+  read_later_fields mode correction start schedulers
 
 -- the word before the fields of settings
 abbrev pub settings_rows : List (Word × Reader Settings)

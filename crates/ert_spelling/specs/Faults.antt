@@ -58,6 +58,20 @@ settings_turns =
 abbrev pub entry_turns : List Wanted
 entry_turns = Actor ∷ Partner ∷ Event ∷ []
 
+-- of the fields of each event from the marking of a process on, up to the first word of what was taken
+abbrev pub later_turn_rows : List (Word × List Wanted)
+later_turn_rows =
+    (codes "mark", Small ∷ Truth ∷ Truth ∷ [])
+    ∷ (codes "advanced", Small ∷ Natural ∷ [])
+    ∷ (codes "ask", Small ∷ RequestKind ∷ Small ∷ Small ∷ Natural ∷ Small ∷ Truth ∷ [])
+    ∷ (codes "pick", Small ∷ Picked ∷ [])
+    ∷ (codes "answer", Small ∷ Left ∷ [])
+    ∷ (codes "take", Small ∷ Taken ∷ [])
+    ∷ (codes "unwatch", Small ∷ Small ∷ Truth ∷ [])
+    ∷ (codes "watch", Small ∷ Small ∷ Integer ∷ [])
+    ∷ (codes "tell", Small ∷ Integer ∷ [])
+    ∷ []
+
 -- of the fields of each event, up to the first word of what was taken
 abbrev pub turn_rows : List (Word × List Wanted)
 turn_rows =
@@ -73,16 +87,7 @@ turn_rows =
     ∷ (codes "orphan", Small ∷ Small ∷ Natural ∷ [])
     ∷ (codes "deliver", Small ∷ Small ∷ Natural ∷ [])
     ∷ (codes "drop", Small ∷ Small ∷ Natural ∷ [])
-    ∷ (codes "mark", Small ∷ Truth ∷ Truth ∷ [])
-    ∷ (codes "advanced", Small ∷ Natural ∷ [])
-    ∷ (codes "ask", Small ∷ RequestKind ∷ Small ∷ Small ∷ Natural ∷ Small ∷ Truth ∷ [])
-    ∷ (codes "pick", Small ∷ Picked ∷ [])
-    ∷ (codes "answer", Small ∷ Left ∷ [])
-    ∷ (codes "take", Small ∷ Taken ∷ [])
-    ∷ (codes "unwatch", Small ∷ Small ∷ Truth ∷ [])
-    ∷ (codes "watch", Small ∷ Small ∷ Integer ∷ [])
-    ∷ (codes "tell", Small ∷ Integer ∷ [])
-    ∷ []
+    ∷ later_turn_rows
 
 -- of the fields of an event of this name
 abbrev pub event_turns : Word → List Wanted

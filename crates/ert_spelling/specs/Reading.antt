@@ -177,14 +177,48 @@ read_request = do
 unfoldable pub read_left : Reader (Option ℕ)
 read_left = optional read_natural
 
+-- the fields of `timeout`
+unfoldable pub read_timeout : Reader Mail
+read_timeout = do
+  timer ← read_timer
+  msg ← read_natural
+  done (Timeout timer msg)
+
+-- the fields of `bare`
+unfoldable pub read_bare : Reader Mail
+read_bare = do
+  msg ← read_natural
+  done (BareMail msg)
+
+-- the fields of `cancel_done`
+unfoldable pub read_cancel_done : Reader Mail
+read_cancel_done = do
+  timer ← read_timer
+  left ← read_left
+  done (CancelDone timer left)
+
+-- the fields of `read_done`
+unfoldable pub read_read_done : Reader Mail
+read_read_done = do
+  timer ← read_timer
+  left ← read_left
+  done (ReadDone timer left)
+
+-- the fields of `change`
+unfoldable pub read_change : Reader Mail
+read_change = do
+  monitor ← read_small
+  offset ← read_integer
+  done (Change monitor offset)
+
 -- the name of each message, and how its fields are read
 abbrev pub mail_rows : List (Word × Reader Mail)
 mail_rows =
-    (codes "timeout", read_timer >>= (λ timer. read_natural >>= (λ msg. done (Timeout timer msg))))
-    ∷ (codes "bare", read_natural >>= (λ msg. done (BareMail msg)))
-    ∷ (codes "cancel_done", read_timer >>= (λ timer. read_left >>= (λ left. done (CancelDone timer left))))
-    ∷ (codes "read_done", read_timer >>= (λ timer. read_left >>= (λ left. done (ReadDone timer left))))
-    ∷ (codes "change", read_small >>= (λ monitor. read_integer >>= (λ offset. done (Change monitor offset))))
+    (codes "timeout", read_timeout)
+    ∷ (codes "bare", read_bare)
+    ∷ (codes "cancel_done", read_cancel_done)
+    ∷ (codes "read_done", read_read_done)
+    ∷ (codes "change", read_change)
     ∷ []
 
 -- a message in a mailbox

@@ -5,7 +5,7 @@ ghost use Rattle.ert_spelling.specs.Cuts.{words_of};
 ghost use Rattle.ert_spelling.specs.Readers.{value_and_rest, read_named};
 ghost use Rattle.ert_spelling.specs.Events.{read_tick, read_shift, read_look, read_off, read_arm, read_probe, read_peek, read_cancel, read_expire, read_orphan};
 ghost use Rattle.ert_spelling.specs.Events.{read_deliver, read_drop, read_mark, read_advanced, read_ask, read_pick, read_answer, read_take};
-ghost use Rattle.ert_spelling.specs.Events.{read_unwatch, read_watch, read_tell, event_rows, read_event};
+ghost use Rattle.ert_spelling.specs.Events.{read_unwatch, read_watch, read_tell, event_rows, later_rows, read_event};
 
 use crate::mails::{picked, request, taken};
 use crate::numbers::{integer, natural, small};
@@ -40,6 +40,15 @@ fn named<'a>(name: &str, words: Words<'a>) -> Option<(Event, Words<'a>)>
         "orphan" => orphan(words),
         "deliver" => deliver(words),
         "drop" => drop(words),
+        _ => named_later(name, words),
+    }
+}
+
+/// The event of this name, of those that are no timer's and not the clock's.
+fn named_later<'a>(name: &str, words: Words<'a>) -> Option<(Event, Words<'a>)>
+    ensures { value_and_rest result ≡ read_named name.now later_rows (words_of words.entry) }
+{
+    match name {
         "mark" => mark(words),
         "advanced" => advanced(words),
         "ask" => ask(words),

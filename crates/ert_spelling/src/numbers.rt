@@ -79,8 +79,6 @@ fn integer_of(word: &[u8]) -> Option<i64>
 fn below_zero(distance: u64) -> Option<i64>
     ensures { result ≡ negative_by distance }
 {
-    if distance == 0 {
-        return None;
-    }
-    0i64.checked_sub_unsigned(distance)
+    let less = i64::try_from(distance.checked_sub(1)?).ok()?;
+    Some(-1 - less)
 }

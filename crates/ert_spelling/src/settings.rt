@@ -4,7 +4,7 @@ ghost use Rattle.std.specs.Prelude.{◌≡◌};
 ghost use Rattle.ert_spelling.specs.Cuts.{words_of, words_in};
 ghost use Rattle.ert_spelling.specs.Readers.{value_and_rest, whole};
 ghost use Rattle.ert_spelling.specs.Reading.{read_mode, read_state, read_act, read_reading};
-ghost use Rattle.ert_spelling.specs.Events.{read_fields, read_settings};
+ghost use Rattle.ert_spelling.specs.Events.{read_fields, read_later_fields, read_settings};
 
 use crate::numbers::{integer, small};
 use crate::words::{Words, next_text, truth};
@@ -34,6 +34,20 @@ fn fields(words: Words) -> Option<(Settings, Words)>
     let (correction, words) = truth(words)?;
     let (start, words) = integer(words)?;
     let (schedulers, words) = small(words)?;
+    later_fields(mode, correction, start, schedulers, words)
+}
+
+/// The fields of settings after these.
+#[tactic(auto, unfolding(crate::specs::Events::read_later_fields))]
+fn later_fields(
+    mode: Mode,
+    correction: bool,
+    start: i64,
+    schedulers: u32,
+    words: Words,
+) -> Option<(Settings, Words)>
+    ensures { value_and_rest result ≡ read_later_fields mode correction start schedulers (words_of words.entry) }
+{
     let (processes, words) = small(words)?;
     let (slots, words) = small(words)?;
     let (callers, words) = small(words)?;

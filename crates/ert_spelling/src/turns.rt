@@ -1,7 +1,7 @@
 //! Whose turn it is to read each word of a line.
 
 ghost use Rattle.std.specs.Prelude.{◌≡◌, [], option_map, unwrap_or};
-ghost use Rattle.ert_spelling.specs.Faults.{first_turns, turns_after, request_turns, turn_rows, mail_turn_rows, meaning};
+ghost use Rattle.ert_spelling.specs.Faults.{first_turns, turns_after, request_turns, turn_rows, later_turn_rows, mail_turn_rows, meaning};
 ghost use Rattle.ert_spelling.specs.Readers.{meant_by};
 
 use crate::wanted::Wanted;
@@ -84,10 +84,7 @@ pub(crate) fn mail_turns(word: &[u8]) -> Option<&'static [Wanted]>
 fn turns_of_event(name: &str) -> Option<&'static [Wanted]>
     ensures { option_map (λ x. x.now) result ≡ meant_by name.now turn_rows }
 {
-    use Wanted::{
-        Act, Found, Integer, Kind, Left, Natural, Picked, RequestKind, Small, State, Taken, Truth,
-        When,
-    };
+    use Wanted::{Act, Found, Integer, Kind, Left, Natural, Small, State, When};
     match name {
         "tick" => Some(&[Integer, Integer, Act, Integer]),
         "shift" => Some(&[Integer, State]),
@@ -101,6 +98,16 @@ fn turns_of_event(name: &str) -> Option<&'static [Wanted]>
         "orphan" => Some(&[Small, Small, Natural]),
         "deliver" => Some(&[Small, Small, Natural]),
         "drop" => Some(&[Small, Small, Natural]),
+        _ => turns_of_later(name),
+    }
+}
+
+/// The same of the events that are no timer's and not the clock's.
+fn turns_of_later(name: &str) -> Option<&'static [Wanted]>
+    ensures { option_map (λ x. x.now) result ≡ meant_by name.now later_turn_rows }
+{
+    use Wanted::{Integer, Left, Natural, Picked, RequestKind, Small, Taken, Truth};
+    match name {
         "mark" => Some(&[Small, Truth, Truth]),
         "advanced" => Some(&[Small, Natural]),
         "ask" => Some(&[Small, RequestKind, Small, Small, Natural, Small, Truth]),

@@ -8,7 +8,7 @@ use Rattle.ert_world.specs.Worlds.{AreFit}
 use Rattle.ert_world.proofs.Calls.{fit_on}
 use Rattle.ert_world.proofs.Cancelled.{cancel_only}
 use Rattle.ert_world.proofs.Returned.{caller_back}
-use Rattle.ert_desk_tests.proofs.worlds.cancel.Goals as goal
+use Rattle.ert_world_tests.proofs.tests.worlds.cancel.Goals as goal
 
 pub from_parts-requires-clause-fit : goal.from_parts-requires-clause-fit
 from_parts-requires-clause-fit g c =

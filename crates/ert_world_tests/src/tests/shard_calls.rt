@@ -1,7 +1,7 @@
 //! The calls of a hub and of a shard. What a caller has to know is looked up first.
 ghost use Rattle.std.specs.Prelude.{◌≡◌};
 ghost use Rattle.ert_shard.specs.Shards.{IsHome};
-ghost use Rattle.ert_desk_tests.specs.Kept.{IsSameShard, IsCut};
+ghost use Rattle.ert_world_tests.specs.Kept.{IsSameShard, IsCut};
 
 use ert_defs::{Kind, Mode, NoMemory, Reading, Settings, Start, TimerRef, When};
 use ert_shard::{Hub, Shard};

@@ -1,10 +1,9 @@
-//! What a program in C cannot do with a hub and its shards: shards that come back, a seat, and a world again. Each call
+//! What a program in C cannot do with a hub and its shards: shards that come back, and a world again. Each call
 //! that it can make is tested by `examples/c/tests/shards.c`, and calls of many threads by `fuzz/shards.c`.
-use crate::shard_calls::{SETTINGS, cut, divide, join, open, same, start, tick, whole};
+use crate::tests::shard_calls::{SETTINGS, cut, divide, join, open, same, start, tick, whole};
 use ert_defs::{NoMemory, Request, RequestKind, TimerRef};
 use ert_shard::{Hub, ServeErr, Shard, ShardErr, Turn};
-use ert_world::{SeatErr, World};
-use std::alloc::Global;
+use ert_world::World;
 use std::process::Abort;
 
 /// What a turn at this time does that puts so many messages.
@@ -107,25 +106,5 @@ fn a_request_of_before_stays(rt: HostRuntime) -> Result<(), NoMemory> {
 fn a_hub_is_a_world(rt: HostRuntime) -> Result<(), NoMemory> {
     let hub = open(&rt, rt.alloc())?;
     same(&rt, &whole(&rt, hub).seats(), &0);
-    Ok(())
-}
-
-/// There is one caller for seats.
-fn has_no_seat(rt: &impl Abort, alloc: Global, hub: &mut Hub) {
-    same(rt, &hub.seats(), &1);
-    assert!(rt; matches!(hub.seat(alloc), Err(SeatErr::NoSeat)));
-}
-
-/// A seat of the hub cancels a timer of a shard.
-#[test]
-fn a_seat_calls(rt: HostRuntime) -> Result<(), NoMemory> {
-    let mut hub = open(&rt, rt.alloc())?;
-    let mut seat = hub.seat(rt.alloc()).expect(&rt, "a seat");
-    let mut high = cut(&rt, &mut hub, 1);
-    let timer = start(&rt, &mut high, 3, 40);
-    same(&rt, &seat.read_timer(timer), &Some(40));
-    same(&rt, &seat.cancel_timer(timer), &Some(40));
-    same(&rt, &high.cancel_timer(timer), &None);
-    has_no_seat(&rt, rt.alloc(), &mut hub);
     Ok(())
 }

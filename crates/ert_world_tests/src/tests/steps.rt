@@ -1,14 +1,12 @@
 //! Steps of a test: calls of a world of one scheduler, each with the answer that is wanted.
-ghost use Rattle.std.specs.Prelude.{◌≡◌, ◌<◌};
+ghost use Rattle.std.specs.Prelude.{◌≡◌};
 
+use crate::tests::compare::same;
+use crate::tests::world_calls::{is_process, is_scheduler};
 use ert_clock::{ClockErr, Moved};
-use ert_defs::{
-    Kind, Mode, NoMemory, OffsetState, Reading, Request, RequestKind, Settings, Start, TimerRef,
-    When,
-};
-use ert_effects::{MonitorErr, StartErr, Taken};
+use ert_defs::{Kind, Mode, NoMemory, OffsetState, Reading, Settings, Start, TimerRef, When};
+use ert_effects::StartErr;
 use ert_world::World;
-use std::fmt::Debug;
 use std::process::Abort;
 
 /// One scheduler of one slot, and two processes, by OS system time alone.
@@ -32,11 +30,8 @@ pub(crate) const EIGHT_SLOTS: Settings = Settings {
 #[derive(Clone, Copy)]
 pub(crate) enum Step {
     Tick(Reading, Result<Moved, ClockErr>),
-    /// A tick with a check.
-    Check(Reading, Result<Moved, ClockErr>),
     Finalize(Reading, Result<(OffsetState, Moved), ClockErr>),
     Monotonic(i64),
-    System(i64),
     Offset(i64, OffsetState),
     /// When, for which process, and with which message.
     Start(When, u32, u64, Result<TimerRef, StartErr>),
@@ -45,18 +40,10 @@ pub(crate) enum Step {
     IsAlive(u32, bool),
     MarkExit(u32, bool),
     Exit(u32, bool),
-    /// Asks for a read of a timer, for a process that wishes for an answer or doesn't.
-    Ask(TimerRef, u32, bool),
-    /// Whether a request waited.
-    Serve(bool),
     /// To which millisecond, and how many timers expired.
     Advance(u64, u32),
     /// How many messages were put, and how many thrown away.
     Deliver(u32, u32),
-    Take(u32, Taken),
-    Monitor(u32, Result<u32, MonitorErr>),
-    Demonitor(u32, u32, bool),
-    Tell(u32, u32),
     /// A cancel of which the wheel is told nothing, as by a thread that doesn't hold it.
     CancelAlone(TimerRef, Option<u64>),
     /// How many timers of the wheel were armed, how many expired, how many were cancelled by an exit, and how many
@@ -79,18 +66,6 @@ pub(crate) fn timer(slot: u32, generation: u64) -> TimerRef {
     }
 }
 
-fn is_scheduler(rt: &impl Abort, world: &World, sched: u32)
-    ensures { sched < world.now.settings.schedulers }
-{
-    assert!(rt; sched < world.settings().schedulers);
-}
-
-fn is_process(rt: &impl Abort, world: &World, process: u32)
-    ensures { process < world.now.settings.processes }
-{
-    assert!(rt; process < world.settings().processes);
-}
-
 /// A world gave out no seat.
 pub(crate) fn is_alone(rt: &impl Abort, world: &World)
     ensures { world.now.next ≡ 1 }
@@ -98,20 +73,13 @@ pub(crate) fn is_alone(rt: &impl Abort, world: &World)
     assert!(rt; world.seats() == 0);
 }
 
-/// An answer is the wanted one.
-pub(crate) fn same<T: PartialEq + Debug>(rt: &impl Abort, at: usize, got: &T, want: &T) {
-    assert!(rt; got == want, "step {at}: {got:?}, not {want:?}");
-}
-
 /// Makes one step, of which a message tells the number.
 pub(crate) fn make(rt: &impl Abort, world: &mut World, at: usize, one: Step) {
     match one {
         Step::CancelAlone(..) | Step::Counts(_) => panic!(rt; "step {at} takes a world apart"),
         Step::Tick(reading, want) => same(rt, at, &world.tick(reading, false), &want),
-        Step::Check(reading, want) => same(rt, at, &world.tick(reading, true), &want),
         Step::Finalize(reading, want) => same(rt, at, &world.finalize(reading), &want),
         Step::Monotonic(want) => same(rt, at, &world.monotonic_time(), &want),
-        Step::System(want) => same(rt, at, &world.system_time(), &want),
         Step::Offset(offset, state) => same(rt, at, &world.time_offset(), &(offset, state)),
         Step::Start(when, dest, msg, want) => {
             is_scheduler(rt, world, 0);
@@ -138,20 +106,6 @@ pub(crate) fn make(rt: &impl Abort, world: &mut World, at: usize, one: Step) {
             is_process(rt, world, process);
             same(rt, at, &world.exit(process), &want);
         }
-        Step::Ask(timer, reply_to, info) => {
-            is_process(rt, world, reply_to);
-            let request = Request {
-                kind: RequestKind::Read,
-                timer,
-                reply_to,
-                info,
-            };
-            same(rt, at, &world.ask(request), &Ok(()));
-        }
-        Step::Serve(waited) => {
-            is_scheduler(rt, world, 0);
-            same(rt, at, &world.serve(0), &Ok(waited));
-        }
         Step::Advance(to, fired) => {
             is_scheduler(rt, world, 0);
             same(rt, at, &world.advance(0), &Ok((to, fired)));
@@ -159,22 +113,6 @@ pub(crate) fn make(rt: &impl Abort, world: &mut World, at: usize, one: Step) {
         Step::Deliver(put, dropped) => {
             is_scheduler(rt, world, 0);
             same(rt, at, &world.deliver(0), &Ok((put, dropped)));
-        }
-        Step::Take(process, want) => {
-            is_process(rt, world, process);
-            same(rt, at, &world.take(process), &want);
-        }
-        Step::Monitor(process, want) => {
-            is_process(rt, world, process);
-            same(rt, at, &world.monitor(process), &want);
-        }
-        Step::Demonitor(process, monitor, want) => {
-            is_process(rt, world, process);
-            same(rt, at, &world.demonitor(process, monitor), &want);
-        }
-        Step::Tell(process, put) => {
-            is_process(rt, world, process);
-            same(rt, at, &world.tell(process), &Ok(put));
         }
     }
 }

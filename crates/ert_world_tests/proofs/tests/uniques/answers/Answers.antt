@@ -1,4 +1,4 @@
-use Rattle.ert_base_tests.proofs.tests.uniques.answers.Goals as goal
+use Rattle.ert_world_tests.proofs.tests.uniques.answers.Goals as goal
 
 pub returns-in-PlainOne-clause-one : goal.returns-in-PlainOne-clause-one
 returns-in-PlainOne-clause-one c = c.plain.ensures.belongs c.args.uniques.now c.requires.one

@@ -1,5 +1,6 @@
 //! Worlds on which the steps of a table are made.
-use crate::steps::{Step, is_alone, make, same};
+use crate::tests::compare::same;
+use crate::tests::steps::{Step, is_alone, make};
 use ert_calls::cancel_timer;
 use ert_defs::{Actor, NoMemory, Settings, TimerRef};
 use ert_table::Words;

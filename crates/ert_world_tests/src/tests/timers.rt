@@ -1,15 +1,15 @@
-//! Timers of a wheel, which takes its slots from the last one on.
-use crate::steps::Step::{
+//! Timers of a wheel, which takes its slots from the last one on: references, and what the words of a desk tell of them. What
+//! comes of timers and of exits, and the order in which timers expire, is shown by `examples/ertime`.
+use crate::tests::steps::Step::{
     Advance, Cancel, CancelAlone, Counts, Deliver, Exit, Finalize, IsAlive, MarkExit, Monotonic,
-    Offset, Read, Start, Take,
+    Offset, Read, Start, Tick,
 };
-use crate::steps::{EIGHT_SLOTS, SETTINGS, timer, until};
-use crate::worlds::{Left, make_all, make_all_to_end};
+use crate::tests::steps::{EIGHT_SLOTS, SETTINGS, Step, timer, until};
+use crate::tests::worlds::{Left, make_all, make_all_to_end};
 use ert_clock::Moved;
 use ert_defs::OffsetState::{Final, Preliminary};
-use ert_defs::When::{After, At};
-use ert_defs::{Mail, NoMemory, Reading, TimerRef};
-use ert_effects::{StartErr, Taken};
+use ert_defs::When::After;
+use ert_defs::{NoMemory, Reading, TimerRef};
 
 /// The word of a slot has the status, the deadline and the generation of its last timer.
 #[test]
@@ -43,30 +43,64 @@ fn a_cancel_and_an_exit_are_published(rt: HostRuntime) -> Result<(), NoMemory> {
     make_all_to_end(&rt, rt.alloc(), &SETTINGS, &steps, left)
 }
 
+const ONE: TimerRef = TimerRef {
+    wheel: 0,
+    slot: 0,
+    generation: 1,
+};
+
+const OTHER_WHEEL: TimerRef = TimerRef { wheel: 1, ..ONE };
+
+const OTHER_SLOT: TimerRef = TimerRef { slot: 1, ..ONE };
+
+const EARLIER: TimerRef = TimerRef {
+    generation: 0,
+    ..ONE
+};
+
+const LATER: TimerRef = TimerRef {
+    generation: 2,
+    ..ONE
+};
+
+const FAR: TimerRef = TimerRef {
+    generation: 262_144,
+    ..ONE
+};
+
+const HALF: Reading = Reading {
+    mono: 0,
+    sys: 500_000,
+};
+
+const HALF_OVER: Moved = Moved {
+    now: 500_000,
+    shift: None,
+};
+
+const REFERENCES: [Step; 16] = [
+    Start(After(5), 0, 7, Ok(ONE)),
+    Tick(HALF, Ok(HALF_OVER)),
+    Cancel(OTHER_WHEEL, None),
+    Read(OTHER_WHEEL, None),
+    Cancel(OTHER_SLOT, None),
+    Read(OTHER_SLOT, None),
+    Cancel(EARLIER, None),
+    Read(EARLIER, None),
+    Cancel(LATER, None),
+    Read(LATER, None),
+    Cancel(FAR, None),
+    Read(FAR, None),
+    Read(ONE, Some(4)),
+    Cancel(ONE, Some(4)),
+    Read(ONE, None),
+    Cancel(ONE, None),
+];
+
 /// A reference of another wheel, slot or generation names no timer.
 #[test]
 fn a_reference_names_one_timer(rt: HostRuntime) -> Result<(), NoMemory> {
-    let one = timer(0, 1);
-    let wheel = TimerRef { wheel: 1, ..one };
-    let steps = [
-        Start(After(5), 0, 7, Ok(one)),
-        until(500_000),
-        Cancel(wheel, None),
-        Read(wheel, None),
-        Cancel(timer(1, 1), None),
-        Read(timer(1, 1), None),
-        Cancel(timer(0, 0), None),
-        Read(timer(0, 0), None),
-        Cancel(timer(0, 2), None),
-        Read(timer(0, 2), None),
-        Cancel(timer(0, 262_144), None),
-        Read(timer(0, 262_144), None),
-        Read(one, Some(4)),
-        Cancel(one, Some(4)),
-        Read(one, None),
-        Cancel(one, None),
-    ];
-    make_all(&rt, rt.alloc(), &SETTINGS, &steps)
+    make_all(&rt, rt.alloc(), &SETTINGS, &REFERENCES)
 }
 
 /// Each use of a slot has a reference of its own.
@@ -82,33 +116,6 @@ fn a_slot_is_used_three_times(rt: HostRuntime) -> Result<(), NoMemory> {
         Counts([3, 0, 0, 0]),
     ];
     make_all(&rt, rt.alloc(), &SETTINGS, &steps)
-}
-
-/// What a process finds of a timer.
-fn timeout(timer: TimerRef, msg: u64) -> Taken {
-    Taken::Mail(Mail::Timeout { timer, msg })
-}
-
-/// All that is due expires by one advance, in order of deadline, however long the last one was ago.
-#[test]
-fn two_hours_pass_at_once(rt: HostRuntime) -> Result<(), NoMemory> {
-    let steps = [
-        Start(After(7_200_001), 1, 1, Ok(timer(0, 1))),
-        Start(After(7_200_000), 1, 2, Ok(timer(1, 1))),
-        Start(After(1), 1, 3, Ok(timer(7, 1))),
-        Start(After(3_600_000), 1, 4, Ok(timer(6, 1))),
-        until(7_200_000_000_000),
-        Start(At(3), 1, 5, Ok(timer(5, 1))),
-        Advance(7_200_000, 4),
-        Deliver(4, 0),
-        Take(1, timeout(timer(7, 1), 3)),
-        Take(1, timeout(timer(5, 1), 5)),
-        Take(1, timeout(timer(6, 1), 4)),
-        Take(1, timeout(timer(1, 1), 2)),
-        Take(1, Taken::Empty),
-        Counts([5, 4, 0, 1]),
-    ];
-    make_all(&rt, rt.alloc(), &EIGHT_SLOTS, &steps)
 }
 
 /// A slot that had a long wait is taken by the next long one, and by a short one only where no other is free.
@@ -137,25 +144,6 @@ fn a_delivered_message_gives_its_slot_back(rt: HostRuntime) -> Result<(), NoMemo
     make_all(&rt, rt.alloc(), &EIGHT_SLOTS, &steps)
 }
 
-/// An exit cancels the timers of its process alone, and one that is started later is cancelled at once.
-#[test]
-fn an_exit_cancels_the_timers_of_one_process(rt: HostRuntime) -> Result<(), NoMemory> {
-    let steps = [
-        Start(After(5), 1, 0, Ok(timer(7, 1))),
-        Start(After(5), 0, 0, Ok(timer(6, 1))),
-        Start(After(5), 1, 0, Ok(timer(5, 1))),
-        Exit(1, true),
-        Counts([3, 0, 2, 1]),
-        Read(timer(7, 1), None),
-        Read(timer(6, 1), Some(5)),
-        Read(timer(5, 1), None),
-        Start(After(4), 1, 0, Ok(timer(7, 2))),
-        Read(timer(7, 2), None),
-        Counts([4, 0, 3, 1]),
-    ];
-    make_all(&rt, rt.alloc(), &EIGHT_SLOTS, &steps)
-}
-
 /// The timers of a process that is marked stay armed until their wheel is swept.
 #[test]
 fn a_process_is_marked(rt: HostRuntime) -> Result<(), NoMemory> {
@@ -168,26 +156,6 @@ fn a_process_is_marked(rt: HostRuntime) -> Result<(), NoMemory> {
         Read(timer(7, 1), Some(5)),
     ];
     make_all(&rt, rt.alloc(), &EIGHT_SLOTS, &steps)
-}
-
-/// A slot is free again once its timer was cancelled, though the wheel wasn't told, and not while its timer has
-/// expired and waits to be delivered.
-#[test]
-fn a_full_wheel_looks_at_its_slots(rt: HostRuntime) -> Result<(), NoMemory> {
-    let steps = [
-        Start(After(4), 1, 0, Ok(timer(0, 1))),
-        Start(After(4), 1, 0, Err(StartErr::Full)),
-        CancelAlone(timer(0, 1), Some(4)),
-        Start(After(6), 1, 0, Ok(timer(0, 2))),
-        Read(timer(0, 1), None),
-        Read(timer(0, 2), Some(6)),
-        until(6_000_000),
-        Advance(6, 1),
-        Start(After(4), 1, 0, Err(StartErr::Full)),
-        Deliver(1, 0),
-        Start(After(4), 1, 0, Ok(timer(0, 3))),
-    ];
-    make_all(&rt, rt.alloc(), &SETTINGS, &steps)
 }
 
 /// A wheel that wasn't told of a cancel holds the timer until its world is put together.
