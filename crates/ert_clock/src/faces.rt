@@ -1,4 +1,5 @@
-ghost use Rattle.std.specs.Prelude.{◌≡◌, ◌↔◌, IsTrue};
+ghost use Rattle.std.specs.Int.{w128, int_div_euclid};
+ghost use Rattle.std.specs.Prelude.{◌≡◌, ◌↔◌, ◌*ℤ◌, pos, FitsSigned, IsTrue};
 ghost use Rattle.ert_defs.specs.Clocks.{face, first_clock};
 ghost use Rattle.ert_defs.specs.Lines.{IsOffset, rate_of, rate_after, is_base, shift_of};
 ghost use Rattle.ert_defs.specs.Lines.{mono_after, line_time, time_after, base_from, due_at};
@@ -88,6 +89,19 @@ fn rate_after(act: Act, state: OffsetState, error: i128) -> i16
     }
 }
 
+/// What a line gains in so many nanoseconds by its rate. Mostly the rate is 0, and nothing is to be multiplied.
+#[inline(always)]
+fn gained(since: i128, rate: i128) -> i128
+    requires { FitsSigned w128 (since *ℤ rate) }
+    ensures { result ≡ int_div_euclid (since *ℤ rate) (pos 1000000) }
+{
+    if rate == 0 {
+        0
+    } else {
+        millionth(since * rate)
+    }
+}
+
 impl Line {
     ghost use Rattle.ert_clock.specs.Faces.{base_of};
 
@@ -97,7 +111,7 @@ impl Line {
         ensures { result ≡ line_time (base_of self.now) mono }
     {
         let since = mono as i128 - self.mono as i128;
-        self.time as i128 + since + millionth(since * self.rate as i128)
+        self.time as i128 + since + gained(since, self.rate as i128)
     }
 }
 

@@ -34,7 +34,7 @@ pub fn rounded_up(settings: &Settings, now: i64) -> u64
     requires high { now <ℤ end_time settings.now }
     ensures { pos result ≡ milliseconds.up settings.now now }
 {
-    rounded(settings, now).1
+    ((now - settings.start) as u64 + 999_999) / NANOSECONDS_PER_MILLISECOND as u64
 }
 
 /// The milliseconds from the start time to a time that a clock shows, rounded down and up.

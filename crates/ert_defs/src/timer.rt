@@ -25,9 +25,6 @@ pub const USES_OF_ROUND: u64 = 262_143;
 /// The least generation of a later round.
 pub const FIRST_LATER_GENERATION: u64 = 1 << 43;
 
-/// The least number that is no generation.
-const NO_GENERATION: u64 = 1 << 61;
-
 impl TimerRef {
     /// Whether the reference is in range.
     pub fn is_in_range(&self, settings: &Settings) -> bool
@@ -35,8 +32,8 @@ impl TimerRef {
     {
         self.wheel < settings.schedulers
             && self.slot < settings.slots
-            && (1 <= self.generation && self.generation <= USES_OF_ROUND
-                || FIRST_LATER_GENERATION <= self.generation && self.generation < NO_GENERATION)
+            && 1 <= use_of(self.generation)
+            && use_of(self.generation) <= USES_OF_ROUND
     }
 }
 

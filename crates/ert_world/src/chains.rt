@@ -12,6 +12,7 @@ use ert_mail::Handed;
 /// Serves one request: that in the scheduler's hand, or the first of its inbox. False comes where there is none.
 ///
 /// After want of memory the request stays in the hand.
+#[inline(always)]
 pub fn serve<S: SchedSteps>(steps: &mut S, sched: u32) -> Result<bool, NoMemory>
     requires { S.acts steps.old sched }
     ensures call { Grows (Serves (S.settings steps.old) (S.way (S.settings steps.old) (S.mark steps.old) sched) sched result) (S.history steps.old) (S.history steps.new) }

@@ -27,4 +27,17 @@ impl SchedPart {
             fired: FiredList::new(alloc),
         }
     }
+
+    /// Takes a request into the empty hand, where there is one: an empty hand isn't written anew.
+    #[inline(always)]
+    pub(crate) fn take_up(&mut self, got: Option<Request>)
+        requires { self.old.hand ≡ None }
+        ensures wheel { self.new.wheel ≡ self.old.wheel }
+        ensures hand { self.new.hand ≡ got }
+        ensures fired { self.new.fired ≡ self.old.fired }
+    {
+        if got.is_some() {
+            self.hand = got;
+        }
+    }
 }

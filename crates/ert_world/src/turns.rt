@@ -50,7 +50,7 @@ impl World {
         ensures hand { (world_sched self.new sched).hand ≡ result }
     {
         let got = self.inboxes[sched as usize].pick(&self.desk, &mut self.pass);
-        self.scheds[sched as usize].hand = got;
+        self.scheds[sched as usize].take_up(got);
         got
     }
 
