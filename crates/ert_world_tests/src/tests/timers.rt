@@ -11,36 +11,49 @@ use ert_defs::OffsetState::{Final, Preliminary};
 use ert_defs::When::After;
 use ert_defs::{NoMemory, Reading, TimerRef};
 
+const FIRST: Reading = Reading {
+    mono: 0,
+    sys: 1_000_000,
+};
+
+const MOVED: Moved = Moved {
+    now: 1_000_000,
+    shift: None,
+};
+
+const SECOND: Reading = Reading {
+    mono: 0,
+    sys: 2_000_000,
+};
+
+const SHIFTED: Moved = Moved {
+    now: 2_000_000,
+    shift: Some(0),
+};
+
+const PUBLISHED: [Step; 10] = [
+    Tick(FIRST, Ok(MOVED)),
+    Monotonic(1_000_000),
+    Start(After(5), 0, 7, Ok(ONE)),
+    Finalize(SECOND, Ok((Preliminary, SHIFTED))),
+    Offset(0, Final),
+    Cancel(ONE, Some(4)),
+    IsAlive(1, true),
+    MarkExit(1, true),
+    MarkExit(1, false),
+    IsAlive(1, false),
+];
+
 /// The word of a slot has the status, the deadline and the generation of its last timer.
 #[test]
 fn a_cancel_and_an_exit_are_published(rt: HostRuntime) -> Result<(), NoMemory> {
-    let second = Reading {
-        mono: 0,
-        sys: 2_000_000,
-    };
-    let shifted = Moved {
-        now: 2_000_000,
-        shift: Some(0),
-    };
-    let steps = [
-        until(1_000_000),
-        Monotonic(1_000_000),
-        Start(After(5), 0, 7, Ok(timer(0, 1))),
-        Finalize(second, Ok((Preliminary, shifted))),
-        Offset(0, Final),
-        Cancel(timer(0, 1), Some(4)),
-        IsAlive(1, true),
-        MarkExit(1, true),
-        MarkExit(1, false),
-        IsAlive(1, false),
-    ];
     let left = Left {
         time: 2_000_000,
         offset: 9_223_372_036_854_775_809,
         timers: &[4 + 6 * 8 + (1 << 46)],
         processes: &[0, 1],
     };
-    make_all_to_end(&rt, rt.alloc(), &SETTINGS, &steps, left)
+    make_all_to_end(&rt, rt.alloc(), &SETTINGS, &PUBLISHED, left)
 }
 
 const ONE: TimerRef = TimerRef {
