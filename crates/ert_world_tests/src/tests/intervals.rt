@@ -69,27 +69,35 @@ fn counts(turn: IntervalTurn) -> (u32, u32) {
     (turn.turned.fired, turn.armed)
 }
 
+const CATCHES_UP: [Step; 11] = [
+    Step::Tick(10),
+    Step::Turn(1, 1),
+    Step::Tick(27),
+    Step::Turn(1, 1),
+    Step::Turn(1, 1),
+    Step::Turn(1, 1),
+    Step::Turn(0, 0),
+    Step::Firings(0, 5),
+    Step::State(0, Some(IntervalState::Running)),
+    Step::Stop(0, Some(3)),
+    Step::State(0, Some(IntervalState::Stopped)),
+];
+
 /// An interval fires at 10, 15, 20 and 25 ms. From 10 to 27 ms no turn is made, and three turns then catch up.
 #[test]
 fn catches_up(rt: HostRuntime) -> Result<(), NoMemory> {
     let mut service = IntervalWorld::open(rt.alloc(), &SETTINGS)?;
     assert!(rt; service.every(0, 10, 5, 0, 9) == Ok(0));
-    let steps = [
-        Step::Tick(10),
-        Step::Turn(1, 1),
-        Step::Tick(27),
-        Step::Turn(1, 1),
-        Step::Turn(1, 1),
-        Step::Turn(1, 1),
-        Step::Turn(0, 0),
-        Step::Firings(0, 5),
-        Step::State(0, Some(IntervalState::Running)),
-        Step::Stop(0, Some(3)),
-        Step::State(0, Some(IntervalState::Stopped)),
-    ];
-    go(&rt, &mut service, &steps);
+    go(&rt, &mut service, &CATCHES_UP);
     Ok(())
 }
+
+const ENDS: [Step; 4] = [
+    Step::Exit(0, true),
+    Step::Turn(0, 0),
+    Step::State(0, Some(IntervalState::Ended)),
+    Step::Stop(0, None),
+];
 
 /// An interval ends at the turn after its process has exited.
 #[test]
@@ -97,12 +105,6 @@ fn ends_with_its_process(rt: HostRuntime) -> Result<(), NoMemory> {
     let mut service = IntervalWorld::open(rt.alloc(), &SETTINGS)?;
     assert!(rt; service.every(0, 10, 0, 0, 9) == Err(IntervalErr::BadArg));
     assert!(rt; service.every(0, 10, 5, 0, 9) == Ok(0));
-    let steps = [
-        Step::Exit(0, true),
-        Step::Turn(0, 0),
-        Step::State(0, Some(IntervalState::Ended)),
-        Step::Stop(0, None),
-    ];
-    go(&rt, &mut service, &steps);
+    go(&rt, &mut service, &ENDS);
     Ok(())
 }

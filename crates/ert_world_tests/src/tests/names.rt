@@ -88,49 +88,52 @@ fn counts(turn: NamedTurn) -> (u64, u64) {
     (turn.handed, turn.lost)
 }
 
+const MAIL: NamedMail = NamedMail {
+    timer: A,
+    msg: 7,
+    kind: Kind::Wrapped,
+};
+
+const FOLLOWS: [Step<'static>; 9] = [
+    Step::Register("db", 1, Ok(())),
+    Step::Start(1, "db", 7, Kind::Wrapped, Ok(A)),
+    Step::Unregister("db", true),
+    Step::Register("db", 2, Ok(())),
+    Step::Tick(1_000_000),
+    Step::Turn(1, 0),
+    Step::Take(1, NamedTaken::Empty),
+    Step::Take(2, NamedTaken::Mail(MAIL)),
+    Step::Take(2, NamedTaken::Empty),
+];
+
 /// The message goes to the process that has the name at the turn, and not to the one that had it at the start.
 #[test]
 fn a_message_follows_its_name(rt: HostRuntime) -> Result<(), NoMemory> {
     let mut service = NameWorld::open(rt.alloc(), &SETTINGS)?;
-    let mail = NamedMail {
-        timer: A,
-        msg: 7,
-        kind: Kind::Wrapped,
-    };
-    let steps = [
-        Step::Register("db", 1, Ok(())),
-        Step::Start(1, "db", 7, Kind::Wrapped, Ok(A)),
-        Step::Unregister("db", true),
-        Step::Register("db", 2, Ok(())),
-        Step::Tick(1_000_000),
-        Step::Turn(1, 0),
-        Step::Take(1, NamedTaken::Empty),
-        Step::Take(2, NamedTaken::Mail(mail)),
-        Step::Take(2, NamedTaken::Empty),
-    ];
-    go(&rt, &mut service, &steps);
+    go(&rt, &mut service, &FOLLOWS);
     Ok(())
 }
+
+const IS_LOST: [Step<'static>; 12] = [
+    Step::Register("undefined", 1, REFUSED),
+    Step::Register("a", 1, Ok(())),
+    Step::Whereis("a", Some(1)),
+    Step::Register("b", 1, REFUSED),
+    Step::Start(2, "a", 8, Kind::Bare, Ok(A)),
+    Step::Exit(1, true),
+    Step::Whereis("a", None),
+    Step::Read(A, Some(2)),
+    Step::Tick(2_000_000),
+    Step::Turn(0, 1),
+    Step::Take(1, NamedTaken::Exited),
+    Step::Take(2, NamedTaken::Empty),
+];
 
 /// An exit takes the name of its process, and leaves the timer for the name armed.
 #[test]
 fn a_message_for_a_name_of_no_process_is_lost(rt: HostRuntime) -> Result<(), NoMemory> {
     let mut service = NameWorld::open(rt.alloc(), &SETTINGS)?;
-    let steps = [
-        Step::Register("undefined", 1, REFUSED),
-        Step::Register("a", 1, Ok(())),
-        Step::Whereis("a", Some(1)),
-        Step::Register("b", 1, REFUSED),
-        Step::Start(2, "a", 8, Kind::Bare, Ok(A)),
-        Step::Exit(1, true),
-        Step::Whereis("a", None),
-        Step::Read(A, Some(2)),
-        Step::Tick(2_000_000),
-        Step::Turn(0, 1),
-        Step::Take(1, NamedTaken::Exited),
-        Step::Take(2, NamedTaken::Empty),
-    ];
-    go(&rt, &mut service, &steps);
+    go(&rt, &mut service, &IS_LOST);
     Ok(())
 }
 

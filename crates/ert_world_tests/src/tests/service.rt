@@ -145,6 +145,47 @@ fn work_one<L: DeskName, R: Wait + Abort>(
     }
 }
 
+const FIRST_CALLS: [Call; 4] = [
+    Call::Start(5, 7, A),
+    Call::Monitor(0),
+    Call::Ask(A),
+    Call::Tick(5_000_000, false, 5_000_000, None),
+];
+
+const IDLE: Turned = Turned {
+    served: 0,
+    to: 5,
+    fired: 0,
+    put: 0,
+    dropped: 0,
+};
+
+const WORKS: [Work; 4] = [
+    Work::Serve(true),
+    Work::Advance(5, 1),
+    Work::Deliver(1, 0),
+    Work::Turn(IDLE),
+];
+
+const READ: Mail = Mail::ReadDone {
+    timer: A,
+    left: Some(0),
+};
+
+const LAST_CALLS: [Call; 11] = [
+    Call::Take(Taken::Mail(READ)),
+    Call::Take(Taken::Mail(Mail::Timeout { timer: A, msg: 7 })),
+    Call::Take(Taken::Empty),
+    Call::Tick(1_000_000, true, 5_000_000, Some(-4_000_000)),
+    Call::Tell(1),
+    Call::Demonitor(0, true),
+    Call::Finalize(0, OffsetState::Volatile, 5_000_000),
+    Call::Times(5_000_000, 1_000_000),
+    Call::Exit(true),
+    Call::Exit(false),
+    Call::Take(Taken::Exited),
+];
+
 /// A timer is started, and read by a request. When it has expired, the answer and its message are taken, in
 /// that order; then the time offset changes, and the process is told; and the process exits once.
 fn make_calls<L: DeskName, R: Wait + Abort>(
@@ -153,45 +194,9 @@ fn make_calls<L: DeskName, R: Wait + Abort>(
     caller: &mut CallerSeat<L>,
     sched: &mut SchedSeat<L>,
 ) {
-    let calls = [
-        Call::Start(5, 7, A),
-        Call::Monitor(0),
-        Call::Ask(A),
-        Call::Tick(5_000_000, false, 5_000_000, None),
-    ];
-    call_all(rt, service, caller, &calls);
-    let idle = Turned {
-        served: 0,
-        to: 5,
-        fired: 0,
-        put: 0,
-        dropped: 0,
-    };
-    let works = [
-        Work::Serve(true),
-        Work::Advance(5, 1),
-        Work::Deliver(1, 0),
-        Work::Turn(idle),
-    ];
-    work_all(rt, service, sched, &works);
-    let read = Mail::ReadDone {
-        timer: A,
-        left: Some(0),
-    };
-    let calls = [
-        Call::Take(Taken::Mail(read)),
-        Call::Take(Taken::Mail(Mail::Timeout { timer: A, msg: 7 })),
-        Call::Take(Taken::Empty),
-        Call::Tick(1_000_000, true, 5_000_000, Some(-4_000_000)),
-        Call::Tell(1),
-        Call::Demonitor(0, true),
-        Call::Finalize(0, OffsetState::Volatile, 5_000_000),
-        Call::Times(5_000_000, 1_000_000),
-        Call::Exit(true),
-        Call::Exit(false),
-        Call::Take(Taken::Exited),
-    ];
-    call_all(rt, service, caller, &calls);
+    call_all(rt, service, caller, &FIRST_CALLS);
+    work_all(rt, service, sched, &WORKS);
+    call_all(rt, service, caller, &LAST_CALLS);
 }
 
 /// Makes each call by the one caller and the one scheduler.

@@ -51,21 +51,6 @@ pub(crate) enum Step {
     Counts([u64; 4]),
 }
 
-/// The clock moves on to this many nanoseconds after the start time, by OS system time alone.
-pub(crate) fn until(now: i64) -> Step {
-    let reading = Reading { mono: 0, sys: now };
-    Step::Tick(reading, Ok(Moved { now, shift: None }))
-}
-
-/// A timer of the wheel.
-pub(crate) fn timer(slot: u32, generation: u64) -> TimerRef {
-    TimerRef {
-        wheel: 0,
-        slot,
-        generation,
-    }
-}
-
 /// A world gave out no seat.
 pub(crate) fn is_alone(rt: &impl Abort, world: &World)
     ensures { world.now.next ≡ 1 }

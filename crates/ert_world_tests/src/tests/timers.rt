@@ -4,43 +4,56 @@ use crate::tests::steps::Step::{
     Advance, Cancel, CancelAlone, Counts, Deliver, Exit, Finalize, IsAlive, MarkExit, Monotonic,
     Offset, Read, Start, Tick,
 };
-use crate::tests::steps::{EIGHT_SLOTS, SETTINGS, Step, timer, until};
+use crate::tests::steps::{EIGHT_SLOTS, SETTINGS, Step};
 use crate::tests::worlds::{Left, make_all, make_all_to_end};
 use ert_clock::Moved;
 use ert_defs::OffsetState::{Final, Preliminary};
 use ert_defs::When::After;
 use ert_defs::{NoMemory, Reading, TimerRef};
 
+const FIRST: Reading = Reading {
+    mono: 0,
+    sys: 1_000_000,
+};
+
+const MOVED: Moved = Moved {
+    now: 1_000_000,
+    shift: None,
+};
+
+const SECOND: Reading = Reading {
+    mono: 0,
+    sys: 2_000_000,
+};
+
+const SHIFTED: Moved = Moved {
+    now: 2_000_000,
+    shift: Some(0),
+};
+
+const PUBLISHED: [Step; 10] = [
+    Tick(FIRST, Ok(MOVED)),
+    Monotonic(1_000_000),
+    Start(After(5), 0, 7, Ok(ONE)),
+    Finalize(SECOND, Ok((Preliminary, SHIFTED))),
+    Offset(0, Final),
+    Cancel(ONE, Some(4)),
+    IsAlive(1, true),
+    MarkExit(1, true),
+    MarkExit(1, false),
+    IsAlive(1, false),
+];
+
 /// The word of a slot has the status, the deadline and the generation of its last timer.
 #[test]
 fn a_cancel_and_an_exit_are_published(rt: HostRuntime) -> Result<(), NoMemory> {
-    let second = Reading {
-        mono: 0,
-        sys: 2_000_000,
-    };
-    let shifted = Moved {
-        now: 2_000_000,
-        shift: Some(0),
-    };
-    let steps = [
-        until(1_000_000),
-        Monotonic(1_000_000),
-        Start(After(5), 0, 7, Ok(timer(0, 1))),
-        Finalize(second, Ok((Preliminary, shifted))),
-        Offset(0, Final),
-        Cancel(timer(0, 1), Some(4)),
-        IsAlive(1, true),
-        MarkExit(1, true),
-        MarkExit(1, false),
-        IsAlive(1, false),
-    ];
     let left = Left {
         time: 2_000_000,
         offset: 9_223_372_036_854_775_809,
         timers: &[4 + 6 * 8 + (1 << 46)],
         processes: &[0, 1],
     };
-    make_all_to_end(&rt, rt.alloc(), &SETTINGS, &steps, left)
+    make_all_to_end(&rt, rt.alloc(), &SETTINGS, &PUBLISHED, left)
 }
 
 const ONE: TimerRef = TimerRef {
@@ -103,73 +116,102 @@ fn a_reference_names_one_timer(rt: HostRuntime) -> Result<(), NoMemory> {
     make_all(&rt, rt.alloc(), &SETTINGS, &REFERENCES)
 }
 
+const TIMER_0_3: TimerRef = TimerRef {
+    slot: 0,
+    generation: 3,
+    ..ONE
+};
+
+const TIMER_6_1: TimerRef = TimerRef {
+    slot: 6,
+    generation: 1,
+    ..ONE
+};
+
+const TIMER_7_1: TimerRef = TimerRef {
+    slot: 7,
+    generation: 1,
+    ..ONE
+};
+
+const TIMER_7_2: TimerRef = TimerRef {
+    slot: 7,
+    generation: 2,
+    ..ONE
+};
+
+const THREE_USES: [Step; 7] = [
+    Start(After(4), 1, 0, Ok(ONE)),
+    Cancel(ONE, Some(4)),
+    Start(After(4), 1, 0, Ok(LATER)),
+    Cancel(LATER, Some(4)),
+    Start(After(4), 1, 0, Ok(TIMER_0_3)),
+    Cancel(TIMER_0_3, Some(4)),
+    Counts([3, 0, 0, 0]),
+];
+
 /// Each use of a slot has a reference of its own.
 #[test]
 fn a_slot_is_used_three_times(rt: HostRuntime) -> Result<(), NoMemory> {
-    let steps = [
-        Start(After(4), 1, 0, Ok(timer(0, 1))),
-        Cancel(timer(0, 1), Some(4)),
-        Start(After(4), 1, 0, Ok(timer(0, 2))),
-        Cancel(timer(0, 2), Some(4)),
-        Start(After(4), 1, 0, Ok(timer(0, 3))),
-        Cancel(timer(0, 3), Some(4)),
-        Counts([3, 0, 0, 0]),
-    ];
-    make_all(&rt, rt.alloc(), &SETTINGS, &steps)
+    make_all(&rt, rt.alloc(), &SETTINGS, &THREE_USES)
 }
+
+const LONG_WAITS: [Step; 4] = [
+    Start(After(7_200_000), 1, 1, Ok(ONE)),
+    Cancel(ONE, Some(7_200_000)),
+    Start(After(1), 1, 2, Ok(TIMER_7_1)),
+    Start(After(7_200_000), 1, 3, Ok(LATER)),
+];
 
 /// A slot that had a long wait is taken by the next long one, and by a short one only where no other is free.
 #[test]
 fn long_waits_keep_their_slots(rt: HostRuntime) -> Result<(), NoMemory> {
-    let steps = [
-        Start(After(7_200_000), 1, 1, Ok(timer(0, 1))),
-        Cancel(timer(0, 1), Some(7_200_000)),
-        Start(After(1), 1, 2, Ok(timer(7, 1))),
-        Start(After(7_200_000), 1, 3, Ok(timer(0, 2))),
-    ];
-    make_all(&rt, rt.alloc(), &EIGHT_SLOTS, &steps)
+    make_all(&rt, rt.alloc(), &EIGHT_SLOTS, &LONG_WAITS)
 }
+
+const GIVEN_BACK: [Step; 6] = [
+    Start(After(1), 1, 1, Ok(TIMER_7_1)),
+    Tick(FIRST, Ok(MOVED)),
+    Advance(1, 1),
+    Start(After(1), 1, 2, Ok(TIMER_6_1)),
+    Deliver(1, 0),
+    Start(After(1), 1, 3, Ok(TIMER_7_2)),
+];
 
 /// The slot of an expired timer is taken until its message is delivered, and then by the next start.
 #[test]
 fn a_delivered_message_gives_its_slot_back(rt: HostRuntime) -> Result<(), NoMemory> {
-    let steps = [
-        Start(After(1), 1, 1, Ok(timer(7, 1))),
-        until(1_000_000),
-        Advance(1, 1),
-        Start(After(1), 1, 2, Ok(timer(6, 1))),
-        Deliver(1, 0),
-        Start(After(1), 1, 3, Ok(timer(7, 2))),
-    ];
-    make_all(&rt, rt.alloc(), &EIGHT_SLOTS, &steps)
+    make_all(&rt, rt.alloc(), &EIGHT_SLOTS, &GIVEN_BACK)
 }
+
+const MARKED: [Step; 6] = [
+    Start(After(5), 1, 0, Ok(TIMER_7_1)),
+    MarkExit(1, true),
+    Read(TIMER_7_1, Some(5)),
+    MarkExit(1, false),
+    Exit(1, false),
+    Read(TIMER_7_1, Some(5)),
+];
 
 /// The timers of a process that is marked stay armed until their wheel is swept.
 #[test]
 fn a_process_is_marked(rt: HostRuntime) -> Result<(), NoMemory> {
-    let steps = [
-        Start(After(5), 1, 0, Ok(timer(7, 1))),
-        MarkExit(1, true),
-        Read(timer(7, 1), Some(5)),
-        MarkExit(1, false),
-        Exit(1, false),
-        Read(timer(7, 1), Some(5)),
-    ];
-    make_all(&rt, rt.alloc(), &EIGHT_SLOTS, &steps)
+    make_all(&rt, rt.alloc(), &EIGHT_SLOTS, &MARKED)
 }
+
+const PUT_TOGETHER: [Step; 8] = [
+    Start(After(5), 1, 0, Ok(TIMER_7_1)),
+    Start(After(5), 1, 0, Ok(TIMER_6_1)),
+    Counts([2, 0, 0, 2]),
+    CancelAlone(TIMER_7_1, Some(5)),
+    Counts([2, 0, 0, 1]),
+    Advance(0, 0),
+    Counts([2, 0, 0, 1]),
+    Read(TIMER_6_1, Some(5)),
+];
 
 /// A wheel that wasn't told of a cancel holds the timer until its world is put together.
 #[test]
 fn a_world_that_is_put_together_drops_what_was_cancelled(rt: HostRuntime) -> Result<(), NoMemory> {
-    let steps = [
-        Start(After(5), 1, 0, Ok(timer(7, 1))),
-        Start(After(5), 1, 0, Ok(timer(6, 1))),
-        Counts([2, 0, 0, 2]),
-        CancelAlone(timer(7, 1), Some(5)),
-        Counts([2, 0, 0, 1]),
-        Advance(0, 0),
-        Counts([2, 0, 0, 1]),
-        Read(timer(6, 1), Some(5)),
-    ];
-    make_all(&rt, rt.alloc(), &EIGHT_SLOTS, &steps)
+    make_all(&rt, rt.alloc(), &EIGHT_SLOTS, &PUT_TOGETHER)
 }

@@ -46,18 +46,19 @@ fn offsets_are_packed(rt: HostRuntime) {
     }
 }
 
+const TIMERS: [(Status, u64, u64, u64); 7] = [
+    (Status::Armed, 7, 3, 211_106_232_533_049),
+    (Status::Delivered, 11, 1, 70_368_744_177_755),
+    (Status::Armed, 0, 1, 70_368_744_177_665),
+    (Status::Expired, 0, 1, 70_368_744_177_666),
+    (Status::Cancelled, 0, 1, 70_368_744_177_668),
+    (Status::Orphaned, 0, 1, 70_368_744_177_669),
+    (Status::Dropped, 8_796_093_022_207, 262_143, u64::MAX - 1),
+];
+
 #[test]
 fn timers_are_packed(rt: HostRuntime) {
-    let rows = [
-        (Status::Armed, 7, 3, 211_106_232_533_049),
-        (Status::Delivered, 11, 1, 70_368_744_177_755),
-        (Status::Armed, 0, 1, 70_368_744_177_665),
-        (Status::Expired, 0, 1, 70_368_744_177_666),
-        (Status::Cancelled, 0, 1, 70_368_744_177_668),
-        (Status::Orphaned, 0, 1, 70_368_744_177_669),
-        (Status::Dropped, 8_796_093_022_207, 262_143, u64::MAX - 1),
-    ];
-    for (status, deadline, generation, want) in rows {
+    for (status, deadline, generation, want) in TIMERS {
         assert!(rt; deadline <= 8_796_093_022_207 && 1 <= generation && generation <= 262_143);
         let word = timer_word(status, deadline, generation);
         let timer = timer_of(word);
