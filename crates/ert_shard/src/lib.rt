@@ -47,12 +47,14 @@
 //! was divided: one whose answer is for a process of another shard isn't served (`ServeErr::NotHome`), and no other after
 //! it, until the shard comes back.
 //!
-//! **What it hasn't.** A shard starts no timer for a process of another shard, and asks no other shard's scheduler. A timer that another shard cancelled keeps its row and its slot until it would be due.
+//! **What it hasn't.** A shard starts no timer for a process of another shard, and asks no other shard's scheduler. A
+//! timer that another shard cancelled keeps its row and its slot until it would be due.
 //!
 //! **Memory.** `start`, `restart`, `cancel_timer`, `read_timer`, `take`, `take_some`, `exit`, the calls on the clock, `join`
 //! and `join_all` take none, and of the calls of `next_mail` only the first of a shard does, for its list. Where there is
-//! none, `next_mail`, `ask`, `monitor` and `tell` change nothing, `serve` keeps the request in the hand, `advance` and `advance_some` let no
-//! timer expire, `deliver` and `deliver_some` keep what wasn't handed over, `shard` and `seat` leave everything as it was.
+//! none, `next_mail`, `ask`, `monitor` and `tell` change nothing, `serve` keeps the request in the hand, `advance` and
+//! `advance_some` let no timer expire, `deliver` and `deliver_some` keep what wasn't handed over, `shard` and `seat` leave
+//! everything as it was.
 //!
 //! It stands on `ert_defs`, `ert_clock`, `ert_effects`, `ert_table`, `ert_calls`, `ert_timers`, `ert_mail`
 //! and `ert_world`, and its proofs on the laws of `ert_laws`.

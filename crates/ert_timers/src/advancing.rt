@@ -26,7 +26,6 @@ impl WheelPart {
     /// A due timer that doesn't expire was settled by another. The row of each due timer goes, and then no row is held
     /// that is due by that time. All memory is taken before the first timer expires:
     /// after NoMemory none has.
-    #[inline(always)]
     pub fn advance(
         &mut self,
         desk: &Desk,
@@ -53,7 +52,6 @@ impl WheelPart {
     }
 
     /// Looks at the time, and tries all rows that are due by it.
-    #[inline(always)]
     pub(crate) fn try_due(
         &mut self,
         desk: &Desk,
