@@ -5,8 +5,8 @@
  *     PROGRAM OPERATION TIMERS CALLS PASSES
  *
  * A service has 1,024 processes and wheels of 65,536 slots: one wheel up to 62,500 timers, otherwise four, of which each
- * takes a timer in turn. For more than 250,000 timers they have 262,144 slots each. Status 3: the library has no service
- * of that size.
+ * takes a timer in turn. For more than 250,000 timers they have 262,144 slots each, and for more than a million 1,048,576.
+ * Status 3: the library has no service of that size.
  *
  *     monotonic_time   `ert_world_monotonic_time`: that of the last tick
  *     start_cancel     `ert_world_start` and `ert_world_cancel` of a timer, beside the others
@@ -29,8 +29,7 @@
 #include "others/measure.h"
 #include <ertime.h>
 
-enum { PROCESSES = 1024, WHEELS = 4, ONE_WHEEL = 62500, SLOTS = 65536, FEW_SLOTS = 250000, MANY_SLOTS = 262144 };
-enum { TOO_LARGE = 3 };
+enum { PROCESSES = 1024, WHEELS = 4, ONE_WHEEL = 62500, TOO_LARGE = 3 };
 #define MICROSECOND INT64_C(1000)
 #define MILLISECOND INT64_C(1000000)
 
@@ -38,6 +37,11 @@ static ert_world world;
 /* 1 or 4: so a remainder is a mask. */
 static uint32_t wheels;
 static ert_timer *timers;
+
+/* The slots of each wheel, for so many timers. */
+static uint32_t slots_for(size_t count) {
+    return count <= 250000 ? 65536 : count <= 1000000 ? 262144 : 1048576;
+}
 
 static void must(int32_t status) {
     expect(status == ERT_OK);
@@ -50,7 +54,7 @@ static void open_service(const struct measurement *what) {
         .correction = 1,
         .schedulers = wheels,
         .processes = PROCESSES,
-        .slots = what->timers > FEW_SLOTS ? MANY_SLOTS : SLOTS,
+        .slots = slots_for(what->timers),
         .callers = 1,
     };
     int32_t status = ert_world_open(&world, &settings);
