@@ -2,10 +2,12 @@
 
 use Rattle.std.proofs.Common.{◌≡◌, ◌≢◌, ℕ, zero, suc, ◌+◌, ◌<◌, ◌≤◌, ℤ, pos, ◌≤ℤ◌, Bool, true, false, cond, nat_eq, nat_lt, nat_le, List, [], ◌∷◌, ◌++◌, length, take, drop, All, Option, Some, None, IfSome, refl, sym, ap, subst, ◌∙◌, arith, drop-cons, set, get_or, get_or-set_same, get_or-set_other, inl, inr, eq-eqb, ne_eqb, ◌⊎◌}
 use Rattle.std.proofs.lemmas.Bool.{cases_eq, cases_lt, le-leb, leb-true, ltb-true}
-use Rattle.std.proofs.lemmas.Bool.Decides.{nat_tests}
+use Rattle.std.proofs.lemmas.Bool.Decides.{nat_tests, leb_tells}
 use Rattle.std.proofs.lemmas.Int.{ints}
 use Rattle.std.proofs.lemmas.List.Elements.{All-head, All-tail, All-cons, All-nil}
+use Rattle.std.specs.Bool.{OnTrue}
 use Rattle.std.specs.List.{slice_get}
+use Rattle.std.specs.Prelude.{MatchBool, not}
 use Rattle.ert_defs.specs.Legal.{AllSettled, IsNext}
 use Rattle.ert_defs.specs.Milliseconds.{down}
 use Rattle.ert_defs.specs.States.{State, state}
@@ -20,7 +22,7 @@ use Rattle.ert_defs.specs.declared.timer.TimerRef.{TimerRef}
 use Rattle.ert_timers.specs.Changes.{let_go}
 use Rattle.ert_timers.specs.Expiring.{AreDue, IsReady, timer_of}
 use Rattle.ert_timers.specs.Parts.{Part, PartStands, last_timer}
-use Rattle.ert_wheel.specs.FirstDue.{NoRowDue, IsFirstRowDue}
+use Rattle.ert_wheel.specs.FirstDue.{NoRowDue, IsFirstRowDue, MayBeDue}
 use Rattle.ert_wheel.specs.Rows.{key_in, key_of, times, times_due, comes_before, row_at}
 use Rattle.ert_wheel.specs.declared.row.Key.{Key}
 use Rattle.ert_wheel.specs.declared.row.Row.{Row as WheelRow}
@@ -261,6 +263,27 @@ none_due g h p to ready =
 
 pub none_left : (p : Part) (to : ℕ) → AreDue p to [] → (k : ℕ) → IfSome (key_in p.keys k) (λ key. to < key.deadline)
 none_left p to due k = due_none to (key_in p.keys k) (sym (due.each k))
+
+-- where no row is due there is none to try
+not_due : (to : ℕ) (o : Option Key) → ((key : Key) → o ≡ Some key → to < key.deadline) → times_due to o ≡ 0
+not_due to None none = refl
+not_due to (Some key) none =
+    elim (leb_tells key.deadline to) [
+      | inl (t, due) ↦ absurd (omega (arith, due, none key refl))
+      | inr (f, later) ↦ ap (λ b. cond b 1 0) f
+    ]
+
+idle_due : (p : Part) (to : ℕ) → NoRowDue p.keys to → AreDue p to []
+idle_due p to none = record {
+  each = λ k. sym (not_due to (key_in p.keys k) (none k));
+  held = All-nil (λ row. key_in p.keys row.slot ≡ Some (key_of row));
+  in_order = λ i j d low high. absurd (omega (arith, high));
+}
+
+pub idle_is : (p : Part) (to : ℕ) (may : Bool) → MatchBool may (MayBeDue p.keys p.passed to) (NoRowDue p.keys to)
+    → OnTrue (not may) (AreDue p to [])
+idle_is p to true told = tt
+idle_is p to false none = idle_due p to none
 
 -- the first of the rows that are left
 pub next_row : (due : List WheelRow) (n : ℕ) (d : WheelRow) → n < length due → drop n due ≡ get_or due n d ∷ drop (n + 1) due

@@ -137,6 +137,14 @@ has_tried g v p p' q q' k to due n old old' new u w number first last rows down 
       waits = some.done.waits ∙ ap (λ l. l ++ some.done.gained) (waits_by g v look u p.number looks.step holds.sched has);
     }
 
+-- where none is due, all were tried
+pub has_idled : (g : Settings) (v : View) (p q : Part) (k to : ℕ) (list : Queue) (u : View) → k ≡ p.number → q ≡ gone_on p to
+    → LooksDown g v (Sched k) to u → AreDue p to [] → PartStands g v.front p → HoldsSched v p.number → HasTried g v p q to list list u
+has_idled g v p q k to list u number gone looks none stands holds =
+    let ready = ready_looked g v p to [] u stands holds (subst (λ n. LooksDown g v (Sched n) to u) number looks) none in
+    has_tried g v p p (gone_on p to) q k to [] 0 list list list u u number refl gone refl looks
+    (expires_gone_on g u p p to [] 0 list list u (expires_none g u p to [] list ready)) (omega arith) holds
+
 -- the end is recorded after the tries
 pub has_expired : (g : Settings) (v : View) (p q : Part) (k to : ℕ) (old new : Queue) (u x : View) → k ≡ p.number → HasTried g v p q to old new u
     → Appends g u (advanced_entry k to) x → HoldsSched v p.number → HasExpired g v p.number to old new x

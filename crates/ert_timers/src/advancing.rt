@@ -66,6 +66,10 @@ impl WheelPart {
         ensures on { IfOk result (λ to. to < self.new.passed) }
     {
         let to = look_down(desk, pass, Actor::Sched(self.number()));
+        if self.is_idle(to) {
+            self.go_on(to);
+            return Ok(to);
+        }
         let due = self.find_due(to, fired)?;
         self.expire_all(desk, pass, to, &due, fired);
         self.keep_list(due);

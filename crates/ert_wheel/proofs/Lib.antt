@@ -1,6 +1,7 @@
 mod Due
 mod KeptSlots
 mod Opening
+mod Reached
 mod Replacing
 mod Splice
 mod Unsplice

@@ -1,8 +1,10 @@
 -- The first of the rows that are due.
 
-use Rattle.std.specs.Prelude.{◌≡◌, ℕ, ◌<◌, ◌≤◌, false, List, Option, Some}
+use Rattle.std.specs.Prelude.{◌≡◌, ℕ, ◌<◌, ◌≤◌, false, List, Option, Some, max, min}
 use Rattle.ert_wheel.specs.NextDue.{NoneBefore, IsDueAt}
 use Rattle.ert_wheel.specs.Rows.{key_in, key_of, row_at, comes_before}
+use Rattle.ert_wheel.specs.Wheels.{bucket_of, home_by}
+use Rattle.ert_wheel.specs.declared.row.TheConstants.{LAST}
 use Rattle.ert_wheel.specs.declared.row.Key.{Key}
 use Rattle.ert_wheel.specs.declared.row.Row.{Row}
 
@@ -15,6 +17,13 @@ pub record IsFirstRowDue (keys : List (Option Key)) (to : ℕ) (row : Row) : Typ
   pub held : key_in keys row.slot ≡ Some (key_of row)
   pub due : row.deadline ≤ to
   pub first : (slot : ℕ) (key : Key) → key_in keys slot ≡ Some key → comes_before (row_at slot key) row ≡ false
+
+-- a row may be due by a time: one stands in a bucket in which such a row may be, up to that of the time itself
+pub record MayBeDue (keys : List (Option Key)) (passed to : ℕ) : Type 0 where
+  pub slot : ℕ
+  pub key : Key
+  pub has : key_in keys slot ≡ Some key
+  pub within : home_by passed key ≤ bucket_of passed (max (min to LAST) passed)
 
 -- the least deadline is at most `to`, and it is no later than the first time that wasn't passed
 pub record IsReached (keys : List (Option Key)) (to passed least : ℕ) : Type 0 where

@@ -5,8 +5,10 @@ use super::WheelPart;
 use ert_wheel::Row;
 
 impl WheelPart {
+    ghost use Rattle.std.specs.Bool.{OnTrue};
+    ghost use Rattle.ert_timers.specs.Expiring.{AreDue};
     ghost use Rattle.std.specs.Option.{is_some};
-    ghost use Rattle.std.specs.Prelude.{◌≡◌, ◌≤◌, MatchOption, count_by, min};
+    ghost use Rattle.std.specs.Prelude.{◌≡◌, ◌≤◌, MatchOption, [], count_by, min};
     ghost use Rattle.ert_timers.specs.Trying.{come_to};
     ghost use Rattle.ert_wheel.specs.FirstDue.{NoRowDue, IsFirstRowDue};
 
@@ -18,6 +20,14 @@ impl WheelPart {
         ensures row { MatchOption result (NoRowDue self.old.keys to) (IsFirstRowDue self.old.keys to) }
     {
         self.wheel.first_due(to)
+    }
+
+    /// Whether no row is due at `to`, as far as the buckets tell: where it is false, one may be.
+    #[inline]
+    pub(crate) fn is_idle(&self, to: u64) -> bool
+        ensures { OnTrue result (AreDue self.now to []) }
+    {
+        !self.wheel.may_be_due(to)
     }
 
     /// So many rows, or all where there are fewer.

@@ -4,12 +4,25 @@ ghost use Rattle.std.specs.Prelude.{◌≡◌};
 use super::Wheel;
 use crate::oldest::oldest_due;
 use crate::row::Row;
-use crate::walk::first_bucket;
+use crate::walk::{first_bucket, visit_end};
 
 impl<T: Copy> Wheel<T> {
-    ghost use Rattle.std.specs.Prelude.{◌≡◌, ◌≤◌, MatchOption, max};
-    ghost use Rattle.ert_wheel.specs.FirstDue.{NoRowDue, IsFirstRowDue, IsReached};
+    ghost use Rattle.std.specs.Prelude.{◌≡◌, ◌≤◌, MatchBool, MatchOption, max};
+    ghost use Rattle.ert_wheel.specs.FirstDue.{NoRowDue, IsFirstRowDue, IsReached, MayBeDue};
     ghost use Rattle.ert_wheel.specs.NextDue.{NoneBefore};
+
+    /// Whether a row may be due at `to`: one stands in a bucket that an advance up to `to` looks at. False comes only where
+    /// none is due by then.
+    ///
+    /// It looks at three words at most, and at no row.
+    #[inline]
+    pub fn may_be_due(&self, to: u64) -> bool
+        ensures { MatchBool result (MayBeDue self.now.keys self.now.passed to) (NoRowDue self.now.keys to) }
+    {
+        let end = visit_end(self.next_time, to);
+        let home = self.buckets.first_used(first_bucket(self.next_time), end);
+        home < end
+    }
 
     /// The first row, by deadline and then by order, where its deadline is at most `to`; None exactly where no row is due
     /// by then. The row stays in the wheel.

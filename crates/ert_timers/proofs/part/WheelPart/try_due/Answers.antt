@@ -3,10 +3,23 @@ use Rattle.ert_table.specs.Desks.{settings_of, view_of}
 use Rattle.ert_timers.specs.Expiring.{IsReady}
 use Rattle.ert_timers.specs.Looking.{LooksDown}
 use Rattle.ert_timers.specs.Parts.{Part}
-use Rattle.ert_timers.proofs.Trials.{ready_looked, still_held, has_tried, has_not_tried, when_none}
+use Rattle.ert_timers.proofs.Dues.{none_left}
+use Rattle.ert_timers.proofs.Trials.{ready_looked, still_held, has_idled, has_tried, has_not_tried, when_none}
 use Rattle.ert_timers.proofs.part.WheelPart.try_due.Goals as goal
 use Rattle.ert_defs.specs.declared.entry.Actor.TheVariants.{Sched}
 use Rattle.ert_wheel.specs.declared.row.Row.{Row}
+
+pub go_on-requires : goal.go_on-requires
+go_on-requires c = none_left c.args.self.now c.look_down-to.result c.if-is_idle.ensures
+
+pub returns-then-is_idle-clause-call : goal.returns-then-is_idle-clause-call
+returns-then-is_idle-clause-call c =
+    has_idled (settings_of c.args.desk.now) (view_of c.args.pass.now) c.args.self.now c.go_on.new.self c.number.result c.look_down-to.result
+    c.args.fired.now (view_of c.look_down-to.new.pass) c.number.ensures c.go_on.ensures c.look_down-to.ensures.looks c.if-is_idle.ensures
+    c.requires.stands c.requires.holds
+
+pub returns-then-is_idle-clause-on : goal.returns-then-is_idle-clause-on
+returns-then-is_idle-clause-on c = omega (arith, ap (λ (q : Part). q.passed) c.go_on.ensures, c.look_down-to.ensures.few)
 
 pub expire_all-requires-clause-holds : goal.expire_all-requires-clause-holds
 expire_all-requires-clause-holds c =

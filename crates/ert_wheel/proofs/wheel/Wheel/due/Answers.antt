@@ -53,7 +53,7 @@ pub returns-clause-each : goal.returns-clause-each
 returns-clause-each g c =
     let w = c.self.inside in
     due_each w.next_time w.len c.visit_end-end.result c.args.to c.loop-home.home c.args.self.now.keys w.buckets
-    c.loop-home.out.items c.sort_unstable.new.self.items (sees c.self.invariant c.self.view_is).wheel c.visit_end-end.ensures
+    c.loop-home.out.items c.sort_unstable.new.self.items (sees c.self.invariant c.self.view_is).wheel c.visit_end-end.ensures.spans
     c.loop-home-test.false c.loop-home.invariant.sees c.sort_unstable.ensures.permutation
 
 pub returns-clause-rows : goal.returns-clause-rows
