@@ -1,6 +1,6 @@
 -- Whether a row may be due, as the buckets tell it.
 
-use Rattle.std.proofs.Common.{◌≡◌, ℕ, ◌+◌, ◌<◌, ◌≤◌, nat_lt, max, min, List, Option, Some, sym, subst, ◌∙◌, ap, inl, inr, arith}
+use Rattle.std.proofs.Common.{◌≡◌, ℕ, ◌+◌, ◌<◌, ◌≤◌, nat_lt, max, min, List, Option, sym, subst, ◌∙◌, ap, inl, inr, arith}
 use Rattle.std.specs.Prelude.{MatchBool}
 use Rattle.std.proofs.lemmas.Bool.{cases_lt, lt-ltb, le-ltb}
 use Rattle.ert_wheel.proofs.Collect.{key_low}
@@ -41,7 +41,7 @@ module _ (next count to from end found : ℕ) (keys : List (Option Key)) (chains
               high,
               before,
               used.none_below slot (record { home = home_by next key; order = key.order }) (omega (arith, wheel.slots, key_low keys slot key has))
-              (at_place keys (home_by next) slot key has) from_on before,
+                  (at_place keys (home_by next) slot key has) from_on before,
             ))
       ]
 

@@ -1,4 +1,4 @@
-use Rattle.std.proofs.Common.{◌≡◌, ℕ, nat_lt, subst, ap}
+use Rattle.std.proofs.Common.{ℕ, nat_lt, subst, ap}
 use Rattle.std.specs.Prelude.{MatchBool}
 use Rattle.ert_wheel.proofs.Reached.{may_be}
 use Rattle.ert_wheel.proofs.Writes.{sees, passed_of}
