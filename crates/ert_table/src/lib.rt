@@ -53,8 +53,10 @@
 //! | `load_offset` | loads it | Off, Watch, Tell |
 //! | `arm` | stores a slot | Arm |
 //! | `load_timer` | loads one | Probe, Peek |
+//! | `peek` | the same, and compares it with that of a timer | Peek |
 //! | `see_timer` | loads one, with the pass that holds every actor | none |
 //! | `settle` | exchanges one, if it is as expected | Cancel, Expire, Orphan, Deliver, Drop; on a miss Cancel or Probe |
+//! | `cancel` | does what `peek` does, and what `settle` does where the timer is armed | Peek, Cancel |
 //! | `mark` | ors 1 into the word of a process that exits, and else loads it | Mark |
 //!
 //! A store needs no care for other writers: the time and the offset are the clock's part's alone, and a
