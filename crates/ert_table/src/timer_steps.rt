@@ -15,7 +15,7 @@ use crate::carry::{Settle, TimerCarry};
 use crate::desk::{Desk, Pass};
 use crate::plays::{Adds, Carried, Compares, Loads};
 use ert_defs::{Actor, Start, Status, TimerRef};
-use ert_words::{armed_deadline, timer_of, timer_word, word_after};
+use ert_words::{armed_deadline, armed_word, timer_of, timer_word, word_after};
 use std::marker::Brand;
 
 impl Settle {
@@ -86,7 +86,7 @@ impl Pass {
         ensures step { Makes desk.now self.old (arm_entry by timer start.now) self.new }
     {
         let place = desk.slot_place(timer.wheel as usize, timer.slot as usize);
-        let word = timer_word(Status::Armed, deadline, timer.generation);
+        let word = armed_word(deadline, timer.generation);
         desk.table
             .shared
             .store::<Adds<C>>(&mut self.seat, place, word);

@@ -75,6 +75,10 @@ later_word d n late tells =
     ap (λ c. (c + 8 * d) + 70368744177664 * use_of n) (armed_later n late)
     ∙ (ap (λ u. (7 + 8 * d) + 70368744177664 * u) (use_high n late) ∙ sum)
 
+-- a generation above those of the first round is of a later one
+pub is_later : (d n : ℕ) → IsTimer d n → 262143 < n → 8796093022208 ≤ n
+is_later d n timer more = elim (order_of n) [ inl low ↦ absurd (omega (arith, timer.generation_first low, more)) | inr late ↦ late ]
+
 -- what is left of a word without the status and the use of a timer
 abbrev pub rest_of : ℕ → ℕ → ℕ
 rest_of word n = (word + (18446744073709551616 - (70368744177664 * n + 1))) % 18446744073709551616

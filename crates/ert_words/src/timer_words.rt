@@ -1,6 +1,7 @@
 ghost use Rattle.std.specs.Prelude.{◌≡◌, ◌≤◌, ◌<◌, ◌↔◌, ℕ, true, IsNone, IfSome};
 ghost use Rattle.ert_defs.specs.Legal.{is_generation};
 ghost use Rattle.ert_defs.specs.declared.timer.Status.{Status};
+ghost use Rattle.ert_defs.specs.declared.timer.Status.TheVariants.{Armed};
 ghost use Rattle.ert_words.specs.Ranges.{IsTimer, IsTimerWord, TellsArmed, shown_generation};
 ghost use Rattle.ert_defs.specs.Words as words;
 
@@ -25,6 +26,19 @@ pub fn timer_word(status: Status, deadline: u64, generation: u64) -> u64
     ensures { result ≡ words.timer_word status deadline generation }
 {
     code_of(status, generation) + DEADLINE * deadline + GENERATION * use_of(generation)
+}
+
+/// The word of an armed timer, as `timer_word` tells it: one comparison tells its round.
+#[inline]
+pub fn armed_word(deadline: u64, generation: u64) -> u64
+    requires { IsTimer deadline generation }
+    ensures { result ≡ words.timer_word Armed deadline generation }
+{
+    if generation <= USES_OF_ROUND {
+        GENERATION * generation + DEADLINE * deadline + ARMED
+    } else {
+        DEADLINE * generation + ARMED_LATER
+    }
 }
 
 /// The status and deadline of a slot's word, and what it shows of the generation: all of it where the timer
