@@ -51,7 +51,7 @@
 //! | `load_time` | loads it | Look; and what has no word: Advanced, Ask, Pick, Answer, Take, Unwatch |
 //! | `store_offset` | stores the offset | Shift |
 //! | `load_offset` | loads it | Off, Watch, Tell |
-//! | `arm` | stores a slot | Arm |
+//! | `arm`, `arm_at` | stores a slot | Arm |
 //! | `load_timer` | loads one | Probe, Peek |
 //! | `peek` | the same, and compares it with that of a timer | Peek |
 //! | `see_timer` | loads one, with the pass that holds every actor | none |
@@ -83,4 +83,5 @@ mod view;
 pub use carry::{OffsetCarry, Settle, TimeCarry, TimerCarry};
 pub use desk::{Desk, Pass, Words};
 pub use laws::calls_take_place;
+pub use places::SlotPlace;
 pub use view::{Met, View};

@@ -8,11 +8,13 @@ ghost use Rattle.ert_table.specs.Desks.{settings_of, view_of, actors_of, state_o
 ghost use Rattle.ert_table.specs.Held.{is_held};
 ghost use Rattle.ert_table.specs.Peeking.{Peeks, PeeksAndCancels};
 ghost use Rattle.ert_table.specs.Places as places;
+ghost use Rattle.ert_table.specs.Places.{IsPlaceOf};
 ghost use Rattle.ert_table.specs.Settlings.{HasRow, status_from, status_to, settle_entry, parts_in, shown_in, wheel_in, slot_in};
 ghost use Rattle.ert_defs.specs.Entries.{arm_entry};
 
 use crate::carry::{Settle, TimerCarry};
 use crate::desk::{Desk, Pass};
+use crate::places::SlotPlace;
 use crate::plays::{Adds, Carried, Compares, Loads};
 use ert_defs::{Actor, Start, Status, TimerRef};
 use ert_words::{armed_deadline, armed_word, timer_of, timer_word, word_after};
@@ -46,12 +48,14 @@ impl Settle {
 impl Desk {
     /// Begins to bring the word of a slot into the caches. It is no step, and tells nothing: a caller that will write the
     /// word waits for it beside what else it reads, and not after all that it has written.
-    #[inline]
-    pub fn touch(&self, wheel: u32, slot: u32)
+    #[inline(always)]
+    pub fn touch(&self, wheel: u32, slot: u32) -> SlotPlace
         requires { IsSlot (settings_of self.now) wheel slot }
+        ensures { IsPlaceOf (settings_of self.now) wheel slot result }
     {
         let place = self.slot_place(wheel as usize, slot as usize);
         self.table.shared.peek(place);
+        SlotPlace { place }
     }
 }
 
@@ -66,9 +70,34 @@ impl Pass {
         ensures belongs { Belongs desk.now self.new }
         ensures step { Makes desk.now self.old (arm_entry by timer start.now) self.new }
     {
-        self.arm_as::<Brand>(desk, by, timer, start, deadline);
+        let place = SlotPlace {
+            place: desk.slot_place(timer.wheel as usize, timer.slot as usize),
+        };
+        self.arm_at(desk, by, timer, start, deadline, place);
     }
 
+    /// The same, where the place of the slot is known from `Desk::touch`.
+    #[inline(always)]
+    pub fn arm_at(
+        &mut self,
+        desk: &Desk,
+        by: u32,
+        timer: TimerRef,
+        start: &Start,
+        deadline: u64,
+        place: SlotPlace,
+    )
+        requires belongs { Belongs desk.now self.old }
+        requires may { MayMake desk.now self.old (arm_entry by timer start.now) }
+        requires deadline { IsDeadlineOf desk.now self.old by timer start.now deadline }
+        requires place { IsPlaceOf (settings_of desk.now) timer.wheel timer.slot place }
+        ensures belongs { Belongs desk.now self.new }
+        ensures step { Makes desk.now self.old (arm_entry by timer start.now) self.new }
+    {
+        self.arm_as::<Brand>(desk, by, timer, start, deadline, place);
+    }
+
+    #[inline(always)]
     fn arm_as<C: Carried>(
         &mut self,
         desk: &Desk,
@@ -76,20 +105,21 @@ impl Pass {
         timer: TimerRef,
         start: &Start,
         deadline: u64,
+        place: SlotPlace,
     )
         requires settings { C.settings ≡ settings_of desk.now }
         requires belongs { Belongs desk.now self.old }
         requires may { MayMake desk.now self.old (arm_entry by timer start.now) }
         requires entry { C.entry ≡ (λ n. arm_entry by timer start.now) }
         requires deadline { IsDeadlineOf desk.now self.old by timer start.now deadline }
+        requires place { IsPlaceOf (settings_of desk.now) timer.wheel timer.slot place }
         ensures belongs { Belongs desk.now self.new }
         ensures step { Makes desk.now self.old (arm_entry by timer start.now) self.new }
     {
-        let place = desk.slot_place(timer.wheel as usize, timer.slot as usize);
         let word = armed_word(deadline, timer.generation);
         desk.table
             .shared
-            .store::<Adds<C>>(&mut self.seat, place, word);
+            .store::<Adds<C>>(&mut self.seat, place.place, word);
     }
 
     /// Settles an armed timer, or hands over one that has expired, and answers whether it did.

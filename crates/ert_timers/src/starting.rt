@@ -172,9 +172,9 @@ impl WheelPart {
         ensures belongs { Belongs desk.now pass.new }
         ensures call { Arms (settings_of desk.now) (view_of pass.old) by self.old self.new slot next start.now result (view_of pass.new) }
     {
-        desk.touch(self.number(), slot);
+        let place = desk.touch(self.number(), slot);
         let timer = self.keep(slot, start, next);
-        pass.arm(desk, by, timer, start, next.deadline);
+        pass.arm_at(desk, by, timer, start, next.deadline, place);
         timer
     }
 
