@@ -2,26 +2,45 @@
 ghost use Rattle.std.specs.Prelude.{◌≡◌, ◌≤◌, ◌≤ℤ◌, ◌<ℤ◌, ◌↔◌, true, None, IsNone, IfSome, option_map, pos};
 ghost use Rattle.ert_defs.specs.Actors.{IsUser};
 ghost use Rattle.ert_defs.specs.Lines.{end_time};
-ghost use Rattle.ert_defs.specs.Milliseconds.{down, deadline_of};
+ghost use Rattle.ert_defs.specs.Milliseconds.{down, up, deadline_of};
 ghost use Rattle.ert_defs.specs.declared.entry.Actor.TheVariants.{Caller};
 ghost use Rattle.ert_table.specs.Desks.{settings_of, view_of, actors_of, Belongs};
 ghost use Rattle.ert_table.specs.Held.{is_held};
-ghost use Rattle.ert_timers.specs.Looking.{LooksDown, LooksAhead};
+ghost use Rattle.ert_timers.specs.Looking.{LooksDown, LooksAhead, now_in};
 ghost use Rattle.ert_timers.specs.Restarting.{IsForecast};
 ghost use Rattle.ert_timers.specs.declared.looking.Ahead.{Ahead};
 
 use ert_calls::look;
-use ert_defs::milliseconds::{deadline_after, rounded};
+use ert_defs::milliseconds::{
+    NANOSECONDS_PER_MILLISECOND, deadline_after, rounded, rounded_up,
+};
 use ert_defs::{Actor, Settings, Start};
 use ert_table::{Desk, Pass};
 
-/// What a start is told by its look at the time, in milliseconds after the start time.
+/// What a start is told by its look at the time.
 #[derive(Clone, Copy)]
 pub struct Ahead {
-    /// The time of the look, rounded down.
-    pub(crate) now: u64,
-    /// The deadline that is asked for.
+    /// The time of the look, in nanoseconds after the start time.
+    pub(crate) passed: u64,
+    /// The same in milliseconds, rounded up.
+    pub(crate) up: u64,
+    /// The deadline that is asked for, in milliseconds after the start time.
     pub(crate) deadline: u64,
+}
+
+impl Ahead {
+    ghost use Rattle.std.specs.Prelude.{◌≡◌};
+    ghost use Rattle.ert_timers.specs.Looking.{now_in};
+
+    /// The time of the look in milliseconds after the start time, rounded down.
+    ///
+    /// Few starts need it, so it is computed where it is needed.
+    #[inline(always)]
+    pub(crate) fn rounded_down(self) -> u64
+        ensures { result ≡ now_in self }
+    {
+        self.passed / NANOSECONDS_PER_MILLISECOND as u64
+    }
 }
 
 /// Looks at the time: the whole milliseconds since the start time.
@@ -45,7 +64,7 @@ pub(crate) fn look_ahead(desk: &Desk, pass: &mut Pass, by: u32, start: &Start) -
     requires user { IsUser (settings_of desk.now) (Caller by) }
     ensures belongs { Belongs desk.now pass.new }
     ensures looks { LooksAhead (settings_of desk.now) (view_of pass.old) by start.now result (view_of pass.new) }
-    ensures now { IfSome result (λ ahead. ahead.now ≤ 8796093022207) }
+    ensures now { IfSome result (λ ahead. now_in ahead ≤ 8796093022207) }
     ensures deadline { IfSome result (λ ahead. ahead.deadline ≤ 8796093022207) }
 {
     let now = look(desk, pass, Actor::Caller(by));
@@ -67,7 +86,7 @@ pub(crate) fn look_as_forecast(
     requires forecast { IsForecast (settings_of desk.now) start.now forecast }
     ensures belongs { Belongs desk.now pass.new }
     ensures looks { LooksAhead (settings_of desk.now) (view_of pass.old) by start.now result (view_of pass.new) }
-    ensures now { IfSome result (λ ahead. ahead.now ≤ 8796093022207) }
+    ensures now { IfSome result (λ ahead. now_in ahead ≤ 8796093022207) }
     ensures deadline { IfSome result (λ ahead. ahead.deadline ≤ 8796093022207) }
 {
     let now = look(desk, pass, Actor::Caller(by));
@@ -82,14 +101,16 @@ fn ahead_at(settings: &Settings, start: &Start, now: i64) -> Option<Ahead>
     requires low { settings.now.start ≤ℤ now }
     requires high { now <ℤ end_time settings.now }
     ensures told { option_map (λ (a : Ahead). a.deadline) result ≡ deadline_of settings.now start.now now }
-    ensures down_to { IfSome result (λ ahead. pos ahead.now ≡ down settings.now now) }
-    ensures now { IfSome result (λ ahead. ahead.now ≤ 8796093022207) }
+    ensures down_to { IfSome result (λ ahead. pos (now_in ahead) ≡ down settings.now now) }
+    ensures up_to { IfSome result (λ ahead. pos ahead.up ≡ up settings.now now) }
+    ensures now { IfSome result (λ ahead. now_in ahead ≤ 8796093022207) }
     ensures deadline { IfSome result (λ ahead. ahead.deadline ≤ 8796093022207) }
 {
-    let (down, up) = rounded(settings, now);
+    let up = rounded_up(settings, now);
     let deadline = deadline_after(settings, start.when, up as i64)?;
     Some(Ahead {
-        now: down,
+        passed: (now - settings.start) as u64,
+        up,
         deadline,
     })
 }

@@ -22,6 +22,7 @@ impl WheelPart {
     ghost use Rattle.ert_table.specs.Desks.{settings_of, view_of, front_of, state_of, Belongs};
     ghost use Rattle.ert_table.specs.Calls.{IsMade};
     ghost use Rattle.ert_timers.specs.Changes.{CanTakeTimer};
+    ghost use Rattle.ert_timers.specs.Looking.{now_in};
     ghost use Rattle.ert_timers.specs.Parts.{HoldsCaller, PartStands, slot_at, last_timer};
     ghost use Rattle.ert_timers.specs.Passed.{GainsOne};
     ghost use Rattle.ert_timers.specs.Starting.{HoldsTimer, IsUseFor, Orphans, Arms, Ends, LooksAt, LooksAtSome, LooksAround, TakesSlot};
@@ -64,7 +65,7 @@ impl WheelPart {
         let Some(slot) = self.take_slot(desk, pass, by, ahead) else {
             return Err(StartErr::Full);
         };
-        let next = self.next_use(slot, ahead.now, ahead.deadline);
+        let next = self.next_use(slot, ahead.rounded_down(), ahead.deadline);
         let timer = self.arm(desk, pass, by, slot, start, next);
         self.end(desk, pass, by, timer, start.dest, next.deadline);
         Ok(timer)
@@ -76,15 +77,15 @@ impl WheelPart {
         requires belongs { Belongs desk.now pass.old }
         requires holds { HoldsCaller (settings_of desk.now) (view_of pass.old) by self.old.number }
         requires stands { PartStands (settings_of desk.now) (front_of pass.old) self.old }
-        requires now { ahead.now ≡ natural (down (settings_of desk.now) (state_of desk.now pass.old).clock.now) }
+        requires now { now_in ahead ≡ natural (down (settings_of desk.now) (state_of desk.now pass.old).clock.now) }
         ensures belongs { Belongs desk.now pass.new }
-        ensures call { TakesSlot (settings_of desk.now) (view_of pass.old) by ahead.now self.old self.new result (view_of pass.new) }
+        ensures call { TakesSlot (settings_of desk.now) (view_of pass.old) by (now_in ahead) self.old self.new result (view_of pass.new) }
     {
-        if let Some(slot) = self.pick(ahead.now, ahead.deadline) {
+        if let Some(slot) = self.pick(ahead.up, ahead.deadline) {
             return Some(slot);
         }
-        self.look_around(desk, pass, by, ahead.now);
-        self.pick(ahead.now, ahead.deadline)
+        self.look_around(desk, pass, by, ahead.rounded_down());
+        self.pick(ahead.up, ahead.deadline)
     }
 
     /// Looks at `MOST_LOOKS` slots, or at all where there are fewer, where none is held free, and holds those free that
