@@ -202,6 +202,36 @@ impl WheelPart {
         if !pass.mark(desk, Actor::Caller(by), dest, false) {
             return;
         }
+        self.orphan_last(desk, pass, by, timer.slot, timer.generation, deadline);
+    }
+
+    /// The same as `orphan` for the last timer of a slot. Its name comes in parts: so a start, which seldom gets here,
+    /// needn't write it to memory.
+    #[cold]
+    #[inline(never)]
+    fn orphan_last(
+        &mut self,
+        desk: &Desk,
+        pass: &mut Pass,
+        by: u32,
+        slot: u32,
+        generation: u64,
+        deadline: u64,
+    )
+        requires belongs { Belongs desk.now pass.old }
+        requires holds { HoldsCaller (settings_of desk.now) (view_of pass.old) by self.old.number }
+        requires stands { PartStands (settings_of desk.now) (front_of pass.old) self.old }
+        requires generation { generation ≡ (slot_at self.old.slots slot).generation }
+        requires held { HoldsTimer self.old (last_timer self.old.number self.old.slots slot) deadline }
+        requires exited { (state (settings_of desk.now) (front_of pass.old)).exited (slot_at self.old.slots slot).dest ≡ true }
+        ensures belongs { Belongs desk.now pass.new }
+        ensures call { Orphans (settings_of desk.now) (view_of pass.old) by self.old self.new (last_timer self.old.number self.old.slots slot) (view_of pass.new) }
+    {
+        let timer = TimerRef {
+            wheel: self.number(),
+            slot,
+            generation,
+        };
         self.orphan(desk, pass, by, timer, deadline);
     }
 
