@@ -1,6 +1,6 @@
 -- What is left of a timer, by what its slot shows and by the state.
 
-use Rattle.std.proofs.Common.{◌≡◌, ◌≢◌, ℕ, ◌-◌, ℤ, pos, negsuc, ◌-ℤ◌, arith, Bool, true, false, cond, List, [], ◌∷◌, ◌++◌, Option, Some, None, option_map, refl, sym, subst, ◌∙◌}
+use Rattle.std.proofs.Common.{◌≡◌, ◌≢◌, ℕ, ◌-◌, ℤ, pos, negsuc, ◌-ℤ◌, arith, Bool, true, false, cond, List, [], ◌∷◌, ◌++◌, Option, Some, None, option_map, refl, sym, ap, subst, ◌∙◌}
 use Rattle.std.proofs.lemmas.Int.{ints}
 use Rattle.std.specs.Prelude.{IsSome}
 use Rattle.ert_effects.specs.TimerCalls.{read_entries, Reads, cancel_entries, Cancels}
@@ -17,6 +17,7 @@ use Rattle.ert_defs.specs.declared.timer.Status.{Status}
 use Rattle.ert_defs.specs.declared.timer.Status.TheVariants.{Armed, Expired, Delivered, Cancelled, Orphaned, Dropped}
 use Rattle.ert_defs.specs.declared.timer.TimerRef.{TimerRef}
 use Rattle.ert_table.specs.Held.{is_held}
+use Rattle.ert_table.specs.Peeking.{Peeks, CancelsFound, PeeksAndCancels}
 use Rattle.ert_table.specs.Settlings.{Settles}
 use Rattle.ert_table.specs.Takes.{Appends, TakesPlace}
 use Rattle.ert_table.specs.declared.carry.Settle.TheVariants.{Cancel as ToCancel}
@@ -24,7 +25,6 @@ use Rattle.ert_table.specs.declared.view.View.{View}
 use Rattle.ert_table.proofs.Calls.{step_takes_place, takes_place_then}
 use Rattle.ert_table.proofs.SlotFacts.{slots_kept}
 use Rattle.ert_calls.specs.Left.{AtLastStep, IsLeftByLook, TellsLeft, CallTells}
-use Rattle.ert_calls.specs.Deadlines.{Peeks}
 use Rattle.ert_calls.proofs.Looks.{can_step, look_stepped}
 
 -- a difference, or 0 where it is negative
@@ -175,7 +175,7 @@ cancels_none g v by timer now u out step = record {
 }
 
 -- a cancel of a timer that isn't armed when it is read
-pub cancels_unarmed : (g : Settings) (v : View) (by : Actor) (timer : TimerRef) (now : ℤ) (u : View) (found answer : Option ℕ) (w : View)
+cancels_unarmed : (g : Settings) (v : View) (by : Actor) (timer : TimerRef) (now : ℤ) (u : View) (found answer : Option ℕ) (w : View)
     → found ≡ None → answer ≡ None → is_held v.actors by ≡ true → names_timer g timer ≡ true → Appends g v (look_entry by now) u
     → Peeks g u by timer found w → CallTells g v by timer answer (Cancels g by timer answer) w
 cancels_unarmed g v by timer now u found answer w none nothing held within step peek =
@@ -228,18 +228,27 @@ cancels g v by timer now u deadline w hit x held within step peek settled =
           (can_step g w (cancel_entry by timer answer) x last).found);
     }
 
--- where it was armed at the last step
-pub cancels_hit : (g : Settings) (v : View) (by : Actor) (timer : TimerRef) (now : ℤ) (u : View) (found : Option ℕ) (deadline told : ℕ) (w x : View)
-    → found ≡ Some deadline → told ≡ left g deadline now → is_held v.actors by ≡ true → names_timer g timer ≡ true
-    → Appends g v (look_entry by now) u → Peeks g u by timer found w → Settles g w by timer deadline ToCancel true x
-    → CallTells g v by timer (Some told) (Cancels g by timer (Some told)) x
-cancels_hit g v by timer now u found deadline told w x some is held within step peek settled =
-    subst (λ n. CallTells g v by timer (Some n) (Cancels g by timer (Some n)) x) (sym is)
-    (cancels g v by timer now u deadline w true x held within step (subst (λ y. Peeks g u by timer y w) some peek) settled)
+mapped : (f : ℕ → ℕ) (d : ℕ) (hit : Bool) → cond hit (Some (f d)) None ≡ option_map f (cond hit (Some d) None)
+mapped f d true = refl
+mapped f d false = refl
 
--- and where it wasn't
-pub cancels_missed : (g : Settings) (v : View) (by : Actor) (timer : TimerRef) (now : ℤ) (u : View) (found : Option ℕ) (deadline : ℕ) (w x : View)
-    → found ≡ Some deadline → is_held v.actors by ≡ true → names_timer g timer ≡ true → Appends g v (look_entry by now) u
-    → Peeks g u by timer found w → Settles g w by timer deadline ToCancel false x → CallTells g v by timer None (Cancels g by timer None) x
-cancels_missed g v by timer now u found deadline w x some held within step peek settled =
-    cancels g v by timer now u deadline w false x held within step (subst (λ y. Peeks g u by timer y w) some peek) settled
+-- a cancel of one in range, by what was found when it was read
+cancels_by : (g : Settings) (v : View) (by : Actor) (timer : TimerRef) (now : ℤ) (u : View) (found : Option ℕ) (m : View) (cancelled : Option ℕ) (w : View)
+    → is_held v.actors by ≡ true → names_timer g timer ≡ true → Appends g v (look_entry by now) u → Peeks g u by timer found m
+    → CancelsFound g m by timer found cancelled w
+    → CallTells g v by timer (option_map (λ d. left g d now) cancelled) (Cancels g by timer (option_map (λ d. left g d now) cancelled)) w
+cancels_by g v by timer now u None m cancelled w held within step peek cancel =
+    cancels_unarmed g v by timer now u None (option_map (λ d. left g d now) cancelled) w refl (ap (option_map (λ d. left g d now)) cancel.0)
+    held within step (subst (λ (x : View). Peeks g u by timer None x) (sym cancel.1) peek)
+cancels_by g v by timer now u (Some deadline) m cancelled w held within step peek cancel =
+    let f : ℕ → ℕ = λ d. left g d now in
+    subst (λ x. CallTells g v by timer x (Cancels g by timer x) w) (mapped f deadline cancel.0 ∙ ap (option_map f) (sym cancel.1))
+    (cancels g v by timer now u deadline m cancel.0 w held within step peek cancel.2)
+
+-- and by its deadline where it was cancelled
+pub cancels_all : (g : Settings) (v : View) (by : Actor) (timer : TimerRef) (now : ℤ) (u : View) (cancelled answer : Option ℕ) (w : View)
+    → answer ≡ option_map (λ d. left g d now) cancelled → is_held v.actors by ≡ true → names_timer g timer ≡ true → Appends g v (look_entry by now) u
+    → PeeksAndCancels g u by timer cancelled w → CallTells g v by timer answer (Cancels g by timer answer) w
+cancels_all g v by timer now u cancelled answer w is held within step call =
+    subst (λ x. CallTells g v by timer x (Cancels g by timer x) w) (sym is)
+    (cancels_by g v by timer now u call.found call.between cancelled w held within step call.peek call.cancel)

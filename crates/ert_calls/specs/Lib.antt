@@ -1,3 +1,2 @@
-pub mod Deadlines
 pub mod Left
 pub mod Published

@@ -5,19 +5,17 @@
 //! cancels these are those of the one before.
 ghost use Rattle.std.specs.Prelude.{◌≡◌, ◌≤ℤ◌, ◌<ℤ◌, true};
 ghost use Rattle.ert_defs.specs.Actors.{IsUser};
-ghost use Rattle.ert_defs.specs.Legal.{names_timer};
 ghost use Rattle.ert_defs.specs.Lines.{end_time};
 ghost use Rattle.ert_defs.specs.Milliseconds as milliseconds;
 ghost use Rattle.ert_table.specs.Desks.{settings_of, view_of, actors_of, Belongs};
 ghost use Rattle.ert_table.specs.Held.{is_held};
 ghost use Rattle.ert_effects.specs.TimerCalls.{Reads, Cancels};
 ghost use Rattle.ert_calls.specs.Left.{CallTells};
-ghost use Rattle.ert_calls.specs.Deadlines.{deadline_shown, Peeks};
 
 use crate::clock_calls::look;
 use ert_defs::milliseconds::rounded_up;
-use ert_defs::{Actor, Settings, Status, TimerRef};
-use ert_table::{Desk, Pass, Settle, TimerCarry};
+use ert_defs::{Actor, Settings, TimerRef};
+use ert_table::{Desk, Pass};
 
 /// The whole milliseconds left of a timer (`erlang` module reference, `read_timer`).
 ///
@@ -33,7 +31,7 @@ pub fn read_timer(desk: &Desk, pass: &mut Pass, by: Actor, timer: TimerRef) -> O
     if !timer.is_in_range(desk.settings()) {
         return None;
     }
-    let deadline = armed_deadline(desk, pass, by, timer)?;
+    let deadline = pass.peek(desk, by, timer)?;
     Some(left(desk.settings(), deadline, now))
 }
 
@@ -54,35 +52,8 @@ pub fn cancel_timer(desk: &Desk, pass: &mut Pass, by: Actor, timer: TimerRef) ->
     if !timer.is_in_range(desk.settings()) {
         return None;
     }
-    let deadline = armed_deadline(desk, pass, by, timer)?;
-    if pass.settle(desk, by, timer, deadline, Settle::Cancel) {
-        Some(left(desk.settings(), deadline, now))
-    } else {
-        None
-    }
-}
-
-/// Reads a timer: its deadline where it is armed, in milliseconds after the start time.
-fn armed_deadline(desk: &Desk, pass: &mut Pass, by: Actor, timer: TimerRef) -> Option<u64>
-    requires belongs { Belongs desk.now pass.old }
-    requires held { is_held (actors_of pass.old) by ≡ true }
-    requires user { IsUser (settings_of desk.now) by }
-    requires in_range { names_timer (settings_of desk.now) timer ≡ true }
-    ensures belongs { Belongs desk.now pass.new }
-    ensures step { Peeks (settings_of desk.now) (view_of pass.old) by timer result (view_of pass.new) }
-{
-    let shown = pass.load_timer(desk, by, &TimerCarry::Peek { timer });
-    deadline_of(shown, timer.generation)
-}
-
-/// The deadline of a timer of this generation, by what its slot shows; None where it isn't armed.
-fn deadline_of(shown: Option<(Status, u64, u64)>, wanted: u64) -> Option<u64>
-    ensures { result ≡ deadline_shown wanted shown }
-{
-    match shown {
-        Some((Status::Armed, deadline, generation)) if generation == wanted => Some(deadline),
-        _ => None,
-    }
+    let deadline = pass.cancel(desk, by, timer)?;
+    Some(left(desk.settings(), deadline, now))
 }
 
 /// The whole milliseconds from a time to a deadline; 0 where the deadline has passed.

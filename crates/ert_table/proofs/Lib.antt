@@ -17,6 +17,7 @@ pub mod Hits
 pub mod Misses
 pub mod SettleActs
 pub mod ReadActs
+pub mod Peeks
 pub mod ArmActs
 pub mod Calls
 pub mod Makings

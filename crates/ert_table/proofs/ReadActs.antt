@@ -31,7 +31,7 @@ use Rattle.ert_table.specs.declared.carry.TimerCarry.TheVariants.{Probe, Peek}
 use Rattle.ert_table.specs.declared.view.View.{View}
 
 -- what a word shows of a timer
-parts_used : (status : Status) (deadline generation : ℕ) → IsTimer deadline generation
+pub parts_used : (status : Status) (deadline generation : ℕ) → IsTimer deadline generation
     → parts_in (timer_word status deadline generation) ≡ Some (status, deadline, shown_generation status generation)
 parts_used status deadline generation fits =
     let n : ℕ = timer_word status deadline generation in

@@ -1,40 +1,14 @@
 -- The word of a timer has its status, its deadline and its generation.
 
-use Rattle.std.proofs.Common.{◌≡◌, ℕ, nat_lt, nat_eq, cond, Bool, true, false, ◌<◌, inl, inr, ◌⊎◌, ◌+◌, ◌*◌, ◌/◌, ◌%◌, ◌≤◌, Some, refl, sym, ap, ◌∙◌, arith}
+use Rattle.std.proofs.Common.{◌≡◌, ℕ, nat_eq, cond, true, false, inl, inr, ◌+◌, ◌*◌, ◌/◌, ◌%◌, ◌≤◌, Some, refl, sym, ap, ◌∙◌, arith}
 use Rattle.std.proofs.lemmas.Bool.Decides.{nat_tests}
 use Rattle.ert_defs.specs.Timers.{use_of}
 use Rattle.ert_defs.specs.Words.{status_code, timer_word}
 use Rattle.ert_defs.specs.declared.timer.Status.{Status}
 use Rattle.ert_defs.specs.declared.timer.Status.TheVariants.{Armed, Expired, Delivered, Cancelled, Orphaned, Dropped}
 use Rattle.ert_words.specs.Ranges.{IsTimer, shown_generation}
+use Rattle.ert_words.proofs.Armed.{use_low, use_high, armed_first, armed_later, order_of, code_high}
 use Rattle.ert_table.specs.Settlings.{status_by, status_in, word_deadline, word_generation}
-
-pub use_low : (n : ℕ) → n < 8796093022208 → use_of n ≡ n
-use_low n low = grind (arith, nat_tests)
-
-pub use_high : (n : ℕ) → 8796093022208 ≤ n → use_of n ≡ n / 8796093022208
-use_high n high = grind (arith, nat_tests)
-
-armed_first : (n : ℕ) → n < 8796093022208 → status_code Armed n ≡ 1
-armed_first n low = grind (arith, nat_tests)
-
-armed_later : (n : ℕ) → 8796093022208 ≤ n → status_code Armed n ≡ 7
-armed_later n high = grind (arith, nat_tests)
-
-order_of : (n : ℕ) → (n < 8796093022208) ⊎ (8796093022208 ≤ n)
-order_of n = at (nat_lt n 8796093022208) refl
-  where
-    at : (b : Bool) → nat_lt n 8796093022208 ≡ b → (n < 8796093022208) ⊎ (8796093022208 ≤ n)
-    at true is = inl (grind (arith, nat_tests))
-    at false is = inr (grind (arith, nat_tests))
-
-pub code_low : (status : Status) (generation : ℕ) → 1 ≤ status_code status generation
-code_low Armed n = elim (order_of n) [ inl low ↦ omega (arith, armed_first n low) | inr high ↦ omega (arith, armed_later n high) ]
-code_low _ n = omega arith
-
-code_high : (status : Status) (generation : ℕ) → status_code status generation ≤ 7
-code_high Armed n = elim (order_of n) [ inl low ↦ omega (arith, armed_first n low) | inr high ↦ omega (arith, armed_later n high) ]
-code_high _ n = omega arith
 
 by_code : (status : Status) (generation : ℕ) → status_by (status_code status generation) ≡ Some status
 by_code Armed n = elim (order_of n) [ inl low ↦ ap status_by (armed_first n low) | inr high ↦ ap status_by (armed_later n high) ]

@@ -5,10 +5,15 @@ use Rattle.ert_defs.specs.States.{State}
 use Rattle.ert_defs.specs.Words.{time_word, offset_word, is_final, word_of_slot, process_word, wheel_width, wheels_width}
 use Rattle.ert_defs.specs.declared.settings.Settings.{Settings}
 use Rattle.ert_table.specs.declared.desk.Words.{Words}
+use Rattle.ert_table.specs.declared.places.SlotPlace.{SlotPlace}
 
 -- the place of the word of a slot of a wheel
 abbrev pub slot_place : Settings → ℕ → ℕ → ℕ
 slot_place g w k = (16 + (w * wheel_width g)) + k
+
+-- a place that was found is that of a slot of a wheel
+abbrev pub IsPlaceOf : Settings → ℕ → ℕ → SlotPlace → Type 0
+IsPlaceOf g w k found = found.place ≡ slot_place g w k
 
 -- the place of the word of a slot, where the slots of all wheels are counted
 abbrev pub timer_place : Settings → ℕ → ℕ

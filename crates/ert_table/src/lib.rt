@@ -51,10 +51,12 @@
 //! | `load_time` | loads it | Look; and what has no word: Advanced, Ask, Pick, Answer, Take, Unwatch |
 //! | `store_offset` | stores the offset | Shift |
 //! | `load_offset` | loads it | Off, Watch, Tell |
-//! | `arm` | stores a slot | Arm |
+//! | `arm`, `arm_at` | stores a slot | Arm |
 //! | `load_timer` | loads one | Probe, Peek |
+//! | `peek` | the same, and compares it with that of a timer | Peek |
 //! | `see_timer` | loads one, with the pass that holds every actor | none |
 //! | `settle` | exchanges one, if it is as expected | Cancel, Expire, Orphan, Deliver, Drop; on a miss Cancel or Probe |
+//! | `cancel` | does what `peek` does, and what `settle` does where the timer is armed | Peek, Cancel |
 //! | `mark` | ors 1 into the word of a process that exits, and else loads it | Mark |
 //!
 //! A store needs no care for other writers: the time and the offset are the clock's part's alone, and a
@@ -81,4 +83,5 @@ mod view;
 pub use carry::{OffsetCarry, Settle, TimeCarry, TimerCarry};
 pub use desk::{Desk, Pass, Words};
 pub use laws::calls_take_place;
+pub use places::SlotPlace;
 pub use view::{Met, View};

@@ -21,6 +21,12 @@ pub(crate) const OFFSET: usize = TIME + 1 + GAP;
 /// The place of the first slot of the first wheel.
 const SLOTS: usize = OFFSET + 1 + GAP;
 
+/// The place of the word of a slot, as `Desk::touch` tells it.
+#[derive(Clone, Copy, Debug, PartialEq, Eq)]
+pub struct SlotPlace {
+    pub(crate) place: usize,
+}
+
 /// The place of a slot of a wheel.
 pub(crate) fn slot_place(settings: &Settings, wheel: usize, slot: usize) -> usize
     requires checked { IsChecked settings.now }

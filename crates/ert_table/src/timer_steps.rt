@@ -1,17 +1,23 @@
 //! Steps on the words of slots.
-ghost use Rattle.std.specs.Prelude.{◌≡◌, ◌≢◌, Some};
-ghost use Rattle.ert_defs.specs.Legal.{IsSlot};
-ghost use Rattle.ert_defs.specs.Words.{word_of_slot};
+ghost use Rattle.std.specs.Prelude.{◌≡◌, ◌≢◌, true, Some};
+ghost use Rattle.ert_defs.specs.Actors.{IsUser};
+ghost use Rattle.ert_defs.specs.Legal.{IsSlot, names_timer};
+ghost use Rattle.ert_defs.specs.Words as words;
 ghost use Rattle.ert_defs.specs.declared.timer.Status.TheVariants.{Armed};
-ghost use Rattle.ert_table.specs.Desks.{settings_of, state_of, Belongs, MayMake, Makes, MayLoadTimer, read_made, settled_made, SettlesOrMisses, IsDeadlineOf};
+ghost use Rattle.ert_table.specs.Desks.{settings_of, view_of, actors_of, state_of, Belongs, MayMake, Makes, MayLoadTimer, read_made, settled_made, SettlesOrMisses, IsDeadlineOf};
+ghost use Rattle.ert_table.specs.Held.{is_held};
+ghost use Rattle.ert_table.specs.Peeking.{Peeks, PeeksAndCancels};
+ghost use Rattle.ert_table.specs.Places as places;
+ghost use Rattle.ert_table.specs.Places.{IsPlaceOf};
 ghost use Rattle.ert_table.specs.Settlings.{HasRow, status_from, status_to, settle_entry, parts_in, shown_in, wheel_in, slot_in};
 ghost use Rattle.ert_defs.specs.Entries.{arm_entry};
 
 use crate::carry::{Settle, TimerCarry};
 use crate::desk::{Desk, Pass};
+use crate::places::SlotPlace;
 use crate::plays::{Adds, Carried, Compares, Loads};
 use ert_defs::{Actor, Start, Status, TimerRef};
-use ert_words::{timer_of, timer_word};
+use ert_words::{armed_deadline, armed_word, timer_of, timer_word, word_after};
 use std::marker::Brand;
 
 impl Settle {
@@ -42,12 +48,14 @@ impl Settle {
 impl Desk {
     /// Begins to bring the word of a slot into the caches. It is no step, and tells nothing: a caller that will write the
     /// word waits for it beside what else it reads, and not after all that it has written.
-    #[inline]
-    pub fn touch(&self, wheel: u32, slot: u32)
+    #[inline(always)]
+    pub fn touch(&self, wheel: u32, slot: u32) -> SlotPlace
         requires { IsSlot (settings_of self.now) wheel slot }
+        ensures { IsPlaceOf (settings_of self.now) wheel slot result }
     {
         let place = self.slot_place(wheel as usize, slot as usize);
         self.table.shared.peek(place);
+        SlotPlace { place }
     }
 }
 
@@ -62,9 +70,34 @@ impl Pass {
         ensures belongs { Belongs desk.now self.new }
         ensures step { Makes desk.now self.old (arm_entry by timer start.now) self.new }
     {
-        self.arm_as::<Brand>(desk, by, timer, start, deadline);
+        let place = SlotPlace {
+            place: desk.slot_place(timer.wheel as usize, timer.slot as usize),
+        };
+        self.arm_at(desk, by, timer, start, deadline, place);
     }
 
+    /// The same, where the place of the slot is known from `Desk::touch`.
+    #[inline(always)]
+    pub fn arm_at(
+        &mut self,
+        desk: &Desk,
+        by: u32,
+        timer: TimerRef,
+        start: &Start,
+        deadline: u64,
+        place: SlotPlace,
+    )
+        requires belongs { Belongs desk.now self.old }
+        requires may { MayMake desk.now self.old (arm_entry by timer start.now) }
+        requires deadline { IsDeadlineOf desk.now self.old by timer start.now deadline }
+        requires place { IsPlaceOf (settings_of desk.now) timer.wheel timer.slot place }
+        ensures belongs { Belongs desk.now self.new }
+        ensures step { Makes desk.now self.old (arm_entry by timer start.now) self.new }
+    {
+        self.arm_as::<Brand>(desk, by, timer, start, deadline, place);
+    }
+
+    #[inline(always)]
     fn arm_as<C: Carried>(
         &mut self,
         desk: &Desk,
@@ -72,20 +105,21 @@ impl Pass {
         timer: TimerRef,
         start: &Start,
         deadline: u64,
+        place: SlotPlace,
     )
         requires settings { C.settings ≡ settings_of desk.now }
         requires belongs { Belongs desk.now self.old }
         requires may { MayMake desk.now self.old (arm_entry by timer start.now) }
         requires entry { C.entry ≡ (λ n. arm_entry by timer start.now) }
         requires deadline { IsDeadlineOf desk.now self.old by timer start.now deadline }
+        requires place { IsPlaceOf (settings_of desk.now) timer.wheel timer.slot place }
         ensures belongs { Belongs desk.now self.new }
         ensures step { Makes desk.now self.old (arm_entry by timer start.now) self.new }
     {
-        let place = desk.slot_place(timer.wheel as usize, timer.slot as usize);
-        let word = timer_word(Status::Armed, deadline, timer.generation);
+        let word = armed_word(deadline, timer.generation);
         desk.table
             .shared
-            .store::<Adds<C>>(&mut self.seat, place, word);
+            .store::<Adds<C>>(&mut self.seat, place.place, word);
     }
 
     /// Settles an armed timer, or hands over one that has expired, and answers whether it did.
@@ -107,9 +141,13 @@ impl Pass {
         ensures step { SettlesOrMisses desk.now self.old by timer deadline how result self.new }
         ensures settled { (state_of desk.now self.new).status timer ≢ Some Armed }
     {
-        self.settle_as::<Brand>(desk, by, how, timer, deadline)
+        let place = desk.slot_place(timer.wheel as usize, timer.slot as usize);
+        let word = timer_word(how.status_before(), deadline, timer.generation);
+        self.settle_as::<Brand>(desk, by, how, timer, deadline, place, word)
     }
 
+    /// The same, where the place and the word of the timer are known already.
+    #[inline(always)]
     fn settle_as<C: Carried>(
         &mut self,
         desk: &Desk,
@@ -117,24 +155,66 @@ impl Pass {
         how: Settle,
         timer: TimerRef,
         deadline: u64,
+        place: usize,
+        word: u64,
     ) -> bool
         requires settings { C.settings ≡ settings_of desk.now }
         requires belongs { Belongs desk.now self.old }
         requires row { HasRow (state_of desk.now self.old) timer deadline }
+        requires place { place ≡ places.slot_place (settings_of desk.now) timer.wheel timer.slot }
+        requires word { word ≡ words.timer_word (status_from how) deadline timer.generation }
         requires entry { C.entry ≡ settle_entry (settings_of desk.now) (state_of desk.now self.old) by timer deadline how }
         requires may { MayMake desk.now self.old (settled_made desk.now self.old by timer deadline how) }
         ensures belongs { Belongs desk.now self.new }
         ensures step { SettlesOrMisses desk.now self.old by timer deadline how result self.new }
         ensures settled { (state_of desk.now self.new).status timer ≢ Some Armed }
     {
-        let place = desk.slot_place(timer.wheel as usize, timer.slot as usize);
-        let old = timer_word(how.status_before(), deadline, timer.generation);
-        let new = timer_word(how.status_after(), deadline, timer.generation);
+        let new = word_after(word, how.status_after(), timer.generation);
         let found = desk
             .table
             .shared
-            .compare_exchange::<Compares<C>>(&mut self.seat, place, old, new);
-        found == old
+            .compare_exchange::<Compares<C>>(&mut self.seat, place, word, new);
+        found == word
+    }
+
+    /// Reads a timer that is in range (`erlang` module reference, `read_timer`): its deadline where it is armed, in
+    /// milliseconds after the start time.
+    #[inline(always)]
+    pub fn peek(&mut self, desk: &Desk, by: Actor, timer: TimerRef) -> Option<u64>
+        requires belongs { Belongs desk.now self.old }
+        requires held { is_held (actors_of self.old) by ≡ true }
+        requires user { IsUser (settings_of desk.now) by }
+        requires in_range { names_timer (settings_of desk.now) timer ≡ true }
+        ensures belongs { Belongs desk.now self.new }
+        ensures step { Peeks (settings_of desk.now) (view_of self.old) by timer result (view_of self.new) }
+    {
+        let place = desk.slot_place(timer.wheel as usize, timer.slot as usize);
+        let word = self.load_timer_as::<Brand>(desk, by, &TimerCarry::Peek { timer }, place);
+        armed_deadline(word, timer.generation)
+    }
+
+    /// Reads a timer that is in range, and cancels it where it is armed (`erlang` module reference, `cancel_timer`): its
+    /// deadline where it was cancelled, in milliseconds after the start time.
+    ///
+    /// These are two steps. The exchange expects the word that was loaded, so it misses the timer where somebody else
+    /// settled it in between.
+    #[inline(always)]
+    pub fn cancel(&mut self, desk: &Desk, by: Actor, timer: TimerRef) -> Option<u64>
+        requires belongs { Belongs desk.now self.old }
+        requires held { is_held (actors_of self.old) by ≡ true }
+        requires user { IsUser (settings_of desk.now) by }
+        requires in_range { names_timer (settings_of desk.now) timer ≡ true }
+        ensures belongs { Belongs desk.now self.new }
+        ensures steps { PeeksAndCancels (settings_of desk.now) (view_of self.old) by timer result (view_of self.new) }
+    {
+        let place = desk.slot_place(timer.wheel as usize, timer.slot as usize);
+        let word = self.load_timer_as::<Brand>(desk, by, &TimerCarry::Peek { timer }, place);
+        let deadline = armed_deadline(word, timer.generation)?;
+        if self.settle_as::<Brand>(desk, by, Settle::Cancel, timer, deadline, place, word) {
+            Some(deadline)
+        } else {
+            None
+        }
     }
 
     /// Loads the word of a slot, and records what is carried.
@@ -154,21 +234,29 @@ impl Pass {
         ensures step { Makes desk.now self.old (read_made desk.now self.old by carry.now result) self.new }
         ensures shown { result ≡ shown_in (state_of desk.now self.new) (wheel_in carry.now) (slot_in carry.now) }
     {
-        let word = self.load_timer_as::<Brand>(desk, by, carry);
+        let (wheel, slot) = carry.slot();
+        let place = desk.slot_place(wheel as usize, slot as usize);
+        let word = self.load_timer_as::<Brand>(desk, by, carry, place);
         timer_of(word)
     }
 
-    fn load_timer_as<C: Carried>(&mut self, desk: &Desk, by: Actor, carry: &TimerCarry) -> u64
+    #[inline(always)]
+    fn load_timer_as<C: Carried>(
+        &mut self,
+        desk: &Desk,
+        by: Actor,
+        carry: &TimerCarry,
+        place: usize,
+    ) -> u64
         requires settings { C.settings ≡ settings_of desk.now }
         requires entry { C.entry ≡ (λ n. read_made desk.now self.old by carry.now (parts_in n)) }
         requires belongs { Belongs desk.now self.old }
         requires may { MayLoadTimer desk.now self.old by carry.now }
+        requires place { place ≡ places.slot_place (settings_of desk.now) (wheel_in carry.now) (slot_in carry.now) }
         ensures belongs { Belongs desk.now self.new }
         ensures step { Makes desk.now self.old (read_made desk.now self.old by carry.now (parts_in result)) self.new }
-        ensures word { word_of_slot (state_of desk.now self.new) (wheel_in carry.now) (slot_in carry.now) ≡ result }
+        ensures word { words.word_of_slot (state_of desk.now self.new) (wheel_in carry.now) (slot_in carry.now) ≡ result }
     {
-        let (wheel, slot) = carry.slot();
-        let place = desk.slot_place(wheel as usize, slot as usize);
         desk.table.shared.load::<Loads<C>>(&mut self.seat, place)
     }
 }

@@ -23,7 +23,7 @@ use Rattle.ert_timers.proofs.Standing.{clock_at, takes_none}
 use Rattle.ert_timers.proofs.Starts.{ahead_stands, now_is}
 use Rattle.ert_timers.specs.Changes.{CanTakeTimer, dropped, has_uses, kept, slot_for}
 use Rattle.ert_timers.specs.Freeing.{IsHeld, IsLast}
-use Rattle.ert_timers.specs.Looking.{LooksAhead}
+use Rattle.ert_timers.specs.Looking.{LooksAhead, now_in}
 use Rattle.ert_timers.specs.Parts.{HoldsCaller, Part, PartStands, last_timer, slot_at}
 use Rattle.ert_timers.specs.Passed.{GainsOne, LosesRows}
 use Rattle.ert_timers.specs.Restarting.{CanRenew}
@@ -118,9 +118,9 @@ untaken_after g v by start ahead u p timer r looks =
 
 pub takes_after : (g : Settings) (v : View) (by : ℕ) (start : Start) (ahead : Option Ahead) (a : Ahead) (u : View) (p : Part) (timer : TimerRef)
     → Renews g v by p timer → ahead ≡ Some a → LooksAhead g v by start ahead u
-    → TakesSlot g u by a.now (dropped p timer.slot) (dropped p timer.slot) (Some timer.slot) u
+    → TakesSlot g u by (now_in a) (dropped p timer.slot) (dropped p timer.slot) (Some timer.slot) u
 takes_after g v by start ahead a u p timer r is looks =
-    takes_again g u by a.now (dropped p timer.slot) timer.slot (stands_after g v by start ahead u p timer r looks) (free_again p timer.slot r.can) r.can.uses
+    takes_again g u by (now_in a) (dropped p timer.slot) timer.slot (stands_after g v by start ahead u p timer r looks) (free_again p timer.slot r.can) r.can.uses
     (untaken_after g v by start ahead u p timer r looks) (now_is g v by start ahead a u is looks)
 
 -- where a timer was forgotten, and then one was started, no row has come but that of this

@@ -1,3 +1,4 @@
+pub mod Rounding
 pub mod Later
 pub mod Rows
 pub mod StayArmed

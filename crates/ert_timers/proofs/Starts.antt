@@ -23,7 +23,7 @@ use Rattle.ert_table.specs.declared.view.View.{View}
 use Rattle.ert_table.proofs.Calls.{step_takes_place, takes_place_then}
 use Rattle.ert_laws.proofs.SlotUses.{timers_few}
 use Rattle.ert_timers.specs.Changes.{is_resting, next_use}
-use Rattle.ert_timers.specs.Looking.{LooksAhead}
+use Rattle.ert_timers.specs.Looking.{LooksAhead, now_in}
 use Rattle.ert_timers.specs.Parts.{HoldsCaller, Part, PartStands, slot_at, last_timer}
 use Rattle.ert_timers.specs.Starting.{AreFull, Arms, Ends, IsUseFor, TakesSlot, probes_from}
 use Rattle.ert_timers.specs.declared.looking.Ahead.{Ahead}
@@ -51,18 +51,18 @@ ahead_stands g v by start ahead u p stands holds looks =
 -- the look of a start that is accepted
 record IsAhead (g : Settings) (start : Start) (looked : ℤ) (ahead : Ahead) : Type 0 where
   told : deadline_of g start looked ≡ Some ahead.deadline
-  down_to : pos ahead.now ≡ down g looked
+  down_to : pos (now_in ahead) ≡ down g looked
 
 is_ahead : (g : Settings) (v : View) (by : ℕ) (start : Start) (ahead : Option Ahead) (a : Ahead) (u : View) (looks : LooksAhead g v by start ahead u)
     → ahead ≡ Some a → IsAhead g start looks.now a
 is_ahead g v by start ahead a u looks is = record {
   told = sym looks.told ∙ ap (option_map (λ (x : Ahead). x.deadline)) is;
-  down_to = subst (λ o. IfSome o (λ x. pos x.now ≡ down g looks.now)) is looks.down_to;
+  down_to = subst (λ o. IfSome o (λ x. pos (now_in x) ≡ down g looks.now)) is looks.down_to;
 }
 
 -- the milliseconds of the look are those of the clock after it
 pub now_is : (g : Settings) (v : View) (by : ℕ) (start : Start) (ahead : Option Ahead) (a : Ahead) (u : View) → ahead ≡ Some a
-    → LooksAhead g v by start ahead u → a.now ≡ clock_at g (state g u.front)
+    → LooksAhead g v by start ahead u → (now_in a) ≡ clock_at g (state g u.front)
 now_is g v by start ahead a u is looks =
     ap natural ((is_ahead g v by start ahead a u looks is).down_to ∙ ap (down g) looks.time)
 
@@ -103,10 +103,10 @@ round_of n m same round = record {
 
 -- a start for which no slot was found
 pub is_full : (g : Settings) (v : View) (by : ℕ) (p q : Part) (start : Start) (ahead : Option Ahead) (a : Ahead) (slot : Option ℕ) (u x : View)
-    → PartStands g v.front p → ahead ≡ Some a → slot ≡ None → LooksAhead g v by start ahead u → TakesSlot g u by a.now p q slot x
+    → PartStands g v.front p → ahead ≡ Some a → slot ≡ None → LooksAhead g v by start ahead u → TakesSlot g u by (now_in a) p q slot x
     → IsMade g v (Starts g by p.number start (Err Full)) x
 is_full g v by p q start ahead a slot u x stands has none looks takes =
-    let all = subst (λ s. TakesSlot g u by a.now p q s x) none takes in
+    let all = subst (λ s. TakesSlot g u by (now_in a) p q s x) none takes in
     let is = is_ahead g v by start ahead a u looks has in
     let s : State = state g v.front in
     let round : Round g.slots = round_of (length p.slots) g.slots stands.holds.many all.finds.round in
@@ -125,9 +125,9 @@ is_full g v by p q start ahead a slot u x stands has none looks takes =
           subst (λ n. IsRoundTaken by p.number n s round all.probes) (ap natural is.down_to) (record {
             first = probes_from by p.number round.from all.finds.finds.ahead;
             second = probes_from by p.number 0 all.finds.finds.behind;
-            onward = are_taken by p.number a.now s q round.from round.ahead all.finds.finds.ahead all.finds.finds.many_ahead all.finds.none
+            onward = are_taken by p.number (now_in a) s q round.from round.ahead all.finds.finds.ahead all.finds.finds.many_ahead all.finds.none
                 (λ j low. lasts j (omega (arith, low, round.within))) (λ j low. aboves j (omega (arith, low, round.within))) all.finds.finds.full_ahead;
-            around = are_taken by p.number a.now s q 0 round.behind all.finds.finds.behind all.finds.finds.many_behind all.finds.none
+            around = are_taken by p.number (now_in a) s q 0 round.behind all.finds.finds.behind all.finds.finds.many_behind all.finds.none
                 (λ j low. lasts j (omega (arith, low, round.apart, round.within))) (λ j low. aboves j (omega (arith, low, round.apart, round.within)))
                 all.finds.finds.full_behind;
             entries = all.finds.finds.probes_are;
@@ -166,26 +166,26 @@ last_look g v by now p q start ahead slot u x holds looks takes =
 
 -- the next use of the slot that was found, for this start
 pub use_ahead : (g : Settings) (v : View) (by : ℕ) (p q : Part) (start : Start) (ahead : Option Ahead) (a : Ahead) (slot : Option ℕ) (k : ℕ) (next : Use)
-    (u x : View) → HoldsCaller g v by p.number → ahead ≡ Some a → slot ≡ Some k → a.now ≤ 8796093022207 → a.deadline ≤ 8796093022207 → LooksAhead g v by start ahead u
-    → TakesSlot g u by a.now p q slot x → next ≡ next_use (slot_at q.slots k).generation a.now a.deadline
+    (u x : View) → HoldsCaller g v by p.number → ahead ≡ Some a → slot ≡ Some k → (now_in a) ≤ 8796093022207 → a.deadline ≤ 8796093022207 → LooksAhead g v by start ahead u
+    → TakesSlot g u by (now_in a) p q slot x → next ≡ next_use (slot_at q.slots k).generation (now_in a) a.deadline
     → IsUseFor g (state g x.front) by q.number k start next
 use_ahead g v by p q start ahead a slot k next u x holds has found now_high deadline_high looks takes next_is =
-    let here = subst (λ s. TakesSlot g u by a.now p q s x) found takes in
+    let here = subst (λ s. TakesSlot g u by (now_in a) p q s x) found takes in
     let s : State = state g x.front in
     let w : ℕ = q.number in
     let is = is_ahead g v by start ahead a u looks has in
-    let look = last_look g v by a.now p q start ahead slot u x holds looks takes in
-    let now : a.now ≡ natural (down g (s.looked (Caller by))) = ap natural (is.down_to ∙ ap (down g) (sym look)) in
+    let look = last_look g v by (now_in a) p q start ahead slot u x holds looks takes in
+    let now : (now_in a) ≡ natural (down g (s.looked (Caller by))) = ap natural (is.down_to ∙ ap (down g) (sym look)) in
     let due : deadline_of g start (s.looked (Caller by)) ≡ Some a.deadline = ap (deadline_of g start) look ∙ is.told in
     let high : k < g.slots = subst (λ n. k < n) here.stands.holds.many here.finds.low in
     let last : (slot_at q.slots k).generation ≡ s.last w k = here.stands.holds.lasts k high in
-    let same : next ≡ next_use (s.last w k) a.now a.deadline = next_is ∙ ap (λ n. next_use n a.now a.deadline) last in
-    let can = use_is (uses_at s w k) a.now a.deadline (ordered g x.front here.stands.legal w k).sound here.rested now_high deadline_high in
+    let same : next ≡ next_use (s.last w k) (now_in a) a.deadline = next_is ∙ ap (λ n. next_use n (now_in a) a.deadline) last in
+    let can = use_is (uses_at s w k) (now_in a) a.deadline (ordered g x.front here.stands.legal w k).sound here.rested now_high deadline_high in
     record {
       wanted = a.deadline;
       due = due;
       can = subst (λ n. IsNextUse (uses_at s w k) n a.deadline next.generation) now
-          (subst (λ (y : Use). IsNextUse (uses_at s w k) a.now a.deadline y.generation) (sym same) can.0);
+          (subst (λ (y : Use). IsNextUse (uses_at s w k) (now_in a) a.deadline y.generation) (sym same) can.0);
       deadline = subst (λ n. next.deadline ≡ deadline_in (turned (uses_at s w k)).since n a.deadline) now
           (ap (λ (y : Use). y.deadline) same ∙ can.1);
     }

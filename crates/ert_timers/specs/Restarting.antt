@@ -7,6 +7,7 @@ use Rattle.ert_defs.specs.Milliseconds.{down, deadline_of}
 use Rattle.ert_defs.specs.declared.settings.Settings.{Settings}
 use Rattle.ert_defs.specs.declared.timer.Start.{Start}
 use Rattle.ert_timers.specs.Changes.{has_uses}
+use Rattle.ert_timers.specs.Looking.{now_in}
 use Rattle.ert_timers.specs.Parts.{Part, slot_at}
 use Rattle.ert_timers.specs.declared.looking.Forecast.{Forecast}
 use Rattle.ert_wheel.specs.Rows.{key_in}
@@ -22,6 +23,6 @@ pub record CanRenew (p : Part) (k : ℕ) : Type 0 where
 -- what a start would be told by a look that shows a time
 pub record IsForecast (g : Settings) (start : Start) (f : Forecast) : Type 0 where
   pub told : deadline_of g start f.time ≡ Some f.ahead.deadline
-  pub down_to : pos f.ahead.now ≡ down g f.time
-  pub now : f.ahead.now ≤ 8796093022207
+  pub down_to : pos (now_in f.ahead) ≡ down g f.time
+  pub now : now_in f.ahead ≤ 8796093022207
   pub deadline : f.ahead.deadline ≤ 8796093022207

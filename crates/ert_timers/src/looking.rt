@@ -1,27 +1,49 @@
 //! The look with which a call begins, and what is computed from it.
-ghost use Rattle.std.specs.Prelude.{◌≡◌, ◌≤◌, ◌≤ℤ◌, ◌<ℤ◌, ◌↔◌, true, None, IsNone, IfSome, option_map, pos};
+ghost use Rattle.std.specs.Prelude.{◌≡◌, ◌≤◌, ℤ, ◌≤ℤ◌, ◌<ℤ◌, ◌↔◌, true, None, IsNone, IfSome, option_map, pos};
 ghost use Rattle.ert_defs.specs.Actors.{IsUser};
 ghost use Rattle.ert_defs.specs.Lines.{end_time};
+ghost use Rattle.ert_defs.specs.Milliseconds as milliseconds;
 ghost use Rattle.ert_defs.specs.Milliseconds.{down, deadline_of};
+ghost use Rattle.ert_defs.specs.declared.settings.Settings.{Settings as GivenSettings};
+ghost use Rattle.ert_defs.specs.declared.timer.When.TheVariants.{After};
 ghost use Rattle.ert_defs.specs.declared.entry.Actor.TheVariants.{Caller};
 ghost use Rattle.ert_table.specs.Desks.{settings_of, view_of, actors_of, Belongs};
 ghost use Rattle.ert_table.specs.Held.{is_held};
-ghost use Rattle.ert_timers.specs.Looking.{LooksDown, LooksAhead};
+ghost use Rattle.ert_timers.specs.Looking.{LooksDown, LooksAhead, now_in};
 ghost use Rattle.ert_timers.specs.Restarting.{IsForecast};
 ghost use Rattle.ert_timers.specs.declared.looking.Ahead.{Ahead};
 
 use ert_calls::look;
-use ert_defs::milliseconds::{deadline_after, rounded};
-use ert_defs::{Actor, Settings, Start};
+use ert_defs::milliseconds::{
+    LAST_DEADLINE, NANOSECONDS_PER_MILLISECOND, deadline_at, rounded, rounded_up,
+};
+use ert_defs::{Actor, Settings, Start, When};
 use ert_table::{Desk, Pass};
 
-/// What a start is told by its look at the time, in milliseconds after the start time.
+/// What a start is told by its look at the time.
 #[derive(Clone, Copy)]
 pub struct Ahead {
-    /// The time of the look, rounded down.
-    pub(crate) now: u64,
-    /// The deadline that is asked for.
+    /// The time of the look, in nanoseconds after the start time.
+    pub(crate) passed: u64,
+    /// The same in milliseconds, rounded up.
+    pub(crate) up: u64,
+    /// The deadline that is asked for, in milliseconds after the start time.
     pub(crate) deadline: u64,
+}
+
+impl Ahead {
+    ghost use Rattle.std.specs.Prelude.{◌≡◌};
+    ghost use Rattle.ert_timers.specs.Looking.{now_in};
+
+    /// The time of the look in milliseconds after the start time, rounded down.
+    ///
+    /// Few starts need it, so it is computed where it is needed.
+    #[inline(always)]
+    pub(crate) fn rounded_down(self) -> u64
+        ensures { result ≡ now_in self }
+    {
+        self.passed / NANOSECONDS_PER_MILLISECOND as u64
+    }
 }
 
 /// Looks at the time: the whole milliseconds since the start time.
@@ -45,7 +67,7 @@ pub(crate) fn look_ahead(desk: &Desk, pass: &mut Pass, by: u32, start: &Start) -
     requires user { IsUser (settings_of desk.now) (Caller by) }
     ensures belongs { Belongs desk.now pass.new }
     ensures looks { LooksAhead (settings_of desk.now) (view_of pass.old) by start.now result (view_of pass.new) }
-    ensures now { IfSome result (λ ahead. ahead.now ≤ 8796093022207) }
+    ensures now { IfSome result (λ ahead. now_in ahead ≤ 8796093022207) }
     ensures deadline { IfSome result (λ ahead. ahead.deadline ≤ 8796093022207) }
 {
     let now = look(desk, pass, Actor::Caller(by));
@@ -67,7 +89,7 @@ pub(crate) fn look_as_forecast(
     requires forecast { IsForecast (settings_of desk.now) start.now forecast }
     ensures belongs { Belongs desk.now pass.new }
     ensures looks { LooksAhead (settings_of desk.now) (view_of pass.old) by start.now result (view_of pass.new) }
-    ensures now { IfSome result (λ ahead. ahead.now ≤ 8796093022207) }
+    ensures now { IfSome result (λ ahead. now_in ahead ≤ 8796093022207) }
     ensures deadline { IfSome result (λ ahead. ahead.deadline ≤ 8796093022207) }
 {
     let now = look(desk, pass, Actor::Caller(by));
@@ -82,16 +104,49 @@ fn ahead_at(settings: &Settings, start: &Start, now: i64) -> Option<Ahead>
     requires low { settings.now.start ≤ℤ now }
     requires high { now <ℤ end_time settings.now }
     ensures told { option_map (λ (a : Ahead). a.deadline) result ≡ deadline_of settings.now start.now now }
-    ensures down_to { IfSome result (λ ahead. pos ahead.now ≡ down settings.now now) }
-    ensures now { IfSome result (λ ahead. ahead.now ≤ 8796093022207) }
+    ensures down_to { IfSome result (λ ahead. pos (now_in ahead) ≡ down settings.now now) }
+    ensures up_to { IfSome result (λ ahead. pos ahead.up ≡ milliseconds.up settings.now now) }
+    ensures now { IfSome result (λ ahead. now_in ahead ≤ 8796093022207) }
     ensures deadline { IfSome result (λ ahead. ahead.deadline ≤ 8796093022207) }
 {
-    let (down, up) = rounded(settings, now);
-    let deadline = deadline_after(settings, start.when, up as i64)?;
+    let up = rounded_up(settings, now);
+    let deadline = deadline_from(settings, start.when, up)?;
     Some(Ahead {
-        now: down,
+        passed: (now - settings.start) as u64,
+        up,
         deadline,
     })
+}
+
+/// The deadline of a start at so many milliseconds after the start time, rounded up, both in milliseconds after the start
+/// time; None where the start is refused.
+#[inline]
+fn deadline_from(settings: &Settings, when: When, up: u64) -> Option<u64>
+    requires { up ≤ 8796093022207 }
+    ensures told { (time : ℤ) → pos up ≡ milliseconds.up settings.now time → result ≡ milliseconds.deadline_when settings.now when time }
+    ensures high { IfSome result (λ deadline. deadline ≤ 8796093022207) }
+{
+    match when {
+        When::After(wait) => deadline_behind(up, wait),
+        When::At(time) => deadline_at(settings, time),
+    }
+}
+
+/// The deadline so many milliseconds later; None where that is outside its limits, or the number is negative.
+///
+/// One comparison tells both: a negative number is greater, without its sign, than what is left up to the last deadline.
+#[inline]
+fn deadline_behind(up: u64, wait: i64) -> Option<u64>
+    requires { up ≤ 8796093022207 }
+    ensures told { (settings : GivenSettings) (time : ℤ) → pos up ≡ milliseconds.up settings time
+        → result ≡ milliseconds.deadline_when settings (After wait) time }
+    ensures high { IfSome result (λ deadline. deadline ≤ 8796093022207) }
+{
+    let later = wait.cast_unsigned();
+    if later > LAST_DEADLINE - up {
+        return None;
+    }
+    Some(up + later)
 }
 
 /// What a start would be told by a look that shows a certain time.

@@ -50,14 +50,14 @@ impl WheelPart {
         ensures memory { result ≢ Err NoMemory }
         ensures rows { GainsOne (dropped self.old timer.slot) self.new result }
     {
-        if !self.can_renew(timer, forecast.ahead.now, forecast.ahead.deadline) {
+        if !self.can_renew(timer, forecast.ahead.up, forecast.ahead.deadline) {
             return self.start_anew(desk, pass, by, timer, start);
         }
         let Some(ahead) = look_as_forecast(desk, pass, by, start, forecast) else {
             self.drop_row(timer.slot);
             return Err(StartErr::BadArg);
         };
-        let next = self.next_use(timer.slot, ahead.now, ahead.deadline);
+        let next = self.next_use(timer.slot, ahead.rounded_down(), ahead.deadline);
         let named = self.arm_again(desk, pass, by, timer.slot, start, next);
         self.end(desk, pass, by, named, start.dest, next.deadline);
         Ok(named)

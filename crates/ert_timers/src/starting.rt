@@ -22,6 +22,7 @@ impl WheelPart {
     ghost use Rattle.ert_table.specs.Desks.{settings_of, view_of, front_of, state_of, Belongs};
     ghost use Rattle.ert_table.specs.Calls.{IsMade};
     ghost use Rattle.ert_timers.specs.Changes.{CanTakeTimer};
+    ghost use Rattle.ert_timers.specs.Looking.{now_in};
     ghost use Rattle.ert_timers.specs.Parts.{HoldsCaller, PartStands, slot_at, last_timer};
     ghost use Rattle.ert_timers.specs.Passed.{GainsOne};
     ghost use Rattle.ert_timers.specs.Starting.{HoldsTimer, IsUseFor, Orphans, Arms, Ends, LooksAt, LooksAtSome, LooksAround, TakesSlot};
@@ -64,7 +65,7 @@ impl WheelPart {
         let Some(slot) = self.take_slot(desk, pass, by, ahead) else {
             return Err(StartErr::Full);
         };
-        let next = self.next_use(slot, ahead.now, ahead.deadline);
+        let next = self.next_use(slot, ahead.rounded_down(), ahead.deadline);
         let timer = self.arm(desk, pass, by, slot, start, next);
         self.end(desk, pass, by, timer, start.dest, next.deadline);
         Ok(timer)
@@ -76,15 +77,15 @@ impl WheelPart {
         requires belongs { Belongs desk.now pass.old }
         requires holds { HoldsCaller (settings_of desk.now) (view_of pass.old) by self.old.number }
         requires stands { PartStands (settings_of desk.now) (front_of pass.old) self.old }
-        requires now { ahead.now ≡ natural (down (settings_of desk.now) (state_of desk.now pass.old).clock.now) }
+        requires now { now_in ahead ≡ natural (down (settings_of desk.now) (state_of desk.now pass.old).clock.now) }
         ensures belongs { Belongs desk.now pass.new }
-        ensures call { TakesSlot (settings_of desk.now) (view_of pass.old) by ahead.now self.old self.new result (view_of pass.new) }
+        ensures call { TakesSlot (settings_of desk.now) (view_of pass.old) by (now_in ahead) self.old self.new result (view_of pass.new) }
     {
-        if let Some(slot) = self.pick(ahead.now, ahead.deadline) {
+        if let Some(slot) = self.pick(ahead.up, ahead.deadline) {
             return Some(slot);
         }
-        self.look_around(desk, pass, by, ahead.now);
-        self.pick(ahead.now, ahead.deadline)
+        self.look_around(desk, pass, by, ahead.rounded_down());
+        self.pick(ahead.up, ahead.deadline)
     }
 
     /// Looks at `MOST_LOOKS` slots, or at all where there are fewer, where none is held free, and holds those free that
@@ -172,9 +173,9 @@ impl WheelPart {
         ensures belongs { Belongs desk.now pass.new }
         ensures call { Arms (settings_of desk.now) (view_of pass.old) by self.old self.new slot next start.now result (view_of pass.new) }
     {
-        desk.touch(self.number(), slot);
+        let place = desk.touch(self.number(), slot);
         let timer = self.keep(slot, start, next);
-        pass.arm(desk, by, timer, start, next.deadline);
+        pass.arm_at(desk, by, timer, start, next.deadline, place);
         timer
     }
 
@@ -201,6 +202,36 @@ impl WheelPart {
         if !pass.mark(desk, Actor::Caller(by), dest, false) {
             return;
         }
+        self.orphan_last(desk, pass, by, timer.slot, timer.generation, deadline);
+    }
+
+    /// The same as `orphan` for the last timer of a slot. Its name comes in parts: so a start, which seldom gets here,
+    /// needn't write it to memory.
+    #[cold]
+    #[inline(never)]
+    fn orphan_last(
+        &mut self,
+        desk: &Desk,
+        pass: &mut Pass,
+        by: u32,
+        slot: u32,
+        generation: u64,
+        deadline: u64,
+    )
+        requires belongs { Belongs desk.now pass.old }
+        requires holds { HoldsCaller (settings_of desk.now) (view_of pass.old) by self.old.number }
+        requires stands { PartStands (settings_of desk.now) (front_of pass.old) self.old }
+        requires generation { generation ≡ (slot_at self.old.slots slot).generation }
+        requires held { HoldsTimer self.old (last_timer self.old.number self.old.slots slot) deadline }
+        requires exited { (state (settings_of desk.now) (front_of pass.old)).exited (slot_at self.old.slots slot).dest ≡ true }
+        ensures belongs { Belongs desk.now pass.new }
+        ensures call { Orphans (settings_of desk.now) (view_of pass.old) by self.old self.new (last_timer self.old.number self.old.slots slot) (view_of pass.new) }
+    {
+        let timer = TimerRef {
+            wheel: self.number(),
+            slot,
+            generation,
+        };
         self.orphan(desk, pass, by, timer, deadline);
     }
 

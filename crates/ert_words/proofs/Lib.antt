@@ -1,2 +1,3 @@
+pub mod Armed
 pub mod Held
 pub mod Moved

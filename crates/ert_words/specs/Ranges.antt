@@ -1,6 +1,6 @@
 -- Which values have a word, and which numbers are words.
 
-use Rattle.std.specs.Prelude.{◌≡◌, ◌⊎◌, ℕ, ℤ, pos, ◌<◌, ◌≤◌, ◌%◌, ◌+ℤ◌, ◌≤ℤ◌, Bool, FitsSigned}
+use Rattle.std.specs.Prelude.{◌≡◌, ◌⊎◌, ℕ, ℤ, pos, ◌<◌, ◌≤◌, ◌%◌, ◌+ℤ◌, ◌≤ℤ◌, Bool, Option, Some, IfSome, FitsSigned}
 use Rattle.std.specs.Int.{w64}
 use Rattle.ert_defs.specs.Lines.{IsOffset}
 use Rattle.ert_defs.specs.Timers.{use_of}
@@ -52,3 +52,9 @@ pub record IsUsedWord (word : ℕ) : Type 0 where
 -- the word of a slot, used or not
 abbrev pub IsTimerWord : ℕ → Type 0
 IsTimerWord word = (word ≡ 0) ⊎ IsUsedWord word
+
+-- what a word tells of the timer of a generation: its deadline where the word is that of the timer, armed
+pub record TellsArmed (word generation : ℕ) (answer : Option ℕ) : Type 0 where
+  pub unpacks : (deadline : ℕ) → IsTimer deadline generation → word ≡ timer_word Armed deadline generation → answer ≡ Some deadline
+  pub packs : IfSome answer (λ deadline. word ≡ timer_word Armed deadline generation)
+  pub in_range : IfSome answer (λ deadline. IsTimer deadline generation)

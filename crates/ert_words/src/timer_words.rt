@@ -1,9 +1,11 @@
-ghost use Rattle.std.specs.Prelude.{◌≡◌, ◌↔◌, ℕ, IsNone, IfSome};
+ghost use Rattle.std.specs.Prelude.{◌≡◌, ◌≤◌, ◌<◌, ◌↔◌, ℕ, true, IsNone, IfSome};
+ghost use Rattle.ert_defs.specs.Legal.{is_generation};
 ghost use Rattle.ert_defs.specs.declared.timer.Status.{Status};
-ghost use Rattle.ert_words.specs.Ranges.{IsTimer, IsTimerWord, shown_generation};
+ghost use Rattle.ert_defs.specs.declared.timer.Status.TheVariants.{Armed};
+ghost use Rattle.ert_words.specs.Ranges.{IsTimer, IsTimerWord, TellsArmed, shown_generation};
 ghost use Rattle.ert_defs.specs.Words as words;
 
-use ert_defs::{FIRST_LATER_GENERATION, Status, use_of};
+use ert_defs::{FIRST_LATER_GENERATION, Status, USES_OF_ROUND, use_of};
 
 /// The place of the deadline: the status is below it.
 const DEADLINE: u64 = 1 << 3;
@@ -24,6 +26,19 @@ pub fn timer_word(status: Status, deadline: u64, generation: u64) -> u64
     ensures { result ≡ words.timer_word status deadline generation }
 {
     code_of(status, generation) + DEADLINE * deadline + GENERATION * use_of(generation)
+}
+
+/// The word of an armed timer, as `timer_word` tells it: one comparison tells its round.
+#[inline]
+pub fn armed_word(deadline: u64, generation: u64) -> u64
+    requires { IsTimer deadline generation }
+    ensures { result ≡ words.timer_word Armed deadline generation }
+{
+    if generation <= USES_OF_ROUND {
+        GENERATION * generation + DEADLINE * deadline + ARMED
+    } else {
+        DEADLINE * generation + ARMED_LATER
+    }
 }
 
 /// The status and deadline of a slot's word, and what it shows of the generation: all of it where the timer
@@ -50,8 +65,63 @@ pub fn timer_of(word: u64) -> Option<(Status, u64, u64)>
     Some((status, deadline, word / GENERATION))
 }
 
+/// The deadline of a timer of this generation, in milliseconds after the start, where the word is that of the timer and
+/// it is armed; else None.
+///
+/// It compares the word as a whole, which takes less than `timer_of`.
+#[inline(always)]
+pub fn armed_deadline(word: u64, generation: u64) -> Option<u64>
+    requires { is_generation generation ≡ true }
+    ensures { TellsArmed word generation result }
+{
+    if generation <= USES_OF_ROUND {
+        deadline_of_first(word, generation)
+    } else {
+        deadline_of_later(word, generation)
+    }
+}
+
+/// The same in the first round: without status and generation the word has nothing but the deadline.
+#[inline(always)]
+fn deadline_of_first(word: u64, generation: u64) -> Option<u64>
+    requires low { 1 ≤ generation }
+    requires high { generation ≤ 262143 }
+    ensures { TellsArmed word generation result }
+{
+    let rest = word.wrapping_sub(GENERATION * generation + ARMED);
+    if rest % DEADLINE == 0 && rest < GENERATION {
+        Some(rest / DEADLINE)
+    } else {
+        None
+    }
+}
+
+/// The same in a later round: the generation, which tells the deadline, stands whole behind the status.
+#[inline]
+fn deadline_of_later(word: u64, generation: u64) -> Option<u64>
+    requires low { 8796093022208 ≤ generation }
+    requires high { generation < 2305843009213693952 }
+    ensures { TellsArmed word generation result }
+{
+    if word == DEADLINE * generation + ARMED_LATER {
+        Some(generation % FIRST_LATER_GENERATION)
+    } else {
+        None
+    }
+}
+
+/// The word of a timer that gets another status, by its word before.
+#[inline(always)]
+pub fn word_after(word: u64, status: Status, generation: u64) -> u64
+    ensures { (before : Status) (deadline : ℕ) → IsTimer deadline generation
+        → word ≡ words.timer_word before deadline generation → result ≡ words.timer_word status deadline generation }
+{
+    word - word % DEADLINE + code_of(status, generation)
+}
+
 fn code_of(status: Status, generation: u64) -> u64
-    ensures { result ≡ words.status_code status generation }
+    ensures code { result ≡ words.status_code status generation }
+    ensures few { result ≤ 7 }
 {
     match status {
         Status::Armed if generation < FIRST_LATER_GENERATION => ARMED,

@@ -1,8 +1,8 @@
-use Rattle.std.proofs.Common.{◌≡◌, ◌∙◌, ap, rules, FitsSigned, w64, to_z, of_z, to_z-of_z}
+use Rattle.std.proofs.Common.{◌≡◌, ◌∙◌, ℕ, Some, None, option_map, sym, ap, rules, FitsSigned, w64, to_z, of_z, to_z-of_z}
 use Rattle.ert_defs.specs.Milliseconds.{left}
 use Rattle.ert_defs.specs.declared.settings.Settings.{Settings}
 use Rattle.ert_table.specs.Desks.{settings_of, view_of}
-use Rattle.ert_calls.proofs.Timings.{cancels_none, cancels_unarmed, cancels_hit, cancels_missed}
+use Rattle.ert_calls.proofs.Timings.{cancels_none, cancels_all}
 use Rattle.ert_calls.proofs.timer_calls.cancel_timer.Goals as goal
 
 pub returns-then-not-is_in_range-clause-call : goal.returns-then-not-is_in_range-clause-call
@@ -10,22 +10,24 @@ returns-then-not-is_in_range-clause-call c = cancels_none (settings_of c.args.de
 
 pub returns-in_err-deadline-clause-call : goal.returns-in_err-deadline-clause-call
 returns-in_err-deadline-clause-call c =
-    cancels_unarmed (settings_of c.args.desk.now) (view_of c.args.pass.now) c.args.by c.args.timer c.look-now.result (view_of c.look-now.new.pass)
-    c.armed_deadline.result c.from_residual.result (view_of c.armed_deadline.new.pass) (search rules) (search rules) c.requires.held (search rules)
-    c.look-now.ensures.step c.armed_deadline.ensures.step
+    let g = settings_of c.args.desk.now in
+    let none : c.cancel.result ≡ None = search rules in
+    let nothing : c.from_residual.result ≡ None = search rules in
+    cancels_all g (view_of c.args.pass.now) c.args.by c.args.timer c.look-now.result (view_of c.look-now.new.pass)
+    c.cancel.result c.from_residual.result (view_of c.cancel.new.self)
+    (nothing ∙ sym (ap (option_map (λ (d : ℕ). left g d c.look-now.result)) none))
+    c.requires.held (search rules) c.look-now.ensures.step c.cancel.ensures.steps
 
-pub returns-then-settle-clause-call : goal.returns-then-settle-clause-call
-returns-then-settle-clause-call c =
+pub returns-clause-call : goal.returns-clause-call
+returns-clause-call c =
+    let g = settings_of c.args.desk.now in
+    let deadline = c.in_ok-deadline.deadline in
     let fits : FitsSigned w64 c.look-now.result = search rules in
-    let told : c.left.result ≡ left (settings_of c.args.desk.now) c.in_ok-deadline.deadline c.look-now.result =
+    let told : c.left.result ≡ left g deadline c.look-now.result =
     simp to_z-of_z at (c.left.ensures
-    ∙ ap (λ (s : Settings). left s c.in_ok-deadline.deadline (to_z w64 (of_z w64 c.look-now.result))) c.settings-then-settle.ensures) in
-    cancels_hit (settings_of c.args.desk.now) (view_of c.args.pass.now) c.args.by c.args.timer c.look-now.result (view_of c.look-now.new.pass)
-    c.armed_deadline.result c.in_ok-deadline.deadline c.left.result (view_of c.armed_deadline.new.pass) (view_of c.settle.new.self) (search rules) told
-    c.requires.held (search rules) c.look-now.ensures.step c.armed_deadline.ensures.step c.if-settle.ensures.step
-
-pub returns-else-settle-clause-call : goal.returns-else-settle-clause-call
-returns-else-settle-clause-call c =
-    cancels_missed (settings_of c.args.desk.now) (view_of c.args.pass.now) c.args.by c.args.timer c.look-now.result (view_of c.look-now.new.pass)
-    c.armed_deadline.result c.in_ok-deadline.deadline (view_of c.armed_deadline.new.pass) (view_of c.settle.new.self) (search rules)
-    c.requires.held (search rules) c.look-now.ensures.step c.armed_deadline.ensures.step c.if-settle.ensures.step
+    ∙ ap (λ (s : Settings). left s deadline (to_z w64 (of_z w64 c.look-now.result))) c.settings-2.ensures) in
+    let some : c.cancel.result ≡ Some deadline = search rules in
+    cancels_all g (view_of c.args.pass.now) c.args.by c.args.timer c.look-now.result (view_of c.look-now.new.pass)
+    c.cancel.result (Some c.left.result) (view_of c.cancel.new.self)
+    (ap (λ (n : ℕ). Some n) told ∙ sym (ap (option_map (λ (d : ℕ). left g d c.look-now.result)) some))
+    c.requires.held (search rules) c.look-now.ensures.step c.cancel.ensures.steps

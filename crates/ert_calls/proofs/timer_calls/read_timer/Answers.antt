@@ -11,8 +11,8 @@ returns-then-not-is_in_range-clause-call c = reads_none (settings_of c.args.desk
 pub returns-in_err-deadline-clause-call : goal.returns-in_err-deadline-clause-call
 returns-in_err-deadline-clause-call c =
     reads_unarmed (settings_of c.args.desk.now) (view_of c.args.pass.now) c.args.by c.args.timer c.look-now.result (view_of c.look-now.new.pass)
-    c.armed_deadline.result c.from_residual.result (view_of c.armed_deadline.new.pass) (search rules) (search rules) c.requires.held (search rules)
-    c.look-now.ensures.step c.armed_deadline.ensures.step
+    c.peek.result c.from_residual.result (view_of c.peek.new.self) (search rules) (search rules) c.requires.held (search rules)
+    c.look-now.ensures.step c.peek.ensures.step
 
 pub returns-clause-call : goal.returns-clause-call
 returns-clause-call c =
@@ -21,5 +21,5 @@ returns-clause-call c =
     simp to_z-of_z at (c.left.ensures
     ∙ ap (λ (s : Settings). left s c.in_ok-deadline.deadline (to_z w64 (of_z w64 c.look-now.result))) c.settings-2.ensures) in
     reads_armed (settings_of c.args.desk.now) (view_of c.args.pass.now) c.args.by c.args.timer c.look-now.result (view_of c.look-now.new.pass)
-    c.armed_deadline.result c.in_ok-deadline.deadline c.left.result (view_of c.armed_deadline.new.pass) (search rules) told c.requires.held (search rules)
-    c.look-now.ensures.step c.armed_deadline.ensures.step
+    c.peek.result c.in_ok-deadline.deadline c.left.result (view_of c.peek.new.self) (search rules) told c.requires.held (search rules)
+    c.look-now.ensures.step c.peek.ensures.step

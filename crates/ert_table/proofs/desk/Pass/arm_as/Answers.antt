@@ -8,8 +8,8 @@ use Rattle.ert_table.proofs.OneStep.{may_store_at}
 use Rattle.ert_table.proofs.WordPlaces.{slot_place-high}
 use Rattle.ert_table.proofs.desk.Pass.arm_as.Goals as goal
 
-pub timer_word-word-requires : goal.timer_word-word-requires
-timer_word-word-requires g c =
+pub armed_word-word-requires : goal.armed_word-word-requires
+armed_word-word-requires g c =
     let desk = c.args.desk.now in
     let v = c.args.self.now.seat.me.0 in
     arm_is desk.settings v c.args.by c.args.timer c.args.start.now c.args.deadline c.requires.belongs.named c.args.self.now.legal
@@ -20,18 +20,18 @@ store-requires g c =
     let desk = c.args.desk.now in
     let seat = c.args.self.now.seat in
     let timer = c.args.timer in
-    let place = c.slot_place-place.result in
-    let place_is = sym c.slot_place-place.ensures in
+    let place = c.args.place.place in
+    let place_is = sym c.requires.place in
     let slot = c.requires.may.keeps.2 in
     let entry : Entry = arm_entry c.args.by timer c.args.start.now in
     let within : place < word_count desk.settings =
     subst (λ i. i < word_count desk.settings) place_is (slot_place-high desk.settings timer.wheel timer.slot slot.wheel_high slot.slot_high) in
-    let acts : Acts desk.settings seat.me.0 place (λ n. c.timer_word-word.result) (λ n. entry) =
-    subst₂ (λ i m. Acts desk.settings seat.me.0 i (λ n. m) (λ n. entry)) place_is (sym c.timer_word-word.ensures)
+    let acts : Acts desk.settings seat.me.0 place (λ n. c.armed_word-word.result) (λ n. entry) =
+    subst₂ (λ i m. Acts desk.settings seat.me.0 i (λ n. m) (λ n. entry)) place_is (sym c.armed_word-word.ensures)
     (arm_acts desk.settings seat.me.0 c.args.by timer c.args.start.now c.args.deadline c.requires.may c.requires.deadline) in (
       c.requires.belongs.table,
       subst (λ n. place < n) (sym desk.counted) within,
       may_store_at desk.table.shared.key desk.settings g.C.Carried.settings desk.table.shared.table_id.slots seat.id seat.me
-          place c.timer_word-word.result entry g.C.Carried.entry
+          place c.armed_word-word.result entry g.C.Carried.entry
           desk.keyed c.requires.settings c.requires.entry c.args.self.now.bare within acts,
     )

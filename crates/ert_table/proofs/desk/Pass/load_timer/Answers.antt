@@ -1,10 +1,23 @@
-use Rattle.std.proofs.Common.{◌≡◌, ◌∙◌, sym, subst}
+use Rattle.std.proofs.Common.{◌≡◌, ℕ, ◌∙◌, None, sym, ap, subst}
+use Rattle.ert_defs.specs.Legal.{IsSlot}
 use Rattle.ert_defs.specs.States.{state}
+use Rattle.ert_table.specs.Places.{slot_place}
 use Rattle.ert_table.specs.Settlings.{wheel_in, slot_in, read_entry, parts_in, shown_in}
 use Rattle.ert_table.specs.Takes.{Appends}
-use Rattle.ert_table.proofs.ReadActs.{slot_word_is, parts_shown, unpacked_shown}
+use Rattle.ert_table.proofs.ReadActs.{read_slot, slot_word_is, parts_shown, unpacked_shown}
 use Rattle.ert_table.proofs.SlotFacts.{slots_kept}
 use Rattle.ert_table.proofs.desk.Pass.load_timer.Goals as goal
+
+pub slot_place-place-requires : goal.slot_place-place-requires
+slot_place-place-requires c =
+    let desk = c.args.desk.now in
+    let look = (state desk.settings c.args.self.now.seat.me.0.front).looked c.args.by in
+    subst (λ (x : ℕ × ℕ). IsSlot desk.settings x.0 x.1) (sym c.slot-wheel.ensures)
+    (read_slot desk.settings look c.args.by c.args.carry.now None (c.requires.may None).keeps)
+
+pub load_timer_as-word-requires-clause-place : goal.load_timer_as-word-requires-clause-place
+load_timer_as-word-requires-clause-place c =
+    c.slot_place-place.ensures ∙ ap (λ (x : ℕ × ℕ). slot_place c.args.desk.now.settings x.0 x.1) c.slot-wheel.ensures
 
 pub timer_of-requires : goal.timer_of-requires
 timer_of-requires c =

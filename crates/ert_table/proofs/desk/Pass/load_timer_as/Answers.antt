@@ -1,7 +1,6 @@
-use Rattle.std.proofs.Common.{◌≡◌, ℕ, ◌<◌, ◌∙◌, None, sym, ap, subst, subst₂}
+use Rattle.std.proofs.Common.{◌≡◌, ℕ, ◌<◌, ◌∙◌, None, sym, subst, subst₂}
 use mathlib.Core.Option.{none}
 use Rattle.atomic_table.specs.Table.{step}
-use Rattle.ert_defs.specs.Legal.{IsSlot}
 use Rattle.ert_defs.specs.States.{state}
 use Rattle.ert_defs.specs.Words.{word_count, word_of}
 use Rattle.ert_table.specs.Acts.{Acts}
@@ -12,22 +11,14 @@ use Rattle.ert_table.proofs.ReadActs.{read_slot, read_acts}
 use Rattle.ert_table.proofs.WordPlaces.{slot_place-high, word_of-slot}
 use Rattle.ert_table.proofs.desk.Pass.load_timer_as.Goals as goal
 
-pub slot_place-place-requires : goal.slot_place-place-requires
-slot_place-place-requires g c =
-    let desk = c.args.desk.now in
-    let look = (state desk.settings c.args.self.now.seat.me.0.front).looked c.args.by in
-    subst (λ (x : ℕ × ℕ). IsSlot desk.settings x.0 x.1) (sym c.slot-wheel.ensures)
-    (read_slot desk.settings look c.args.by c.args.carry.now None (c.requires.may None).keeps)
-
 pub load-requires : goal.load-requires
 load-requires g c =
     let desk = c.args.desk.now in
     let seat = c.args.self.now.seat in
     let carry = c.args.carry.now in
     let look = (state desk.settings seat.me.0.front).looked c.args.by in
-    let place = c.slot_place-place.result in
-    let place_is : slot_place desk.settings (wheel_in carry) (slot_in carry) ≡ place =
-    sym (c.slot_place-place.ensures ∙ ap (λ (x : ℕ × ℕ). slot_place desk.settings x.0 x.1) c.slot-wheel.ensures) in
+    let place = c.args.place in
+    let place_is : slot_place desk.settings (wheel_in carry) (slot_in carry) ≡ place = sym c.requires.place in
     let entry = λ (n : ℕ). read_entry desk.settings look c.args.by carry (parts_in n) in
     let slot = read_slot desk.settings look c.args.by carry None (c.requires.may None).keeps in
     let within : place < word_count desk.settings =
@@ -48,7 +39,6 @@ returns-clause-word g c =
     let front = c.load.new.seat.me.0.front in
     let n = c.load.result in
     let look = (state desk.settings c.args.self.now.seat.me.0.front).looked c.args.by in
-    let place_is = c.slot_place-place.ensures ∙ ap (λ (x : ℕ × ℕ). slot_place desk.settings x.0 x.1) c.slot-wheel.ensures in
     let slot = read_slot desk.settings look c.args.by carry None (c.requires.may None).keeps in
-    let word = subst₂ (λ s i. word_of s (state s front) i ≡ n) c.requires.settings place_is c.load.ensures.2.3 in
+    let word = subst₂ (λ s i. word_of s (state s front) i ≡ n) c.requires.settings c.requires.place c.load.ensures.2.3 in
     sym (word_of-slot desk.settings (state desk.settings front) (wheel_in carry) (slot_in carry) slot.wheel_high slot.slot_high) ∙ word

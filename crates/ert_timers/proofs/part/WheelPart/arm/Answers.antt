@@ -1,11 +1,14 @@
-use Rattle.std.proofs.Common.{◌<◌, sym, subst, arith}
+use Rattle.std.proofs.Common.{◌≡◌, ◌<◌, ◌∙◌, sym, ap, subst, subst₂, arith}
+use Rattle.ert_defs.specs.declared.timer.TimerRef.{TimerRef}
 use Rattle.ert_table.specs.Desks.{settings_of, view_of, front_of}
+use Rattle.ert_table.specs.Places.{IsPlaceOf}
+use Rattle.ert_timers.specs.Parts.{Part}
 use Rattle.ert_timers.proofs.Armings.{arms, may_arm}
 use Rattle.ert_timers.proofs.NextUses.{deadline_is}
 use Rattle.ert_timers.proofs.part.WheelPart.arm.Goals as goal
 
-pub touch-requires : goal.touch-requires
-touch-requires c =
+pub touch-place-requires : goal.touch-place-requires
+touch-place-requires c =
     let holds = c.requires.stands.holds in
     record { wheel_high = omega (arith, c.number.ensures, holds.number); slot_high = omega (arith, c.requires.free.low, holds.many) }
 
@@ -16,20 +19,28 @@ keep-timer-requires-clause-dest c =
 pub keep-timer-requires-clause-deadline : goal.keep-timer-requires-clause-deadline
 keep-timer-requires-clause-deadline c = omega (arith, c.requires.next.deadline, c.requires.next.can.within)
 
-pub arm-requires-clause-deadline : goal.arm-requires-clause-deadline
-arm-requires-clause-deadline c =
+pub arm_at-requires-clause-deadline : goal.arm_at-requires-clause-deadline
+arm_at-requires-clause-deadline c =
     deadline_is (settings_of c.args.desk.now) (front_of c.args.pass.now) c.args.by c.args.self.now c.keep-timer.new.self c.args.slot c.args.next
     c.args.start.now c.keep-timer.result c.requires.stands.legal c.requires.free.low c.requires.next c.keep-timer.ensures.kept
     c.keep-timer.ensures.timer
 
-pub arm-requires-clause-may : goal.arm-requires-clause-may
-arm-requires-clause-may c =
+pub arm_at-requires-clause-may : goal.arm_at-requires-clause-may
+arm_at-requires-clause-may c =
     may_arm (settings_of c.args.desk.now) (view_of c.args.pass.now) c.args.by c.args.self.now c.keep-timer.new.self c.args.slot c.args.next
     c.args.start.now c.keep-timer.result c.requires.stands c.requires.holds c.requires.free c.requires.usable c.requires.dest
     c.requires.next c.requires.few c.keep-timer.ensures.kept c.keep-timer.ensures.timer
 
+pub arm_at-requires-clause-place : goal.arm_at-requires-clause-place
+arm_at-requires-clause-place c =
+    let kept = c.keep-timer.ensures in
+    let wheel : c.keep-timer.result.wheel ≡ c.number.result =
+    ap (λ (t : TimerRef). t.wheel) kept.timer ∙ (ap (λ (p : Part). p.number) kept.kept ∙ sym c.number.ensures) in
+    let slot : c.keep-timer.result.slot ≡ c.args.slot = ap (λ (t : TimerRef). t.slot) kept.timer in
+    subst₂ (λ w k. IsPlaceOf (settings_of c.args.desk.now) w k c.touch-place.result) (sym wheel) (sym slot) c.touch-place.ensures
+
 pub returns-clause-call : goal.returns-clause-call
 returns-clause-call c =
     arms (settings_of c.args.desk.now) (view_of c.args.pass.now) c.args.by c.args.self.now c.keep-timer.new.self c.args.slot c.args.next
-    c.args.start.now c.keep-timer.result (view_of c.arm.new.self) c.requires.stands c.requires.holds c.requires.free c.requires.next
-    c.keep-timer.ensures.kept c.keep-timer.ensures.timer c.arm.ensures.step
+    c.args.start.now c.keep-timer.result (view_of c.arm_at.new.self) c.requires.stands c.requires.holds c.requires.free c.requires.next
+    c.keep-timer.ensures.kept c.keep-timer.ensures.timer c.arm_at.ensures.step

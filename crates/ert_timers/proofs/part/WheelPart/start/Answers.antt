@@ -1,6 +1,8 @@
 use Rattle.std.proofs.Common.{refl, ap, ◌∙◌, arith}
 use Rattle.ert_table.specs.Desks.{settings_of, view_of}
-use Rattle.ert_timers.specs.Parts.{Part}
+use Rattle.ert_timers.specs.Changes.{next_use}
+use Rattle.ert_timers.specs.Looking.{now_in}
+use Rattle.ert_timers.specs.Parts.{Part, slot_at}
 use Rattle.ert_timers.proofs.Orphaned.{still_caller}
 use Rattle.ert_timers.proofs.Starts.{bad_arg, ahead_stands, now_is, use_ahead, is_at_end, is_full, is_started, gains_none, gains_started}
 use Rattle.ert_timers.proofs.Passing.{loses_none}
@@ -41,7 +43,9 @@ arm-timer-requires-clause-next c =
     use_ahead (settings_of c.args.desk.now) (view_of c.args.pass.now) c.args.by c.args.self.now c.take_slot.new.self c.args.start.now
     c.look_ahead.result c.in-Some.ahead c.take_slot.result c.in-Some-take_slot.slot c.next_use-next.result (view_of c.look_ahead.new.pass)
     (view_of c.take_slot.new.pass) c.requires.holds c.in-Some.is c.in-Some-take_slot.is c.in-Some.ensures.now c.in-Some.ensures.deadline
-    c.look_ahead.ensures.looks c.take_slot.ensures.call c.next_use-next.ensures
+    c.look_ahead.ensures.looks c.take_slot.ensures.call
+    (c.next_use-next.ensures
+    ∙ ap (λ n. next_use (slot_at c.take_slot.new.self.slots c.in-Some-take_slot.slot).generation n c.in-Some.ahead.deadline) c.rounded_down.ensures)
 
 pub arm-timer-requires-clause-few : goal.arm-timer-requires-clause-few
 arm-timer-requires-clause-few c = omega (arith, c.take_slot.ensures.call.arms, c.arms.ensures, c.if-arms-ge-MOST_TIMERS.false)
@@ -65,7 +69,7 @@ end-requires-clause-dest c = c.arm-timer.ensures.call.dest
 pub returns-clause-call : goal.returns-clause-call
 returns-clause-call c =
     is_started (settings_of c.args.desk.now) (view_of c.args.pass.now) c.args.by c.args.self.now c.take_slot.new.self c.arm-timer.new.self
-    c.end.new.self c.args.start.now c.look_ahead.result c.in-Some.ahead.now c.take_slot.result c.in-Some-take_slot.slot c.next_use-next.result c.arm-timer.result
+    c.end.new.self c.args.start.now c.look_ahead.result (now_in c.in-Some.ahead) c.take_slot.result c.in-Some-take_slot.slot c.next_use-next.result c.arm-timer.result
     (view_of c.look_ahead.new.pass) (view_of c.take_slot.new.pass) (view_of c.arm-timer.new.pass) (view_of c.end.new.pass)
     c.look_ahead.ensures.looks c.take_slot.ensures.call c.arm-timer.ensures.call c.end.ensures.call
 
@@ -101,7 +105,7 @@ returns-in_default-take_slot-clause-call c =
 pub returns-clause-rows : goal.returns-clause-rows
 returns-clause-rows c =
     gains_started (settings_of c.args.desk.now) c.args.by c.args.self.now c.take_slot.new.self c.arm-timer.new.self
-    c.end.new.self c.in-Some.ahead.now c.take_slot.result c.in-Some-take_slot.slot c.next_use-next.result c.args.start.now c.arm-timer.result
+    c.end.new.self (now_in c.in-Some.ahead) c.take_slot.result c.in-Some-take_slot.slot c.next_use-next.result c.args.start.now c.arm-timer.result
     (view_of c.look_ahead.new.pass) (view_of c.take_slot.new.pass) (view_of c.arm-timer.new.pass) (view_of c.end.new.pass)
     c.take_slot.ensures.call c.arm-timer.ensures.call c.end.ensures.call
 

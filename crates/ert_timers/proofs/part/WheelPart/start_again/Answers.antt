@@ -1,7 +1,8 @@
-use Rattle.std.proofs.Common.{Some, refl, sym, subst}
+use Rattle.std.proofs.Common.{Some, refl, sym, ap, subst, ◌∙◌}
 use Rattle.ert_table.specs.Desks.{settings_of, view_of, front_of}
-use Rattle.ert_timers.specs.Changes.{dropped}
-use Rattle.ert_timers.specs.Parts.{PartStands}
+use Rattle.ert_timers.specs.Changes.{dropped, next_use}
+use Rattle.ert_timers.specs.Looking.{now_in}
+use Rattle.ert_timers.specs.Parts.{PartStands, slot_at}
 use Rattle.ert_timers.proofs.Anew.{stands_after, takes_after, untaken_after}
 use Rattle.ert_timers.proofs.Starts.{bad_arg, use_ahead, is_started, gains_started}
 use Rattle.ert_timers.proofs.part.WheelPart.start_again.Goals as goal
@@ -62,7 +63,9 @@ arm_again-named-requires-clause-next c =
     use_ahead (settings_of c.args.desk.now) (view_of c.args.pass.now) c.args.by (dropped c.args.self.now c.args.timer.slot) (dropped c.args.self.now c.args.timer.slot) c.args.start.now
     c.look_as_forecast.result c.in-Some.ahead (Some c.args.timer.slot) c.args.timer.slot c.next_use-next.result (view_of c.look_as_forecast.new.pass)
     (view_of c.look_as_forecast.new.pass) c.requires.holds c.in-Some.is refl c.in-Some.ensures.now c.in-Some.ensures.deadline
-    c.look_as_forecast.ensures.looks takes c.next_use-next.ensures
+    c.look_as_forecast.ensures.looks takes
+    (c.next_use-next.ensures
+    ∙ ap (λ n. next_use (slot_at c.args.self.now.slots c.args.timer.slot).generation n c.in-Some.ahead.deadline) c.rounded_down.ensures)
 
 pub returns-clause-call : goal.returns-clause-call
 returns-clause-call c =
@@ -76,7 +79,7 @@ returns-clause-call c =
       settled = c.requires.settled;
     }) c.in-Some.is c.look_as_forecast.ensures.looks in
     is_started (settings_of c.args.desk.now) (view_of c.args.pass.now) c.args.by (dropped c.args.self.now c.args.timer.slot) (dropped c.args.self.now c.args.timer.slot) c.arm_again-named.new.self
-    c.end.new.self c.args.start.now c.look_as_forecast.result c.in-Some.ahead.now (Some c.args.timer.slot) c.args.timer.slot c.next_use-next.result c.arm_again-named.result
+    c.end.new.self c.args.start.now c.look_as_forecast.result (now_in c.in-Some.ahead) (Some c.args.timer.slot) c.args.timer.slot c.next_use-next.result c.arm_again-named.result
     (view_of c.look_as_forecast.new.pass) (view_of c.look_as_forecast.new.pass) (view_of c.arm_again-named.new.pass) (view_of c.end.new.pass)
     c.look_as_forecast.ensures.looks takes c.arm_again-named.ensures.call c.end.ensures.call
 
@@ -92,6 +95,6 @@ returns-clause-rows c =
       settled = c.requires.settled;
     }) c.in-Some.is c.look_as_forecast.ensures.looks in
     gains_started (settings_of c.args.desk.now) c.args.by (dropped c.args.self.now c.args.timer.slot) (dropped c.args.self.now c.args.timer.slot) c.arm_again-named.new.self
-    c.end.new.self c.in-Some.ahead.now (Some c.args.timer.slot) c.args.timer.slot c.next_use-next.result c.args.start.now c.arm_again-named.result
+    c.end.new.self (now_in c.in-Some.ahead) (Some c.args.timer.slot) c.args.timer.slot c.next_use-next.result c.args.start.now c.arm_again-named.result
     (view_of c.look_as_forecast.new.pass) (view_of c.look_as_forecast.new.pass) (view_of c.arm_again-named.new.pass) (view_of c.end.new.pass)
     takes c.arm_again-named.ensures.call c.end.ensures.call
