@@ -70,7 +70,7 @@ pushed slots capacity larger x xs h grown low away = record {
 }
 
 -- the last is among them
-list_any-last : (x : ℕ) (xs : List ℕ) → list_any (nat_eq x) (xs ++ x ∷ []) ≡ true
+pub list_any-last : (x : ℕ) (xs : List ℕ) → list_any (nat_eq x) (xs ++ x ∷ []) ≡ true
 list_any-last x xs =
     list_any-push (nat_eq x) xs x ∙ (λ i. nat_eq_equiv.refl x i || list_any (nat_eq x) xs)
 

@@ -8,7 +8,7 @@ use Rattle.std.specs.Cmp.{nat_cmp_total, unsigned_tied}
 use Rattle.std.specs.FinSet as set
 use Rattle.std.specs.List.{list_any, range_with_len}
 use Rattle.std.specs.Ordering.{nat_cmp}
-use Rattle.ert_words.specs.Free.{Free, FreeSet, free_at, free_list, free_set, with_short, with_long, TakesFresh, TakesLast, TakesNext, FindsNone, HasRoom, IsStacked}
+use Rattle.ert_words.specs.Free.{Free, free_at, free_list, free_set, with_short, with_long, TakesFresh, TakesNext, FindsNone, IsStacked}
 use Rattle.ert_words.proofs.Held.{IsPopped, Picks, below_more, contains-from_list, distinct_range, list_any-last, list_any-push, list_any-range, nothing, or-true, or_swap, popped, pushed, room_left}
 
 -- whether a slot is free, where these are the stacks, in whichever order
@@ -359,8 +359,7 @@ pub record IsPut (old new : Free) (x xcap ycap : ℕ) : Type 0 where
 pub put_short : (old : Free) (x xcap ycap : ℕ) → IsStacked old.slots old.fresh old.short old.long xcap ycap → x < old.slots
     → set.contains (free_set old).held x ≡ false → (length old.short < old.slots) × IsPut old (with_short old x) x xcap ycap
 put_short old x xcap ycap s low away =
-    let p = pushes old.slots old.fresh x xcap ycap old.short old.long low (sym (contains_free old.slots old.fresh old.short old.long x s.fits) ∙ away) s in
-    (
+    let p = pushes old.slots old.fresh x xcap ycap old.short old.long low (sym (contains_free old.slots old.fresh old.short old.long x s.fits) ∙ away) s in (
       p.few,
       record {
         left = p.left;
@@ -379,8 +378,7 @@ put_long old x xcap ycap s low away =
     let swap_new = free_swap old.slots old.fresh old.short (old.long ++ x ∷ []) in
     let p = pushes old.slots old.fresh x ycap xcap old.long old.short low
     (sym (swap_old x) ∙ (sym (contains_free old.slots old.fresh old.short old.long x s.fits) ∙ away))
-    (stacks_swap old.slots old.fresh xcap ycap old.short old.long s) in
-    (
+    (stacks_swap old.slots old.fresh xcap ycap old.short old.long s) in (
       p.few,
       record {
         left = stacks_swap old.slots old.fresh ycap xcap (old.long ++ x ∷ []) old.short p.left;

@@ -110,12 +110,7 @@ impl FreeSlots {
 /// Takes the top of a stack; where that is empty the least slot that was never taken, and where there is none the top of
 /// the other stack.
 #[inline]
-fn next(
-    short: &mut Vec<u32>,
-    fresh: &mut u32,
-    slots: u32,
-    long: &mut Vec<u32>,
-) -> Option<u32>
+fn next(short: &mut Vec<u32>, fresh: &mut u32, slots: u32, long: &mut Vec<u32>) -> Option<u32>
     ensures found { MatchOption result
         (FindsNone (free_at slots fresh.old short.old.items long.old.items) (free_at slots fresh.new short.new.items long.new.items))
         (TakesNext (free_at slots fresh.old short.old.items long.old.items) (free_at slots fresh.new short.new.items long.new.items)) }

@@ -1,4 +1,4 @@
-use Rattle.std.proofs.Common.{◌≡◌, List, ℕ, [], ap, ◌∙◌, sym, refl, inl, inr, arith}
+use Rattle.std.proofs.Common.{List, ℕ, ap, inl}
 use Rattle.ert_words.proofs.Stacks.{nothing_left, next_found, next_fresh}
 use Rattle.ert_words.specs.Free.{free_at}
 use Rattle.ert_words.proofs.free_slots.next.Goals as goal

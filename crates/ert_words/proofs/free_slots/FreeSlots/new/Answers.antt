@@ -1,4 +1,4 @@
-use Rattle.std.proofs.Common.{◌≡◌, ◌∙◌, List, ℕ, [], nat_lt, sym, ap, subst, arith}
+use Rattle.std.proofs.Common.{◌≡◌, List, ℕ, [], nat_lt, sym, subst, arith}
 use Rattle.std.specs.FinSet as set
 use Rattle.ert_words.proofs.Stacks.{all_free, none_taken}
 use Rattle.ert_words.specs.Free.{Free, IsStacked, free_at, free_set}

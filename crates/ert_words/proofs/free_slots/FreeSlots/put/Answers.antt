@@ -1,7 +1,7 @@
 use Rattle.std.proofs.Common.{◌≡◌, ◌∙◌, ◌<◌, false, List, ℕ, length, sym, ap, subst, arith}
 use Rattle.std.specs.FinSet as set
 use Rattle.ert_words.proofs.Stacks.{IsPut, put_short}
-use Rattle.ert_words.specs.Free.{Free, IsStacked, free_at, free_set, with_short}
+use Rattle.ert_words.specs.Free.{Free, free_at, free_set, with_short}
 use Rattle.ert_words.proofs.free_slots.FreeSlots.put.Goals as goal
 
 pub push_reserved-requires : goal.push_reserved-requires
