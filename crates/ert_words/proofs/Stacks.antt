@@ -8,7 +8,7 @@ use Rattle.std.specs.Cmp.{nat_cmp_total, unsigned_tied}
 use Rattle.std.specs.FinSet as set
 use Rattle.std.specs.List.{list_any, range_with_len}
 use Rattle.std.specs.Ordering.{nat_cmp}
-use Rattle.ert_words.specs.Free.{Free, free_at, free_list, free_set, with_short, with_long, TakesFresh, TakesNext, FindsNone, IsStacked}
+use Rattle.ert_words.specs.Free.{Free, FreeSet, free_at, free_list, free_set, with_short, with_long, stacks_changed, TakesFresh, TakesLong, TakesNext, FindsNone, IsStacked}
 use Rattle.ert_words.proofs.Held.{IsPopped, Picks, below_more, contains-from_list, distinct_range, list_any-last, list_any-push, list_any-range, nothing, or-true, or_swap, popped, pushed, room_left}
 
 -- whether a slot is free, where these are the stacks, in whichever order
@@ -314,35 +314,45 @@ next_picked old new xcap ycap (Some x) s (inl was) = picks_some old new x xcap y
 next_picked old new xcap ycap (Some x) s (inr (inl fresh)) = picks_some old new x xcap ycap (inr (inl fresh)) (taken_fresh old new x xcap ycap fresh s)
 next_picked old new xcap ycap (Some x) s (inr (inr last)) = picks_some old new x xcap ycap (inr (inr last)) (taken_long old new x xcap ycap last.was s)
 
--- what a pick of the stack of long waits tells
+-- the same slots are free where the stacks change places
+same_free : (slots fresh xcap ycap : ℕ) (xs ys : List ℕ) → IsStacked slots fresh xs ys xcap ycap
+    → free_set (free_at slots fresh ys xs) ≡ free_set (free_at slots fresh xs ys)
+same_free slots fresh xcap ycap xs ys s =
+    ap (λ (s : set.FinSet nat_cmp). let f : FreeSet = record { slots = slots; held = s } in f)
+    (set.same_set nat_cmp_total set.nat_cmp-IsAntisymmetric (free_set (free_at slots fresh ys xs)).held (free_set (free_at slots fresh xs ys)).held
+    (λ q. contains_free slots fresh ys xs q s.fits ∙ (free_swap slots fresh ys xs q ∙ sym (contains_free slots fresh xs ys q s.fits))))
+
+-- what a pick for a long wait tells
 pub record IsPickedLong (old new : Free) (xcap ycap : ℕ) (picked : Option ℕ) : Type 0 where
   pub left : IsStacked new.slots new.fresh new.short new.long xcap ycap
   pub picks : Picks (free_set old) (free_set new) picked
-  pub none : IsNone picked ↔ (old.long ≡ [])
+  pub none : IsNone picked ↔ (free_list old ≡ [])
   pub unchanged : IfNone picked (new ≡ old)
-  pub top : IfSome picked (λ slot. old ≡ with_long new slot)
+  pub next : IfSome picked (TakesLong old new)
 
-pub long_picked : (slots fresh xcap ycap n : ℕ) (xs ys zs : List ℕ) (picked : Option ℕ) → IsStacked slots fresh xs ys xcap ycap
-    → n ≡ length ys → ys ≡ zs ++ option_to_list picked → IsSome picked ↔ (0 < n)
-    → IsPickedLong (free_at slots fresh xs ys) (free_at slots fresh xs zs) xcap ycap picked
-long_picked slots fresh xcap ycap n xs ys zs None s len items some =
-    let same : zs ≡ ys = sym (items ∙ append-nil zs) in
+pub long_picked : (old new : Free) (xcap ycap : ℕ) (picked : Option ℕ) → IsStacked old.slots old.fresh old.short old.long xcap ycap
+    → MatchOption picked (FindsNone (stacks_changed old) (stacks_changed new)) (TakesNext (stacks_changed old) (stacks_changed new))
+    → IsPickedLong old new xcap ycap picked
+long_picked old new xcap ycap None s found =
+    let same : new ≡ old = ap stacks_changed found.same in
     record {
-      left = subst (λ (l : List ℕ). IsStacked slots fresh xs l xcap ycap) (sym same) s;
+      left = subst (λ (n : Free). IsStacked n.slots n.fresh n.short n.long xcap ycap) (sym same) s;
       picks = record { held = tt; taken = tt; in_range = tt };
-      none = nothing n ys None len some;
-      unchanged = ap (free_at slots fresh xs) same;
-      top = tt;
+      none = (λ _. empty_list old found.long found.all found.short, λ _. refl);
+      unchanged = same;
+      next = tt;
     }
-long_picked slots fresh xcap ycap n xs ys zs (Some x) s len items some =
-    let was : free_at slots fresh xs ys ≡ with_long (free_at slots fresh xs zs) x = ap (free_at slots fresh xs) items in
-    let t = taken_long (free_at slots fresh xs ys) (free_at slots fresh xs zs) x xcap ycap was s in
+long_picked old new xcap ycap (Some x) s found =
+    let p = next_picked (stacks_changed old) (stacks_changed new) ycap xcap (Some x) (stacks_swap old.slots old.fresh xcap ycap old.short old.long s) found in
+    let left = stacks_swap new.slots new.fresh ycap xcap new.long new.short p.left in
+    let picks = subst (λ (o : FreeSet). Picks o (free_set new) (Some x)) (same_free old.slots old.fresh xcap ycap old.short old.long s)
+    (subst (λ (n : FreeSet). Picks (free_set (stacks_changed old)) n (Some x)) (same_free new.slots new.fresh xcap ycap new.short new.long left) p.picks) in
     record {
-      left = t.left;
-      picks = t.picks;
-      none = nothing n ys (Some x) len some;
+      left = left;
+      picks = picks;
+      none = (λ is. absurd (true≢false is), λ none. absurd (some_listed old x picks.held none));
       unchanged = tt;
-      top = was;
+      next = found;
     }
 
 -- a stack that gave nothing was empty

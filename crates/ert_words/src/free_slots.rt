@@ -7,8 +7,8 @@ use std::marker::Model;
 
 /// The slots of one scheduler that a timer may be started in.
 ///
-/// Those that were put back stand on two stacks: one for slots that short waits take first, and one for slots that only
-/// long waits take while there are others. The slots that were never taken are those from a number on, so no memory is
+/// Those that were put back stand on two stacks: one for slots that short waits take first, and one for those that long
+/// waits take first. The slots that were never taken are those from a number on, so no memory is
 /// written for them. Each call takes constant time, and no more memory: each stack has room for all slots from the
 /// beginning.
 #[derive(Drop)]
@@ -36,7 +36,7 @@ impl Model for FreeSlots {
 impl FreeSlots {
     ghost use Rattle.std.specs.Prelude.{◌≡◌, ◌↔◌, ◌<◌, ℕ, true, false, [], IfOk, IfSome, IfNone, IsNone, nat_lt};
     ghost use Rattle.std.specs.FinSet as set;
-    ghost use Rattle.ert_words.specs.Free.{free_at, free_list, free_set, with_short, with_long, TakesNext};
+    ghost use Rattle.ert_words.specs.Free.{free_at, free_list, free_set, with_short, with_long, TakesLong, TakesNext};
 
     /// Holds every slot below `slots`. None was ever taken.
     pub fn new(alloc: Global, slots: u32) -> Result<FreeSlots, NoMemory>
@@ -70,17 +70,18 @@ impl FreeSlots {
         next(&mut self.short, &mut self.fresh, self.slots, &mut self.long)
     }
 
-    /// Takes the top of the stack of long waits out; None exactly where that is empty.
+    /// Takes a slot out, as for a long wait: the top of the stack of long waits, else the least slot that was never taken,
+    /// and else the top of the stack of short waits. None exactly where none is held.
     pub fn pick_long(&mut self) -> Option<u32>
-        ensures none { IsNone result ↔ (self.old.long ≡ []) }
+        ensures none { IsNone result ↔ (free_list self.old ≡ []) }
         ensures unchanged { IfNone result (self.new ≡ self.old) }
-        ensures top { IfSome result (λ slot. self.old ≡ with_long self.new slot) }
+        ensures next { IfSome result (TakesLong self.old self.new) }
         ensures held { IfSome result (λ slot. set.contains (free_set self.old).held slot ≡ true) }
         ensures taken { IfSome result (λ slot.
             free_set self.new ≡ record (free_set self.old) { held = set.remove (free_set self.old).held slot }) }
         ensures in_range { IfSome result (λ slot. slot < self.old.slots) }
     {
-        self.long.pop()
+        next(&mut self.long, &mut self.fresh, self.slots, &mut self.short)
     }
 
     /// Adds a slot that isn't held, on the stack of short waits.
@@ -108,16 +109,16 @@ impl FreeSlots {
 }
 
 /// Takes the top of a stack; where that is empty the least slot that was never taken, and where there is none the top of
-/// the other stack.
+/// another stack.
 #[inline]
-fn next(short: &mut Vec<u32>, fresh: &mut u32, slots: u32, long: &mut Vec<u32>) -> Option<u32>
+fn next(first: &mut Vec<u32>, fresh: &mut u32, slots: u32, second: &mut Vec<u32>) -> Option<u32>
     ensures found { MatchOption result
-        (FindsNone (free_at slots fresh.old short.old.items long.old.items) (free_at slots fresh.new short.new.items long.new.items))
-        (TakesNext (free_at slots fresh.old short.old.items long.old.items) (free_at slots fresh.new short.new.items long.new.items)) }
-    ensures short_room { vec_capacity short.new ≡ vec_capacity short.old }
-    ensures long_room { vec_capacity long.new ≡ vec_capacity long.old }
+        (FindsNone (free_at slots fresh.old first.old.items second.old.items) (free_at slots fresh.new first.new.items second.new.items))
+        (TakesNext (free_at slots fresh.old first.old.items second.old.items) (free_at slots fresh.new first.new.items second.new.items)) }
+    ensures first_room { vec_capacity first.new ≡ vec_capacity first.old }
+    ensures second_room { vec_capacity second.new ≡ vec_capacity second.old }
 {
-    if let Some(slot) = short.pop() {
+    if let Some(slot) = first.pop() {
         return Some(slot);
     }
     let least = *fresh;
@@ -125,5 +126,5 @@ fn next(short: &mut Vec<u32>, fresh: &mut u32, slots: u32, long: &mut Vec<u32>) 
         *fresh = least + 1;
         return Some(least);
     }
-    long.pop()
+    second.pop()
 }

@@ -79,8 +79,8 @@ impl WheelPart {
     /// milliseconds after the start time; None exactly where none is.
     ///
     /// That is the next one, where it has had a long wait that isn't over and the timer's is long too, or neither is
-    /// so. Else a long wait takes the top of the stack of long waits, where that isn't empty; and for a short one the
-    /// slot goes to that stack, and the one after it is taken.
+    /// so. Else a long wait takes the top of the stack of long waits, or one that was never taken, where there is one; and
+    /// for a short one the slot goes to that stack, and the one after it is taken.
     #[inline(always)]
     pub(crate) fn pick(&mut self, now: u64, deadline: u64) -> Option<u32>
         ensures none { IfNone result ((slot : ℕ) → set.contains self.old.free slot ≡ false) }
@@ -279,8 +279,8 @@ fn take_out(wheel: &mut Wheel<Slot>, slot: u32)
     }
 }
 
-/// Adds a slot that was taken out again, on the stack for waits of the other length, and takes another: for a long wait
-/// the top of the stack of long waits, where that isn't empty, and else the next one.
+/// Adds a slot that was taken out again, on the stack for waits of the other length, and takes another, as for a long wait or
+/// as for a short one.
 #[inline(never)]
 fn exchange(free: &mut FreeSlots, slot: u32, long: bool) -> Option<u32>
     requires in_range { slot < free.old.slots }
@@ -292,15 +292,8 @@ fn exchange(free: &mut FreeSlots, slot: u32, long: bool) -> Option<u32>
     ensures which { IfSome result (λ other. MatchBool long
         (TakesLong (with_short free.old slot) free.new other) (TakesNext (with_long free.old slot) free.new other)) }
 {
-    if !long {
-        free.put_long(slot);
-        return free.pick();
-    }
-    free.put(slot);
-    match free.pick_long() {
-        Some(other) => Some(other),
-        None => free.pick(),
-    }
+    put(free, slot, !long);
+    if long { free.pick_long() } else { free.pick() }
 }
 
 /// Adds a slot that isn't held free, on the stack of long waits or on that of short ones.

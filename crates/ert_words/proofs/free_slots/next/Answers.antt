@@ -5,16 +5,16 @@ use Rattle.ert_words.proofs.free_slots.next.Goals as goal
 
 pub returns-in-Some-clause-found : goal.returns-in-Some-clause-found
 returns-in-Some-clause-found c =
-    inl (ap (λ (xs : List ℕ). free_at c.args.slots c.args.fresh.now xs c.args.long.now.items) c.in-Some.ensures.items)
+    inl (ap (λ (xs : List ℕ). free_at c.args.slots c.args.fresh.now xs c.args.second.now.items) c.in-Some.ensures.items)
 
 pub returns-then-least-slots-clause-found : goal.returns-then-least-slots-clause-found
 returns-then-least-slots-clause-found c =
-    next_fresh c.args.slots c.args.fresh.now c.args.short.now.items c.pop.new.self.items c.args.long.now.items c.if-least-slots.true
-    (nothing_left c.args.short.now.len c.args.short.now.items c.pop.new.self.items c.pop.result c.in_default.is c.args.short.now.ok.0 c.pop.ensures.items c.pop.ensures.variant)
+    next_fresh c.args.slots c.args.fresh.now c.args.first.now.items c.pop.new.self.items c.args.second.now.items c.if-least-slots.true
+    (nothing_left c.args.first.now.len c.args.first.now.items c.pop.new.self.items c.pop.result c.in_default.is c.args.first.now.ok.0 c.pop.ensures.items c.pop.ensures.variant)
 
 pub returns-clause-found : goal.returns-clause-found
 returns-clause-found c =
-    next_found c.args.slots c.args.fresh.now c.args.short.now.items c.pop.new.self.items c.args.long.now.items c.pop-2.new.self.items
-    c.args.long.now.len c.pop-2.result c.if-least-slots.false
-    (nothing_left c.args.short.now.len c.args.short.now.items c.pop.new.self.items c.pop.result c.in_default.is c.args.short.now.ok.0 c.pop.ensures.items c.pop.ensures.variant)
-    c.args.long.now.ok.0 c.pop-2.ensures.items c.pop-2.ensures.variant
+    next_found c.args.slots c.args.fresh.now c.args.first.now.items c.pop.new.self.items c.args.second.now.items c.pop-2.new.self.items
+    c.args.second.now.len c.pop-2.result c.if-least-slots.false
+    (nothing_left c.args.first.now.len c.args.first.now.items c.pop.new.self.items c.pop.result c.in_default.is c.args.first.now.ok.0 c.pop.ensures.items c.pop.ensures.variant)
+    c.args.second.now.ok.0 c.pop-2.ensures.items c.pop-2.ensures.variant
