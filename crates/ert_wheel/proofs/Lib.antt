@@ -3,6 +3,7 @@ mod KeptSlots
 mod Opening
 mod Replacing
 mod Splice
+mod Stored
 mod Unsplice
 mod Writes
 pub mod Calls
