@@ -2,7 +2,7 @@
 use crate::part::MailPart;
 use ert_defs::{Actor, NoMemory};
 use ert_table::{Desk, Pass};
-use ert_words::FreeSlots;
+use ert_words::Turns;
 use std::alloc::Global;
 use std::marker::Model;
 
@@ -12,8 +12,8 @@ use std::marker::Model;
 /// process exited. So each put is paid for by one look, and to find the next process takes constant time, amortized.
 #[derive(Drop)]
 pub struct MailList {
-    /// The processes in the row, held as the free slots of a wheel are.
-    row: FreeSlots,
+    /// The processes in the row.
+    row: Turns,
     /// By process, whether it is in the row.
     listed: Vec<bool>,
 }
@@ -21,13 +21,13 @@ pub struct MailList {
 impl Model for MailList {
     ghost use Rattle.std.specs.Prelude.{Bool, List};
     ghost use Rattle.ert_mail.specs.Lists.{IsRow};
-    ghost use Rattle.ert_words.specs.Free.{free_set};
+    ghost use Rattle.ert_words.specs.Turns.{row_set};
 
     ghost Value = { List Bool };
 
     ghost view = { λ m. m.listed.items };
 
-    ghost invariant = { λ m. IsRow (free_set m.row) m.listed.items };
+    ghost invariant = { λ m. IsRow (row_set m.row) m.listed.items };
 }
 
 impl MailList {
@@ -41,7 +41,7 @@ impl MailList {
     pub fn all(alloc: Global, processes: u32) -> Result<MailList, NoMemory>
         ensures { IfOk result (λ list. list ≡ replicate processes true) }
     {
-        let row = FreeSlots::new(alloc, processes)?;
+        let row = Turns::new(alloc, processes)?;
         let listed = vec![in alloc; true; processes as usize]?;
         Ok(MailList { row, listed })
     }

@@ -29,14 +29,16 @@
 //! by the time of its look. It answers `Full` where each of them is taken or rests, or where the wheel has had 2^53
 //! timers, which bounds all counts.
 //!
-//! How long a slot rests depends on the longest wait of its round. So the slots that are held free stand in a
-//! row, and one that is freed comes last, since nothing of it is read then. A start looks at the last one. Where that
-//! has had a long wait, of 2^22 milliseconds or more, that isn't over, a start with a long wait takes it, and one
-//! with a short wait makes it the first and takes the next one. Else a short wait takes it, and a long one takes the
-//! first. Then few slots have the long waits, and the others rest for as long as short waits take. If each start took
-//! the last one, each slot would soon have had a long wait, and all would rest until those pass: of 64 slots, with 50
-//! starts a second that are all cancelled and one in a hundred of which waits 49.7 days, 87 of 100 starts of sixty
-//! days find all resting, in a simulation; with two ends none does.
+//! How long a slot rests depends on the longest wait of its round. So the slots that are held free stand on two stacks,
+//! one of them for those that have had a long wait. One that is freed goes to the other, since nothing of it is read then.
+//! A start looks at the top of that; where it is empty, at the least slot that was never taken, and where there is none of
+//! these at the top of the stack of long waits. Where the slot has had a long wait, of 2^22 milliseconds or more, that
+//! isn't over, a start with a long wait takes it, and one with a short wait puts it on the stack of long waits and takes
+//! the next one. Else a short wait takes it, and a long one takes the top of the stack of long waits or a slot that was
+//! never taken, where there is one. Then few slots have the long waits, and the others rest for as long as short waits
+//! take. If each start took what was freed last, each slot would soon have had a long wait, and all would rest until those
+//! pass: of 64 slots, with 50 starts a second that are all cancelled at once and one in a hundred of which waits 49.7 days,
+//! 87 of 100 starts of sixty days find all resting, in a simulation; with two stacks none does.
 //!
 //! | call | what it does | work |
 //! |---|---|---|

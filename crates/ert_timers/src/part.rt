@@ -38,7 +38,7 @@ pub struct WheelPart {
     /// The timers that are held as armed, and for each process the chain of the slots whose timers go to it. A slot
     /// without such a timer stays in its chain until it is used for another process, or until the chain is swept.
     wheel: Wheel<Slot>,
-    /// The slots that are known to be free: first those that have had a long wait.
+    /// The slots that are known to be free.
     free: FreeSlots,
     /// How many timers were armed. That is also the order of the next one.
     arms: u64,

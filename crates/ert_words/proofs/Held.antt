@@ -1,6 +1,6 @@
 -- The slots that are held, as a list without repeats and as a set.
 
-use Rattle.std.proofs.Common.{◌↔◌, Option, Some, None, IsNone, IsSome, IfNone, IfSome, option_to_list, append-nil, subst, ◌≡◌, ℕ, ◌+◌, ◌<◌, ◌≤◌, true, false, Bool, ◌||◌, ◌&&◌, not, List, [], ◌∷◌, ◌++◌, length, nat_eq, nat_lt, nat_le, refl, sym, ap, ◌∙◌, arith, zero, suc, inl, inr, length-append}
+use Rattle.std.proofs.Common.{◌↔◌, Option, Some, None, IsNone, IsSome, IfNone, IfSome, option_to_list, subst, ◌≡◌, ℕ, ◌+◌, ◌<◌, ◌≤◌, true, false, Bool, ◌||◌, ◌&&◌, not, List, [], ◌∷◌, ◌++◌, length, nat_eq, nat_lt, nat_le, refl, sym, ap, ◌∙◌, arith, zero, suc, inl, inr, length-append}
 use Rattle.std.proofs.lemmas.Bool.{eqb-true, ltb-true, true≢false}
 use Rattle.std.proofs.lemmas.Bool.Decides.{eqb_tells}
 use Rattle.std.proofs.lemmas.Map.Keys.{IsDistinct-push}
@@ -9,7 +9,8 @@ use Rattle.std.specs.Cmp.{nat_cmp_total, nat_eq_equiv, unsigned_tied}
 use Rattle.std.specs.FinSet as set
 use Rattle.std.specs.List.{IsDistinct, AllByRecursion, list_any, range_with_len}
 use Rattle.std.specs.Ordering.{nat_cmp}
-use Rattle.ert_words.specs.Free.{Free, FreeSet, free_set, HasRoom}
+use Rattle.ert_words.specs.Free.{FreeSet, HasRoom}
+use Rattle.ert_words.specs.Turns.{Row, row_set}
 
 -- a slot is in the set exactly where it is in the list
 pub contains-from_list : (xs : List ℕ) (q : ℕ)
@@ -35,7 +36,7 @@ distinct_parts (y ∷ ys) x h =
     ((first.0, rest.0), λ i. (nat_eq_equiv.symm x y ∙ first.1) i || rest.1 i)
 
 -- the first two of three tests change places
-or_swap : (a b c : Bool) → (a || (b || c)) ≡ (b || (a || c))
+pub or_swap : (a b c : Bool) → (a || (b || c)) ≡ (b || (a || c))
 or_swap true true c = refl
 or_swap true false c = refl
 or_swap false b c = refl
@@ -48,12 +49,12 @@ list_any-push p (y ∷ ys) x =
     ap (λ b. p y || b) (list_any-push p ys x) ∙ or_swap (p y) (p x) (list_any p ys)
 
 -- a test or true
-or-true : (b : Bool) → (b || true) ≡ true
+pub or-true : (b : Bool) → (b || true) ≡ true
 or-true true = refl
 or-true false = refl
 
 -- one more slot in range, and all are in range
-below_more : (slots x q : ℕ) (b : Bool) → x < slots → (b ≡ true → q < slots)
+pub below_more : (slots x q : ℕ) (b : Bool) → x < slots → (b ≡ true → q < slots)
     → (nat_eq q x || b) ≡ true → q < slots
 below_more slots x q b low h held =
     elim (eqb_tells q x) [ inl e ↦ omega arith | inr e ↦ h ((λ i. sym e.0 i || b) ∙ held) ]
@@ -69,7 +70,7 @@ pushed slots capacity larger x xs h grown low away = record {
 }
 
 -- the last is among them
-list_any-last : (x : ℕ) (xs : List ℕ) → list_any (nat_eq x) (xs ++ x ∷ []) ≡ true
+pub list_any-last : (x : ℕ) (xs : List ℕ) → list_any (nat_eq x) (xs ++ x ∷ []) ≡ true
 list_any-last x xs =
     list_any-push (nat_eq x) xs x ∙ (λ i. nat_eq_equiv.refl x i || list_any (nat_eq x) xs)
 
@@ -118,7 +119,7 @@ from_list-pop xs x away =
     ∙ (λ i. not (unsigned_tied q x i) && (contains-from_list (xs ++ x ∷ []) q ∙ list_any-push (nat_eq q) xs x) i)))
 
 -- slots that were counted up from a number
-list_any-range : (a n q : ℕ)
+pub list_any-range : (a n q : ℕ)
     → list_any (nat_eq q) (range_with_len a n) ≡ (nat_le a q && nat_lt q (a + n))
 list_any-range a zero q = grind arith
 list_any-range a (suc n) q = grind (arith, list_any-range (a + 1) n q)
@@ -129,7 +130,7 @@ above a b zero h = tt
 above a b (suc n) h = (grind arith, above a (b + 1) n (omega arith))
 
 -- slots that were counted up stand once
-distinct_range : (a n : ℕ) → IsDistinct nat_eq (range_with_len a n)
+pub distinct_range : (a n : ℕ) → IsDistinct nat_eq (range_with_len a n)
 unfolding IsDistinct
 distinct_range a zero = tt
 distinct_range a (suc n) = (above a (a + 1) n (omega arith), distinct_range (a + 1) n)
@@ -145,16 +146,6 @@ every slots capacity room = record {
   below = λ q held. ltb-true q slots (sym (list_any-every slots q) ∙ held);
   room = room;
 }
-
--- what a pop leaves
-pub room_after : (slots capacity : ℕ) (xs ys : List ℕ) (picked : Option ℕ) → xs ≡ ys ++ option_to_list picked
-    → HasRoom slots xs capacity → HasRoom slots ys capacity
-room_after slots capacity xs ys None e h =
-    let P : List ℕ → Type 0 = λ zs. HasRoom slots zs capacity in
-    subst P (e ∙ append-nil ys) h
-room_after slots capacity xs ys (Some x) e h =
-    let P : List ℕ → Type 0 = λ zs. HasRoom slots zs capacity in
-    (popped slots capacity x ys (subst P e h)).room
 
 -- the free slots of a list
 abbrev pub free_of : ℕ → List ℕ → FreeSet
@@ -195,19 +186,10 @@ picks slots capacity xs ys picked e h =
     let Q : List ℕ → Type 0 = λ zs. Picks (free_of slots zs) (free_of slots ys) picked in
     subst Q (sym e) (picks_at slots capacity ys picked (subst P e h))
 
--- what a pop gives was the last
-pub last_is : (xs ys : List ℕ) (picked : Option ℕ) → xs ≡ ys ++ option_to_list picked → IfSome picked (λ slot. xs ≡ ys ++ slot ∷ [])
-last_is xs ys None e = tt
-last_is xs ys (Some x) e = e
-
--- and where it gives nothing all is as it was
-pub same_rest : (xs ys : List ℕ) (picked : Option ℕ) → xs ≡ ys ++ option_to_list picked → IfNone picked (ys ≡ xs)
-same_rest xs ys None e = sym (e ∙ append-nil ys)
-same_rest xs ys (Some x) e = tt
-
+-- where a pop gives nothing all is as it was
 pub unchanged_by : (slots : ℕ) (xs ys : List ℕ) (picked : Option ℕ) → IfNone picked (ys ≡ xs)
-    → IfNone picked ((let f : Free = record { slots = slots; held = ys } in f) ≡ record { slots = slots; held = xs })
-unchanged_by slots xs ys None same = ap (λ zs. let f : Free = record { slots = slots; held = zs } in f) same
+    → IfNone picked ((let r : Row = record { bound = slots; held = ys } in r) ≡ record { bound = slots; held = xs })
+unchanged_by slots xs ys None same = ap (λ zs. let r : Row = record { bound = slots; held = zs } in r) same
 unchanged_by slots xs ys (Some x) same = tt
 
 -- a slot that may be put back, by the list
@@ -216,12 +198,12 @@ pub record CanPut (slots slot : ℕ) (xs : List ℕ) : Type 0 where
   pub away : list_any (nat_eq slot) xs ≡ false
 
 -- by the set
-pub can_put : (now : Free) (slots slot : ℕ) (xs : List ℕ) → (let f : Free = record { slots = slots; held = xs } in f) ≡ now → slot < now.slots
-    → set.contains (free_set now).held slot ≡ false → CanPut slots slot xs
+pub can_put : (now : Row) (slots slot : ℕ) (xs : List ℕ) → (let r : Row = record { bound = slots; held = xs } in r) ≡ now → slot < now.bound
+    → set.contains (row_set now).held slot ≡ false → CanPut slots slot xs
 can_put now slots slot xs e low away = record {
-  in_range = subst (λ (f : Free). slot < f.slots) (sym e) low;
+  in_range = subst (λ (r : Row). slot < r.bound) (sym e) low;
   away = sym (contains-from_list xs slot)
-      ∙ subst (λ (f : Free). set.contains (free_set f).held slot ≡ false) (sym e) away;
+      ∙ subst (λ (r : Row). set.contains (row_set r).held slot ≡ false) (sym e) away;
 }
 
 -- the free slots after a push

@@ -1,3 +1,4 @@
 pub mod Armed
 pub mod Held
 pub mod Moved
+pub mod Stacks

@@ -1,3 +1,4 @@
 pub mod Free
 pub mod Laws
 pub mod Ranges
+pub mod Turns

@@ -1,11 +1,11 @@
 //! How the small calls change what a part keeps.
 ghost use Rattle.std.specs.FinSet as set;
-ghost use Rattle.std.specs.Prelude.{◌≡◌, ◌≤◌, ◌<◌, ◌++◌, [], ◌∷◌, ℕ, Option, Some, IfSome, IsSome, MatchBool, false, true, nat_lt};
+ghost use Rattle.std.specs.Prelude.{◌≡◌, ◌≤◌, ◌<◌, ℕ, Option, Some, IfSome, IsSome, MatchBool, false, true, nat_lt};
 ghost use Rattle.ert_defs.specs.Timers as timers;
 ghost use Rattle.ert_timers.specs.Changes as changes;
 ghost use Rattle.ert_timers.specs.Owners.{MayJoin, Joins};
 ghost use Rattle.ert_wheel.specs.Rings.{Place, AreChains, MayTake, GivesUpPlace, StandsIn};
-ghost use Rattle.ert_words.specs.Free.{free_set};
+ghost use Rattle.ert_words.specs.Free.{free_set, with_short, with_long, TakesLong, TakesNext};
 
 use super::{Use, WheelPart, is_long};
 use crate::slot::Slot;
@@ -78,8 +78,9 @@ impl WheelPart {
     /// Takes a slot out that is held free, for a timer that is started at a time with a deadline, both in
     /// milliseconds after the start time; None exactly where none is.
     ///
-    /// That is the last one, where it has had a long wait that isn't over and the timer's is long too, or neither is
-    /// so. Else a long wait takes the first one, and for a short one the last comes first and the next is taken.
+    /// That is the next one, where it has had a long wait that isn't over and the timer's is long too, or neither is
+    /// so. Else a long wait takes the top of the stack of long waits, or one that was never taken, where there is one; and
+    /// for a short one the slot goes to that stack, and the one after it is taken.
     #[inline(always)]
     pub(crate) fn pick(&mut self, now: u64, deadline: u64) -> Option<u32>
         ensures none { IfNone result ((slot : ℕ) → set.contains self.old.free slot ≡ false) }
@@ -129,8 +130,8 @@ impl WheelPart {
         self.wheel.value(slot).next_use(now, deadline)
     }
 
-    /// Holds a slot free from now on: as the first one where it has had a wait that is long at a time in milliseconds
-    /// after the start time, and else as the last.
+    /// Holds a slot free from now on: on the stack of long waits where it has had a wait that is long at a time in
+    /// milliseconds after the start time, and else on that of short ones.
     pub(crate) fn free_slot(&mut self, slot: u32, now: u64)
         requires low { slot < length self.old.slots }
         requires away { set.contains self.old.free slot ≡ false }
@@ -184,8 +185,8 @@ impl WheelPart {
         self.free_after(timer);
     }
 
-    /// Holds the slot of its last timer free where the slot's round has uses left, as the last one. That is told by
-    /// the timer's generation, so what is kept of the slot isn't read for it: a start that takes it looks at that.
+    /// Holds the slot of its last timer free where the slot's round has uses left, on the stack of short waits. That is
+    /// told by the timer's generation, so what is kept of the slot isn't read for it: a start that takes it looks at that.
     pub(crate) fn free_after(&mut self, timer: TimerRef)
         requires { IsLetGo self.old timer }
         ensures { self.new ≡ reused self.old timer.slot }
@@ -278,8 +279,8 @@ fn take_out(wheel: &mut Wheel<Slot>, slot: u32)
     }
 }
 
-/// Adds a slot that was taken out again, at the other end than that of the one that is taken instead: the first
-/// for a long wait, and the last for a short one.
+/// Adds a slot that was taken out again, on the stack for waits of the other length, and takes another, as for a long wait or
+/// as for a short one.
 #[inline(never)]
 fn exchange(free: &mut FreeSlots, slot: u32, long: bool) -> Option<u32>
     requires in_range { slot < free.old.slots }
@@ -288,22 +289,22 @@ fn exchange(free: &mut FreeSlots, slot: u32, long: bool) -> Option<u32>
     ensures held { IfSome result (λ other. set.contains (set.insert (free_set free.old).held slot) other ≡ true) }
     ensures taken { IfSome result (λ other.
         free_set free.new ≡ record (free_set free.old) { held = set.remove (set.insert (free_set free.old).held slot) other }) }
-    ensures ends { IfSome result (λ other. MatchBool long
-        (free.old.held ++ slot ∷ [] ≡ other ∷ free.new.held) (slot ∷ free.old.held ≡ free.new.held ++ other ∷ [])) }
+    ensures which { IfSome result (λ other. MatchBool long
+        (TakesLong (with_short free.old slot) free.new other) (TakesNext (with_long free.old slot) free.new other)) }
 {
     put(free, slot, !long);
-    if long { free.pick_first() } else { free.pick() }
+    if long { free.pick_long() } else { free.pick() }
 }
 
-/// Adds a slot that isn't held free, as the first one or the last.
-fn put(free: &mut FreeSlots, slot: u32, first: bool)
+/// Adds a slot that isn't held free, on the stack of long waits or on that of short ones.
+fn put(free: &mut FreeSlots, slot: u32, long: bool)
     requires in_range { slot < free.old.slots }
     requires away { set.contains (free_set free.old).held slot ≡ false }
     ensures held { free_set free.new ≡ record (free_set free.old) { held = set.insert (free_set free.old).held slot } }
-    ensures end { MatchBool first (free.new.held ≡ slot ∷ free.old.held) (free.new.held ≡ free.old.held ++ slot ∷ []) }
+    ensures stack { MatchBool long (free.new ≡ with_long free.old slot) (free.new ≡ with_short free.old slot) }
 {
-    if first {
-        free.put_first(slot);
+    if long {
+        free.put_long(slot);
     } else {
         free.put(slot);
     }

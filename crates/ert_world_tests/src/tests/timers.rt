@@ -1,4 +1,4 @@
-//! Timers of a wheel, which takes its slots from the last one on: references, and what the words of a desk tell of them. What
+//! Timers of a wheel, which takes its slots from the first one on: references, and what the words of a desk tell of them. What
 //! comes of timers and of exits, and the order in which timers expire, is shown by `examples/ertime`.
 use crate::tests::steps::Step::{
     Advance, Cancel, CancelAlone, Counts, Deliver, Exit, Finalize, IsAlive, MarkExit, Monotonic,
@@ -122,20 +122,8 @@ const TIMER_0_3: TimerRef = TimerRef {
     ..ONE
 };
 
-const TIMER_6_1: TimerRef = TimerRef {
-    slot: 6,
-    generation: 1,
-    ..ONE
-};
-
-const TIMER_7_1: TimerRef = TimerRef {
-    slot: 7,
-    generation: 1,
-    ..ONE
-};
-
-const TIMER_7_2: TimerRef = TimerRef {
-    slot: 7,
+const OTHER_SLOT_LATER: TimerRef = TimerRef {
+    slot: 1,
     generation: 2,
     ..ONE
 };
@@ -157,10 +145,10 @@ fn a_slot_is_used_three_times(rt: HostRuntime) -> Result<(), NoMemory> {
 }
 
 const LONG_WAITS: [Step; 4] = [
-    Start(After(7_200_000), 1, 1, Ok(ONE)),
-    Cancel(ONE, Some(7_200_000)),
-    Start(After(1), 1, 2, Ok(TIMER_7_1)),
-    Start(After(7_200_000), 1, 3, Ok(LATER)),
+    Start(After(7_200_000), 1, 1, Ok(OTHER_SLOT)),
+    Cancel(OTHER_SLOT, Some(7_200_000)),
+    Start(After(1), 1, 2, Ok(ONE)),
+    Start(After(7_200_000), 1, 3, Ok(OTHER_SLOT_LATER)),
 ];
 
 /// A slot that had a long wait is taken by the next long one, and by a short one only where no other is free.
@@ -170,12 +158,12 @@ fn long_waits_keep_their_slots(rt: HostRuntime) -> Result<(), NoMemory> {
 }
 
 const GIVEN_BACK: [Step; 6] = [
-    Start(After(1), 1, 1, Ok(TIMER_7_1)),
+    Start(After(1), 1, 1, Ok(ONE)),
     Tick(FIRST, Ok(MOVED)),
     Advance(1, 1),
-    Start(After(1), 1, 2, Ok(TIMER_6_1)),
+    Start(After(1), 1, 2, Ok(OTHER_SLOT)),
     Deliver(1, 0),
-    Start(After(1), 1, 3, Ok(TIMER_7_2)),
+    Start(After(1), 1, 3, Ok(LATER)),
 ];
 
 /// The slot of an expired timer is taken until its message is delivered, and then by the next start.
@@ -185,12 +173,12 @@ fn a_delivered_message_gives_its_slot_back(rt: HostRuntime) -> Result<(), NoMemo
 }
 
 const MARKED: [Step; 6] = [
-    Start(After(5), 1, 0, Ok(TIMER_7_1)),
+    Start(After(5), 1, 0, Ok(ONE)),
     MarkExit(1, true),
-    Read(TIMER_7_1, Some(5)),
+    Read(ONE, Some(5)),
     MarkExit(1, false),
     Exit(1, false),
-    Read(TIMER_7_1, Some(5)),
+    Read(ONE, Some(5)),
 ];
 
 /// The timers of a process that is marked stay armed until their wheel is swept.
@@ -200,14 +188,14 @@ fn a_process_is_marked(rt: HostRuntime) -> Result<(), NoMemory> {
 }
 
 const PUT_TOGETHER: [Step; 8] = [
-    Start(After(5), 1, 0, Ok(TIMER_7_1)),
-    Start(After(5), 1, 0, Ok(TIMER_6_1)),
+    Start(After(5), 1, 0, Ok(ONE)),
+    Start(After(5), 1, 0, Ok(OTHER_SLOT)),
     Counts([2, 0, 0, 2]),
-    CancelAlone(TIMER_7_1, Some(5)),
+    CancelAlone(ONE, Some(5)),
     Counts([2, 0, 0, 1]),
     Advance(0, 0),
     Counts([2, 0, 0, 1]),
-    Read(TIMER_6_1, Some(5)),
+    Read(OTHER_SLOT, Some(5)),
 ];
 
 /// A wheel that wasn't told of a cancel holds the timer until its world is put together.

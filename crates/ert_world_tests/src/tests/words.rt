@@ -1,7 +1,9 @@
 //! Words that were computed by hand from the table of fields, and each public call once.
 
 use ert_defs::Status;
-use ert_words::{FreeSlots, offset_of, offset_word, time_of, time_word, timer_of, timer_word};
+use ert_words::{
+    FreeSlots, Turns, offset_of, offset_word, time_of, time_word, timer_of, timer_word,
+};
 use std::test::Fail;
 
 /// The last time, counted from the start.
@@ -70,20 +72,34 @@ fn timers_are_packed(rt: HostRuntime) {
     assert!(rt; timer_of(0).is_none());
 }
 
-/// A slot that was put in as the first one is picked as the first, and as the last one as the last.
+/// A slot comes back from the stack on which it was put, and then the least ones that were never taken.
 #[test]
-fn free_slots_have_two_ends(rt: HostRuntime) -> Result<(), Fail> {
+fn free_slots_have_two_stacks(rt: HostRuntime) -> Result<(), Fail> {
     let mut free = FreeSlots::new(rt.alloc(), 3)?;
     let slot = free.pick().ok_or("none held")?;
-    free.put_first(slot);
-    let first = free.pick_first().ok_or("none held")?;
-    free.put(first);
-    let last = free.pick();
+    free.put_long(slot);
+    let long = free.pick_long().ok_or("none held")?;
+    free.put(long);
+    let short = free.pick();
     let others = (free.pick(), free.pick(), free.pick());
-    assert!(rt; first == slot && last == Some(slot), "{first} {last:?}");
+    assert!(rt; long == slot && short == Some(slot), "{long} {short:?}");
     assert!(rt;
-        matches!(others, (Some(one), Some(other), None) if one != other && one != slot && other != slot),
-        "{others:?}"
+        slot == 0 && matches!(others, (Some(1), Some(2), None)),
+        "{slot} {others:?}"
+    );
+    Ok(())
+}
+
+/// One that is put in comes after those that wait already.
+#[test]
+fn turns_come_in_order(rt: HostRuntime) -> Result<(), Fail> {
+    let mut turns = Turns::new(rt.alloc(), 2)?;
+    let first = turns.pick_first().ok_or("none waits")?;
+    turns.put(first);
+    let others = (turns.pick_first(), turns.pick_first(), turns.pick_first());
+    assert!(rt;
+        first == 0 && matches!(others, (Some(1), Some(0), None)),
+        "{first} {others:?}"
     );
     Ok(())
 }

@@ -1,7 +1,7 @@
 use Rattle.std.proofs.Common.{◌≡◌, ◌<◌, ℕ, List, Bool, false, refl, subst}
 use Rattle.std.specs.Prelude.{slice_index_or}
 use Rattle.ert_mail.proofs.Listing.{if_none, row_empty, row_taken}
-use Rattle.ert_words.specs.Free.{free_set}
+use Rattle.ert_words.specs.Turns.{row_set}
 use Rattle.ert_mail.proofs.list.MailList.pick.Goals as goal
 
 pub returns-in_err-process-clause-empty : goal.returns-in_err-process-clause-empty
@@ -12,5 +12,5 @@ returns-in_err-process-clause-empty c =
 
 pub invariant_of-self-2 : goal.invariant_of-self-2
 invariant_of-self-2 c =
-    row_taken (free_set c.self.inside.row) (free_set c.pick_first.new.self) c.self.inside.listed.items c.in_ok-process.process c.self.invariant
+    row_taken (row_set c.self.inside.row) (row_set c.pick_first.new.self) c.self.inside.listed.items c.in_ok-process.process c.self.invariant
     (subst (λ n. c.in_ok-process.process < n) c.self.invariant.slots c.in_ok-process.ensures.in_range) c.in_ok-process.ensures.taken

@@ -1,24 +1,21 @@
-use Rattle.std.proofs.Common.{◌≡◌, ◌≤◌, List, ℕ, length, sym, ap, ◌∙◌, subst, arith}
-use Rattle.std.proofs.lemmas.List.FromFn.{length-range_with_len}
-use Rattle.std.specs.List.{range_with_len}
-use Rattle.ert_words.proofs.Held.{contains-from_list, list_any-every, every}
-use Rattle.ert_words.specs.Free.{HasRoom}
+use Rattle.std.proofs.Common.{◌≡◌, List, ℕ, [], nat_lt, sym, subst, arith}
+use Rattle.std.specs.FinSet as set
+use Rattle.ert_words.proofs.Stacks.{all_free, none_taken}
+use Rattle.ert_words.specs.Free.{Free, IsStacked, free_at, free_set}
 use Rattle.ert_words.proofs.free_slots.FreeSlots.new.Goals as goal
 
 pub invariant_of-result : goal.invariant_of-result
 invariant_of-result c =
-    let held = c.in-Ok.held in
-    let items : c.from_vec.result.items ≡ range_with_len 0 c.args.slots = c.from_vec.ensures.items ∙ c.in-Ok.ensures in
-    let many : length held.items ≡ c.args.slots =
-    ap (λ (xs : List ℕ). length xs) c.in-Ok.ensures ∙ length-range_with_len 0 c.args.slots in
-    let room : c.args.slots ≤ c.from_vec.result.cap = omega (arith, many, held.ok.0, held.ok.1, c.from_vec.ensures.capacity) in
-    subst (λ (xs : List ℕ). HasRoom c.args.slots xs c.from_vec.result.cap) (sym items)
-    (every c.args.slots c.from_vec.result.cap room)
+    let short = c.in_ok-short in
+    let long = c.in_ok-long in
+    subst (λ (xs : List ℕ). IsStacked c.args.slots 0 xs long.long.items short.short.cap long.long.cap) (sym short.ensures.items)
+    (subst (λ (ys : List ℕ). IsStacked c.args.slots 0 [] ys short.short.cap long.long.cap) (sym long.ensures.items)
+    (none_taken c.args.slots short.short.cap long.long.cap (omega (arith, short.ensures.capacity)) (omega (arith, long.ensures.capacity))))
 
-pub returns-in-Ok-clause-every : goal.returns-in-Ok-clause-every
-returns-in-Ok-clause-every c slot =
-    rw (c.from_vec.ensures.items ∙ c.in-Ok.ensures)
-    (contains-from_list (range_with_len 0 c.args.slots) slot ∙ list_any-every c.args.slots slot)
+pub returns-clause-fresh : goal.returns-clause-fresh
+returns-clause-fresh c = λ i. free_at c.args.slots 0 (c.in_ok-short.ensures.items i) (c.in_ok-long.ensures.items i)
 
-pub returns-in-Ok-clause-order : goal.returns-in-Ok-clause-order
-returns-in-Ok-clause-order c = c.from_vec.ensures.items ∙ c.in-Ok.ensures
+pub returns-clause-every : goal.returns-clause-every
+returns-clause-every c slot =
+    subst (λ (f : Free). set.contains (free_set f).held slot ≡ nat_lt slot c.args.slots)
+    (sym (λ i. free_at c.args.slots 0 (c.in_ok-short.ensures.items i) (c.in_ok-long.ensures.items i))) (all_free c.args.slots slot)

@@ -1,29 +1,39 @@
-use Rattle.std.proofs.Common.{◌≡◌, ◌<◌, ◌++◌, [], ◌∷◌, length, ap, subst, arith}
+use Rattle.std.proofs.Common.{◌≡◌, ◌∙◌, ◌<◌, false, List, ℕ, length, sym, ap, subst, arith}
 use Rattle.std.specs.FinSet as set
-use Rattle.ert_words.proofs.Held.{can_put, pushed, room_left, free_of, free_of-push}
-use Rattle.ert_words.specs.Free.{Free, free_set}
+use Rattle.ert_words.proofs.Stacks.{IsPut, put_short}
+use Rattle.ert_words.specs.Free.{Free, free_at, free_set, with_short}
 use Rattle.ert_words.proofs.free_slots.FreeSlots.put.Goals as goal
 
-pub push_back_reserved-requires : goal.push_back_reserved-requires
-push_back_reserved-requires c =
-    let held = c.self.inside.held in
-    let can = can_put c.args.self.now _ c.args.slot _ c.self.view_is c.requires.in_range c.requires.away in
-    let few : length held.items < c.self.inside.slots = room_left _ held.cap _ _ c.self.invariant can.in_range can.away in
-    omega (arith, few, held.ok.0, c.self.invariant.room)
+pub push_reserved-requires : goal.push_reserved-requires
+push_reserved-requires c =
+    let f = c.self.inside in
+    let put = put_short (free_at f.slots f.fresh f.short.items f.long.items) c.args.slot f.short.cap f.long.cap c.self.invariant
+    (subst (λ (o : Free). c.args.slot < o.slots) (sym c.self.view_is) c.requires.in_range)
+    (subst (λ (o : Free). set.contains (free_set o).held c.args.slot ≡ false) (sym c.self.view_is) c.requires.away) in
+    let few : length f.short.items < f.slots = put.0 in
+    omega (arith, few, f.short.ok.0, c.self.invariant.short_room.room)
+
+put : (c : goal.After-push_reserved)
+    → IsPut (free_at c.self.inside.slots c.self.inside.fresh c.self.inside.short.items c.self.inside.long.items)
+    (with_short (free_at c.self.inside.slots c.self.inside.fresh c.self.inside.short.items c.self.inside.long.items) c.args.slot)
+    c.args.slot c.self.inside.short.cap c.self.inside.long.cap
+put c =
+    let f = c.self.inside in
+    (put_short (free_at f.slots f.fresh f.short.items f.long.items) c.args.slot f.short.cap f.long.cap c.self.invariant
+    (subst (λ (o : Free). c.args.slot < o.slots) (sym c.self.view_is) c.requires.in_range)
+    (subst (λ (o : Free). set.contains (free_set o).held c.args.slot ≡ false) (sym c.self.view_is) c.requires.away)).1
 
 pub invariant_of-self : goal.invariant_of-self
-invariant_of-self c =
-    let can = can_put c.args.self.now _ c.args.slot _ c.self.view_is c.requires.in_range c.requires.away in
-    rw c.push_back_reserved.ensures.items
-    (pushed _ _ _ _ _ c.self.invariant (omega (arith, c.push_back_reserved.ensures.capacity)) can.in_range can.away)
+invariant_of-self c = rw (c.push_reserved.ensures.capacity, c.push_reserved.ensures.items) (put c).left
 
-pub returns-clause-last : goal.returns-clause-last
-returns-clause-last c =
-    subst (λ (old : Free). (let f : Free = record { slots = c.self.inside.slots; held = c.push_back_reserved.new.self.items } in f) ≡ record { slots = old.slots; held = old.held ++ c.args.slot ∷ [] })
-    c.self.view_is (ap (λ xs. let f : Free = record { slots = c.self.inside.slots; held = xs } in f) c.push_back_reserved.ensures.items)
+pub returns-clause-top : goal.returns-clause-top
+returns-clause-top c =
+    let f = c.self.inside in
+    subst (λ (old : Free). free_at f.slots f.fresh c.push_reserved.new.self.items f.long.items ≡ with_short old c.args.slot) c.self.view_is
+    (ap (λ (xs : List ℕ). free_at f.slots f.fresh xs f.long.items) c.push_reserved.ensures.items)
 
 pub returns-clause-held : goal.returns-clause-held
 returns-clause-held c =
-    subst (λ (old : Free). free_of c.self.inside.slots c.push_back_reserved.new.self.items
-    ≡ record { slots = old.slots; held = set.insert (free_set old).held c.args.slot })
-    c.self.view_is (free_of-push c.self.inside.slots c.args.slot _ _ c.push_back_reserved.ensures.items)
+    let f = c.self.inside in
+    subst (λ (old : Free). free_set (free_at f.slots f.fresh c.push_reserved.new.self.items f.long.items) ≡ record { slots = old.slots; held = set.insert (free_set old).held c.args.slot })
+    c.self.view_is (ap (λ (xs : List ℕ). free_set (free_at f.slots f.fresh xs f.long.items)) c.push_reserved.ensures.items ∙ (put c).held)
