@@ -1,6 +1,6 @@
 //! Values of format 1, made values of format 2.
 
-ghost use Rattle.std.specs.Prelude.{◌≡◌, map, codes, IfOk, OnOk};
+ghost use Rattle.std.specs.Prelude.{◌≡◌, map, codes, Ok, IfOk, OnOk};
 ghost use Rattle.serde_json.specs.View.{view, members_view};
 ghost use Rattle.serde_json.specs.Data.{put as with_member};
 ghost use Rattle.ert_scenario.specs.Kinds.{text as text_of, head};
@@ -140,7 +140,17 @@ fn is_ask(items: &[Value]) -> bool
     ensures { result ≡ is_ask (text_of (head (map view items.now))) }
 {
     let (name, _) = next(items);
-    matches!(text(name), Ok("cancel_async" | "read_async"))
+    match text(name) {
+        Ok(name) => asks(name),
+        Err(_) => false,
+    }
+}
+
+/// Whether it is the name of an op that asks a scheduler.
+fn asks(name: &str) -> bool
+    ensures { result ≡ is_ask (Ok name.now) }
+{
+    matches!(name, "cancel_async" | "read_async")
 }
 
 /// The value, where it is an object with this field.
