@@ -2,14 +2,16 @@
  * What calls of shards take with 1, 2 and 4 threads, each with a shard of its own. Rows as bench/threads.h prints them:
  *
  *   start_cancel   a timer is started and cancelled on the thread's own shard
+ *   apart          the same, but each thread has the one shard of a service of its own, so that they share nothing
  *   cancel         each timer is cancelled by one thread, which is another one than its own where there are several
  *   time           monotonic time, beside a thread that ticks
  */
-#define _POSIX_C_SOURCE 200809L
-#include <stdatomic.h>
-
+#define _GNU_SOURCE
 #include "ertime.h"
 #include "threads.h"
+
+/* Many, so that the clock ticks in each pass. */
+enum { READS = 100000 };
 
 typedef struct {
     ert_shard shard;
@@ -18,7 +20,7 @@ typedef struct {
     char apart[128];
 } worker;
 
-static ert_hub hub;
+static ert_hub hubs[MOST_THREADS]; /* that of a service for all threads is the first one */
 static worker workers[MOST_THREADS];
 static int others;
 static atomic_bool is_over;
@@ -35,31 +37,30 @@ static void tick(int64_t by) {
     now += by;
     ert_reading reading = {now, now};
     ert_moved moved;
-    must(ert_hub_tick(&hub, &reading, 0, &moved));
+    must(ert_hub_tick(hubs, &reading, 0, &moved));
 }
 
-static void open_shards(int threads) {
+/* Opens a service, and gives a shard of it to each of so many threads. */
+static void open_shards(ert_hub *hub, worker *first_worker, int threads) {
     ert_settings settings;
     ert_reading first = {0, 0};
     ert_settings_init(&settings, &first);
-    others = threads;
-    now = 0;
     settings.schedulers = settings.processes = (uint32_t)threads;
     settings.callers = (uint32_t)threads + 1;
     settings.slots = TIMERS;
-    must(ert_hub_open(&hub, &settings));
-    for (int i = 0; i < threads; i++) {
+    must(ert_hub_open(hub, &settings));
+    for (worker *w = first_worker; w < first_worker + threads; w++) {
         uint32_t to;
-        must(ert_hub_shard(&hub, &workers[i].shard, 1));
-        must(ert_shard_processes(&workers[i].shard, &workers[i].process, &to));
+        must(ert_hub_shard(hub, &w->shard, 1));
+        must(ert_shard_processes(&w->shard, &w->process, &to));
     }
 }
 
-static void close_shards(int threads) {
-    for (int i = 0; i < threads; i++) {
-        must(ert_shard_close(&workers[i].shard));
+static void close_shards(ert_hub *hub, worker *first_worker, int threads) {
+    for (worker *w = first_worker; w < first_worker + threads; w++) {
+        must(ert_shard_close(&w->shard));
     }
-    must(ert_hub_close(&hub));
+    must(ert_hub_close(hub));
 }
 
 static void start_and_cancel(int thread) {
@@ -74,7 +75,7 @@ static void start_and_cancel(int thread) {
 }
 
 static void read_time(int thread) {
-    for (int i = 0; i < CALLS; i++) {
+    for (int i = 0; i < READS; i++) {
         int64_t time;
         must(ert_shard_monotonic_time(&workers[thread].shard, &time));
     }
@@ -113,20 +114,37 @@ static void *go_on_ticking(void *unused) {
     return NULL;
 }
 
+static void measure_shared(int threads) {
+    others = threads;
+    now = 0;
+    open_shards(hubs, workers, threads);
+    measure("start_cancel", threads, start_and_cancel, NULL, CALLS);
+    measure("cancel", threads, cancel_of_others, start_all, TIMERS);
+    pthread_t ticking;
+    atomic_store(&is_over, false);
+    if (pthread_create(&ticking, NULL, go_on_ticking, NULL) != 0) {
+        exit(EXIT_FAILURE);
+    }
+    measure("time", threads, read_time, NULL, READS);
+    atomic_store(&is_over, true);
+    pthread_join(ticking, NULL);
+    close_shards(hubs, workers, threads);
+}
+
+static void measure_apart(int threads) {
+    for (int i = 0; i < threads; i++) {
+        open_shards(&hubs[i], &workers[i], 1);
+    }
+    measure("apart", threads, start_and_cancel, NULL, CALLS);
+    for (int i = 0; i < threads; i++) {
+        close_shards(&hubs[i], &workers[i], 1);
+    }
+}
+
 int main(void) {
     for (int threads = 1; threads <= MOST_THREADS; threads *= 2) {
-        open_shards(threads);
-        measure("start_cancel", threads, start_and_cancel, NULL, CALLS);
-        measure("cancel", threads, cancel_of_others, start_all, TIMERS);
-        pthread_t ticking;
-        atomic_store(&is_over, false);
-        if (pthread_create(&ticking, NULL, go_on_ticking, NULL) != 0) {
-            return EXIT_FAILURE;
-        }
-        measure("time", threads, read_time, NULL, CALLS);
-        atomic_store(&is_over, true);
-        pthread_join(ticking, NULL);
-        close_shards(threads);
+        measure_shared(threads);
+        measure_apart(threads);
     }
     return EXIT_SUCCESS;
 }

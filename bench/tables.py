@@ -40,6 +40,11 @@ def processor():
 
 def raise_priority():
     """As root a measurement runs with a higher priority than usual, so that other work disturbs it less, but not under
-    `nice`."""
+    `nice`. Linux divides the processors among sessions first, so unless a shell has the script as a job, it gets a session
+    of its own with that priority."""
     if os.geteuid() == 0 and os.getpriority(os.PRIO_PROCESS, 0) == 0:
         os.setpriority(os.PRIO_PROCESS, 0, -5)
+        group = pathlib.Path("/proc/self/autogroup")
+        if group.exists() and os.getpgrp() != os.getpid():
+            os.setsid()
+            group.write_text("-5")

@@ -1,23 +1,31 @@
 /*
  * Passes of several threads: nanoseconds for a call overall, which is the time of a pass, from where its first thread begins
  * to where its last one ends, over the calls of all threads. It is the least of some passes.
+ *
+ * Each thread has a processor of its own, if there are as many, and waits without sleeping until all are there. So a pass
+ * tells what the calls cost the threads, and not where and when the system lets these run. Passes are short, since a pass
+ * in which something else ran on one of the processors counts for nothing.
  */
 #ifndef THREADS_H
 #define THREADS_H
 
 #include <pthread.h>
+#include <sched.h>
+#include <stdatomic.h>
 #include <stdint.h>
 #include <stdio.h>
 #include <stdlib.h>
 #include <time.h>
 
-enum { PASSES = 60, CALLS = 100000, TIMERS = 16384, MOST_THREADS = 4 };
+enum { PASSES = 600, CALLS = 10000, TIMERS = 16384, MOST_THREADS = 4 };
 
 /* What a thread does in a pass, by its number. */
 typedef void job(int thread);
 
 static job *done_in_a_pass;
 static pthread_barrier_t gate;
+static int threads_of_pass;
+static atomic_int there;
 static int64_t begun[MOST_THREADS], ended[MOST_THREADS];
 
 static int64_t nanoseconds(void) {
@@ -26,10 +34,29 @@ static int64_t nanoseconds(void) {
     return (int64_t)t.tv_sec * 1000000000 + t.tv_nsec;
 }
 
+/* Gives the calling thread the processor of this number among those that the program may use. */
+static void take_processor(int number) {
+    cpu_set_t all, one;
+    CPU_ZERO(&one);
+    if (sched_getaffinity(0, sizeof all, &all) != 0) {
+        return;
+    }
+    for (size_t processor = 0; processor < CPU_SETSIZE; processor++) {
+        if (CPU_ISSET(processor, &all) && number-- == 0) {
+            CPU_SET(processor, &one);
+            sched_setaffinity(0, sizeof one, &one);
+        }
+    }
+}
+
 static void *make_passes(void *number) {
     int thread = (int)(intptr_t)number;
+    take_processor(thread);
     for (int pass = 0; pass < PASSES; pass++) {
         pthread_barrier_wait(&gate);
+        atomic_fetch_add(&there, 1);
+        while (atomic_load(&there) < threads_of_pass) {
+        }
         begun[thread] = nanoseconds();
         done_in_a_pass(thread);
         ended[thread] = nanoseconds();
@@ -43,6 +70,7 @@ static void measure(const char *name, int threads, job *what, void (*before)(int
     pthread_t running[MOST_THREADS];
     int64_t best = INT64_MAX;
     done_in_a_pass = what;
+    threads_of_pass = threads;
     pthread_barrier_init(&gate, NULL, (unsigned)threads + 1);
     for (int i = 0; i < threads; i++) {
         if (pthread_create(&running[i], NULL, make_passes, (void *)(intptr_t)i) != 0) {
@@ -53,6 +81,7 @@ static void measure(const char *name, int threads, job *what, void (*before)(int
         if (before != NULL) {
             before(threads);
         }
+        atomic_store(&there, 0);
         pthread_barrier_wait(&gate);
         pthread_barrier_wait(&gate);
         int64_t begin = begun[0], end = ended[0];

@@ -33,8 +33,9 @@ enum { MOST = 4, PROCESSES = 3, SPARE = 1000, RECENT = 6 };
 /* What each thread draws its calls from. */
 static const kind OF_HUB[] = {TICK, TICK, TICK, TICK, TICK, TICK, TICK, TIME, SYSTEM, OFFSET, CANCEL, READ};
 static const kind OF_SEAT[] = {CANCEL, CANCEL, CANCEL, CANCEL, READ, READ, READ, TIME, SYSTEM, OFFSET, ALIVE};
-static const kind OF_SHARD[] = {START, START, START, START, START, START, CANCEL, CANCEL, READ, TURN, TURN, ADVANCE,
-    DELIVER, TAKE, TAKE, TAKE, TIME, SYSTEM, OFFSET, ALIVE, MONITOR, DEMONITOR, TELL, TELL};
+static const kind OF_SHARD[] = {START, START, START, START, START, START, RESTART, CANCEL, CANCEL, READ, TURN, TURN,
+    ADVANCE, DELIVER, TAKE, TAKE, TAKE_SOME, NEXT_MAIL, ASK, ASK, ASK, SERVE, TIME, SYSTEM, OFFSET, ALIVE, MONITOR, DEMONITOR,
+    TELL, TELL};
 
 typedef enum { HUB, SHARD, SEAT } role;
 
@@ -141,6 +142,15 @@ static ert_start any_start(actor *a, uint64_t number) {
     return start;
 }
 
+/* A request to the shard, mostly with an answer to a process of it. */
+static ert_request any_request(actor *a, uint32_t process) {
+    ert_request request = {.kind = one_in(a, 2) ? ERT_CANCEL : ERT_READ,
+        .timer = any_timer(a),
+        .reply_to = process,
+        .info = !one_in(a, 8)};
+    return request;
+}
+
 /* What the call is asked. */
 static void ask(actor *a, call *c) {
     c->force = one_in(a, 6);
@@ -150,9 +160,13 @@ static void ask(actor *a, call *c) {
     c->process = a->role == SHARD && c->kind != ALIVE ? a->from + (uint32_t)below(&a->random, PROCESSES)
                                                       : (uint32_t)below(&a->random, settings.processes);
     c->monitor = (uint32_t)below(&a->random, 8);
-    if (c->kind == START) {
+    c->room = (size_t)below(&a->random, MOST_TAKEN + 1);
+    if (c->kind == START || c->kind == RESTART) {
         c->start = any_start(a, (uint64_t)(c - a->calls));
-    } else {
+    }
+    if (c->kind == ASK) {
+        c->request = any_request(a, c->process);
+    } else if (c->kind != START) {
         c->timer = any_timer(a);
     }
 }
@@ -172,9 +186,9 @@ static void keep(actor *a, const call *c) {
     if (c->status != ERT_OK) {
         return;
     }
-    if (c->kind == START) {
+    if (c->kind == START || c->kind == RESTART) {
         int started = atomic_load(&a->started);
-        a->names[started] = c->timer;
+        a->names[started] = c->kind == START ? c->timer : c->restarted;
         atomic_store(&a->started, started + 1);
     } else if (c->kind == TURN || c->kind == ADVANCE) {
         a->milliseconds = (int64_t)c->turned.to;
@@ -229,15 +243,16 @@ static void *work(void *argument) {
     return NULL;
 }
 
-/* All that is left is let expire, delivered and taken. */
+/* All that is left is served, let expire, delivered and taken. */
 static void settle(void) {
     reading.mono += 61000 * MILLISECOND;
     do_call(&actors[0], TICK);
     for (int i = 0; i < shards; i++) {
         actor *s = shard_of((uint64_t)i);
-        do_call(s, TURN);
-        for (int empty = 0; empty < 4 * PROCESSES;) {
-            empty += do_call(s, TAKE)->status != ERT_OK;
+        while (do_call(s, TURN)->turned.served > 0) {
+        }
+        while (do_call(s, NEXT_MAIL)->status == ERT_OK) {
+            do_call(s, one_in(s, 2) ? TAKE : TAKE_SOME);
         }
     }
 }

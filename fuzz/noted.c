@@ -44,17 +44,27 @@ static int32_t deliver(ert_shard *shard, call *c) {
     return status;
 }
 
+static int32_t restart(ert_shard *shard, call *c) {
+    c->restarted = c->timer;
+    return ert_shard_restart(shard, &c->restarted, &c->start);
+}
+
 int32_t call_shard(ert_shard *shard, call *c) {
     switch (c->kind) {
     case TIME: return ert_shard_monotonic_time(shard, &c->time);
     case SYSTEM: return ert_shard_system_time(shard, &c->time);
     case OFFSET: return ert_shard_time_offset(shard, &c->offset);
     case START: return ert_shard_start(shard, &c->start, &c->timer);
+    case RESTART: return restart(shard, c);
     case CANCEL: return ert_shard_cancel(shard, &c->timer, &c->left);
     case READ: return ert_shard_read(shard, &c->timer, &c->left);
     case ALIVE: return ert_shard_is_alive(shard, c->process, &c->told);
     case EXIT: return ert_shard_exit(shard, c->process, &c->told);
-    case TAKE: return ert_shard_take(shard, c->process, &c->mail);
+    case TAKE: return ert_shard_take(shard, c->process, c->mails);
+    case TAKE_SOME: return ert_shard_take_some(shard, c->process, c->mails, c->room, &c->taken);
+    case NEXT_MAIL: return ert_shard_next_mail(shard, &c->told);
+    case ASK: return ert_shard_ask(shard, &c->request);
+    case SERVE: return ert_shard_serve(shard, &c->told);
     case MONITOR: return ert_shard_monitor(shard, c->process, &c->told);
     case DEMONITOR: return ert_shard_demonitor(shard, c->process, c->monitor);
     case TELL: return ert_shard_tell(shard, c->process, &c->told);
@@ -111,6 +121,17 @@ static void write_moved(const ert_moved *moved) {
     }
 }
 
+/* The answer to a request for this. */
+static void write_done(const char *asked, const ert_mail *mail) {
+    printf(" %s_done", asked);
+    write_timer(&mail->timer);
+    if (mail->has_left) {
+        printf(" %" PRIu64, mail->left);
+    } else {
+        printf(" none");
+    }
+}
+
 static void write_mail(const ert_mail *mail) {
     switch (mail->tag) {
     case ERT_TIMEOUT:
@@ -119,6 +140,8 @@ static void write_mail(const ert_mail *mail) {
         printf(" %" PRIu64, mail->msg);
         break;
     case ERT_BARE: printf(" bare %" PRIu64, mail->msg); break;
+    case ERT_CANCEL_DONE: write_done("cancel", mail); break;
+    case ERT_READ_DONE: write_done("read", mail); break;
     case ERT_CHANGE: printf(" change %" PRIu32 " %" PRId64, mail->monitor, mail->offset); break;
     default: fprintf(stderr, "a message of a kind that nobody sent: %" PRIu32 "\n", mail->tag); exit(EXIT_FAILURE);
     }
@@ -127,6 +150,12 @@ static void write_mail(const ert_mail *mail) {
 static void write_start(const ert_start *start) {
     printf(" %s %" PRId64 " %" PRIu32 " %" PRIu64 " %s", start->absolute ? "at" : "after", start->when, start->dest, start->msg,
         start->bare ? "bare" : "wrapped");
+}
+
+static void write_request(const ert_request *request) {
+    printf(" %s", request->kind == ERT_CANCEL ? "cancel" : "read");
+    write_timer(&request->timer);
+    printf(" %" PRIu32 " %s", request->reply_to, truth(request->info));
 }
 
 static void write_asked(const call *c) {
@@ -147,6 +176,11 @@ static void write_asked(const call *c) {
         printf("start");
         write_start(&c->start);
         break;
+    case RESTART:
+        printf("restart");
+        write_timer(&c->timer);
+        write_start(&c->start);
+        break;
     case CANCEL:
     case READ:
         printf(c->kind == CANCEL ? "cancel" : "read");
@@ -155,6 +189,13 @@ static void write_asked(const call *c) {
     case ALIVE: printf("alive %" PRIu32, c->process); break;
     case EXIT: printf("exit %" PRIu32, c->process); break;
     case TAKE: printf("take %" PRIu32, c->process); break;
+    case TAKE_SOME: printf("take_some %" PRIu32 " %zu", c->process, c->room); break;
+    case NEXT_MAIL: printf("next_mail"); break;
+    case ASK:
+        printf("ask");
+        write_request(&c->request);
+        break;
+    case SERVE: printf("serve"); break;
     case MONITOR: printf("monitor %" PRIu32, c->process); break;
     case DEMONITOR: printf("demonitor %" PRIu32 " %" PRIu32, c->process, c->monitor); break;
     case TELL: printf("tell %" PRIu32, c->process); break;
@@ -176,17 +217,25 @@ static void write_answer(const call *c) {
     case SYSTEM: printf(" %" PRId64, c->time); break;
     case OFFSET: printf(" %" PRId64 " %s", c->offset.offset, state_word(c->offset.state)); break;
     case START: write_timer(&c->timer); break;
+    case RESTART: write_timer(&c->restarted); break;
     case CANCEL:
     case READ: printf(" %" PRIu64, c->left); break;
     case ALIVE:
     case EXIT: printf(" %s", truth(c->told)); break;
-    case TAKE: write_mail(&c->mail); break;
+    case TAKE: write_mail(c->mails); break;
+    case TAKE_SOME: printf(" most"); break;
+    case ASK:
+    case DEMONITOR: printf(" done"); break;
+    case NEXT_MAIL:
+    case SERVE:
     case MONITOR:
     case TELL: printf(" %" PRIu32, c->told); break;
-    case DEMONITOR: printf(" done"); break;
     case ADVANCE: printf(" %" PRIu64 " %" PRIu32, turned->to, turned->fired); break;
     case DELIVER: printf(" %" PRIu32 " %" PRIu32, turned->put, turned->dropped); break;
-    case TURN: printf(" %" PRIu64 " %" PRIu32 " %" PRIu32 " %" PRIu32, turned->to, turned->fired, turned->put, turned->dropped); break;
+    case TURN:
+        printf(" %" PRIu32 " %" PRIu64 " %" PRIu32 " %" PRIu32 " %" PRIu32, turned->served, turned->to, turned->fired,
+            turned->put, turned->dropped);
+        break;
     }
 }
 
@@ -198,6 +247,10 @@ void write_call(uint32_t caller, const call *c) {
         write_answer(c);
     } else {
         printf(" %s", refusal(c->status));
+    }
+    /* Whatever the status says of how it ended. */
+    for (size_t i = 0; c->kind == TAKE_SOME && i < c->taken; i++) {
+        write_mail(&c->mails[i]);
     }
     printf("\n");
 }

@@ -11,11 +11,16 @@ typedef enum {
     SYSTEM,
     OFFSET,
     START,
+    RESTART,
     CANCEL,
     READ,
     ALIVE,
     EXIT,
     TAKE,
+    TAKE_SOME,
+    NEXT_MAIL,
+    ASK,
+    SERVE,
     MONITOR,
     DEMONITOR,
     TELL,
@@ -23,6 +28,9 @@ typedef enum {
     DELIVER,
     TURN
 } kind;
+
+/* The most messages that are taken at once. */
+enum { MOST_TAKEN = 4 };
 
 /* A call: what it was asked and what it answered, of which its kind tells the fields that are used. */
 typedef struct {
@@ -32,10 +40,12 @@ typedef struct {
     ert_reading reading;
     uint32_t force, process, monitor;
     ert_start start;
-    ert_timer timer;
+    ert_timer timer, restarted;
     ert_moved moved;
     ert_offset offset;
-    ert_mail mail;
+    ert_request request;
+    ert_mail mails[MOST_TAKEN];
+    size_t room, taken;
     ert_turned turned;
     int64_t time;
     uint64_t left;

@@ -1,6 +1,7 @@
 // The rows start_cancel and cancel of bench/shards.c by Go's package time: each thread is a goroutine on an operating system
 // thread of its own, a start is time.AfterFunc and a cancel Timer.Stop. A start asks the operating system for the time, and
-// a stopped timer may stay in the runtime's heap for a while. The memory of earlier passes is collected before each.
+// a stopped timer may stay in the runtime's heap for a while. The memory of earlier passes is collected before each. Threads
+// and passes are as bench/threads.h says.
 package main
 
 import (
@@ -9,12 +10,15 @@ import (
 	"os"
 	"runtime"
 	"sync"
+	"sync/atomic"
+	"syscall"
 	"time"
+	"unsafe"
 )
 
 const (
-	passes      = 60
-	calls       = 100000
+	passes      = 600
+	calls       = 10000
 	timers      = 16384
 	mostThreads = 4
 )
@@ -38,25 +42,52 @@ func startAll(thread int) {
 	}
 }
 
+// allowed has a bit for each processor that the program may use.
+var allowed [16]uint64
+
+func affinity(call uintptr, processors *[16]uint64) bool {
+	_, _, failed := syscall.RawSyscall(call, 0, unsafe.Sizeof(*processors), uintptr(unsafe.Pointer(processors)))
+	return failed == 0
+}
+
+// takeProcessor gives the calling thread the processor of this number among those.
+func takeProcessor(number int) {
+	for i := 0; i < 64*len(allowed); i++ {
+		if allowed[i/64]>>(i%64)&1 == 1 {
+			if number == 0 {
+				var one [16]uint64
+				one[i/64] = 1 << (i % 64)
+				affinity(syscall.SYS_SCHED_SETAFFINITY, &one)
+			}
+			number--
+		}
+	}
+}
+
 // measure prints a row: its name, the threads, and the least nanoseconds for a call overall.
 func measure(name string, threads int, job func(int), before func(int), count int) {
 	best := time.Duration(1 << 62)
 	for pass := 0; pass < passes; pass++ {
 		runtime.GC()
 		var ready, done sync.WaitGroup
+		var there int32
 		begin := make(chan struct{})
 		begun, ended := make([]time.Time, threads), make([]time.Time, threads)
 		ready.Add(threads)
 		done.Add(threads)
 		for i := 0; i < threads; i++ {
 			go func(i int) {
+				// The thread ends with the goroutine.
 				runtime.LockOSThread()
-				defer runtime.UnlockOSThread()
+				takeProcessor(i)
 				if before != nil {
 					before(i)
 				}
 				ready.Done()
 				<-begin
+				atomic.AddInt32(&there, 1)
+				for atomic.LoadInt32(&there) < int32(threads) {
+				}
 				begun[i] = time.Now()
 				job(i)
 				ended[i] = time.Now()
@@ -84,6 +115,7 @@ func measure(name string, threads int, job func(int), before func(int), count in
 
 func main() {
 	runtime.GOMAXPROCS(mostThreads)
+	affinity(syscall.SYS_SCHED_GETAFFINITY, &allowed)
 	for threads := 1; threads <= mostThreads; threads *= 2 {
 		measure("start_cancel", threads, startAndCancel, nil, calls)
 		measure("cancel", threads, func(thread int) {

@@ -2,7 +2,7 @@
  * The rows start_cancel and cancel of bench/shards.c by libev: each thread has a loop of its own with a mutex round it, which
  * whoever starts or stops a timer of that loop holds. The loops don't run: a start takes the time that the loop saw last.
  */
-#define _POSIX_C_SOURCE 200809L
+#define _GNU_SOURCE
 #include <ev.h>
 
 #include "../threads.h"

@@ -18,17 +18,22 @@ TIMER three numbers, as in a history.
     system = TIME
     offset = OFFSET STATE
     start after|at MILLISECONDS PROCESS MSG wrapped|bare = TIMER|full|bad_time
+    restart TIMER after|at .. bare = TIMER|full|bad_time|none
     cancel TIMER = LEFT|none                             the milliseconds left, or that it wasn't armed
     read TIMER = LEFT|none
     alive PROCESS = B
     exit PROCESS = B                                     whether it hadn't exited before
     take PROCESS = MESSAGE|empty|exited                  the message as in a history
+    take_some PROCESS ROOM = most|empty|exited MESSAGE.. how it ended, and the messages, at most ROOM
+    next_mail = PROCESS|empty
+    ask cancel|read TIMER PROCESS B = done               which process gets the answer, and whether one is sent
+    serve = SERVED                                       whether there was a request: 1 or 0
     monitor PROCESS = NUMBER|full
     demonitor PROCESS NUMBER = done|none
     tell PROCESS = COUNT
     advance = TO FIRED
     deliver = PUT DROPPED
-    turn = TO FIRED PUT DROPPED
+    turn = SERVED TO FIRED PUT DROPPED
 """
 from __future__ import annotations
 
@@ -40,31 +45,41 @@ Timer = tuple[int, int, int]
 
 SETTINGS = r"settings (no|single|multi) (true|false) (N) (N) (N) (N) (N) (N) (N)"
 TIMER = "N N N"
+START = "(after|at) N N N (wrapped|bare)"
 STATE = "(preliminary|final|volatile)"
 MOVED = "N (none|N)"
 REFUSED = "(bad_reading|offset_wide)"
+MESSAGE = rf"(timeout {TIMER} N|bare N|change N N|(cancel|read)_done {TIMER} (N|none))"
 KINDS = {
     "tick": rf"N N (plain|force) = ({MOVED}|{REFUSED})",
     "finalize": rf"N N = ({STATE} {MOVED}|{REFUSED})",
     "time": r"= N",
     "system": r"= N",
     "offset": rf"= N {STATE}",
-    "start": rf"(after|at) N N N (wrapped|bare) = ({TIMER}|full|bad_time)",
+    "start": rf"{START} = ({TIMER}|full|bad_time)",
+    "restart": rf"{TIMER} {START} = ({TIMER}|full|bad_time|none)",
     "cancel": rf"{TIMER} = (N|none)",
     "read": rf"{TIMER} = (N|none)",
     "alive": r"N = (true|false)",
     "exit": r"N = (true|false)",
-    "take": rf"N = (timeout {TIMER} N|bare N|change N N|empty|exited)",
+    "take": rf"N = ({MESSAGE}|empty|exited)",
+    "take_some": rf"N N = (most|empty|exited)( {MESSAGE})*",
+    "next_mail": r"= (N|empty)",
+    "ask": rf"(cancel|read) {TIMER} N (true|false) = done",
+    "serve": r"= [01]",
     "monitor": r"N = (N|full)",
     "demonitor": r"N N = (done|none)",
     "tell": r"N = N",
     "advance": r"= N N",
     "deliver": r"= N N",
-    "turn": r"= N N N N",
+    "turn": r"= N N N N N",
 }
 OF_HUB = {"tick", "finalize"}
-OF_SHARD = {"start", "exit", "take", "monitor", "demonitor", "tell", "advance", "deliver", "turn"}
+OF_MAIL = {"take", "take_some", "next_mail", "monitor", "demonitor", "tell"}
+OF_SHARD = {"start", "restart", "exit", "ask", "serve", "advance", "deliver", "turn"} | OF_MAIL
 NUMBER = r"-?\d+"
+# How many words a message has.
+WIDTHS = {"timeout": 5, "bare": 2, "change": 3, "cancel_done": 5, "read_done": 5}
 
 
 class BadLog(Exception):
@@ -102,14 +117,51 @@ class Call:
 
     @property
     def timer(self) -> Timer:
-        """The timer that a cancel or a read is asked about, or that a start answers."""
-        words = self.answer if self.kind == "start" else self.asked
-        return words[0], words[1], words[2]
+        """The timer that a cancel, a read or a restart is asked about."""
+        return self.asked[0], self.asked[1], self.asked[2]
+
+    @property
+    def start(self) -> tuple[Any, ...]:
+        """What a start or a restart is asked for: how its milliseconds count, these, the process, the message and its form."""
+        return self.asked[-5:]
+
+    @property
+    def started(self) -> Timer | None:
+        """The timer that was started by a start or a restart."""
+        is_one = self.kind in ("start", "restart") and len(self.answer) > 1
+        return (self.answer[0], self.answer[1], self.answer[2]) if is_one else None
+
+    @property
+    def ended(self) -> Timer | None:
+        """The timer that was cancelled by a cancel or a restart."""
+        is_one = self.kind == "cancel" and self.has_left or self.kind == "restart" and self.answer[0] not in ("bad_time", "none")
+        return self.timer if is_one else None
 
     @property
     def has_left(self) -> bool:
         """Whether a cancel or a read answers what was left."""
         return self.answer != ("none",)
+
+    @property
+    def messages(self) -> list[tuple[Any, ...]]:
+        """The messages that were taken."""
+        words = self.answer[1:] if self.kind == "take_some" else self.answer if self.kind == "take" else ()
+        found = []
+        while words and words[0] in WIDTHS:
+            width = WIDTHS[words[0]]
+            found.append(words[:width])
+            words = words[width:]
+        return found
+
+    @property
+    def served(self) -> int:
+        """How many requests the call served."""
+        return self.answer[0] if self.kind in ("serve", "turn") else 0
+
+    @property
+    def advance(self) -> tuple[int, int] | None:
+        """If the call advanced the wheel, to which millisecond, and how many timers expired."""
+        return {"advance": self.answer[:2], "turn": self.answer[1:3]}.get(self.kind)
 
 
 @dataclass(frozen=True)
@@ -127,7 +179,7 @@ def pattern(text: str) -> re.Pattern[str]:
 
 PATTERNS = {kind: pattern(text) for kind, text in KINDS.items()}
 HEAD = pattern(SETTINGS)
-LINE = re.compile(r"c(\d+) (\d+) (\d+) ([a-z]+) (.*)")
+LINE = re.compile(r"c(\d+) (\d+) (\d+) ([a-z_]+) (.*)")
 
 
 def words_of(text: str) -> tuple[Any, ...]:

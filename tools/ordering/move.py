@@ -4,14 +4,14 @@ from __future__ import annotations
 from typing import Any, Callable, Hashable, NamedTuple
 
 from .facts import Shown
-from .log import Call, Timer
+from .log import Call
 from .state import State
 
 
 class Move(NamedTuple):
-    """Entries of a call. `looks` only read the clock, each what it showed by that number; the others stand where the move
-    does, and change `words`. With `part` the call goes on, and else it has ended. One that is `free` hinders no other call,
-    whenever it is made.
+    """Entries of a call. `looks` only read the clock, each what it showed by that number, or take a request out of the
+    shard's own inbox beside such a look; the others stand where the move does, and change `words`. With `part` the call goes
+    on, and else it has ended. One that is `free` hinders no other call, whenever it is made.
     """
 
     looks: list[tuple[int, str]]
@@ -21,9 +21,9 @@ class Move(NamedTuple):
     is_free: bool = False
 
 
-def spelled(timer: Timer) -> str:
-    """The words of a timer."""
-    return " ".join(map(str, timer))
+def spelled(words: tuple[Any, ...]) -> str:
+    """The words of a timer, of a request or of a message."""
+    return " ".join(map(str, words))
 
 
 def look(actor: str, time: int) -> str:

@@ -3,7 +3,8 @@
 A call is one move where that loses no order. What only reads the clock may stand at any place since the call may have
 begun. A cancel peeks right before it cancels, and one that answers `none` finds the timer not armed when it peeks. Where
 a wheel is full, its slots are looked at right after the clock, since none is taken later. Looks at slots that no answer
-tells are left out. A tick that sets the offset, a turn in which timers expire, and the end of a process are more moves.
+tells are left out. A request is served by one move. A tick that sets the offset, a restart, a turn that serves requests or in
+which timers expire, and the end of a process are more moves.
 """
 from __future__ import annotations
 
@@ -12,9 +13,10 @@ from typing import Callable, Iterator
 from .clock_moves import demonitor, monitor, offset_told, system_told, tell, tick, time_told
 from .log import Call
 from .move import Move
+from .request_moves import ask, serve
 from .state import State
-from .timer_moves import alive, cancel_or_read, leave, start
-from .turn_moves import deliver, take, turn
+from .timer_moves import alive, cancel_or_read, leave, restart, start
+from .turn_moves import deliver, next_mail, take, turn
 
 KINDS: dict[str, Callable[[State, Call], Iterator[Move]]] = {
     "tick": tick,
@@ -23,11 +25,16 @@ KINDS: dict[str, Callable[[State, Call], Iterator[Move]]] = {
     "system": system_told,
     "offset": offset_told,
     "start": start,
+    "restart": restart,
     "cancel": cancel_or_read,
     "read": cancel_or_read,
     "alive": alive,
     "exit": leave,
     "take": take,
+    "take_some": take,
+    "next_mail": next_mail,
+    "ask": ask,
+    "serve": serve,
     "monitor": monitor,
     "demonitor": demonitor,
     "tell": tell,

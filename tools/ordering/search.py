@@ -63,6 +63,8 @@ class Search:
             state.put(name, value)
             if name == "shown":
                 state.put_place(("shown", value), len(self.trail))
+            elif name == ("since", by):
+                state.put_place(name, len(self.trail))
         state.put(("part", by), move.part)
         if move.part is None:
             state.put(("next", by), state.words["next", by] + 1)

@@ -25,12 +25,14 @@ class State:
 
         ("next", C)         the number of the call at which caller C is
         ("part", C)         where it is inside of that call, if some of its entries were made
-        ("since", C)        if that call may have begun, the number of what the clock showed then
+        ("since", C)        if that call may have begun, the number of what the clock showed then, or after what it did last,
+                            if it has looked at the clock for that
         "shown"             the number of what the clock shows
         ("row", TIMER)      the row of a timer that is armed or expired
         ("slot", W, K)      the timer that takes a slot
         ("armed", W)        the armed timers of a wheel, in order of their starts
         ("fired", W)        its expired timers, in order
+        ("inbox", W)        the requests to its shard that wait, in order
         ("exited", P)       whether a process has exited
         ("mail", P)         its messages, and so "monitors" with the offset last told, and "monitor", the next number
         ("put", P)          how many messages it got
@@ -102,6 +104,10 @@ class State:
                 return None
         mail = (*self.get("mail", process), *messages)
         return [(("mail", process), mail), (("put", process), count + len(messages))] if messages else []
+
+    def is_taken(self, process: int) -> bool:
+        """Whether the next message that is put into a mailbox was taken."""
+        return self.words.get(("put", process), 0) < len(self.facts.taken.get(process, []))
 
     def may_settle(self, timer: Timer) -> bool:
         """Whether nobody is left who reads the timer while it is armed."""

@@ -1,4 +1,4 @@
-"""The moves of starts, cancels and reads, and of what ends a process."""
+"""The moves of starts, restarts, cancels and reads, and of what ends a process."""
 from __future__ import annotations
 
 from typing import Any, Hashable, Iterator
@@ -11,20 +11,44 @@ from .state import Row, State
 
 def start(state: State, call: Call) -> Iterator[Move]:
     """A start, and the cancel of its timer if its process has exited."""
-    if state.words.get(("part", call.by)):
-        yield from orphaned(state, call, [call.timer])
+    timer = call.started
+    if state.words.get(("part", call.by)) == "orphan":
+        assert timer is not None
+        yield from orphaned(state, call, [timer])
     elif call.answer == ("bad_time",):
         for found in looked(state, call, f"c{call.by}", lambda time: deadline_of(state.settings, call, time) is None):
             yield Move([found], [], [], is_free=True)
     elif call.answer == ("full",):
         yield from full(state, call)
-    elif call.timer[0] == call.by - 1 and ("slot", *call.timer[:2]) not in state.words:
-        yield from armed(state, call)
+    elif timer and timer[0] == call.by - 1 and ("slot", *timer[:2]) not in state.words:
+        yield from armed(state, call, timer)
+
+
+def restart(state: State, call: Call) -> Iterator[Move]:
+    """A look at the time, by which the start has a deadline, then the cancel of a timer, and if it was armed the start."""
+    by = f"c{call.by}"
+    if ("part", call.by) in state.words or call.answer == ("bad_time",):
+        yield from start(state, call)
+        return
+    for found in looked(state, call, by, lambda time: deadline_of(state.settings, call, time) is not None):
+        if call.ended is None:
+            for move in unarmed(state, call):
+                yield move._replace(looks=[found, *move.looks])
+            return
+        row = state.armed(call.timer)
+        if row and state.may_settle(call.timer):
+            peek = f"{spelled(call.timer)} {left(state.settings, row.deadline, state.shows[found[0]].time)}"
+            words = [*settled(state, call.timer), (("since", call.by), state.words["shown"])]
+            yield Move([found, found], [f"{by} - peek {peek}", f"{by} - cancel {peek}"], words, part="start")
 
 
 def full(state: State, call: Call) -> Iterator[Move]:
-    """A start that found each slot taken."""
+    """A start that found each slot taken; or one of a restart that has no deadline any more."""
     wheel = call.by - 1
+    if call.kind == "restart":
+        for found in looked(state, call, f"c{call.by}", lambda time: deadline_of(state.settings, call, time) is None):
+            yield Move([found], [], [], is_free=True)
+            return
     probes = []
     for slot in range(state.settings.slots):
         timer = state.words.get(("slot", wheel, slot))
@@ -34,9 +58,9 @@ def full(state: State, call: Call) -> Iterator[Move]:
     yield Move([now(state, call)], probes, [], is_free=True)
 
 
-def armed(state: State, call: Call) -> Iterator[Move]:
+def armed(state: State, call: Call, timer: Timer) -> Iterator[Move]:
     """A timer is armed, with each deadline that it can have by what the clock has shown."""
-    timer, (form, milliseconds, dest, msg, kind) = call.timer, call.asked
+    form, milliseconds, dest, msg, kind = call.start
     wanted = set(state.facts.deadlines[timer])
     for number in state.seen(call.by):
         time = state.shows[number].time
@@ -54,7 +78,7 @@ def armed(state: State, call: Call) -> Iterator[Move]:
             (("slot", *timer[:2]), timer),
             (("armed", timer[0]), (*state.get("armed", timer[0]), timer)),
         ]
-        yield Move([(number, look(f"c{call.by}", time))], entries, words, part=has_exited or None)
+        yield Move([(number, look(f"c{call.by}", time))], entries, words, part="orphan" if has_exited else None)
 
 
 def settled(state: State, timer: Timer) -> list[tuple[Hashable, Any]]:
@@ -73,7 +97,7 @@ def orphaned(state: State, call: Call, timers: list[Timer]) -> Iterator[Move]:
     for timer in waiting:
         if timer not in state.facts.cancelled and state.may_settle(timer):
             entry = f"c{call.by} w{timer[0]} orphan {spelled(timer)}"
-            yield Move([], [entry], settled(state, timer), part=len(waiting) > 1 or None)
+            yield Move([], [entry], settled(state, timer), part="orphan" if len(waiting) > 1 else None)
 
 
 def unarmed(state: State, call: Call) -> Iterator[Move]:
@@ -117,6 +141,6 @@ def leave(state: State, call: Call) -> Iterator[Move]:
     elif is_first != (("exited", process) in state.words):
         entry = f"c{call.by} - mark {process} true {'false' if is_first else 'true'}"
         if is_first:
-            yield Move([], [entry], [(("exited", process), True)], part=bool(mine) or None)
+            yield Move([], [entry], [(("exited", process), True)], part="orphan" if mine else None)
         else:
             yield Move([], [entry], [], is_free=True)

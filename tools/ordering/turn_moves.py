@@ -1,4 +1,4 @@
-"""The moves of turns and their parts, and of what takes their messages."""
+"""The moves of turns and their parts, and of what finds and takes their messages."""
 from __future__ import annotations
 
 from typing import Any, Hashable, Iterator
@@ -6,42 +6,78 @@ from typing import Any, Hashable, Iterator
 from .facts import down
 from .log import Call, Timer
 from .move import Move, looked, spelled
+from .request_moves import picked, served
 from .state import State
+
+SERVED_A_TURN = 64
 
 
 def turn(state: State, call: Call) -> Iterator[Move]:
-    """An advance or a turn: timers expire one by one. With the last of them the call ends."""
-    wheel, (to, count) = call.by - 1, call.answer[:2]
-    looks = []
-    due = [timer for timer in state.get("armed", wheel) if state.words["row", timer].deadline <= to]
-    if ("part", call.by) not in state.words:
-        looks = looked(state, call, f"s{wheel}", lambda time: down(state.settings, time) == to)
-        if not looks or sum(timer not in state.facts.cancelled for timer in due) != count:
+    """An advance or a turn: a turn serves requests first, one by one, and then timers expire, one by one. With the last of
+    them the call ends.
+    """
+    part = state.words.get(("part", call.by), ("served", 0))
+    if part[0] == "expired":
+        yield from expired(state, call, [], part[1])
+    elif part[1] < call.served:
+        for move in served(state, call):
+            since = (("since", call.by), state.words["shown"])
+            yield move._replace(words=[*move.words, since], part=("served", part[1] + 1))
+    else:
+        yield from advanced(state, call)
+
+
+def due_by(state: State, wheel: int, to: int) -> list[Timer]:
+    """The armed timers of a wheel that are due by a millisecond, in order of their starts."""
+    return [timer for timer in state.get("armed", wheel) if state.words["row", timer].deadline <= to]
+
+
+def advanced(state: State, call: Call) -> Iterator[Move]:
+    """The begin of an advance, which looks at the time. A turn that served fewer requests than it may found no other one."""
+    assert call.advance is not None
+    wheel, (to, count) = call.by - 1, call.advance
+    looks = looked(state, call, f"s{wheel}", lambda time: down(state.settings, time) == to)
+    left = [timer for timer in due_by(state, wheel, to) if timer not in state.facts.cancelled]
+    if not looks or not sum(timer not in state.facts.unsure for timer in left) <= count <= len(left):
+        return
+    if call.kind == "turn" and call.served < SERVED_A_TURN:
+        if state.get("inbox", wheel):
             return
+        looks = [(looks[0][0], picked(call, "none")), *looks]
+    yield from expired(state, call, looks, count)
+
+
+def expired(state: State, call: Call, looks: list[tuple[int, str]], count: int) -> Iterator[Move]:
+    """The first timer that is due expires, as so many are still to do. One that a call cancels is left to that."""
+    assert call.advance is not None
+    wheel = call.by - 1
+    due = due_by(state, wheel, call.advance[0])
     if not due:
-        yield from turned(state, call, Move(looks, [], []), state.get("fired", wheel))
+        if count == 0:
+            yield from turned(state, call, Move(looks, [], []), state.get("fired", wheel))
         return
     timer = min(due, key=lambda it: state.words["row", it].deadline)
-    if timer in state.facts.cancelled or not state.may_settle(timer):
+    if count == 0 or timer in state.facts.cancelled or not state.may_settle(timer):
         return
     fired = (*state.get("fired", wheel), timer)
     others = tuple(it for it in state.get("armed", wheel) if it != timer)
     row = state.words["row", timer]._replace(status="expired")
     words = [(("row", timer), row), (("armed", wheel), others or None), (("fired", wheel), fired)]
-    move = Move(looks, [f"s{wheel} w{wheel} expire {spelled(timer)}"], words, part=True)
+    move = Move(looks, [f"s{wheel} w{wheel} expire {spelled(timer)}"], words, part=("expired", count - 1))
     if len(due) > 1:
         yield move
-    else:
+    elif count == 1:
         yield from turned(state, call, move, fired)
 
 
 def turned(state: State, call: Call, move: Move, fired: tuple[Timer, ...]) -> Iterator[Move]:
     """The end of an advance or a turn after a move: no timer is due any more, and a turn delivers what expired."""
+    assert call.advance is not None
     wheel = call.by - 1
-    entries = [*move.entries, f"s{wheel} w{wheel} advanced {wheel} {call.answer[0]}"]
+    entries = [*move.entries, f"s{wheel} w{wheel} advanced {wheel} {call.advance[0]}"]
     words = move.words
     if call.kind == "turn":
-        handed = delivered(state, wheel, fired, call.answer[2:])
+        handed = delivered(state, wheel, fired, call.answer[3:])
         if handed is None:
             return
         entries, words = entries + handed[0], words + handed[1]
@@ -78,17 +114,41 @@ def deliver(state: State, call: Call) -> Iterator[Move]:
         yield Move([], *handed, is_free=True)
 
 
+def mark(state: State, call: Call, process: int) -> str:
+    """The entry by which a caller looks whether a process has exited."""
+    return f"c{call.by} - mark {process} false {'true' if ('exited', process) in state.words else 'false'}"
+
+
 def take(state: State, call: Call) -> Iterator[Move]:
-    """A message is taken."""
-    process = call.asked[0]
+    """Messages of a process are taken: one, or some, until there are so many, or none is left."""
+    process, *room = call.asked
+    messages, ended = call.messages, call.answer[0]
     has_exited = ("exited", process) in state.words
-    mark = f"c{call.by} - mark {process} false {'true' if has_exited else 'false'}"
-    if has_exited or call.answer == ("exited",):
-        if has_exited and call.answer == ("exited",):
-            yield Move([], [mark], [], is_free=True)
-        return
     mail = state.get("mail", process)
-    if call.answer == (mail[0] if mail else ("empty",)):
-        got = "none" if not mail else " ".join(map(str, mail[0]))
-        entries = [mark, f"c{call.by} m{process} take {process} {got}"]
-        yield Move([], entries, [(("mail", process), mail[1:] or None)], is_free=True)
+    if mail[: len(messages)] != tuple(messages) or has_exited and messages:
+        return
+    entries = []
+    for message in messages:
+        entries += [mark(state, call, process), f"c{call.by} m{process} take {process} {spelled(message)}"]
+    if ended in ("exited", "empty"):
+        if has_exited != (ended == "exited") or not has_exited and len(mail) > len(messages):
+            return
+        entries.append(mark(state, call, process))
+        if not has_exited:
+            entries.append(f"c{call.by} m{process} take {process} none")
+    if room and not (len(messages) == room[0] if ended == "most" else len(messages) < room[0]):
+        return
+    yield Move([], entries, [(("mail", process), mail[len(messages) :] or None)], is_free=True)
+
+
+def next_mail(state: State, call: Call) -> Iterator[Move]:
+    """A process of the shard that has mail and hasn't exited is found, or there is none. No answer tells which of those
+    that have exited were looked at.
+    """
+    homes = state.facts.homes.get(call.by, set())
+    found = [it for it in homes if state.get("mail", it) and ("exited", it) not in state.words]
+    if call.answer == ("empty",):
+        if not found:
+            yield Move([], [], [], is_free=True)
+    elif call.answer[0] in found:
+        yield Move([], [mark(state, call, call.answer[0])], [], is_free=True)
