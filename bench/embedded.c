@@ -308,7 +308,7 @@ static double tells(void) {
     must(ert_world_tick(&world, &reading, 1, &moved));
     int64_t begun = nanoseconds();
     for (uint32_t process = 0; process < PROCESSES; process++) {
-        must(ert_world_tell(&world, process, &told));
+        must(ert_world_notify(&world, process, &told));
     }
     double each = (double)(nanoseconds() - begun) / PROCESSES;
     close_world();
@@ -369,7 +369,7 @@ int main(void) {
     measure("ert_world_next_due, the timer in 10 milliseconds", next_due, CALLS / 10);
     close_world();
     measure_whole("ert_world_exit of a process with one timer", exits);
-    measure_whole("ert_world_tell of a process with 64 monitors", tells);
+    measure_whole("ert_world_notify of a process with 64 monitors", tells);
     measure_longest();
     measure_far();
     measure_million();

@@ -248,7 +248,7 @@ static uint64_t pass_expire_spread(const struct measurement *what) {
 
 static uint64_t pass_idle_turn(const struct measurement *what) {
     ert_turned turned;
-    uint32_t fired = 0;
+    uint32_t expired = 0;
     open_service(what);
     for (size_t i = 0; i < what->timers; i++) {
         start(i, TIMEOUT + what->waits[i]);
@@ -257,10 +257,10 @@ static uint64_t pass_idle_turn(const struct measurement *what) {
     for (size_t i = 0; i < what->calls; i++) {
         tick((int64_t)i * MICROSECOND);
         must(ert_world_turn(&world, wheel_of(i), &turned));
-        fired += turned.fired;
+        expired += turned.expired;
     }
     uint64_t taken = close_since(begun);
-    expect(fired == 0);
+    expect(expired == 0);
     return taken;
 }
 

@@ -266,7 +266,7 @@ static void step(Run *run, uint32_t sched, uint32_t what) {
         ert_advanced wanted = mirror_advance(&run->mirror, sched);
         SAME(ert_world_advance(&run->world, sched, &advanced), ERT_OK);
         SAME(advanced.to, wanted.to);
-        SAME(advanced.fired, wanted.fired);
+        SAME(advanced.expired, wanted.expired);
     } else if (what == 2) {
         ert_delivered wanted = mirror_deliver(&run->mirror, sched);
         SAME(ert_world_deliver(&run->world, sched, &delivered), ERT_OK);
@@ -277,7 +277,7 @@ static void step(Run *run, uint32_t sched, uint32_t what) {
         SAME(ert_world_turn(&run->world, sched, &turned), ERT_OK);
         SAME(turned.to, wanted.to);
         SAME(turned.served, wanted.served);
-        SAME(turned.fired, wanted.fired);
+        SAME(turned.expired, wanted.expired);
         SAME(turned.put, wanted.put);
         SAME(turned.dropped, wanted.dropped);
     }
@@ -309,8 +309,8 @@ static void do_process(Run *run) {
         monitored = byte(&run->input);
         SAME(ert_world_demonitor(&run->world, process, monitored), mirror_demonitor(&run->mirror, process, monitored));
     } else if (what < 7) {
-        SAME(ert_world_tell(&run->world, process, &got), ERT_OK);
-        SAME(got, mirror_tell(&run->mirror, process));
+        SAME(ert_world_notify(&run->world, process, &got), ERT_OK);
+        SAME(got, mirror_notify(&run->mirror, process));
     } else {
         SAME(ert_world_is_alive(&run->world, process, &got), ERT_OK);
         SAME(got, !run->mirror.processes[process].exited);

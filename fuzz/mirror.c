@@ -261,7 +261,7 @@ ert_advanced mirror_advance(Mirror *mirror, uint32_t sched) {
     while ((next = next_of(mirror, sched)) >= 0 && mirror->timers[next].deadline <= advanced.to) {
         mirror->timers[next].fate = EXPIRED;
         wheel->expired[wheel->waiting++] = (uint32_t)next;
-        advanced.fired += 1;
+        advanced.expired += 1;
     }
     for (uint32_t i = 0; i < mirror->started; i++) {
         Timer *timer = &mirror->timers[i];
@@ -301,7 +301,7 @@ ert_turned mirror_turn(Mirror *mirror, uint32_t sched) {
     ert_advanced advanced = mirror_advance(mirror, sched);
     ert_delivered delivered = mirror_deliver(mirror, sched);
     turned.to = advanced.to;
-    turned.fired = advanced.fired;
+    turned.expired = advanced.expired;
     turned.put = delivered.put;
     turned.dropped = delivered.dropped;
     return turned;
@@ -335,7 +335,7 @@ int32_t mirror_demonitor(Mirror *mirror, uint32_t process, uint32_t number) {
     return ERT_NO_MONITOR;
 }
 
-uint32_t mirror_tell(Mirror *mirror, uint32_t process) {
+uint32_t mirror_notify(Mirror *mirror, uint32_t process) {
     Process *to = &mirror->processes[process];
     uint32_t told = 0;
     for (uint32_t i = 0; i < to->standing; i++) {

@@ -95,7 +95,7 @@ int32_t mirror_take(Mirror *mirror, uint32_t process, ert_mail *mail);
 /* Whether a process has messages, also one that has exited. */
 bool mirror_can_take(const Mirror *mirror, uint32_t process);
 int32_t mirror_demonitor(Mirror *mirror, uint32_t process, uint32_t number);
-uint32_t mirror_tell(Mirror *mirror, uint32_t process);
+uint32_t mirror_notify(Mirror *mirror, uint32_t process);
 
 /* Tests what `ert_world_next_due` told. */
 void mirror_next_due(const Mirror *mirror, uint32_t sched, int32_t status, uint64_t due);

@@ -32,7 +32,7 @@ static int32_t advance(ert_shard *shard, call *c) {
     ert_advanced advanced = {0, 0};
     int32_t status = ert_shard_advance(shard, &advanced);
     c->turned.to = advanced.to;
-    c->turned.fired = advanced.fired;
+    c->turned.expired = advanced.expired;
     return status;
 }
 
@@ -67,7 +67,7 @@ int32_t call_shard(ert_shard *shard, call *c) {
     case SERVE: return ert_shard_serve(shard, &c->told);
     case MONITOR: return ert_shard_monitor(shard, c->process, &c->told);
     case DEMONITOR: return ert_shard_demonitor(shard, c->process, c->monitor);
-    case TELL: return ert_shard_tell(shard, c->process, &c->told);
+    case NOTIFY: return ert_shard_notify(shard, c->process, &c->told);
     case ADVANCE: return advance(shard, c);
     case DELIVER: return deliver(shard, c);
     default: return ert_shard_turn(shard, &c->turned);
@@ -198,7 +198,7 @@ static void write_asked(const call *c) {
     case SERVE: printf("serve"); break;
     case MONITOR: printf("monitor %" PRIu32, c->process); break;
     case DEMONITOR: printf("demonitor %" PRIu32 " %" PRIu32, c->process, c->monitor); break;
-    case TELL: printf("tell %" PRIu32, c->process); break;
+    case NOTIFY: printf("notify %" PRIu32, c->process); break;
     case ADVANCE: printf("advance"); break;
     case DELIVER: printf("deliver"); break;
     case TURN: printf("turn"); break;
@@ -229,11 +229,11 @@ static void write_answer(const call *c) {
     case NEXT_MAIL:
     case SERVE:
     case MONITOR:
-    case TELL: printf(" %" PRIu32, c->told); break;
-    case ADVANCE: printf(" %" PRIu64 " %" PRIu32, turned->to, turned->fired); break;
+    case NOTIFY: printf(" %" PRIu32, c->told); break;
+    case ADVANCE: printf(" %" PRIu64 " %" PRIu32, turned->to, turned->expired); break;
     case DELIVER: printf(" %" PRIu32 " %" PRIu32, turned->put, turned->dropped); break;
     case TURN:
-        printf(" %" PRIu32 " %" PRIu64 " %" PRIu32 " %" PRIu32 " %" PRIu32, turned->served, turned->to, turned->fired,
+        printf(" %" PRIu32 " %" PRIu64 " %" PRIu32 " %" PRIu32 " %" PRIu32, turned->served, turned->to, turned->expired,
             turned->put, turned->dropped);
         break;
     }

@@ -23,7 +23,7 @@ typedef enum {
     SERVE,
     MONITOR,
     DEMONITOR,
-    TELL,
+    NOTIFY,
     ADVANCE,
     DELIVER,
     TURN

@@ -50,7 +50,7 @@ typedef struct {
     record *timers;
     atomic_int started;
     int64_t last_time;
-    uint64_t put, dropped, fired, taken, cancelled;
+    uint64_t put, dropped, expired, taken, cancelled;
 } soaker;
 
 typedef struct {
@@ -224,12 +224,12 @@ static void exit_one(soaker *s) {
 static void turn_by_parts(soaker *s, ert_turned *turned) {
     ert_advanced advanced;
     must("ert_shard_advance", ert_shard_advance(&s->shard, &advanced));
-    if (advanced.fired > 0 && below(&s->random, 200) == 0) {
+    if (advanced.expired > 0 && below(&s->random, 200) == 0) {
         exit_one(s);
     }
     ert_delivered delivered;
     must("ert_shard_deliver", ert_shard_deliver(&s->shard, &delivered));
-    ert_turned both = {.to = advanced.to, .fired = advanced.fired, .put = delivered.put, .dropped = delivered.dropped};
+    ert_turned both = {.to = advanced.to, .expired = advanced.expired, .put = delivered.put, .dropped = delivered.dropped};
     *turned = both;
 }
 
@@ -240,11 +240,11 @@ static void turn_by_pieces(soaker *s, ert_turned *turned) {
     ert_turned_some piece;
     do {
         must("ert_shard_turn_some", ert_shard_turn_some(&s->shard, most, &piece));
-        if (piece.fired > most || piece.put + piece.dropped > most || piece.to < all.to) {
+        if (piece.expired > most || piece.put + piece.dropped > most || piece.to < all.to) {
             wrong("a piece of a turn is told wrong", NULL);
         }
         all.to = piece.to;
-        all.fired += piece.fired;
+        all.expired += piece.expired;
         all.put += piece.put;
         all.dropped += piece.dropped;
     } while (piece.more);
@@ -258,7 +258,7 @@ static void turn_and_take(soaker *s) {
     case 1: turn_by_pieces(s, &turned); break;
     default: must("ert_shard_turn", ert_shard_turn(&s->shard, &turned));
     }
-    s->fired += turned.fired;
+    s->expired += turned.expired;
     s->put += turned.put;
     s->dropped += turned.dropped;
     for (uint32_t i = 0; i < PROCESSES; i++) {
@@ -404,7 +404,7 @@ static void close_round(void) {
         turn_and_take(s);
         uint64_t here = check_ends(s);
         check_names(s);
-        if (s->fired != s->put + s->dropped || s->taken > s->put || s->fired + here > TIMERS) {
+        if (s->expired != s->put + s->dropped || s->taken > s->put || s->expired + here > TIMERS) {
             wrong("the counts of a shard disagree", NULL);
         }
         counted += s->cancelled;
@@ -412,7 +412,7 @@ static void close_round(void) {
         sum_timers += TIMERS;
         sum_delivered += s->put;
         sum_dropped += s->dropped;
-        sum_orphaned += TIMERS - s->fired - here;
+        sum_orphaned += TIMERS - s->expired - here;
     }
     if (counted != cancelled) {
         wrong("the counts of cancels disagree", NULL);

@@ -290,7 +290,7 @@ static inline const ert_start *ert_interval_skip(ert_interval *interval, int64_t
 /* What a scheduler did. `to` is in milliseconds since the start time. */
 typedef struct {
     uint64_t to;
-    uint32_t fired; /* how many timers expired */
+    uint32_t expired; /* how many timers expired */
 } ert_advanced;
 
 typedef struct {
@@ -301,7 +301,7 @@ typedef struct {
 typedef struct {
     uint64_t to;
     uint32_t served; /* how many requests were answered, 0 to 64 */
-    uint32_t fired;
+    uint32_t expired;
     uint32_t put;
     uint32_t dropped;
 } ert_turned;
@@ -310,7 +310,7 @@ typedef struct {
 typedef struct {
     uint64_t to;
     uint32_t served;
-    uint32_t fired;
+    uint32_t expired;
     uint32_t put;
     uint32_t dropped;
     uint32_t more; /* 1 if timers are left that are due or have expired, otherwise 0 */
@@ -624,7 +624,7 @@ int32_t ert_world_next_mail(ert_world *world, uint32_t *process);
  * Makes a monitor of the time offset for a process (`erlang:monitor(time_offset, clock_service)`), and writes
  * its number.
  *
- * When the offset has changed, ert_world_tell puts a message ERT_CHANGE for it into the mailbox.
+ * When the offset has changed, ert_world_notify puts a message ERT_CHANGE for it into the mailbox.
  *
  * ERT_FULL: the process has 64 monitors, or the last number was given. ERT_NO_MEMORY: nothing has changed.
  * ERT_RANGE: there is no such process. ERT_CLOSED.
@@ -650,7 +650,7 @@ int32_t ert_world_demonitor(ert_world *world, uint32_t process, uint32_t monitor
  * ERT_NO_MEMORY: nothing has changed, and the call can be made again. ERT_RANGE: there is no such process.
  * ERT_CLOSED.
  */
-int32_t ert_world_tell(ert_world *world, uint32_t process, uint32_t *told);
+int32_t ert_world_notify(ert_world *world, uint32_t process, uint32_t *told);
 
 /*
  * Serves one request of a scheduler: one that an earlier call could not finish, or the first of its inbox.
@@ -1178,13 +1178,13 @@ int32_t ert_shard_monitor(ert_shard *shard, uint32_t process, uint32_t *monitor)
 int32_t ert_shard_demonitor(ert_shard *shard, uint32_t process, uint32_t monitor);
 
 /*
- * Notifies the monitors of a process of the shard of the time offset, as ert_world_tell does, and writes how many there
+ * Notifies the monitors of a process of the shard of the time offset, as ert_world_notify does, and writes how many there
  * were to `told`.
  *
  * ERT_NO_MEMORY: nothing has changed, and the call can be made again. ERT_RANGE: the process is not of the shard.
  * ERT_CLOSED.
  */
-int32_t ert_shard_tell(ert_shard *shard, uint32_t process, uint32_t *told);
+int32_t ert_shard_notify(ert_shard *shard, uint32_t process, uint32_t *told);
 
 /*
  * Expires every timer of the shard that is due at the current monotonic time, as ert_world_advance does.

@@ -78,10 +78,10 @@ do({read_async, Label, Process, Info}, State) ->
     {"read_async ok", Next#state{asked = Next#state.asked + 1}};
 do({turn, _}, State) ->
     rest(),
-    {Fired, Next} = lists:foldl(fun count_timers/2, {0, State}, processes(State)),
+    {Expired, Next} = lists:foldl(fun count_timers/2, {0, State}, processes(State)),
     To = (time(State) - State#state.start) div 1000000,
-    Line = ["turn ", integer_to_list(State#state.asked), " ", integer_to_list(To), " ", integer_to_list(Fired), " ",
-        integer_to_list(Fired), " 0"],
+    Line = ["turn ", integer_to_list(State#state.asked), " ", integer_to_list(To), " ", integer_to_list(Expired), " ",
+        integer_to_list(Expired), " 0"],
     {Line, Next#state{asked = 0}};
 do({'receive', Process}, State) ->
     case ask(Process, take, State) of

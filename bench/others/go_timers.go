@@ -184,7 +184,7 @@ func passExpireAtOnce(what *measurement) time.Duration {
 }
 
 // startDueAtOnce starts timers that are due at one instant, and waits until it has passed. It tells whether
-// the first hasn't fired yet: the scheduler leaves a goroutine alone for some milliseconds, but not where other
+// the first hasn't expired yet: the scheduler leaves a goroutine alone for some milliseconds, but not where other
 // work on the machine delays it.
 func startDueAtOnce(timers []*time.Timer, due time.Time) bool {
 	for i := range timers {

@@ -52,7 +52,7 @@ static void pass(ert_world *world, ert_interval *each, ert_interval *latest) {
                 printf(", %" PRIu64 " left out\n", left_out);
             }
         }
-    } while (turned.fired != 0);
+    } while (turned.expired != 0);
 }
 
 static void repeating(void) {
@@ -118,7 +118,7 @@ static void alarm_of_the_day(void) {
         must("ert_world_system_time", ert_world_system_time(&world, &system));
         show("a turn", system);
         if (moved.shifted) {
-            must("ert_world_tell", ert_world_tell(&world, PROCESS, &told));
+            must("ert_world_notify", ert_world_notify(&world, PROCESS, &told));
         }
         must("ert_world_turn", ert_world_turn(&world, SCHED, &turned));
         while (ert_world_take(&world, PROCESS, &mail) == ERT_OK) {

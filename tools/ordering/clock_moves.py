@@ -86,7 +86,7 @@ def demonitor(state: State, call: Call) -> Iterator[Move]:
         yield Move([], [entry], [(("monitors", process), others or None)], is_free=True)
 
 
-def tell(state: State, call: Call) -> Iterator[Move]:
+def notify(state: State, call: Call) -> Iterator[Move]:
     """The monitors of a process are told the offset."""
     process = call.asked[0]
     monitors = state.get("monitors", process)

@@ -11,7 +11,7 @@ LATEST = 8_796_093_022_207
 USES_OF_ROUND = 262_143
 LAST_GENERATION = 2**61 - 1
 # In which word, from the end, a call names a process that gets mail by it.
-GETS_MAIL = {"start": -3, "restart": -3, "ask": -2, "tell": -1}
+GETS_MAIL = {"start": -3, "restart": -3, "ask": -2, "notify": -1}
 
 
 class Shown(NamedTuple):

@@ -30,10 +30,10 @@ TIMER three numbers, as in a history.
     serve = SERVED                                       whether there was a request: 1 or 0
     monitor PROCESS = NUMBER|full
     demonitor PROCESS NUMBER = done|none
-    tell PROCESS = COUNT
-    advance = TO FIRED
+    notify PROCESS = COUNT
+    advance = TO EXPIRED
     deliver = PUT DROPPED
-    turn = SERVED TO FIRED PUT DROPPED
+    turn = SERVED TO EXPIRED PUT DROPPED
 """
 from __future__ import annotations
 
@@ -69,13 +69,13 @@ KINDS = {
     "serve": r"= [01]",
     "monitor": r"N = (N|full)",
     "demonitor": r"N N = (done|none)",
-    "tell": r"N = N",
+    "notify": r"N = N",
     "advance": r"= N N",
     "deliver": r"= N N",
     "turn": r"= N N N N N",
 }
 OF_HUB = {"tick", "finalize"}
-OF_MAIL = {"take", "take_some", "next_mail", "monitor", "demonitor", "tell"}
+OF_MAIL = {"take", "take_some", "next_mail", "monitor", "demonitor", "notify"}
 OF_SHARD = {"start", "restart", "exit", "ask", "serve", "advance", "deliver", "turn"} | OF_MAIL
 NUMBER = r"-?\d+"
 # How many words a message has.

@@ -10,7 +10,7 @@ from __future__ import annotations
 
 from typing import Callable, Iterator
 
-from .clock_moves import demonitor, monitor, offset_told, system_told, tell, tick, time_told
+from .clock_moves import demonitor, monitor, notify, offset_told, system_told, tick, time_told
 from .log import Call
 from .move import Move
 from .request_moves import ask, serve
@@ -37,7 +37,7 @@ KINDS: dict[str, Callable[[State, Call], Iterator[Move]]] = {
     "serve": serve,
     "monitor": monitor,
     "demonitor": demonitor,
-    "tell": tell,
+    "notify": notify,
     "advance": turn,
     "deliver": deliver,
     "turn": turn,

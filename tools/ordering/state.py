@@ -31,7 +31,7 @@ class State:
         ("row", TIMER)      the row of a timer that is armed or expired
         ("slot", W, K)      the timer that takes a slot
         ("armed", W)        the armed timers of a wheel, in order of their starts
-        ("fired", W)        its expired timers, in order
+        ("expired", W)      its expired timers, in order
         ("inbox", W)        the requests to its shard that wait, in order
         ("exited", P)       whether a process has exited
         ("mail", P)         its messages, and so "monitors" with the offset last told, and "monitor", the next number

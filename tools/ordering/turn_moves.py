@@ -54,30 +54,30 @@ def expired(state: State, call: Call, looks: list[tuple[int, str]], count: int) 
     due = due_by(state, wheel, call.advance[0])
     if not due:
         if count == 0:
-            yield from turned(state, call, Move(looks, [], []), state.get("fired", wheel))
+            yield from turned(state, call, Move(looks, [], []), state.get("expired", wheel))
         return
     timer = min(due, key=lambda it: state.words["row", it].deadline)
     if count == 0 or timer in state.facts.cancelled or not state.may_settle(timer):
         return
-    fired = (*state.get("fired", wheel), timer)
+    expired = (*state.get("expired", wheel), timer)
     others = tuple(it for it in state.get("armed", wheel) if it != timer)
     row = state.words["row", timer]._replace(status="expired")
-    words = [(("row", timer), row), (("armed", wheel), others or None), (("fired", wheel), fired)]
+    words = [(("row", timer), row), (("armed", wheel), others or None), (("expired", wheel), expired)]
     move = Move(looks, [f"s{wheel} w{wheel} expire {spelled(timer)}"], words, part=("expired", count - 1))
     if len(due) > 1:
         yield move
     elif count == 1:
-        yield from turned(state, call, move, fired)
+        yield from turned(state, call, move, expired)
 
 
-def turned(state: State, call: Call, move: Move, fired: tuple[Timer, ...]) -> Iterator[Move]:
+def turned(state: State, call: Call, move: Move, expired: tuple[Timer, ...]) -> Iterator[Move]:
     """The end of an advance or a turn after a move: no timer is due any more, and a turn delivers what expired."""
     assert call.advance is not None
     wheel = call.by - 1
     entries = [*move.entries, f"s{wheel} w{wheel} advanced {wheel} {call.advance[0]}"]
     words = move.words
     if call.kind == "turn":
-        handed = delivered(state, wheel, fired, call.answer[3:])
+        handed = delivered(state, wheel, expired, call.answer[3:])
         if handed is None:
             return
         entries, words = entries + handed[0], words + handed[1]
@@ -85,13 +85,13 @@ def turned(state: State, call: Call, move: Move, fired: tuple[Timer, ...]) -> It
 
 
 def delivered(
-    state: State, wheel: int, fired: tuple[Timer, ...], counts: tuple[int, int]
+    state: State, wheel: int, expired: tuple[Timer, ...], counts: tuple[int, int]
 ) -> tuple[list[str], list[tuple[Hashable, Any]]] | None:
     """The entries of a delivery, and what they change, if so many messages are put and discarded by it."""
     entries: list[str] = []
-    words: list[tuple[Hashable, Any]] = [(("fired", wheel), None)]
+    words: list[tuple[Hashable, Any]] = [(("expired", wheel), None)]
     mail: dict[int, tuple[Any, ...]] = {}
-    for timer in fired:
+    for timer in expired:
         row = state.words["row", timer]
         words += [(("row", timer), None), (("slot", *timer[:2]), None)]
         if ("exited", row.dest) in state.words:
@@ -102,14 +102,14 @@ def delivered(
             entries += [f"s{wheel} - mark {row.dest} false false", f"s{wheel} m{row.dest} deliver {spelled(timer)}"]
     put = sum(map(len, mail.values()))
     changes = [state.with_mail(process, messages) for process, messages in mail.items()]
-    if counts != (put, len(fired) - put) or None in changes:
+    if counts != (put, len(expired) - put) or None in changes:
         return None
     return entries, words + [word for change in changes for word in change or ()]
 
 
 def deliver(state: State, call: Call) -> Iterator[Move]:
     """A delivery of all expired timers."""
-    handed = delivered(state, call.by - 1, state.get("fired", call.by - 1), call.answer)
+    handed = delivered(state, call.by - 1, state.get("expired", call.by - 1), call.answer)
     if handed is not None:
         yield Move([], *handed, is_free=True)
 

@@ -228,14 +228,14 @@ class _Follower:
 
     def advance(self, scheduler: int) -> list[str]:
         """Lets the due timers expire."""
-        to, fired, heap = self.now // MILLISECOND, 0, self.armed[scheduler]
+        to, expired, heap = self.now // MILLISECOND, 0, self.armed[scheduler]
         while heap and heap[0][0] <= to:
             timer = heapq.heappop(heap)[2]
             if timer.fate == "armed":
                 self.settle(timer, "expired")
                 self.waiting[scheduler].append(timer)
-                fired += 1
-        return [str(to), str(fired)]
+                expired += 1
+        return [str(to), str(expired)]
 
     def deliver(self, scheduler: int) -> list[str]:
         """Hands over what has expired."""

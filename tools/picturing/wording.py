@@ -20,9 +20,9 @@ def reading(name: str, words: list[str]) -> str:
 
 def turn(words: list[str]) -> str:
     """What a turn did, without what it didn't."""
-    served, _, fired, put, dropped = words
+    served, _, expired, put, dropped = words
     told = [f"{served} served"] if served != "0" else []
-    told += [f"{fired} expired"] if fired != "0" and fired != put else []
+    told += [f"{expired} expired"] if expired != "0" and expired != put else []
     told += [f"{put} delivered"] if put != "0" else []
     told += [f"{dropped} dropped"] if dropped != "0" else []
     return ", ".join(told) or "nothing"

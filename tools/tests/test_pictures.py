@@ -224,8 +224,8 @@ class Long(unittest.TestCase):
         for step in range(1, 25_001):
             now = step * 1_000_000
             ops += [["tick", now, now], ["start", step, 0, "rel", 1 + step % 9, 0, 1], ["turn", 0], ["time"]]
-            fired = sum(1 for it in range(max(1, step - 9), step) if it + 1 + it % 9 == step)
-            lines += [f"tick {now}", "start ok", f"turn 0 {step} {fired} {fired} 0", f"time {now}"]
+            expired = sum(1 for it in range(max(1, step - 9), step) if it + 1 + it % 9 == step)
+            lines += [f"tick {now}", "start ok", f"turn 0 {step} {expired} {expired} 0", f"time {now}"]
         lines.append(f"end {now}")
         made = picture(run_of(ops, lines, slots=65536), "long")
         self.assertLess(len(made), 2_000_000)

@@ -110,7 +110,7 @@ pub struct ert_start {
 #[derive(Clone, Copy, Debug, Default, PartialEq, Eq)]
 pub struct ert_advanced {
     pub to: u64,
-    pub fired: u32,
+    pub expired: u32,
 }
 
 /// How many messages were put into mailboxes, and how many were thrown away.
@@ -127,7 +127,7 @@ pub struct ert_delivered {
 pub struct ert_turned {
     pub to: u64,
     pub served: u32,
-    pub fired: u32,
+    pub expired: u32,
     pub put: u32,
     pub dropped: u32,
 }
@@ -138,7 +138,7 @@ pub struct ert_turned {
 pub struct ert_turned_some {
     pub to: u64,
     pub served: u32,
-    pub fired: u32,
+    pub expired: u32,
     pub put: u32,
     pub dropped: u32,
     pub more: u32,
@@ -220,7 +220,7 @@ unsafe extern "C" {
     pub fn ert_world_next_mail(world: *mut ert_world, process: *mut u32) -> i32;
     pub fn ert_world_monitor(world: *mut ert_world, process: u32, monitor: *mut u32) -> i32;
     pub fn ert_world_demonitor(world: *mut ert_world, process: u32, monitor: u32) -> i32;
-    pub fn ert_world_tell(world: *mut ert_world, process: u32, told: *mut u32) -> i32;
+    pub fn ert_world_notify(world: *mut ert_world, process: u32, told: *mut u32) -> i32;
     pub fn ert_world_serve(world: *mut ert_world, sched: u32, served: *mut u32) -> i32;
     pub fn ert_world_advance(world: *mut ert_world, sched: u32, advanced: *mut ert_advanced)
     -> i32;
@@ -303,7 +303,7 @@ unsafe extern "C" {
     pub fn ert_shard_serve(shard: *mut ert_shard, served: *mut u32) -> i32;
     pub fn ert_shard_monitor(shard: *mut ert_shard, process: u32, monitor: *mut u32) -> i32;
     pub fn ert_shard_demonitor(shard: *mut ert_shard, process: u32, monitor: u32) -> i32;
-    pub fn ert_shard_tell(shard: *mut ert_shard, process: u32, told: *mut u32) -> i32;
+    pub fn ert_shard_notify(shard: *mut ert_shard, process: u32, told: *mut u32) -> i32;
     pub fn ert_shard_advance(shard: *mut ert_shard, advanced: *mut ert_advanced) -> i32;
     pub fn ert_shard_deliver(shard: *mut ert_shard, delivered: *mut ert_delivered) -> i32;
     pub fn ert_shard_turn(shard: *mut ert_shard, turned: *mut ert_turned) -> i32;

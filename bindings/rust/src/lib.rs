@@ -360,7 +360,7 @@ fn turned_some(some: &ffi::ert_turned_some) -> (Turned, bool) {
     let turned = Turned {
         to: some.to,
         served: some.served,
-        fired: some.fired,
+        expired: some.expired,
         put: some.put,
         dropped: some.dropped,
     };
@@ -614,9 +614,9 @@ impl World {
     }
 
     /// Notifies the monitors of a process that were last told another time offset, and returns how many.
-    pub fn tell(&mut self, process: u32) -> Result<u32, Error> {
+    pub fn notify(&mut self, process: u32) -> Result<u32, Error> {
         let mut told = 0;
-        done(unsafe { ffi::ert_world_tell(&mut *self.handle, process, &mut told) })?;
+        done(unsafe { ffi::ert_world_notify(&mut *self.handle, process, &mut told) })?;
         Ok(told)
     }
 

@@ -312,9 +312,9 @@ impl Shard {
     }
 
     /// Notifies the monitors of a process that were last told another time offset, and returns how many.
-    pub fn tell(&mut self, process: u32) -> Result<u32, Error> {
+    pub fn notify(&mut self, process: u32) -> Result<u32, Error> {
         let mut told = 0;
-        done(unsafe { ffi::ert_shard_tell(&mut *self.handle, process, &mut told) })?;
+        done(unsafe { ffi::ert_shard_notify(&mut *self.handle, process, &mut told) })?;
         Ok(told)
     }
 

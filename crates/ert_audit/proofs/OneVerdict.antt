@@ -13,7 +13,7 @@ use Rattle.ert_judge.specs.Verdicts.{IsFirstIllegal}
 use Rattle.ert_spelling.specs.Spelling.{Spells, MisspelledAt}
 use Rattle.ert_audit.specs.Verdicts.{IsHistory, IsLegalText, IsIllegalText, HasVerdict}
 use Rattle.ert_audit.specs.declared.verdict.Verdict.{Verdict}
-use Rattle.ert_audit.specs.declared.verdict.Verdict.TheVariants.{Legal as IsLegal, Illegal, Refused}
+use Rattle.ert_audit.specs.declared.verdict.Verdict.TheVariants as verdicts
 
 -- what the laws of spelling say
 pub record OneSpelling : Type 0 where
@@ -79,12 +79,12 @@ same_line one text j k a b =
     a.at ∙ ap (λ n. n + 2) place ∙ sym b.at
 
 pub verdict_is_one : OneSpelling → (text : List ℕ) (v w : Verdict) → HasVerdict text v → HasVerdict text w → v ≡ w
-verdict_is_one one text (IsLegal m) (IsLegal n) a b = ap (λ k. IsLegal k) (same_count one text m n a b)
-verdict_is_one one text (IsLegal m) (Illegal k) a b = absurd (legal_or_not one text m k a b)
-verdict_is_one one text (IsLegal m) (Refused k) a b = absurd (never_misspelled one text k a.history b)
-verdict_is_one one text (Illegal j) (IsLegal n) a b = absurd (legal_or_not one text n j b a)
-verdict_is_one one text (Illegal j) (Illegal k) a b = ap (λ n. Illegal n) (same_line one text j k a b)
-verdict_is_one one text (Illegal j) (Refused k) a b = absurd (never_misspelled one text k a.history b)
-verdict_is_one one text (Refused j) (IsLegal n) a b = absurd (never_misspelled one text j b.history a)
-verdict_is_one one text (Refused j) (Illegal k) a b = absurd (never_misspelled one text j b.history a)
-verdict_is_one one text (Refused j) (Refused k) a b = ap (λ n. Refused n) (one.one_line text j k a b)
+verdict_is_one one text (verdicts.Legal m) (verdicts.Legal n) a b = ap (λ k. verdicts.Legal k) (same_count one text m n a b)
+verdict_is_one one text (verdicts.Legal m) (verdicts.Illegal k) a b = absurd (legal_or_not one text m k a b)
+verdict_is_one one text (verdicts.Legal m) (verdicts.Refused k) a b = absurd (never_misspelled one text k a.history b)
+verdict_is_one one text (verdicts.Illegal j) (verdicts.Legal n) a b = absurd (legal_or_not one text n j b a)
+verdict_is_one one text (verdicts.Illegal j) (verdicts.Illegal k) a b = ap (λ n. verdicts.Illegal n) (same_line one text j k a b)
+verdict_is_one one text (verdicts.Illegal j) (verdicts.Refused k) a b = absurd (never_misspelled one text k a.history b)
+verdict_is_one one text (verdicts.Refused j) (verdicts.Legal n) a b = absurd (never_misspelled one text j b.history a)
+verdict_is_one one text (verdicts.Refused j) (verdicts.Illegal k) a b = absurd (never_misspelled one text j b.history a)
+verdict_is_one one text (verdicts.Refused j) (verdicts.Refused k) a b = ap (λ n. verdicts.Refused n) (one.one_line text j k a b)

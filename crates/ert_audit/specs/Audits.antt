@@ -7,7 +7,7 @@ use Rattle.ert_audit.specs.Verdicts.{HasVerdict, verdict_line}
 use Rattle.ert_audit.specs.declared.status.AuditStatus.{AuditStatus}
 use Rattle.ert_audit.specs.declared.status.AuditStatus.TheVariants.{Legal, Illegal, Refused, ReadFault, WriteFault, NoMemory, TooLong}
 use Rattle.ert_audit.specs.declared.verdict.Verdict.{Verdict}
-use Rattle.ert_audit.specs.declared.verdict.Verdict.TheVariants.{Legal as IsLegal, Illegal as IsIllegal, Refused as IsRefused}
+use Rattle.ert_audit.specs.declared.verdict.Verdict.TheVariants as verdicts
 
 -- the number of a status
 abbrev pub exit_code : AuditStatus → ℕ
@@ -21,9 +21,9 @@ exit_code TooLong = 8
 
 -- the status that tells a verdict
 abbrev pub status_telling : Verdict → AuditStatus
-status_telling (IsLegal count) = Legal
-status_telling (IsIllegal line) = Illegal
-status_telling (IsRefused line) = Refused
+status_telling (verdicts.Legal count) = Legal
+status_telling (verdicts.Illegal line) = Illegal
+status_telling (verdicts.Refused line) = Refused
 
 -- whether a status tells a verdict
 abbrev pub IsVerdict : AuditStatus → Type 0

@@ -12,7 +12,7 @@ use Rattle.ert_spelling.specs.Spelling.{Spells, MisspelledAt}
 use Rattle.ert_spelling.specs.declared.history.SpellingErr.{SpellingErr}
 use Rattle.ert_spelling.specs.declared.history.SpellingErr.TheVariants.{Misspelled, NoMemory as OutOfMemory}
 use Rattle.ert_audit.specs.declared.verdict.Verdict.{Verdict}
-use Rattle.ert_audit.specs.declared.verdict.Verdict.TheVariants.{Legal as IsLegal, Illegal, Refused}
+use Rattle.ert_audit.specs.declared.verdict.Verdict.TheVariants as verdicts
 
 -- a text spells a history of settings that a service can be opened with
 pub record IsHistory (text : List ℕ) : Type 0 where
@@ -36,17 +36,17 @@ pub record IsIllegalText (text : List ℕ) (line : ℕ) : Type 0 where
 
 -- what a verdict says of a text
 abbrev pub HasVerdict : List ℕ → Verdict → Type 0
-HasVerdict text (IsLegal count) = IsLegalText text count
-HasVerdict text (Illegal line) = IsIllegalText text line
-HasVerdict text (Refused line) = MisspelledAt text line
+HasVerdict text (verdicts.Legal count) = IsLegalText text count
+HasVerdict text (verdicts.Illegal line) = IsIllegalText text line
+HasVerdict text (verdicts.Refused line) = MisspelledAt text line
 
 -- the verdict where no history was read
 abbrev pub refusal_of : SpellingErr → Result Verdict NoMemory
-refusal_of (Misspelled line) = Ok (Refused line)
+refusal_of (Misspelled line) = Ok (verdicts.Refused line)
 refusal_of OutOfMemory = Err (record {})
 
 -- the line that tells a verdict
 abbrev pub verdict_line : Verdict → List ℕ
-verdict_line (IsLegal count) = codes "legal " ++ decimal count ++ codes "\n"
-verdict_line (Illegal line) = codes "illegal " ++ decimal line ++ codes "\n"
-verdict_line (Refused line) = codes "refused " ++ decimal line ++ codes "\n"
+verdict_line (verdicts.Legal count) = codes "legal " ++ decimal count ++ codes "\n"
+verdict_line (verdicts.Illegal line) = codes "illegal " ++ decimal line ++ codes "\n"
+verdict_line (verdicts.Refused line) = codes "refused " ++ decimal line ++ codes "\n"

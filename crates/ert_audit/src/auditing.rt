@@ -38,7 +38,7 @@ pub fn audit<R: AllocGlobal, I: Source, O: Sink>(rt: &R, input: &mut I, output: 
     ensures stops { (result.status ≡ AuditStatus.WriteFault) ⊎ (result.status ≡ AuditStatus.NoMemory)
         → (output.new ≡ output.old) ⊎ StopsInLine (I.left input.old) (I.left input.new) (O.taken output.old) (O.taken output.new) }
 
-    // Where nothing fails, only want of memory keeps a text from its verdict.
+    // Where nothing fails, only running out of memory keeps a text from its verdict.
     ensures complete { (Rose (I.faults input.old) (I.faults input.new) → ⊥) → (Rose (O.faults output.old) (O.faults output.new) → ⊥)
         → (text : List ℕ) (verdict : verdicts.Verdict) → I.left input.old ≡ Some text → length text ≤ 16777216 → HasVerdict text verdict
         → (result.status ≡ status_telling verdict) ⊎ (result.status ≡ AuditStatus.NoMemory) }

@@ -53,7 +53,7 @@ not_at_home call refused s p told is home r = record {
   above = λ _. r;
 }
 
--- for want of memory a closed handle of a hub stays closed
+-- when out of memory a closed handle of a hub stays closed
 pub opens_no_hub : (c : ErtSettings) (o : Option Rest) (g : Settings) → is_there o ≡ false → ReadsSettings c (Ok g) → g.schedulers < g.callers
     → OpensHub c o NO_MEMORY o
 opens_no_hub c None g h read few = record {

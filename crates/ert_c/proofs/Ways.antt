@@ -15,7 +15,7 @@ pub through : (kept : Type 0) (call : Seen → Seen → Type 0) (old new : Optio
 through kept call old new status was now is becomes made =
     subst (λ (o : Option Seen). Through kept call o status new) (sym is) (now, becomes, made)
 
--- for want of memory a closed handle stays closed
+-- when out of memory a closed handle stays closed
 pub opens_nothing : (c : ErtSettings) (o : Option Seen) (g : Settings) → is_there o ≡ false → ReadsSettings c (Ok g) → Opens c o NO_MEMORY o
 opens_nothing c None g h read = record { read = Ok g; meant = read; opens = inr (refl, refl) }
 opens_nothing c (Some w) g h read = cc

@@ -2,7 +2,7 @@
 
 use Rattle.std.specs.Prelude.{◌≡◌, ◌≢◌, ℕ, ℤ, Bool, Option, Result, Err, IfOk, MatchOption, OnSome, ⊤}
 use Rattle.ert_effects.specs.Chains.{Exits, Serves, AdvancesWheel, Delivers, Turns}
-use Rattle.ert_effects.specs.MailCalls.{Takes, Monitors, Demonitors, Tells}
+use Rattle.ert_effects.specs.MailCalls.{Takes, Monitors, Demonitors, Notifies}
 use Rattle.ert_effects.specs.RequestCalls.{Asks, inbox_for}
 use Rattle.ert_effects.specs.RoomCalls.{TellsRoom}
 use Rattle.ert_effects.specs.TimerCalls.{Reads, Cancels, Starts}
@@ -17,13 +17,13 @@ use Rattle.ert_effects.specs.declared.answers.Turned.{Turned}
 use Rattle.ert_defs.specs.States.{state}
 use Rattle.ert_defs.specs.declared.entry.Actor.TheVariants.{Caller}
 use Rattle.ert_defs.specs.declared.mail.Request.{Request}
-use Rattle.ert_defs.specs.declared.memory.NoMemory.{NoMemory as WantOfMemory}
+use Rattle.ert_defs.specs.declared.memory.NoMemory.{NoMemory as OutOfMemory}
 use Rattle.ert_defs.specs.declared.timer.Start.{Start}
 use Rattle.ert_defs.specs.declared.timer.TimerRef.{TimerRef}
 use Rattle.ert_world.specs.Stepping.{Stays}
 use Rattle.ert_world.specs.Worlds.{Seen, Goes, By, HasForgotten, HasPassedAt, IsNextHeldAt, IsNearestAt}
 use Rattle.ert_timers.specs.NextDue.{NoneArmedBefore}
-use Rattle.ert_c.specs.Through.{Through, AnswersC, IfBelow, IsOutOfRange, IsRefusedAs}
+use Rattle.ert_c.specs.Through.{Through, TellsC, IfBelow, IsOutOfRange, IsRefusedAs}
 use Rattle.ert_c.specs.Told.{start_of, request_kind_at, request_of, IsStartTold, IsRoomTold, IsAsked}
 use Rattle.ert_c.specs.declared.mail_calls.ErtRequest.{ErtRequest}
 use Rattle.ert_c.specs.declared.status.TheConstants.{BAD_KIND}
@@ -36,11 +36,11 @@ MakesCall call old new = Goes old (call old) new
 
 -- a call at a scheduler, which is refused where there is no such one
 abbrev pub AtSched : {A : Type 0} → ℕ → (A → Seen → Seen → Type 0) → (A → Type 0) → ℤ → Type 0 → Seen → Seen → Type 0
-AtSched n call tells status kept old new = IfBelow n old.settings.schedulers (AnswersC call tells old new) (IsOutOfRange status kept old new)
+AtSched n call tells status kept old new = IfBelow n old.settings.schedulers (TellsC call tells old new) (IsOutOfRange status kept old new)
 
 -- a call for a process, which is refused where there is no such one
 abbrev pub AtProcess : {A : Type 0} → ℕ → (A → Seen → Seen → Type 0) → (A → Type 0) → ℤ → Type 0 → Seen → Seen → Type 0
-AtProcess n call tells status kept old new = IfBelow n old.settings.processes (AnswersC call tells old new) (IsOutOfRange status kept old new)
+AtProcess n call tells status kept old new = IfBelow n old.settings.processes (TellsC call tells old new) (IsOutOfRange status kept old new)
 
 -- a call at a scheduler goes through a handle, and C finds the answer in a place of its own; else that place is
 -- as it was
@@ -55,7 +55,7 @@ abbrev pub AnswersAtProcess : {A P : Type 0} → ℕ → (A → Seen → Seen �
 AnswersAtProcess n call tells kept found old status new =
     Through (found ≡ kept) (AtProcess n call (λ answer. tells answer kept status found) status (found ≡ kept)) old status new
 
--- caller 0 starts a timer, with this answer, which is never want of memory
+-- caller 0 starts a timer, with this answer, which is never out of memory
 pub record StartsBy (wheel : ℕ) (start : Start) (answer : Result TimerRef StartErr) (old new : Seen) : Type 0 where
   pub makes : MakesCall (λ w. By w (λ g. Starts g 0 wheel start answer)) old new
   pub memory : answer ≢ Err NoMemory
@@ -94,7 +94,7 @@ abbrev pub ExitsBy : ℕ → Bool → Seen → Seen → Type 0
 ExitsBy process answer = MakesCall (λ w way. Exits w.settings way 0 process answer)
 
 -- caller 0 puts a request into the inbox of its scheduler, or there is no memory
-abbrev pub AsksBy : Request → Result (Unit {0}) WantOfMemory → Seen → Seen → Type 0
+abbrev pub AsksBy : Request → Result (Unit {0}) OutOfMemory → Seen → Seen → Type 0
 AsksBy request answer = MakesCall (λ w. By w (λ g. Asks g 0 (inbox_for g request) request answer))
 
 -- C puts a request; where no request has its kind, or there is no process to reply to, nothing has changed
@@ -114,28 +114,28 @@ MonitorsBy process answer = MakesCall (λ w. By w (λ g. Monitors g 0 process an
 abbrev pub DemonitorsBy : ℕ → ℕ → Bool → Seen → Seen → Type 0
 DemonitorsBy process monitor answer = MakesCall (λ w. By w (λ g. Demonitors g 0 process monitor answer))
 
--- caller 0 has the monitors of a process told the offset: how many messages are put, or want of memory
-abbrev pub TellsBy : ℕ → Result ℕ WantOfMemory → Seen → Seen → Type 0
-TellsBy process answer = MakesCall (λ w. By w (λ g. Tells g 0 process answer))
+-- caller 0 has the monitors of a process told the offset: how many messages are put, or out of memory
+abbrev pub NotifiesBy : ℕ → Result ℕ OutOfMemory → Seen → Seen → Type 0
+NotifiesBy process answer = MakesCall (λ w. By w (λ g. Notifies g 0 process answer))
 
--- a scheduler answers a request: whether there was one, or want of memory. Its wheels forget what it cancelled
-pub record ServesBy (sched : ℕ) (answer : Result Bool WantOfMemory) (old new : Seen) : Type 0 where
+-- a scheduler answers a request: whether there was one, or out of memory. Its wheels forget what it cancelled
+pub record ServesBy (sched : ℕ) (answer : Result Bool OutOfMemory) (old new : Seen) : Type 0 where
   pub makes : MakesCall (λ w way. Serves w.settings way sched answer) old new
   pub stays : Stays old new
 
--- a scheduler advances its wheel: to which millisecond and how many timers expired, or want of memory. Then each row
+-- a scheduler advances its wheel: to which millisecond and how many timers expired, or out of memory. Then each row
 -- of the wheel is due later
-pub record AdvancesBy (sched : ℕ) (answer : Result (ℕ × ℕ) WantOfMemory) (old new : Seen) : Type 0 where
+pub record AdvancesBy (sched : ℕ) (answer : Result (ℕ × ℕ) OutOfMemory) (old new : Seen) : Type 0 where
   pub makes : MakesCall (λ w way. AdvancesWheel w.settings way sched answer) old new
   pub passed : IfOk answer (λ advanced. HasPassedAt new sched advanced.0)
 
--- a scheduler hands its expired timers over: how many were put and dropped, or want of memory
-abbrev pub DeliversBy : ℕ → Result (ℕ × ℕ) WantOfMemory → Seen → Seen → Type 0
+-- a scheduler hands its expired timers over: how many were put and dropped, or out of memory
+abbrev pub DeliversBy : ℕ → Result (ℕ × ℕ) OutOfMemory → Seen → Seen → Type 0
 DeliversBy sched answer = MakesCall (λ w way. Delivers w.settings way sched answer)
 
--- a scheduler makes a turn: what it did, or want of memory. The wheels forget what it cancelled, and each row of its
+-- a scheduler makes a turn: what it did, or out of memory. The wheels forget what it cancelled, and each row of its
 -- own is due later than the time of the advance
-pub record TurnsBy (sched : ℕ) (answer : Result Turned WantOfMemory) (old new : Seen) : Type 0 where
+pub record TurnsBy (sched : ℕ) (answer : Result Turned OutOfMemory) (old new : Seen) : Type 0 where
   pub makes : MakesCall (λ w way. Turns w.settings way sched answer) old new
   pub stays : Stays old new
   pub passed : IfOk answer (λ turned. HasPassedAt new sched turned.to)

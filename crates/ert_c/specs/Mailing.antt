@@ -3,9 +3,9 @@
 
 use Rattle.std.specs.Prelude.{◌≡◌, ℕ, ℤ, map, drop, List, ◌++◌, length, Option, Some, None, Result, Ok, Err, IfOk, OnErr}
 use Rattle.ert_defs.specs.declared.mail.Mail.{Mail}
-use Rattle.ert_defs.specs.declared.memory.NoMemory.{NoMemory as WantOfMemory}
+use Rattle.ert_defs.specs.declared.memory.NoMemory.{NoMemory as OutOfMemory}
 use Rattle.ert_world.specs.Cancelling.{CancelsAll}
-use Rattle.ert_world.specs.Mailing.{FindsMail as Finds, TakesSome}
+use Rattle.ert_world.specs.Mailing.{FindsMail, TakesSome}
 use Rattle.ert_world.specs.Stepping.{Stays}
 use Rattle.ert_world.specs.Worlds.{Seen}
 use Rattle.ert_world.specs.declared.mailing.TakeEnd.{TakeEnd}
@@ -15,13 +15,13 @@ use Rattle.ert_c.specs.Told.{mail_as}
 use Rattle.ert_c.specs.declared.mail_calls.ErtMail.{ErtMail}
 use Rattle.ert_c.specs.declared.status.TheConstants.{OK, NO_MEMORY, EMPTY, EXITED}
 
--- a process that hasn't exited and has mail is told, or that there is none; after want of memory nothing has changed
-pub record FindsMailBy (answer : Result (Option ℕ) WantOfMemory) (old new : Seen) : Type 0 where
-  pub next : IfOk answer (λ found. Finds old found new)
+-- a process that hasn't exited and has mail is told, or that there is none; if memory runs out, nothing has changed
+pub record FindsMailBy (answer : Result (Option ℕ) OutOfMemory) (old new : Seen) : Type 0 where
+  pub next : IfOk answer (λ found. FindsMail old found new)
   pub memory : OnErr answer (new ≡ old)
 
 -- a process with mail, for C
-abbrev pub IsNextTold : Result (Option ℕ) WantOfMemory → ℕ → ℤ → ℕ → Type 0
+abbrev pub IsNextTold : Result (Option ℕ) OutOfMemory → ℕ → ℤ → ℕ → Type 0
 IsNextTold (Ok (Some process)) old status new = (status ≡ OK) × (new ≡ process)
 IsNextTold (Ok None) old status new = (status ≡ EMPTY) × (new ≡ old)
 IsNextTold (Err e) old status new = (status ≡ NO_MEMORY) × (new ≡ old)

@@ -5,7 +5,7 @@ use Rattle.ert_effects.specs.ClockCalls.{TellsTime, TellsOffset, TellsSystemTime
 use Rattle.ert_effects.specs.TimerCalls.{Reads, Cancels}
 use Rattle.ert_effects.specs.WheelCalls.{TellsAlive}
 use Rattle.ert_c.specs.ClockCalls.{state_as}
-use Rattle.ert_c.specs.Through.{AnswersC, IfBelow, IsOutOfRange}
+use Rattle.ert_c.specs.Through.{TellsC, IfBelow, IsOutOfRange}
 use Rattle.ert_c.specs.Told.{IsFlag}
 use Rattle.ert_c.specs.declared.clock_calls.ErtOffset.{ErtOffset}
 use Rattle.ert_c.specs.declared.status.TheConstants.{OK, CLOSED, OPEN, NO_MEMORY, NO_SEAT}
@@ -66,4 +66,4 @@ SeatTellsAliveBy process answer old new = Steps old (BySeat old (λ g. TellsAliv
 -- C is told by a seat whether a process is alive; where there is no such one, nothing has changed
 abbrev pub SeatTellsAlive : ℕ → ℕ → ℤ → ℕ → Seated → Seated → Type 0
 SeatTellsAlive process kept status found old new = IfBelow process old.settings.processes
-    (AnswersC (SeatTellsAliveBy process) (λ answer. IsFlag answer status found) old new) (IsOutOfRange status (found ≡ kept) old new)
+    (TellsC (SeatTellsAliveBy process) (λ answer. IsFlag answer status found) old new) (IsOutOfRange status (found ≡ kept) old new)

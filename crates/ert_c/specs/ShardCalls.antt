@@ -4,7 +4,7 @@ use Rattle.std.specs.Prelude.{◌≡◌, ◌≢◌, ◌⊎◌, ℕ, ◌+◌, ◌
 use Rattle.std.specs.Option.{is_some}
 use Rattle.ert_effects.specs.Chains.{AdvancesWheel, Delivers}
 use Rattle.ert_effects.specs.ClockCalls.{TellsTime, TellsOffset, TellsSystemTime}
-use Rattle.ert_effects.specs.MailCalls.{Takes, Monitors, Demonitors, Tells}
+use Rattle.ert_effects.specs.MailCalls.{Takes, Monitors, Demonitors, Notifies}
 use Rattle.ert_effects.specs.TimerCalls.{Reads, Cancels, Starts}
 use Rattle.ert_effects.specs.WheelCalls.{TellsAlive}
 use Rattle.ert_effects.specs.declared.answers.MonitorErr.{MonitorErr}
@@ -12,7 +12,7 @@ use Rattle.ert_effects.specs.declared.answers.StartErr.{StartErr}
 use Rattle.ert_effects.specs.declared.answers.StartErr.TheVariants.{NoMemory}
 use Rattle.ert_effects.specs.declared.answers.Taken.{Taken}
 use Rattle.ert_c.specs.ClockCalls.{state_as}
-use Rattle.ert_c.specs.Through.{Through, AnswersC, IfBelow, IsOutOfRange}
+use Rattle.ert_c.specs.Through.{Through, TellsC, IfBelow, IsOutOfRange}
 use Rattle.ert_c.specs.Told.{flag, start_of, timer_from_c, IsStartTold, IsFlag, IsGiven, IsDemonitored}
 use Rattle.ert_c.specs.Waiting.{IsRestarted}
 use Rattle.ert_c.specs.declared.clock_calls.ErtOffset.{ErtOffset}
@@ -23,14 +23,14 @@ use Rattle.ert_c.specs.declared.turn_calls.ErtTurned.{ErtTurned}
 use Rattle.ert_c.specs.declared.waiting_calls.ErtTurnedSome.{ErtTurnedSome}
 use Rattle.ert_defs.specs.States.{state}
 use Rattle.ert_defs.specs.declared.entry.Actor.TheVariants.{Caller}
-use Rattle.ert_defs.specs.declared.memory.NoMemory.{NoMemory as WantOfMemory}
+use Rattle.ert_defs.specs.declared.memory.NoMemory.{NoMemory as OutOfMemory}
 use Rattle.ert_defs.specs.declared.settings.OffsetState.{OffsetState}
 use Rattle.ert_defs.specs.declared.timer.Start.{Start}
 use Rattle.ert_defs.specs.declared.timer.TimerRef.{TimerRef}
 use Rattle.ert_shard.specs.Hubs.{Rest, GivesShard}
 use Rattle.ert_shard.specs.Renewing.{RestartsOn, LetsGo}
 use Rattle.ert_shard.specs.Shards.{Share, IsHome, Owned, ShardGoes, ShardSteps, ShardBy, ShardHasForgotten}
-use Rattle.ert_shard.specs.Turning.{fired_of, HasTurnedMost, ShardTurns, TurnsUpTo, ShardExits}
+use Rattle.ert_shard.specs.Turning.{shard_expired, HasTurnedMost, ShardTurns, TurnsUpTo, ShardExits}
 use Rattle.ert_shard.specs.declared.turns.Turn.{Turn}
 use Rattle.ert_timers.specs.NextDue.{NoneArmedBefore, IsNextHeld}
 use Rattle.ert_timers.specs.Passed.{HasPassed}
@@ -87,7 +87,7 @@ pub record IfHome (share : Share) (process : ℕ) (call refused : Type 0) : Type
 
 -- a call for a process of a shard, which is refused where the process isn't of it
 abbrev pub AtHome : {A : Type 0} → ℕ → (A → Owned → Owned → Type 0) → (A → Type 0) → ℤ → Type 0 → Owned → Owned → Type 0
-AtHome process call tells status kept old new = IfHome old.share process (AnswersC call tells old new) (IsOutOfRange status kept old new)
+AtHome process call tells status kept old new = IfHome old.share process (TellsC call tells old new) (IsOutOfRange status kept old new)
 
 -- such a call goes through a handle, and C finds the answer in a place of its own; else that place is as it was
 abbrev pub AnswersAtHome : {A P : Type 0} → ℕ → (A → Owned → Owned → Type 0) → (A → P → ℤ → P → Type 0) → P → P
@@ -112,7 +112,7 @@ pub record ShardReadsOffset (status : ℤ) (offset : ErtOffset) (old new : Owned
   pub state : offset.state ≡ state_as offset_state
   pub steps : ShardSteps old (ShardBy old (λ g. TellsOffset g (Caller (old.share.number + 1)) (offset.offset, offset_state))) new
 
--- a shard starts a timer on its wheel as its caller, with this answer, which is never want of memory
+-- a shard starts a timer on its wheel as its caller, with this answer, which is never out of memory
 pub record ShardStartsBy (start : Start) (answer : Result TimerRef StartErr) (old new : Owned) : Type 0 where
   pub goes : ShardGoes old (ShardBy old (λ g. Starts g (old.share.number + 1) old.share.number start answer)) new
   pub memory : answer ≢ Err NoMemory
@@ -147,7 +147,7 @@ ShardTellsAliveBy process answer old new = ShardSteps old (ShardBy old (λ g. Te
 -- C is told by a shard whether a process is alive; where there is no such one, nothing has changed
 abbrev pub ShardTellsAlive : ℕ → ℕ → ℤ → ℕ → Owned → Owned → Type 0
 ShardTellsAlive process kept status found old new = IfBelow process old.settings.processes
-    (AnswersC (ShardTellsAliveBy process) (λ answer. IsFlag answer status found) old new) (IsOutOfRange status (found ≡ kept) old new)
+    (TellsC (ShardTellsAliveBy process) (λ answer. IsFlag answer status found) old new) (IsOutOfRange status (found ≡ kept) old new)
 
 -- a shard lets a process of its own exit: whether it was alive, and then its wheel is swept
 abbrev pub ShardExitsBy : ℕ → Bool → Owned → Owned → Type 0
@@ -169,40 +169,40 @@ ShardDemonitorsBy process monitor answer old new = ShardSteps old (ShardBy old (
 abbrev pub ShardDemonitors : ℕ → ℕ → Option Owned → ℤ → Option Owned → Type 0
 ShardDemonitors process monitor old status new = Through ⊤ (AtHome process (ShardDemonitorsBy process monitor) (λ answer. IsDemonitored answer status) status ⊤) old status new
 
--- a shard has the monitors of a process told the offset: how many messages are put, or want of memory
-abbrev pub ShardTellsBy : ℕ → Result ℕ WantOfMemory → Owned → Owned → Type 0
-ShardTellsBy process answer old new = ShardSteps old (ShardBy old (λ g. Tells g (old.share.number + 1) process answer)) new
+-- a shard has the monitors of a process told the offset: how many messages are put, or out of memory
+abbrev pub ShardNotifiesBy : ℕ → Result ℕ OutOfMemory → Owned → Owned → Type 0
+ShardNotifiesBy process answer old new = ShardSteps old (ShardBy old (λ g. Notifies g (old.share.number + 1) process answer)) new
 
--- a shard advances its wheel: to which millisecond and how many timers expired, or want of memory. Then each row of the
+-- a shard advances its wheel: to which millisecond and how many timers expired, or out of memory. Then each row of the
 -- wheel is due later
-pub record ShardAdvancesBy (answer : Result (ℕ × ℕ) WantOfMemory) (old new : Owned) : Type 0 where
+pub record ShardAdvancesBy (answer : Result (ℕ × ℕ) OutOfMemory) (old new : Owned) : Type 0 where
   pub steps : ShardSteps old (λ way. AdvancesWheel old.settings way old.share.number answer) new
   pub passed : IfOk answer (λ advanced. HasPassed new.wheel advanced.0)
 
--- a shard hands its expired timers over: how many were put and dropped, or want of memory
-abbrev pub ShardDeliversBy : Result (ℕ × ℕ) WantOfMemory → Owned → Owned → Type 0
+-- a shard hands its expired timers over: how many were put and dropped, or out of memory
+abbrev pub ShardDeliversBy : Result (ℕ × ℕ) OutOfMemory → Owned → Owned → Type 0
 ShardDeliversBy answer old new = ShardSteps old (λ way. Delivers old.settings way old.share.number answer) new
 
--- a shard makes a turn: what it did, or want of memory. Then each row of its wheel is due later than the time of the advance
-pub record ShardTurnsBy (answer : Result Turn WantOfMemory) (old new : Owned) : Type 0 where
+-- a shard makes a turn: what it did, or out of memory. Then each row of its wheel is due later than the time of the advance
+pub record ShardTurnsBy (answer : Result Turn OutOfMemory) (old new : Owned) : Type 0 where
   pub steps : ShardSteps old (λ way. ShardTurns old.settings way old.share answer) new
   pub passed : IfOk answer (λ turned. HasPassed new.wheel turned.to)
 
--- what a turn of a shard did, or want of memory
-abbrev pub IsTurnTold : Result Turn WantOfMemory → ErtTurned → ℤ → ErtTurned → Type 0
-IsTurnTold = IsGiven (λ t. record { to = t.to; served = t.served; fired = t.fired; put = t.put; dropped = t.dropped })
+-- what a turn of a shard did, or out of memory
+abbrev pub IsTurnTold : Result Turn OutOfMemory → ErtTurned → ℤ → ErtTurned → Type 0
+IsTurnTold = IsGiven (λ t. record { to = t.to; served = t.served; expired = t.expired; put = t.put; dropped = t.dropped })
 
 -- a shard makes a turn in which so many timers at most expire and are handed over: what it did and whether there are more,
--- or want of memory. Where there are no more each row of its wheel is due later than the time of the advance; where there
+-- or out of memory. Where there are no more each row of its wheel is due later than the time of the advance; where there
 -- are, it has done as much as it may
-pub record ShardTurnsSomeBy (most : ℕ) (answer : Result (Turn × Bool) WantOfMemory) (old new : Owned) : Type 0 where
+pub record ShardTurnsSomeBy (most : ℕ) (answer : Result (Turn × Bool) OutOfMemory) (old new : Owned) : Type 0 where
   pub steps : ShardSteps old (λ way. TurnsUpTo old.settings way old.share most answer) new
   pub passed : IfOk answer (λ done. done.1 ≡ false → HasPassed new.wheel done.0.to)
   pub done : IfOk answer (λ turned. turned.1 ≡ true → HasTurnedMost old.wheel new.wheel most turned.0)
 
--- what such a turn of a shard did, or want of memory
-abbrev pub IsTurnSomeTold : Result (Turn × Bool) WantOfMemory → ErtTurnedSome → ℤ → ErtTurnedSome → Type 0
-IsTurnSomeTold = IsGiven (λ p. record { to = p.0.to; served = p.0.served; fired = p.0.fired; put = p.0.put; dropped = p.0.dropped; more = flag p.1 })
+-- what such a turn of a shard did, or out of memory
+abbrev pub IsTurnSomeTold : Result (Turn × Bool) OutOfMemory → ErtTurnedSome → ℤ → ErtTurnedSome → Type 0
+IsTurnSomeTold = IsGiven (λ p. record { to = p.0.to; served = p.0.served; expired = p.0.expired; put = p.0.put; dropped = p.0.dropped; more = flag p.1 })
 
 -- what is told is how many rows the wheel of a shard holds, and nothing has changed
 pub record ShardTellsHeld (answer : ℕ) (old new : Owned) : Type 0 where
@@ -211,7 +211,7 @@ pub record ShardTellsHeld (answer : ℕ) (old new : Owned) : Type 0 where
 
 -- what is told is how many expired timers of a shard wait, and nothing has changed
 pub record ShardTellsExpired (answer : ℕ) (old new : Owned) : Type 0 where
-  pub waiting : answer ≡ length (fired_of old)
+  pub waiting : answer ≡ length (shard_expired old)
   pub unchanged : new ≡ old
 
 -- what is told is how many messages wait in a mailbox of a shard, and nothing has changed

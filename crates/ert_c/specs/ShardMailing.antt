@@ -4,14 +4,14 @@ use Rattle.std.specs.Prelude.{◌≡◌, ℕ, ◌+◌, List, length, Option, Res
 use Rattle.ert_c.specs.Mailing.{StandFirst}
 use Rattle.ert_c.specs.declared.mail_calls.ErtMail.{ErtMail}
 use Rattle.ert_defs.specs.declared.mail.Mail.{Mail}
-use Rattle.ert_defs.specs.declared.memory.NoMemory.{NoMemory as WantOfMemory}
+use Rattle.ert_defs.specs.declared.memory.NoMemory.{NoMemory as OutOfMemory}
 use Rattle.ert_shard.specs.Receiving.{ShardFindsMail, CallerTakesSome}
 use Rattle.ert_shard.specs.Shards.{Owned, ShardSteps}
 use Rattle.ert_world.specs.declared.mailing.TakeEnd.{TakeEnd}
 
--- a process of a shard that hasn't exited and has mail is told, or that there is none; after want of memory nothing has
+-- a process of a shard that hasn't exited and has mail is told, or that there is none; if memory runs out, nothing has
 -- changed
-pub record ShardFindsMailBy (answer : Result (Option ℕ) WantOfMemory) (old new : Owned) : Type 0 where
+pub record ShardFindsMailBy (answer : Result (Option ℕ) OutOfMemory) (old new : Owned) : Type 0 where
   pub next : IfOk answer (λ found. ShardFindsMail old found new)
   pub memory : OnErr answer (new ≡ old)
 

@@ -7,7 +7,7 @@ use Rattle.ert_c.specs.Told.{flag, request_of, request_kind_at, IsAsked}
 use Rattle.ert_c.specs.declared.mail_calls.ErtRequest.{ErtRequest}
 use Rattle.ert_c.specs.declared.status.TheConstants.{OK, NO_MEMORY, RANGE, BAD_KIND}
 use Rattle.ert_defs.specs.declared.mail.Request.{Request}
-use Rattle.ert_defs.specs.declared.memory.NoMemory.{NoMemory as WantOfMemory}
+use Rattle.ert_defs.specs.declared.memory.NoMemory.{NoMemory as OutOfMemory}
 use Rattle.ert_effects.specs.RequestCalls.{Asks}
 use Rattle.ert_shard.specs.Serving.{ShardForgetsCancelled, ShardServes}
 use Rattle.ert_shard.specs.Shards.{Owned, ShardSteps, ShardBy}
@@ -15,7 +15,7 @@ use Rattle.ert_shard.specs.declared.requests.ServeErr.{ServeErr}
 use Rattle.ert_shard.specs.declared.requests.ServeErr.TheVariants.{NotHome, NoMemory}
 
 -- a shard puts a request into its inbox as its caller, or there is no memory
-abbrev pub ShardAsksBy : Request → Result (Unit {0}) WantOfMemory → Owned → Owned → Type 0
+abbrev pub ShardAsksBy : Request → Result (Unit {0}) OutOfMemory → Owned → Owned → Type 0
 ShardAsksBy request answer old new =
     ShardSteps old (ShardBy old (λ g. Asks g (old.share.number + 1) old.share.number request answer)) new
 
@@ -31,7 +31,7 @@ pub record ShardServesBy (answer : Result Bool ServeErr) (old new : Owned) : Typ
   pub steps : ShardSteps old (λ way. ShardServes old.settings way old.share answer) new
   pub forgotten : ShardForgetsCancelled old new
 
--- whether a request was served, for C; or that its answer is for a process of another shard, or want of memory
+-- whether a request was served, for C; or that its answer is for a process of another shard, or out of memory
 abbrev pub IsServeTold : Result Bool ServeErr → ℕ → ℤ → ℕ → Type 0
 IsServeTold (Ok served) old status new = (status ≡ OK) × (new ≡ flag served)
 IsServeTold (Err NotHome) old status new = (status ≡ RANGE) × (new ≡ old)

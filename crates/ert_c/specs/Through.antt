@@ -10,7 +10,7 @@ Through same call None status new = (status ≡ CLOSED) × (new ≡ None) × sam
 Through {W} same call (Some old) status new = (w : W) × (new ≡ Some w) × call old w
 
 -- a call is answered, and C is told the answer
-pub record AnswersC {W A : Type 0} (call : A → W → W → Type 0) (tells : A → Type 0) (old new : W) : Type 0 where
+pub record TellsC {W A : Type 0} (call : A → W → W → Type 0) (tells : A → Type 0) (old new : W) : Type 0 where
   pub answer : A
   pub made : call answer old new
   pub told : tells answer
@@ -18,7 +18,7 @@ pub record AnswersC {W A : Type 0} (call : A → W → W → Type 0) (tells : A 
 -- a call goes through a handle, and C finds the answer in a place of its own; where the handle is closed, that
 -- place is as it was
 abbrev pub AnswersThrough : {W A P : Type 0} → (A → W → W → Type 0) → (A → P → ℤ → P → Type 0) → P → P → Option W → ℤ → Option W → Type 0
-AnswersThrough call tells kept found old status new = Through (found ≡ kept) (AnswersC call (λ answer. tells answer kept status found)) old status new
+AnswersThrough call tells kept found old status new = Through (found ≡ kept) (TellsC call (λ answer. tells answer kept status found)) old status new
 
 -- a number that is too great is refused, and nothing has changed
 pub record IsOutOfRange {W : Type 0} (status : ℤ) (kept : Type 0) (old new : W) : Type 0 where

@@ -15,7 +15,7 @@ use Rattle.ert_defs.specs.declared.mail.Mail.TheVariants.{Timeout, Bare as BareM
 use Rattle.ert_defs.specs.declared.mail.Request.{Request}
 use Rattle.ert_defs.specs.declared.mail.RequestKind.{RequestKind}
 use Rattle.ert_defs.specs.declared.mail.RequestKind.TheVariants.{Cancel, Read}
-use Rattle.ert_defs.specs.declared.memory.NoMemory.{NoMemory as WantOfMemory}
+use Rattle.ert_defs.specs.declared.memory.NoMemory.{NoMemory as OutOfMemory}
 use Rattle.ert_defs.specs.declared.timer.Kind.{Kind}
 use Rattle.ert_defs.specs.declared.timer.Kind.TheVariants.{Wrapped, Bare}
 use Rattle.ert_defs.specs.declared.timer.Start.{Start}
@@ -82,33 +82,33 @@ IsLeftTold None old status new = (status ≡ NO_TIMER) × (new ≡ old)
 abbrev pub IsFlag : Bool → ℤ → ℕ → Type 0
 IsFlag answer status new = (status ≡ OK) × (new ≡ flag answer)
 
--- what a call gave, as C finds it in a place of its own; for want of memory that place is as it was
-abbrev pub IsGiven : {A P : Type 0} → (A → P) → Result A WantOfMemory → P → ℤ → P → Type 0
+-- what a call gave, as C finds it in a place of its own; when out of memory that place is as it was
+abbrev pub IsGiven : {A P : Type 0} → (A → P) → Result A OutOfMemory → P → ℤ → P → Type 0
 IsGiven shown (Ok given) old status new = (status ≡ OK) × (new ≡ shown given)
 IsGiven shown (Err e) old status new = (status ≡ NO_MEMORY) × (new ≡ old)
 
--- a number, or want of memory
-abbrev pub IsNumber : Result ℕ WantOfMemory → ℕ → ℤ → ℕ → Type 0
+-- a number, or out of memory
+abbrev pub IsNumber : Result ℕ OutOfMemory → ℕ → ℤ → ℕ → Type 0
 IsNumber = IsGiven (λ n. n)
 
--- whether a request was served, or want of memory
-abbrev pub IsServed : Result Bool WantOfMemory → ℕ → ℤ → ℕ → Type 0
+-- whether a request was served, or out of memory
+abbrev pub IsServed : Result Bool OutOfMemory → ℕ → ℤ → ℕ → Type 0
 IsServed = IsGiven flag
 
--- to which millisecond a wheel was advanced and how many timers expired, or want of memory
-abbrev pub IsAdvanceTold : Result (ℕ × ℕ) WantOfMemory → ErtAdvanced → ℤ → ErtAdvanced → Type 0
-IsAdvanceTold = IsGiven (λ p. record { to = p.0; fired = p.1 })
+-- to which millisecond a wheel was advanced and how many timers expired, or out of memory
+abbrev pub IsAdvanceTold : Result (ℕ × ℕ) OutOfMemory → ErtAdvanced → ℤ → ErtAdvanced → Type 0
+IsAdvanceTold = IsGiven (λ p. record { to = p.0; expired = p.1 })
 
--- how many messages were put and dropped, or want of memory
-abbrev pub IsDelivered : Result (ℕ × ℕ) WantOfMemory → ErtDelivered → ℤ → ErtDelivered → Type 0
+-- how many messages were put and dropped, or out of memory
+abbrev pub IsDelivered : Result (ℕ × ℕ) OutOfMemory → ErtDelivered → ℤ → ErtDelivered → Type 0
 IsDelivered = IsGiven (λ p. record { put = p.0; dropped = p.1 })
 
 -- what a turn did, for C
 abbrev pub turned_as : Turned → ErtTurned
-turned_as t = record { to = t.to; served = t.served; fired = t.fired; put = t.put; dropped = t.dropped }
+turned_as t = record { to = t.to; served = t.served; expired = t.expired; put = t.put; dropped = t.dropped }
 
--- what a turn did, or want of memory
-abbrev pub IsTurned : Result Turned WantOfMemory → ErtTurned → ℤ → ErtTurned → Type 0
+-- what a turn did, or out of memory
+abbrev pub IsTurned : Result Turned OutOfMemory → ErtTurned → ℤ → ErtTurned → Type 0
 IsTurned = IsGiven turned_as
 
 -- the reference in a message that names no timer
@@ -144,8 +144,8 @@ request_kind_at n = cond (nat_eq n 0) (Some Cancel) (cond (nat_eq n 1) (Some Rea
 abbrev pub request_of : ErtRequest → RequestKind → Request
 request_of r kind = record { kind = kind; timer = timer_from_c r.timer; reply_to = r.reply_to; info = is_on r.info }
 
--- a request was put, or want of memory
-abbrev pub IsAsked : Result (Unit {0}) WantOfMemory → ℤ → Type 0
+-- a request was put, or out of memory
+abbrev pub IsAsked : Result (Unit {0}) OutOfMemory → ℤ → Type 0
 IsAsked (Ok _) status = status ≡ OK
 IsAsked (Err e) status = status ≡ NO_MEMORY
 

@@ -3,7 +3,7 @@
 
 use Rattle.std.specs.Prelude.{◌≡◌, ℕ, ℤ, Bool, true, false, length, Result, Ok, Err, IfOk}
 use Rattle.ert_defs.specs.States.{state}
-use Rattle.ert_defs.specs.declared.memory.NoMemory.{NoMemory as WantOfMemory}
+use Rattle.ert_defs.specs.declared.memory.NoMemory.{NoMemory as OutOfMemory}
 use Rattle.ert_defs.specs.declared.timer.Start.{Start}
 use Rattle.ert_defs.specs.declared.timer.TimerRef.{TimerRef}
 use Rattle.ert_effects.specs.declared.answers.Turned.{Turned}
@@ -43,7 +43,7 @@ pub record TellsHeld (sched answer : ℕ) (old new : Seen) : Type 0 where
 
 -- what is told is how many expired timers wait at a scheduler; nothing has changed
 pub record TellsExpired (sched answer : ℕ) (old new : Seen) : Type 0 where
-  pub waiting : answer ≡ length (world_sched old sched).fired
+  pub waiting : answer ≡ length (world_sched old sched).expired
   pub unchanged : new ≡ old
 
 -- what is told is how many messages wait in a mailbox; nothing has changed
@@ -52,8 +52,8 @@ pub record TellsMail (process answer : ℕ) (old new : Seen) : Type 0 where
   pub unchanged : new ≡ old
 
 -- a scheduler makes a turn in which so many timers at most expire and are handed over: what it did and whether there are
--- more, or want of memory
-pub record TurnsSomeBy (sched most : ℕ) (answer : Result (Turned × Bool) WantOfMemory) (old new : Seen) : Type 0 where
+-- more, or out of memory
+pub record TurnsSomeBy (sched most : ℕ) (answer : Result (Turned × Bool) OutOfMemory) (old new : Seen) : Type 0 where
   pub makes : MakesCall (λ w way. TurnsSome w.settings way sched most answer) old new
   pub stays : Stays old new
   pub passed : IfOk answer (λ done. done.1 ≡ false → HasPassedAt new sched done.0.to)
@@ -61,8 +61,8 @@ pub record TurnsSomeBy (sched most : ℕ) (answer : Result (Turned × Bool) Want
 
 -- what such a turn did, for C
 abbrev pub turned_some_as : Turned × Bool → ErtTurnedSome
-turned_some_as p = record { to = p.0.to; served = p.0.served; fired = p.0.fired; put = p.0.put; dropped = p.0.dropped; more = flag p.1 }
+turned_some_as p = record { to = p.0.to; served = p.0.served; expired = p.0.expired; put = p.0.put; dropped = p.0.dropped; more = flag p.1 }
 
--- what such a turn did, or want of memory
-abbrev pub IsTurnedSome : Result (Turned × Bool) WantOfMemory → ErtTurnedSome → ℤ → ErtTurnedSome → Type 0
+-- what such a turn did, or out of memory
+abbrev pub IsTurnedSome : Result (Turned × Bool) OutOfMemory → ErtTurnedSome → ℤ → ErtTurnedSome → Type 0
 IsTurnedSome = IsGiven turned_some_as

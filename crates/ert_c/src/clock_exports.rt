@@ -2,7 +2,7 @@
 ghost use Rattle.std.specs.Prelude.{◌≡◌};
 ghost use Rattle.ert_c.specs.ClockCalls.{is_on, TicksBy, FinalizesBy, ReadsTime, ReadsSystemTime, ReadsOffset, IsMoved, IsFinalized};
 ghost use Rattle.ert_c.specs.Opened.{reading_as, Opens, ClosesHandle};
-ghost use Rattle.ert_c.specs.Through.{Through, AnswersC, AnswersThrough};
+ghost use Rattle.ert_c.specs.Through.{Through, TellsC, AnswersThrough};
 
 use crate::clock_calls::{ErtMoved, ErtOffset, state_as, tell_finalized, tell_moved};
 use crate::handle::{ErtWorld, opened};
@@ -70,7 +70,7 @@ pub extern "C" fn ert_world_finalize(
     moved: &mut ErtMoved,
 ) -> i32
     ensures { Through ((before.new ≡ before.old) × (moved.new ≡ moved.old))
-        (AnswersC (FinalizesBy (reading_as reading.now)) (λ answer. IsFinalized answer before.old moved.old result before.new moved.new))
+        (TellsC (FinalizesBy (reading_as reading.now)) (λ answer. IsFinalized answer before.old moved.old result before.new moved.new))
         world.old.place.value result world.new.place.value }
 {
     let answer = opened!(world).finalize(reading.read());

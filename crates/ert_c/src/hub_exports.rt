@@ -4,7 +4,7 @@ ghost use Rattle.ert_c.specs.ClockCalls.{is_on, IsMoved, IsFinalized};
 ghost use Rattle.ert_c.specs.HubCalls.{OpensHub, OpensHubSeat, HubTicksBy, HubFinalizesBy, HubReadsTime, HubReadsSystemTime, HubReadsOffset, HubCancelsBy, HubReadsBy};
 ghost use Rattle.ert_c.specs.Opened.{reading_as, ClosesHandle};
 ghost use Rattle.ert_c.specs.ShardCalls.{OpensShard};
-ghost use Rattle.ert_c.specs.Through.{Through, AnswersC, AnswersThrough};
+ghost use Rattle.ert_c.specs.Through.{Through, TellsC, AnswersThrough};
 ghost use Rattle.ert_c.specs.Told.{timer_from_c, IsLeftTold};
 
 use crate::clock_calls::{ErtMoved, ErtOffset, state_as, tell_finalized, tell_moved};
@@ -135,7 +135,7 @@ pub extern "C" fn ert_hub_finalize(
     moved: &mut ErtMoved,
 ) -> i32
     ensures { Through ((before.new ≡ before.old) × (moved.new ≡ moved.old))
-        (AnswersC (HubFinalizesBy (reading_as reading.now)) (λ answer. IsFinalized answer before.old moved.old result before.new moved.new))
+        (TellsC (HubFinalizesBy (reading_as reading.now)) (λ answer. IsFinalized answer before.old moved.old result before.new moved.new))
         hub.old.place.value result hub.new.place.value }
 {
     let answer = opened!(hub).finalize(reading.read());

@@ -1,6 +1,6 @@
 //! The exported calls on mailboxes, requests and monitors.
 ghost use Rattle.std.specs.Prelude.{⊤, length};
-ghost use Rattle.ert_c.specs.Calls.{AtProcess, AnswersAtProcess, PutsRequest, TakesBy, MonitorsBy, DemonitorsBy, TellsBy};
+ghost use Rattle.ert_c.specs.Calls.{AtProcess, AnswersAtProcess, PutsRequest, TakesBy, MonitorsBy, DemonitorsBy, NotifiesBy};
 ghost use Rattle.ert_c.specs.Told.{IsTakeTold, IsMonitorTold, IsDemonitored, IsNumber};
 ghost use Rattle.ert_c.specs.Mailing.{FindsMailBy, IsNextTold, TakesSomeBy, IsTookSome};
 ghost use Rattle.ert_c.specs.Through.{Through, AnswersThrough};
@@ -75,13 +75,13 @@ pub extern "C" fn ert_world_monitor(world: &mut ErtWorld, process: u32, monitor:
     tell_monitored(answer, monitor)
 }
 
-/// Tells a process the time offset where it is news.
+/// Notifies a process of the time offset, where it is news.
 #[unsafe(no_mangle)]
-pub extern "C" fn ert_world_tell(world: &mut ErtWorld, process: u32, told: &mut u32) -> i32
-    ensures { AnswersAtProcess process (TellsBy process) IsNumber told.old told.new world.old.place.value result world.new.place.value }
+pub extern "C" fn ert_world_notify(world: &mut ErtWorld, process: u32, told: &mut u32) -> i32
+    ensures { AnswersAtProcess process (NotifiesBy process) IsNumber told.old told.new world.old.place.value result world.new.place.value }
 {
     let service = at_process!(world, process);
-    let answer = service.tell(process);
+    let answer = service.notify(process);
     tell(answer, told)
 }
 

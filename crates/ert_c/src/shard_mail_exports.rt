@@ -1,7 +1,7 @@
 //! The exported calls of a shard on mailboxes and monitors.
 ghost use Rattle.std.specs.Prelude.{length};
 ghost use Rattle.ert_c.specs.Mailing.{IsNextTold, IsTookSome};
-ghost use Rattle.ert_c.specs.ShardCalls.{AnswersAtHome, ShardDemonitors, ShardTakesBy, ShardMonitorsBy, ShardTellsBy};
+ghost use Rattle.ert_c.specs.ShardCalls.{AnswersAtHome, ShardDemonitors, ShardTakesBy, ShardMonitorsBy, ShardNotifiesBy};
 ghost use Rattle.ert_c.specs.ShardMailing.{ShardFindsMailBy, ShardTakesSomeBy};
 ghost use Rattle.ert_c.specs.Through.{AnswersThrough};
 ghost use Rattle.ert_c.specs.Told.{IsTakeTold, IsMonitorTold, IsNumber};
@@ -60,13 +60,13 @@ pub extern "C" fn ert_shard_monitor(shard: &mut ErtShard, process: u32, monitor:
     tell_monitored(answer, monitor)
 }
 
-/// Tells a process of a shard the time offset where it is news.
+/// Notifies a process of a shard of the time offset, where it is news.
 #[unsafe(no_mangle)]
-pub extern "C" fn ert_shard_tell(shard: &mut ErtShard, process: u32, told: &mut u32) -> i32
-    ensures { AnswersAtHome process (ShardTellsBy process) IsNumber told.old told.new shard.old.place.value result shard.new.place.value }
+pub extern "C" fn ert_shard_notify(shard: &mut ErtShard, process: u32, told: &mut u32) -> i32
+    ensures { AnswersAtHome process (ShardNotifiesBy process) IsNumber told.old told.new shard.old.place.value result shard.new.place.value }
 {
     let own = at_home!(shard, process);
-    let answer = own.tell(process);
+    let answer = own.notify(process);
     tell(answer, told)
 }
 

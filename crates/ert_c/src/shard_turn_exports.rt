@@ -56,7 +56,7 @@ fn tell_turn(answer: Result<Turn, NoMemory>, turned: &mut ErtTurned) -> i32
         answer.map(|done| ErtTurned {
             to: done.to,
             served: done.served,
-            fired: done.fired,
+            expired: done.expired,
             put: done.put,
             dropped: done.dropped,
         }),

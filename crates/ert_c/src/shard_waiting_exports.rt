@@ -76,7 +76,7 @@ fn tell_turn_some(answer: Result<(Turn, bool), NoMemory>, turned: &mut ErtTurned
         answer.map(|(done, more)| ErtTurnedSome {
             to: done.to,
             served: done.served,
-            fired: done.fired,
+            expired: done.expired,
             put: done.put,
             dropped: done.dropped,
             more: u32::from(more),

@@ -13,7 +13,7 @@ pub struct ErtAdvanced {
     /// In milliseconds since the start time.
     pub to: u64,
     /// How many timers expired.
-    pub fired: u32,
+    pub expired: u32,
 }
 
 /// What was handed over.
@@ -33,7 +33,7 @@ pub struct ErtTurned {
     /// In milliseconds since the start time.
     pub to: u64,
     pub served: u32,
-    pub fired: u32,
+    pub expired: u32,
     pub put: u32,
     pub dropped: u32,
 }
@@ -63,7 +63,7 @@ pub(crate) fn tell_advanced(answer: Result<(u64, u32), NoMemory>, advanced: &mut
     ensures { IsAdvanceTold answer advanced.old result advanced.new }
 {
     tell(
-        answer.map(|(to, fired)| ErtAdvanced { to, fired }),
+        answer.map(|(to, expired)| ErtAdvanced { to, expired }),
         advanced,
     )
 }
@@ -94,7 +94,7 @@ fn turned_as(done: Turned) -> ErtTurned
     ErtTurned {
         to: done.to,
         served: done.served,
-        fired: done.fired,
+        expired: done.expired,
         put: done.put,
         dropped: done.dropped,
     }

@@ -16,7 +16,7 @@ pub struct ErtTurnedSome {
     /// In milliseconds since the start time.
     pub to: u64,
     pub served: u32,
-    pub fired: u32,
+    pub expired: u32,
     pub put: u32,
     pub dropped: u32,
     /// Whether expired timers wait.
@@ -65,7 +65,7 @@ fn turned_some_as(done: Turned, more: bool) -> ErtTurnedSome
     ErtTurnedSome {
         to: done.to,
         served: done.served,
-        fired: done.fired,
+        expired: done.expired,
         put: done.put,
         dropped: done.dropped,
         more: u32::from(more),

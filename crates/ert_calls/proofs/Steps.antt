@@ -2,7 +2,7 @@
 
 use Rattle.std.proofs.Common.{◌≡◌, ℕ, ℤ, Bool, true, false, List, [], ◌∷◌, ◌++◌, Option, Some, None, refl, sym, subst, ap, ◌∙◌}
 use Rattle.std.specs.Prelude.{option_map, Err}
-use Rattle.ert_effects.specs.ClockCalls.{RefusesTick, TakesReading, Finalizes}
+use Rattle.ert_effects.specs.ClockCalls.{RefusesTick, ActsOnReading, Finalizes}
 use Rattle.ert_clock.proofs.Stand.{shown_is, owed, stands_none, stands_some, stands_kept}
 use Rattle.ert_clock.specs.Shown.{Shown, ClockStands}
 use Rattle.ert_defs.specs.Entries.{keeper_entry, tick_entry}
@@ -136,9 +136,9 @@ may_force true s = tt
 may_force false s = tt
 
 pub tick_refused : (g : Settings) (v w : View) (n : ℕ) (r : Reading) (force : Bool) (e : ClockErr) (old new : Shown) → ClockStands g v.front old
-    → Gives old r (act_of force) (Err e) new → w ≡ v → IsMade g v (TakesReading g n r (act_of force) (Err e)) w
+    → Gives old r (act_of force) (Err e) new → w ≡ v → IsMade g v (ActsOnReading g n r (act_of force) (Err e)) w
 tick_refused g v w n r force e old new stands gives same =
-    none_made g v w (TakesReading g n r (act_of force) (Err e)) stands.legal
+    none_made g v w (ActsOnReading g n r (act_of force) (Err e)) stands.legal
     (refuses g v.front r (act_of force) e old new stands (may_force force old.face.state) gives) same
 
 -- a finalization is refused where the clock refuses it

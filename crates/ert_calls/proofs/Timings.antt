@@ -24,7 +24,7 @@ use Rattle.ert_table.specs.declared.carry.Settle.TheVariants.{Cancel as ToCancel
 use Rattle.ert_table.specs.declared.view.View.{View}
 use Rattle.ert_table.proofs.Calls.{step_takes_place, takes_place_then}
 use Rattle.ert_table.proofs.SlotFacts.{slots_kept}
-use Rattle.ert_calls.specs.Left.{AtLastStep, IsLeftByLook, TellsLeft, CallTells}
+use Rattle.ert_calls.specs.Left.{AtLastStep, IsLeftByLook, TellsLeft, IsMadeTellingLeft}
 use Rattle.ert_calls.proofs.Looks.{can_step, look_stepped}
 
 -- a difference, or 0 where it is negative
@@ -91,7 +91,7 @@ looked g v by now u held step = record {
 
 -- a read of a reference out of range
 pub reads_none : (g : Settings) (v : View) (by : Actor) (timer : TimerRef) (now : ℤ) (u : View) → names_timer g timer ≡ false
-    → Appends g v (look_entry by now) u → CallTells g v by timer None (Reads g by timer None) u
+    → Appends g v (look_entry by now) u → IsMadeTellingLeft g v by timer None (Reads g by timer None) u
 reads_none g v by timer now u out step = record {
   call = record {
     entries = look_entry by now ∷ read_entries (names_timer g timer) by timer None;
@@ -132,7 +132,7 @@ in_or_out false is other = absurd cc
 -- a read of one in range
 reads : (g : Settings) (v : View) (by : Actor) (timer : TimerRef) (now : ℤ) (u : View) (deadline : Option ℕ) (w : View)
     → is_held v.actors by ≡ true → names_timer g timer ≡ true → Appends g v (look_entry by now) u → Peeks g u by timer deadline w
-    → CallTells g v by timer (option_map (λ d. left g d now) deadline) (Reads g by timer (option_map (λ d. left g d now) deadline)) w
+    → IsMadeTellingLeft g v by timer (option_map (λ d. left g d now) deadline) (Reads g by timer (option_map (λ d. left g d now) deadline)) w
 reads g v by timer now u deadline w held within step peek =
     let answer : Option ℕ = option_map (λ d. left g d now) deadline in
     let read = peeked g v by timer now u deadline w held step peek in
@@ -148,22 +148,22 @@ reads g v by timer now u deadline w held within step peek =
 -- where it isn't armed
 pub reads_unarmed : (g : Settings) (v : View) (by : Actor) (timer : TimerRef) (now : ℤ) (u : View) (found answer : Option ℕ) (w : View)
     → found ≡ None → answer ≡ None → is_held v.actors by ≡ true → names_timer g timer ≡ true → Appends g v (look_entry by now) u
-    → Peeks g u by timer found w → CallTells g v by timer answer (Reads g by timer answer) w
+    → Peeks g u by timer found w → IsMadeTellingLeft g v by timer answer (Reads g by timer answer) w
 reads_unarmed g v by timer now u found answer w none nothing held within step peek =
-    subst (λ x. CallTells g v by timer x (Reads g by timer x) w) (sym nothing)
+    subst (λ x. IsMadeTellingLeft g v by timer x (Reads g by timer x) w) (sym nothing)
     (reads g v by timer now u None w held within step (subst (λ x. Peeks g u by timer x w) none peek))
 
 -- and where it is
 pub reads_armed : (g : Settings) (v : View) (by : Actor) (timer : TimerRef) (now : ℤ) (u : View) (found : Option ℕ) (deadline told : ℕ) (w : View)
     → found ≡ Some deadline → told ≡ left g deadline now → is_held v.actors by ≡ true → names_timer g timer ≡ true
-    → Appends g v (look_entry by now) u → Peeks g u by timer found w → CallTells g v by timer (Some told) (Reads g by timer (Some told)) w
+    → Appends g v (look_entry by now) u → Peeks g u by timer found w → IsMadeTellingLeft g v by timer (Some told) (Reads g by timer (Some told)) w
 reads_armed g v by timer now u found deadline told w some is held within step peek =
-    subst (λ n. CallTells g v by timer (Some n) (Reads g by timer (Some n)) w) (sym is)
+    subst (λ n. IsMadeTellingLeft g v by timer (Some n) (Reads g by timer (Some n)) w) (sym is)
     (reads g v by timer now u (Some deadline) w held within step (subst (λ x. Peeks g u by timer x w) some peek))
 
 -- a cancel of a reference out of range
 pub cancels_none : (g : Settings) (v : View) (by : Actor) (timer : TimerRef) (now : ℤ) (u : View) → names_timer g timer ≡ false
-    → Appends g v (look_entry by now) u → CallTells g v by timer None (Cancels g by timer None) u
+    → Appends g v (look_entry by now) u → IsMadeTellingLeft g v by timer None (Cancels g by timer None) u
 cancels_none g v by timer now u out step = record {
   call = record {
     entries = look_entry by now ∷ cancel_entries (names_timer g timer) by timer None None;
@@ -177,10 +177,10 @@ cancels_none g v by timer now u out step = record {
 -- a cancel of a timer that isn't armed when it is read
 cancels_unarmed : (g : Settings) (v : View) (by : Actor) (timer : TimerRef) (now : ℤ) (u : View) (found answer : Option ℕ) (w : View)
     → found ≡ None → answer ≡ None → is_held v.actors by ≡ true → names_timer g timer ≡ true → Appends g v (look_entry by now) u
-    → Peeks g u by timer found w → CallTells g v by timer answer (Cancels g by timer answer) w
+    → Peeks g u by timer found w → IsMadeTellingLeft g v by timer answer (Cancels g by timer answer) w
 cancels_unarmed g v by timer now u found answer w none nothing held within step peek =
     let read = peeked g v by timer now u None w held step (subst (λ x. Peeks g u by timer x w) none peek) in
-    subst (λ x. CallTells g v by timer x (Cancels g by timer x) w) (sym nothing)
+    subst (λ x. IsMadeTellingLeft g v by timer x (Cancels g by timer x) w) (sym nothing)
     (record {
       call = record {
         entries = look_entry by now ∷ cancel_entries (names_timer g timer) by timer None None;
@@ -201,7 +201,7 @@ cancelled g v by timer deadline false w step = step
 cancels : (g : Settings) (v : View) (by : Actor) (timer : TimerRef) (now : ℤ) (u : View) (deadline : ℕ) (w : View) (hit : Bool) (x : View)
     → is_held v.actors by ≡ true → names_timer g timer ≡ true → Appends g v (look_entry by now) u → Peeks g u by timer (Some deadline) w
     → Settles g w by timer deadline ToCancel hit x
-    → CallTells g v by timer (cond hit (Some (left g deadline now)) None) (Cancels g by timer (cond hit (Some (left g deadline now)) None)) x
+    → IsMadeTellingLeft g v by timer (cond hit (Some (left g deadline now)) None) (Cancels g by timer (cond hit (Some (left g deadline now)) None)) x
 cancels g v by timer now u deadline w hit x held within step peek settled =
     let found : ℕ = left g deadline now in
     let answer : Option ℕ = cond hit (Some found) None in
@@ -236,19 +236,19 @@ mapped f d false = refl
 cancels_by : (g : Settings) (v : View) (by : Actor) (timer : TimerRef) (now : ℤ) (u : View) (found : Option ℕ) (m : View) (cancelled : Option ℕ) (w : View)
     → is_held v.actors by ≡ true → names_timer g timer ≡ true → Appends g v (look_entry by now) u → Peeks g u by timer found m
     → CancelsFound g m by timer found cancelled w
-    → CallTells g v by timer (option_map (λ d. left g d now) cancelled) (Cancels g by timer (option_map (λ d. left g d now) cancelled)) w
+    → IsMadeTellingLeft g v by timer (option_map (λ d. left g d now) cancelled) (Cancels g by timer (option_map (λ d. left g d now) cancelled)) w
 cancels_by g v by timer now u None m cancelled w held within step peek cancel =
     cancels_unarmed g v by timer now u None (option_map (λ d. left g d now) cancelled) w refl (ap (option_map (λ d. left g d now)) cancel.0)
     held within step (subst (λ (x : View). Peeks g u by timer None x) (sym cancel.1) peek)
 cancels_by g v by timer now u (Some deadline) m cancelled w held within step peek cancel =
     let f : ℕ → ℕ = λ d. left g d now in
-    subst (λ x. CallTells g v by timer x (Cancels g by timer x) w) (mapped f deadline cancel.0 ∙ ap (option_map f) (sym cancel.1))
+    subst (λ x. IsMadeTellingLeft g v by timer x (Cancels g by timer x) w) (mapped f deadline cancel.0 ∙ ap (option_map f) (sym cancel.1))
     (cancels g v by timer now u deadline m cancel.0 w held within step peek cancel.2)
 
 -- and by its deadline where it was cancelled
 pub cancels_all : (g : Settings) (v : View) (by : Actor) (timer : TimerRef) (now : ℤ) (u : View) (cancelled answer : Option ℕ) (w : View)
     → answer ≡ option_map (λ d. left g d now) cancelled → is_held v.actors by ≡ true → names_timer g timer ≡ true → Appends g v (look_entry by now) u
-    → PeeksAndCancels g u by timer cancelled w → CallTells g v by timer answer (Cancels g by timer answer) w
+    → PeeksAndCancels g u by timer cancelled w → IsMadeTellingLeft g v by timer answer (Cancels g by timer answer) w
 cancels_all g v by timer now u cancelled answer w is held within step call =
-    subst (λ x. CallTells g v by timer x (Cancels g by timer x) w) (sym is)
+    subst (λ x. IsMadeTellingLeft g v by timer x (Cancels g by timer x) w) (sym is)
     (cancels_by g v by timer now u call.found call.between cancelled w held within step call.peek call.cancel)

@@ -30,6 +30,6 @@ TellsLeft false g by timer answer w = answer ≡ None
 TellsLeft true g by timer answer w = AtLastStep g w.front (IsLeftByLook g by timer answer)
 
 -- a call on a timer took place with entries that it may make, and its answer is what was left
-pub record CallTells (g : Settings) (v : View) (by : Actor) (timer : TimerRef) (answer : Option ℕ) (allows : State → List Entry → Type 0) (w : View) : Type 0 where
+pub record IsMadeTellingLeft (g : Settings) (v : View) (by : Actor) (timer : TimerRef) (answer : Option ℕ) (allows : State → List Entry → Type 0) (w : View) : Type 0 where
   pub call : IsMade g v allows w
   pub left : TellsLeft (names_timer g timer) g by timer answer w

@@ -24,14 +24,14 @@ pub record HoldsKeeper (g : Settings) (v : View) (by : ℕ) : Type 0 where
   pub below : by < g.callers
 
 -- where the offset isn't preliminary, a finalization only reads it: with the least caller that the pass holds
-abbrev pub ReadsOffsetBy : OffsetState → Settings → View → ℕ → Type 0
-ReadsOffsetBy Preliminary g v by = Unit {0}
-ReadsOffsetBy Final g v by = least_caller v.actors g.callers ≡ Some by
-ReadsOffsetBy Volatile g v by = least_caller v.actors g.callers ≡ Some by
+abbrev pub ReadsByLeastCaller : OffsetState → Settings → View → ℕ → Type 0
+ReadsByLeastCaller Preliminary g v by = Unit {0}
+ReadsByLeastCaller Final g v by = least_caller v.actors g.callers ≡ Some by
+ReadsByLeastCaller Volatile g v by = least_caller v.actors g.callers ≡ Some by
 
 -- the one entry of a finalization that only reads the offset: the offset and its state, as the clock shows them
-abbrev pub offset_entries : ℕ → Shown → List Entry
-offset_entries by now = keeper_entry by (Off now.face.offset now.face.state) ∷ []
+abbrev pub unmoved_entries : ℕ → Shown → List Entry
+unmoved_entries by now = keeper_entry by (Off now.face.offset now.face.state) ∷ []
 
 -- a clock has done a tick that the history it stood for doesn't have yet
 pub record IsAhead (g : Settings) (h : List Entry) (r : Reading) (act : Act) (m : Moved) (new : Shown) : Type 0 where

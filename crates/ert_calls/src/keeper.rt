@@ -42,7 +42,7 @@ impl KeeperPart {
     ghost use Rattle.ert_clock.specs.Ticks.{act_of, Gives, ClockFinalizesFrom, tick_entries};
     ghost use Rattle.ert_table.specs.Desks.{settings_of, view_of, front_of, Belongs};
     ghost use Rattle.ert_table.specs.Takes.{TakesPlace};
-    ghost use Rattle.ert_calls.specs.Published.{HoldsKeeper, ReadsOffsetBy, IsAhead, IsStill, offset_entries};
+    ghost use Rattle.ert_calls.specs.Published.{HoldsKeeper, ReadsByLeastCaller, IsAhead, IsStill, unmoved_entries};
 
     /// The part of a desk that has just been opened: its clock is that of the opening.
     pub fn open(settings: &Settings) -> KeeperPart
@@ -103,7 +103,7 @@ impl KeeperPart {
     ) -> Result<(OffsetState, Moved), ClockErr>
         requires belongs { Belongs desk.now pass.old }
         requires holds { HoldsKeeper (settings_of desk.now) (view_of pass.old) by }
-        requires least { ReadsOffsetBy self.old.face.state (settings_of desk.now) (view_of pass.old) by }
+        requires least { ReadsByLeastCaller self.old.face.state (settings_of desk.now) (view_of pass.old) by }
         requires stands { ClockStands (settings_of desk.now) (front_of pass.old) self.old }
         ensures belongs { Belongs desk.now pass.new }
         ensures gives { ClockFinalizesFrom self.old.face.state self.old reading result self.new }
@@ -149,7 +149,7 @@ impl KeeperPart {
         requires holds { HoldsKeeper (settings_of desk.now) (view_of pass.old) by }
         requires still { IsStill (settings_of desk.now) (view_of pass.old) by self.now }
         ensures belongs { Belongs desk.now pass.new }
-        ensures takes { TakesPlace (settings_of desk.now) (view_of pass.old) (offset_entries by self.now) (view_of pass.new) }
+        ensures takes { TakesPlace (settings_of desk.now) (view_of pass.old) (unmoved_entries by self.now) (view_of pass.new) }
         ensures stands { ClockStands (settings_of desk.now) (front_of pass.new) self.now }
     {
         pass.load_offset(desk, Actor::Keeper, &OffsetCarry::Off);

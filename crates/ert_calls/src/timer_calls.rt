@@ -10,7 +10,7 @@ ghost use Rattle.ert_defs.specs.Milliseconds as milliseconds;
 ghost use Rattle.ert_table.specs.Desks.{settings_of, view_of, actors_of, Belongs};
 ghost use Rattle.ert_table.specs.Held.{is_held};
 ghost use Rattle.ert_effects.specs.TimerCalls.{Reads, Cancels};
-ghost use Rattle.ert_calls.specs.Left.{CallTells};
+ghost use Rattle.ert_calls.specs.Left.{IsMadeTellingLeft};
 
 use crate::clock_calls::look;
 use ert_defs::milliseconds::rounded_up;
@@ -25,7 +25,7 @@ pub fn read_timer(desk: &Desk, pass: &mut Pass, by: Actor, timer: TimerRef) -> O
     requires held { is_held (actors_of pass.old) by ≡ true }
     requires user { IsUser (settings_of desk.now) by }
     ensures belongs { Belongs desk.now pass.new }
-    ensures call { CallTells (settings_of desk.now) (view_of pass.old) by timer result (Reads (settings_of desk.now) by timer result) (view_of pass.new) }
+    ensures call { IsMadeTellingLeft (settings_of desk.now) (view_of pass.old) by timer result (Reads (settings_of desk.now) by timer result) (view_of pass.new) }
 {
     let now = look(desk, pass, by);
     if !timer.is_in_range(desk.settings()) {
@@ -46,7 +46,7 @@ pub fn cancel_timer(desk: &Desk, pass: &mut Pass, by: Actor, timer: TimerRef) ->
     requires held { is_held (actors_of pass.old) by ≡ true }
     requires user { IsUser (settings_of desk.now) by }
     ensures belongs { Belongs desk.now pass.new }
-    ensures call { CallTells (settings_of desk.now) (view_of pass.old) by timer result (Cancels (settings_of desk.now) by timer result) (view_of pass.new) }
+    ensures call { IsMadeTellingLeft (settings_of desk.now) (view_of pass.old) by timer result (Cancels (settings_of desk.now) by timer result) (view_of pass.new) }
 {
     let now = look(desk, pass, by);
     if !timer.is_in_range(desk.settings()) {

@@ -6,7 +6,7 @@ use Rattle.std.specs.Prelude.{ℤ, pos, negsuc, ◌+ℤ◌, ◌-ℤ◌, ◌*ℤ�
 use Rattle.std.specs.Int.{int_max, w64}
 use Rattle.ert_defs.specs.Clocks.{face, first_clock}
 use Rattle.ert_defs.specs.Lines.{Face, first_base, end_time, Due, IsInRange, line_time, mono_after, time_after, is_base, base_from, rate_of, rate_after, due_at, due_from, due_after, ticked, shifted}
-use Rattle.ert_defs.specs.ClockMoves.{GrowsAtRate}
+use Rattle.ert_defs.specs.ClockMoves.{GrowsWithinPercent}
 use Rattle.ert_defs.specs.Readings.{IsValid}
 use Rattle.ert_defs.specs.Settings.{IsChecked}
 use Rattle.ert_defs.specs.Sound.{IsRate, OnLine, Reaches, Sound, DueFits, MayShift}
@@ -80,7 +80,7 @@ mono_below f r top a b = omega (arith, ints, clamps)
 
 -- on the line, time grows from tick to tick by 99 to 101 percent of OS monotonic time, also across a base
 pub line_moves : (g : Settings) (f : Face) (r : Reading) → Sound g f → OnLine g f
-    → GrowsAtRate f.mono (mono_after f r) f.time (line_time f.base (mono_after f r))
+    → GrowsWithinPercent f.mono (mono_after f r) f.time (line_time f.base (mono_after f r))
 line_moves g f r s on = rw on.here (line_grows f.base f.mono (mono_after f r) s.rate s.mono (mono_up f r))
 
 -- a tick never sets the time back

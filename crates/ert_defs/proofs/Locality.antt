@@ -108,10 +108,10 @@ known_stays g s m by with (Orphan timer) wheels free keeps h = record {
   exited = exit_stays g h.row.dest s m h.exited;
 }
 known_stays g s m by with (Deliver timer) wheels free keeps h =
-    carry (λ (x : SchedState). (first : IsFirst x.fired timer) × (with ≡ Some (MailOf first.row.dest)))
+    carry (λ (x : SchedState). (first : IsFirst x.expired timer) × (with ≡ Some (MailOf first.row.dest)))
     (sched_stays g timer.wheel s m (free_as m by with (Sched timer.wheel) free keeps.0)) h
 known_stays g s m by with (Drop timer) wheels free keeps h =
-    carry (λ (x : SchedState). (first : IsFirst x.fired timer) × ((run g s m).exited first.row.dest ≡ true))
+    carry (λ (x : SchedState). (first : IsFirst x.expired timer) × ((run g s m).exited first.row.dest ≡ true))
     (sched_stays g timer.wheel s m (free_as m by with (Sched timer.wheel) free keeps.0))
     (h.0, exit_stays g h.0.row.dest s m h.1)
 known_stays g s m by with (Advanced wheel to) wheels free keeps h =

@@ -6,7 +6,7 @@ use Rattle.std.proofs.Math.Nat.{mul-le-mul_left}
 use Rattle.std.specs.Prelude.{ℤ, pos, negsuc, ◌+ℤ◌, ◌-ℤ◌, ◌*ℤ◌, ◌≤ℤ◌, ◌<ℤ◌, unsigned_abs}
 use Rattle.std.specs.Int.{w128, int_div_euclid}
 use Rattle.ert_defs.specs.Lines.{Base, line_time}
-use Rattle.ert_defs.specs.ClockMoves.{GrowsAtRate}
+use Rattle.ert_defs.specs.ClockMoves.{GrowsWithinPercent}
 use Rattle.ert_defs.specs.Sound.{IsRate}
 
 -- a number of 64 bits is one of 128
@@ -85,7 +85,7 @@ grows_by time rate x d h =
 
 -- on one line, time grows by 99 to 101 percent of OS monotonic time
 pub line_grows : (b : Base) (o p : ℤ) → IsRate b.rate → b.mono ≤ℤ o → o ≤ℤ p
-    → GrowsAtRate o p (line_time b o) (line_time b p)
+    → GrowsWithinPercent o p (line_time b o) (line_time b p)
 line_grows b o p rate low high =
     let x = above b.mono o low in
     let d = above o p high in

@@ -9,7 +9,7 @@ use Rattle.ert_defs.specs.Legal.{Can, CanArm, Known, LegalFrom, Legal}
 use Rattle.ert_defs.specs.Milliseconds.{natural, down, deadline_of}
 use Rattle.ert_defs.specs.States.{State, uses_at, opening, next, run, state}
 use Rattle.ert_defs.specs.Timers.{Row, deadline_told, row_from, rows_after, same_timer, status_after, timer_at}
-use Rattle.ert_defs.proofs.FiredTimers.{same_timer_self}
+use Rattle.ert_defs.proofs.ExpiredTimers.{same_timer_self}
 use Rattle.ert_defs.proofs.Runs.{carry, kept_from, state-append, legal_first, legal_then, legal_one_more}
 use Rattle.ert_defs.proofs.Slots.{IsOrdered, in_order, next_is_new, same_timer-true, ordered, ordered_next, ordered_opening}
 use Rattle.ert_defs.proofs.Statuses.{forward_after, forward_may}

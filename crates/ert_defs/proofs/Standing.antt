@@ -8,7 +8,7 @@ use Rattle.ert_defs.specs.Legal.{Can, Known, Legal}
 use Rattle.ert_defs.specs.Milliseconds.{deadline_of}
 use Rattle.ert_defs.specs.States.{State, opening, next, state}
 use Rattle.ert_defs.specs.Timers.{Row, Stands, deadline_told, row_from, rows_after, row_of, same_timer, status_after}
-use Rattle.ert_defs.proofs.FiredTimers.{row_kept, same_timer_self}
+use Rattle.ert_defs.proofs.ExpiredTimers.{row_kept, same_timer_self}
 use Rattle.ert_defs.proofs.Runs.{kept_from}
 use Rattle.ert_defs.proofs.Slots.{same_timer-true}
 use Rattle.ert_defs.proofs.Statuses.{Forward, arms, forward_after}

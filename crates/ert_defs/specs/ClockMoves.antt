@@ -11,7 +11,7 @@ use Rattle.ert_defs.specs.declared.settings.OffsetState.TheVariants.{Preliminary
 use Rattle.ert_defs.specs.declared.settings.Settings.{Settings}
 
 -- while OS monotonic time grew from a to b, time grew from x to y, by 99 to 101 percent of that
-pub record GrowsAtRate (a b x y : ℤ) : Type 0 where
+pub record GrowsWithinPercent (a b x y : ℤ) : Type 0 where
   pub least : (x +ℤ pos ((99 * unsigned_abs (b -ℤ a)) / 100)) ≤ℤ y
   pub most : y ≤ℤ (x +ℤ pos (((101 * unsigned_abs (b -ℤ a)) + 99) / 100))
 

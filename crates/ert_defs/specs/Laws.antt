@@ -102,20 +102,20 @@ LawOfSlots = (g : Settings) (h : List Entry) (w k : ℕ) → Legal g h
     → AreInOrder (λ n. (state g h).status (timer_at w k n)) (uses_at (state g h) w k)
 
 -- an expired timer that waits at a scheduler: a row of that scheduler's wheel, and the last timer of its slot
-pub record IsFired (s : State) (w : ℕ) (row : Row) : Type 0 where
+pub record IsExpired (s : State) (w : ℕ) (row : Row) : Type 0 where
   pub expired : s.status row.timer ≡ Some Expired
   pub wheel : row.timer.wheel ≡ w
   pub stands : row_of (s.rows w) row.timer ≡ Some row
   pub last : row.timer.generation ≡ s.last w row.timer.slot
 
 -- these rows are expired timers that wait at a scheduler, and none stands there twice
-pub record AreFired (s : State) (w : ℕ) (fired : List Row) : Type 0 where
-  pub each : All (IsFired s w) fired
-  pub once : AllPairs (λ a b. a.timer ≢ b.timer) fired
+pub record AreExpired (s : State) (w : ℕ) (expired : List Row) : Type 0 where
+  pub each : All (IsExpired s w) expired
+  pub once : AllPairs (λ a b. a.timer ≢ b.timer) expired
 
 -- each row in a scheduler's list is an expired timer that waits there
-abbrev pub LawOfFired : Type 0
-LawOfFired = (g : Settings) (h : List Entry) (w : ℕ) → Legal g h → AreFired (state g h) w ((state g h).scheds w).fired
+abbrev pub LawOfExpired : Type 0
+LawOfExpired = (g : Settings) (h : List Entry) (w : ℕ) → Legal g h → AreExpired (state g h) w ((state g h).scheds w).expired
 
 -- a delivery takes a timer from expired to delivered, and never misses
 abbrev pub LawOfDelivery : Type 0

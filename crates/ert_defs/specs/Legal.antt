@@ -108,9 +108,9 @@ pub record HasDestExited (s : State) (timer : TimerRef) : Type 0 where
   pub exited : s.exited row.dest ≡ true
 
 -- a timer is the first of a scheduler's expired ones
-pub record IsFirst (fired : List Row) (timer : TimerRef) : Type 0 where
+pub record IsFirst (expired : List Row) (timer : TimerRef) : Type 0 where
   pub row : Row
-  pub first : first_of fired ≡ Some row
+  pub first : first_of expired ≡ Some row
   pub named : row.timer ≡ timer
 
 -- a generation that a timer may have: of a first round, or of a later one
@@ -154,8 +154,8 @@ Known g s by with (Shift offset state) = s.clock.due ≡ Some (offset, state)
 Known g s by with (Arm timer start) = CanArm g s by timer (deadline_of g start (s.looked by))
 Known g s by with (Expire timer) = IsNext g s by timer
 Known g s by with (Orphan timer) = HasDestExited s timer
-Known g s by with (Deliver timer) = (first : IsFirst (s.scheds timer.wheel).fired timer) × (with ≡ Some (MailOf first.row.dest))
-Known g s by with (Drop timer) = (first : IsFirst (s.scheds timer.wheel).fired timer) × (s.exited first.row.dest ≡ true)
+Known g s by with (Deliver timer) = (first : IsFirst (s.scheds timer.wheel).expired timer) × (with ≡ Some (MailOf first.row.dest))
+Known g s by with (Drop timer) = (first : IsFirst (s.scheds timer.wheel).expired timer) × (s.exited first.row.dest ≡ true)
 Known g s by with (Advanced wheel to) = (pos to ≡ down g (s.looked by)) × AllSettled s.status (λ d. nat_le d to) (s.rows wheel)
 Known g s by with (Pick wheel got) = ((s.scheds wheel).hand ≡ None) × (got ≡ first_of (s.inboxes wheel))
 Known g s by with (Answer wheel left) = CanAnswer g s with wheel left

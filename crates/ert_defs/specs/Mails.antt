@@ -38,7 +38,7 @@ pub record MailState : Type 0 where
 pub record SchedState : Type 0 where
   pub hand : Option Request
   pub result : Option (Option ℕ)
-  pub fired : List Row
+  pub expired : List Row
 
 -- a process that has nothing yet
 abbrev pub no_mail : MailState
@@ -46,7 +46,7 @@ no_mail = record { queue = []; monitors = []; next = 0 }
 
 -- a scheduler that has nothing: no request in its hand, and no expired timer to hand over
 abbrev pub idle_sched : SchedState
-idle_sched = record { hand = None; result = None; fired = [] }
+idle_sched = record { hand = None; result = None; expired = [] }
 
 -- the message of an expired timer
 abbrev pub message_by : Kind → TimerRef → ℕ → Mail
@@ -99,7 +99,7 @@ without n monitors = filter (λ m. not (nat_eq m.number n)) monitors
 -- what a process has after an event of its mailbox; `sched` is what the scheduler of each number has
 abbrev pub mail_after : (ℕ → SchedState) → MailState → Event → MailState
 mail_after scheds m (Deliver timer) =
-    record { queue = m.queue ++ message_in (scheds timer.wheel).fired; monitors = m.monitors; next = m.next }
+    record { queue = m.queue ++ message_in (scheds timer.wheel).expired; monitors = m.monitors; next = m.next }
 mail_after scheds m (Answer wheel left) =
     record { queue = m.queue ++ answer_in (scheds wheel).hand left; monitors = m.monitors; next = m.next }
 mail_after scheds m (Take process got) = record { queue = others_of m.queue; monitors = m.monitors; next = m.next }
@@ -127,19 +127,19 @@ is_about timer (Some q) = same_timer q.timer timer
 
 -- the expired timers and one more, where it has a row
 abbrev pub with_row : List Row → Option Row → List Row
-with_row fired None = fired
-with_row fired (Some r) = fired ++ r ∷ []
+with_row expired None = expired
+with_row expired (Some r) = expired ++ r ∷ []
 
 -- what a scheduler has after an event of its own; `rows` are the rows of the wheel of each number
 abbrev pub sched_after : (ℕ → List Row) → SchedState → Event → SchedState
 sched_after rows s (Peek timer left) =
-    record { hand = s.hand; result = cond (is_about timer s.hand) (Some left) s.result; fired = s.fired }
+    record { hand = s.hand; result = cond (is_about timer s.hand) (Some left) s.result; expired = s.expired }
 sched_after rows s (Cancel timer left) =
-    record { hand = s.hand; result = cond (is_about timer s.hand) (Some left) s.result; fired = s.fired }
+    record { hand = s.hand; result = cond (is_about timer s.hand) (Some left) s.result; expired = s.expired }
 sched_after rows s (Expire timer) =
-    record { hand = s.hand; result = s.result; fired = with_row s.fired (row_of (rows timer.wheel) timer) }
-sched_after rows s (Deliver timer) = record { hand = s.hand; result = s.result; fired = others_of s.fired }
-sched_after rows s (Drop timer) = record { hand = s.hand; result = s.result; fired = others_of s.fired }
-sched_after rows s (Pick wheel got) = record { hand = got; result = None; fired = s.fired }
-sched_after rows s (Answer wheel left) = record { hand = None; result = None; fired = s.fired }
+    record { hand = s.hand; result = s.result; expired = with_row s.expired (row_of (rows timer.wheel) timer) }
+sched_after rows s (Deliver timer) = record { hand = s.hand; result = s.result; expired = others_of s.expired }
+sched_after rows s (Drop timer) = record { hand = s.hand; result = s.result; expired = others_of s.expired }
+sched_after rows s (Pick wheel got) = record { hand = got; result = None; expired = s.expired }
+sched_after rows s (Answer wheel left) = record { hand = None; result = None; expired = s.expired }
 sched_after rows s _ = s

@@ -6,7 +6,7 @@ use Rattle.ert_defs.specs.Milliseconds.{deadline_of}
 use Rattle.ert_defs.specs.declared.entry.Event.{Event}
 use Rattle.ert_defs.specs.declared.entry.Event.TheVariants.{Arm, Cancel, Expire, Orphan, Deliver, Drop}
 use Rattle.ert_defs.specs.declared.settings.Settings.{Settings}
-use Rattle.ert_defs.specs.declared.timer.Fired.{Fired}
+use Rattle.ert_defs.specs.declared.timer.TimerRow.{TimerRow}
 use Rattle.ert_defs.specs.declared.timer.Start.{Start}
 use Rattle.ert_defs.specs.declared.timer.Status.{Status}
 use Rattle.ert_defs.specs.declared.timer.Status.TheVariants.{Armed, Expired, Delivered, Cancelled, Orphaned, Dropped}
@@ -14,7 +14,7 @@ use Rattle.ert_defs.specs.declared.timer.TimerRef.{TimerRef}
 
 -- what stays of a timer from its start on: reference, deadline, destination, message and kind
 abbrev pub Row : Type 0
-Row = Fired
+Row = TimerRow
 
 -- whether two references are one
 abbrev pub same_timer : TimerRef → TimerRef → Bool

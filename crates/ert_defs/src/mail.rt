@@ -2,7 +2,7 @@ ghost use Rattle.std.specs.Prelude.{◌≡◌, ◌<◌, ◌≤◌, Option};
 ghost use Rattle.ert_defs.specs.Mails as mails;
 
 use crate::settings::Settings;
-use crate::timer::{Fired, Kind, TimerRef};
+use crate::timer::{TimerRow, Kind, TimerRef};
 
 /// A message in the mailbox of a process.
 #[derive(Clone, Copy, Debug, PartialEq, Eq)]
@@ -21,15 +21,15 @@ pub enum Mail {
 
 impl Mail {
     /// The message of an expired timer.
-    pub fn of_fired(fired: &Fired) -> Mail
-        ensures { result ≡ mails.message_of fired.now }
+    pub fn of_expired(expired: &TimerRow) -> Mail
+        ensures { result ≡ mails.message_of expired.now }
     {
-        match fired.kind {
+        match expired.kind {
             Kind::Wrapped => Mail::Timeout {
-                timer: fired.timer,
-                msg: fired.msg,
+                timer: expired.timer,
+                msg: expired.msg,
             },
-            Kind::Bare => Mail::Bare { msg: fired.msg },
+            Kind::Bare => Mail::Bare { msg: expired.msg },
         }
     }
 

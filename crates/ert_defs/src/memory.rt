@@ -1,6 +1,6 @@
 use std::alloc::AllocError;
 
-/// Want of memory. It may come in place of any other answer of a call that has it.
+/// Out of memory. It may come in place of any other answer of a call that has it.
 #[derive(Clone, Copy, Debug, PartialEq, Eq)]
 pub struct NoMemory;
 

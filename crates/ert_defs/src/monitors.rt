@@ -34,7 +34,7 @@ pub fn remove_monitor(monitors: &mut Vec<Monitor>, number: u32)
 
 /// Puts a message for each monitor that an offset is new to, and counts the offset as told. The queue has
 /// room for a message to each. The answer is how many were put.
-pub fn tell_monitors(monitors: &mut [Monitor], queue: &mut VecDeque<Mail>, offset: i64) -> usize
+pub fn notify_monitors(monitors: &mut [Monitor], queue: &mut VecDeque<Mail>, offset: i64) -> usize
     requires { deque_len queue.old + length monitors.old ≤ deque_capacity queue.old }
     ensures queue { queue.new.items ≡ queue.old.items ++ changes_of offset monitors.old }
     ensures monitors { monitors.new ≡ told_of offset monitors.old }

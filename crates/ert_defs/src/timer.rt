@@ -91,9 +91,9 @@ pub enum Status {
     Dropped,
 }
 
-/// An expired timer whose message has not been handed over.
+/// What stays of a timer from its start on.
 #[derive(Clone, Copy, Debug, PartialEq, Eq)]
-pub struct Fired {
+pub struct TimerRow {
     pub timer: TimerRef,
     /// In milliseconds after the start time, 0 to 8796093022207.
     pub deadline: u64,

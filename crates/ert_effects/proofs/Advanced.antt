@@ -11,8 +11,8 @@ use Rattle.ert_defs.specs.declared.entry.Entry.{Entry}
 pub record IsAdvance (w : ℕ) (answer : ℕ × ℕ) (es : List Entry) : Type 0 where
   pub now : ℤ
   pub tries : List Try
-  pub fired : answer.1 ≡ hits tries
+  pub expired : answer.1 ≡ hits tries
   pub entries : es ≡ look_entry (Sched w) now ∷ (expiry_entries w tries ++ advanced_entry w answer.0 ∷ [])
 
 pub advance_is : {s : State} (w : ℕ) (answer : ℕ × ℕ) (es : List Entry) → HasAdvanced w answer s es → IsAdvance w answer es
-advance_is {s} w answer es made = record { now = made.now; tries = made.tries; fired = made.fired; entries = made.entries }
+advance_is {s} w answer es made = record { now = made.now; tries = made.tries; expired = made.expired; entries = made.entries }

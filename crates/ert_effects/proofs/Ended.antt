@@ -44,15 +44,15 @@ advances_weigh _ = refl
 
 -- the answer of a turn
 abbrev turned_of : ℕ → ℕ → ℕ → ℕ → ℕ → Turned
-turned_of served to fired put dropped = record { served = served; to = to; fired = fired; put = put; dropped = dropped }
+turned_of served to expired put dropped = record { served = served; to = to; expired = expired; put = put; dropped = dropped }
 
-turned_same : (a b : Turned) → a.served ≡ b.served → a.to ≡ b.to → a.fired ≡ b.fired → a.put ≡ b.put → a.dropped ≡ b.dropped → a ≡ b
-turned_same a b served to fired put dropped =
-    ap (λ (x : ℕ). turned_of x a.to a.fired a.put a.dropped) served
-    ∙ (ap (λ (x : ℕ). turned_of b.served x a.fired a.put a.dropped) to
-    ∙ (ap (λ (x : ℕ). turned_of b.served b.to x a.put a.dropped) fired
-    ∙ (ap (λ (x : ℕ). turned_of b.served b.to b.fired x a.dropped) put
-    ∙ ap (λ (x : ℕ). turned_of b.served b.to b.fired b.put x) dropped)))
+turned_same : (a b : Turned) → a.served ≡ b.served → a.to ≡ b.to → a.expired ≡ b.expired → a.put ≡ b.put → a.dropped ≡ b.dropped → a ≡ b
+turned_same a b served to expired put dropped =
+    ap (λ (x : ℕ). turned_of x a.to a.expired a.put a.dropped) served
+    ∙ (ap (λ (x : ℕ). turned_of b.served x a.expired a.put a.dropped) to
+    ∙ (ap (λ (x : ℕ). turned_of b.served b.to x a.put a.dropped) expired
+    ∙ (ap (λ (x : ℕ). turned_of b.served b.to b.expired x a.dropped) put
+    ∙ ap (λ (x : ℕ). turned_of b.served b.to b.expired b.put x) dropped)))
 
 -- a pair of answers
 pair_same : (a b : ℕ × ℕ) → a.0 ≡ b.0 → a.1 ≡ b.1 → a ≡ b
@@ -78,7 +78,7 @@ module _ (g : Settings) (w : ℕ) (way : Way) (own : List Entry → List Entry)
     (sums : (f : Event → ℕ) → IsSum f way (λ m. sum_of f (own m))) where
   sum_in_turn : (f : Event → ℕ) (answer expiry put thrown : ℕ) (to : ℕ → ℕ) → Weighs f answer expiry put thrown to → (t : Turned) (h m : List Entry)
       → HasTurned g way w t h m
-      → sum_of f (own m) ≡ t.served * answer + ((to t.to + t.fired * expiry) + (t.put * put + t.dropped * thrown))
+      → sum_of f (own m) ≡ t.served * answer + ((to t.to + t.expired * expiry) + (t.put * put + t.dropped * thrown))
   sum_in_turn f answer expiry put thrown to weighs t h m made =
       turn_sum f answer expiry put thrown to weighs g w way (λ m. sum_of f (own m)) (sums f) t h m
       (λ a h m step. step_sum f way (λ m. sum_of f (own m)) (sums f) (Wheel w ∷ []) (Advances g w (Ok a)) h m (to a.0 + a.1 * expiry)

@@ -169,7 +169,7 @@ advance_same w es a b first second =
     let same : expiry_entries w first.tries ++ advanced_entry w a.0 ∷ [] ≡ expiry_entries w second.tries ++ advanced_entry w b.0 ∷ [] =
     cc (sym first.entries ∙ second.entries) in
     let both = tries_same w first.tries second.tries a.0 b.0 same in
-    pair_same a b both.0 (first.fired ∙ (both.1 ∙ sym second.fired))
+    pair_same a b both.0 (first.expired ∙ (both.1 ∙ sym second.expired))
 
 pub advances_same : LawOfAdvances
 advances_same g w = λ s es a b first second. advance_same w es a b (advance_is w a es first) (advance_is w b es second)

@@ -80,15 +80,15 @@ module _ (f : Event → ℕ) (answer expiry put thrown : ℕ) (to : ℕ → ℕ)
         is (Answer w left),
       ))
 
-  handed_sum : (w : ℕ) (fired : Row) (how : Handed) → sum_of f (handed_entries w fired how) ≡ put_by how * put + dropped_by how * thrown
-  handed_sum w fired Put =
-      let last : Entry = deliver_entry w fired.dest fired.timer in
-      sum-cons f (mark_entry (Sched w) fired.dest false false) (last ∷ [])
-      ∙ omega (arith, is (Mark fired.dest false false), sum-cons f last [], is (Deliver fired.timer))
-  handed_sum w fired Dropped =
-      let last : Entry = drop_entry w fired.timer in
-      sum-cons f (mark_entry (Sched w) fired.dest false true) (last ∷ [])
-      ∙ omega (arith, is (Mark fired.dest false true), sum-cons f last [], is (Drop fired.timer))
+  handed_sum : (w : ℕ) (expired : Row) (how : Handed) → sum_of f (handed_entries w expired how) ≡ put_by how * put + dropped_by how * thrown
+  handed_sum w expired Put =
+      let last : Entry = deliver_entry w expired.dest expired.timer in
+      sum-cons f (mark_entry (Sched w) expired.dest false false) (last ∷ [])
+      ∙ omega (arith, is (Mark expired.dest false false), sum-cons f last [], is (Deliver expired.timer))
+  handed_sum w expired Dropped =
+      let last : Entry = drop_entry w expired.timer in
+      sum-cons f (mark_entry (Sched w) expired.dest false true) (last ∷ [])
+      ∙ omega (arith, is (Mark expired.dest false true), sum-cons f last [], is (Drop expired.timer))
 
   try_sum : (w : ℕ) (timer : TimerRef) (missed : Option (Option Status)) → f (expires_by w timer missed).event ≡ hit_by missed * expiry
   try_sum w timer None = is (Expire timer) ∙ omega arith
@@ -113,7 +113,7 @@ module _ (f : Event → ℕ) (answer expiry put thrown : ℕ) (to : ℕ → ℕ)
         sum-cons f last [],
         is (Advanced w answer.0),
         tries_sum w advance.tries,
-        ap (λ n. n * expiry) advance.fired,
+        ap (λ n. n * expiry) advance.expired,
       ))
 
   module _ (g : Settings) (w : ℕ) (way : Way) (count : List Entry → ℕ) (sums : IsSum f way count) where
@@ -158,8 +158,8 @@ module _ (f : Event → ℕ) (answer expiry put thrown : ℕ) (to : ℕ → ℕ)
 
     hands_sum : (how : Handed) (h m : List Entry) → Hands g way w (Ok how) h m → count m ≡ put_by how * put + dropped_by how * thrown
     hands_sum how h m hands =
-        step_sum f way count sums (MailOf hands.fired.dest ∷ []) (HandsOver g w hands.fired (Ok how)) h m (put_by how * put + dropped_by how * thrown)
-        (λ s es handed. ap (λ (l : List Entry). sum_of f l) handed ∙ handed_sum w hands.fired how) hands.step
+        step_sum f way count sums (MailOf hands.expired.dest ∷ []) (HandsOver g w hands.expired (Ok how)) h m (put_by how * put + dropped_by how * thrown)
+        (λ s es handed. ap (λ (l : List Entry). sum_of f l) handed ∙ handed_sum w hands.expired how) hands.step
 
     hands_many_sum : (hows : List Handed) (h m : List Entry) → HandsMany g way w hows h m → count m ≡ puts hows * put + drops hows * thrown
     hands_many_sum [] h m made = none_sum f way count sums m made ∙ omega arith
@@ -175,10 +175,10 @@ module _ (f : Event → ℕ) (answer expiry put thrown : ℕ) (to : ℕ → ℕ)
 
     pub turn_sum : (t : Turned) (h m : List Entry)
         → ((answer : ℕ × ℕ) (h m : List Entry) → AdvancesWheel g way w (Ok answer) h m → count m ≡ to answer.0 + answer.1 * expiry) → HasTurned g way w t h m
-        → count m ≡ t.served * answer + ((to t.to + t.fired * expiry) + (t.put * put + t.dropped * thrown))
+        → count m ≡ t.served * answer + ((to t.to + t.expired * expiry) + (t.put * put + t.dropped * thrown))
     turn_sum t h m each turned =
-        then_sum f way count sums (ServesAll g way w (Ok t.served)) (Then (AdvancesWheel g way w (Ok (t.to, t.fired))) (Delivers g way w (Ok (t.put, t.dropped)))) h m
-        (t.served * answer) ((to t.to + t.fired * expiry) + (t.put * put + t.dropped * thrown)) (λ h m served. serves_all_sum t.served h m served)
-        (λ h m rest. then_sum f way count sums (AdvancesWheel g way w (Ok (t.to, t.fired))) (Delivers g way w (Ok (t.put, t.dropped))) h m (to t.to + t.fired * expiry)
-        (t.put * put + t.dropped * thrown) (each (t.to, t.fired)) (λ h m delivered. delivers_sum (t.put, t.dropped) h m delivered) rest)
+        then_sum f way count sums (ServesAll g way w (Ok t.served)) (Then (AdvancesWheel g way w (Ok (t.to, t.expired))) (Delivers g way w (Ok (t.put, t.dropped)))) h m
+        (t.served * answer) ((to t.to + t.expired * expiry) + (t.put * put + t.dropped * thrown)) (λ h m served. serves_all_sum t.served h m served)
+        (λ h m rest. then_sum f way count sums (AdvancesWheel g way w (Ok (t.to, t.expired))) (Delivers g way w (Ok (t.put, t.dropped))) h m (to t.to + t.expired * expiry)
+        (t.put * put + t.dropped * thrown) (each (t.to, t.expired)) (λ h m delivered. delivers_sum (t.put, t.dropped) h m delivered) rest)
         turned

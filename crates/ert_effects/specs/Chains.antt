@@ -44,14 +44,14 @@ Serves g way w (Ok true) h m = HasServed g way w h m
 Serves g way w (Ok false) h m = HoldsRequest g way w None h m
 Serves g way w (Err e) h m = CannotServe g way w e h m
 
--- so many
-abbrev pub so_many_steps : ℕ → List (Unit {0})
-so_many_steps zero = []
-so_many_steps (suc n) = tt ∷ so_many_steps n
+-- so many units
+abbrev pub units : ℕ → List (Unit {0})
+units zero = []
+units (suc n) = tt ∷ units n
 
 -- so many requests are served
 abbrev pub ServesMany : Settings → Way → ℕ → ℕ → Growth
-ServesMany g way w n h m = Many (λ (one : Unit {0}). Serves g way w (Ok true)) (so_many_steps n) h m
+ServesMany g way w n h m = Many (λ (one : Unit {0}). Serves g way w (Ok true)) (units n) h m
 
 -- requests are served until there is none, 64 at most
 abbrev pub ServesAll : Settings → Way → ℕ → Result ℕ NoMemory → Growth
@@ -65,9 +65,9 @@ AdvancesWheel g way w answer = way (Wheel w ∷ []) (Advances g w answer)
 
 -- the first expired timer of a scheduler is handed over
 pub record Hands (g : Settings) (way : Way) (w : ℕ) (how : Result Handed NoMemory) (h m : List Entry) : Type 0 where
-  pub fired : Row
-  pub first : first_of ((state g h).scheds w).fired ≡ Some fired
-  pub step : way (MailOf fired.dest ∷ []) (HandsOver g w fired how) h m
+  pub expired : Row
+  pub first : first_of ((state g h).scheds w).expired ≡ Some expired
+  pub step : way (MailOf expired.dest ∷ []) (HandsOver g w expired how) h m
 
 -- expired timers of a scheduler are handed over one after the other, each in this way
 abbrev pub HandsMany : Settings → Way → ℕ → List Handed → Growth
@@ -99,7 +99,7 @@ pub record HasDelivered (g : Settings) (way : Way) (w : ℕ) (answer : ℕ × �
   pub runs : HandsMany g way w hows h m
   pub put_is : answer.0 ≡ puts hows
   pub dropped_is : answer.1 ≡ drops hows
-  pub done : ((state g (h ++ m)).scheds w).fired ≡ []
+  pub done : ((state g (h ++ m)).scheds w).expired ≡ []
 
 -- some are handed over, and there is no memory for the next: it stays in the list
 pub record CannotDeliver (g : Settings) (way : Way) (w : ℕ) (e : NoMemory) (h m : List Entry) : Type 0 where
@@ -114,7 +114,7 @@ Delivers g way w (Err e) h m = CannotDeliver g way w e h m
 -- a turn is done: requests are served, the wheel is advanced, and expired timers are handed over
 abbrev pub HasTurned : Settings → Way → ℕ → Turned → Growth
 HasTurned g way w t = Then (ServesAll g way w (Ok t.served))
-    (Then (AdvancesWheel g way w (Ok (t.to, t.fired))) (Delivers g way w (Ok (t.put, t.dropped))))
+    (Then (AdvancesWheel g way w (Ok (t.to, t.expired))) (Delivers g way w (Ok (t.put, t.dropped))))
 
 -- there is no memory to serve, to advance or to deliver; what was done before stays
 abbrev pub CannotTurn : Settings → Way → ℕ → NoMemory → Growth

@@ -45,13 +45,13 @@ RefusesTick g r act BadReading s es = IsBadReading r es
 RefusesTick g r act (OffsetWide value) s es = IsTooWide g r act value s es
 
 -- a reading is taken for one of the three acts
-abbrev pub TakesReading : Settings → ℕ → Reading → Act → Result Moved ClockErr → State → List Entry → Type 0
-TakesReading g by r act (Ok m) s es = MovesClock g by r act m s es
-TakesReading g by r act (Err e) s es = RefusesTick g r act e s es
+abbrev pub ActsOnReading : Settings → ℕ → Reading → Act → Result Moved ClockErr → State → List Entry → Type 0
+ActsOnReading g by r act (Ok m) s es = MovesClock g by r act m s es
+ActsOnReading g by r act (Err e) s es = RefusesTick g r act e s es
 
 -- `tick`, for a caller, forced or not
 abbrev pub Ticks : Settings → ℕ → Reading → Bool → Result Moved ClockErr → State → List Entry → Type 0
-Ticks g by r force answer s es = TakesReading g by r (act_of force) answer s es
+Ticks g by r force answer s es = ActsOnReading g by r (act_of force) answer s es
 
 -- a finalization finds nothing preliminary: the clock's part looks at the offset, and nothing moves
 pub record OffsetStays (by : ℕ) (r : Reading) (old : OffsetState) (m : Moved) (s : State) (es : List Entry) : Type 0 where

@@ -15,7 +15,7 @@ use Rattle.ert_defs.specs.declared.timer.Status.TheVariants.{Armed}
 use Rattle.ert_defs.specs.declared.timer.TimerRef.{TimerRef}
 use Rattle.ert_effects.specs.Chains.{Exits, Turns}
 use Rattle.ert_effects.specs.ClockCalls.{Ticks, Finalizes, TellsTime, TellsOffset, TellsSystemTime}
-use Rattle.ert_effects.specs.MailCalls.{HandsOver, Takes, Monitors, Demonitors, Tells}
+use Rattle.ert_effects.specs.MailCalls.{HandsOver, Takes, Monitors, Demonitors, Notifies}
 use Rattle.ert_effects.specs.RequestCalls.{Picks, Answers}
 use Rattle.ert_effects.specs.TimerCalls.{Reads, Cancels, Starts}
 use Rattle.ert_effects.specs.Ways.{Way, alone, beside}
@@ -28,7 +28,7 @@ use Rattle.ert_effects.specs.declared.answers.Turned.{Turned}
 abbrev pub IsRead : {A : Type 0} → (A → State → List Entry → Type 0) → Type 0
 IsRead {A} allows = (s : State) (es : List Entry) (a b : A) → allows a s es → allows b s es → a ≡ b
 
--- the same of two answers that aren't the one for want of memory
+-- the same of two answers that aren't out of memory
 abbrev pub IsReadBut : {A : Type 0} → A → (A → State → List Entry → Type 0) → Type 0
 IsReadBut {A} want allows = (s : State) (es : List Entry) (a b : A) → a ≢ want → b ≢ want → allows a s es → allows b s es → a ≡ b
 
@@ -60,7 +60,7 @@ LawOfReads = (g : Settings) (by : Actor) (timer : TimerRef) → IsRead (Reads g 
 abbrev pub LawOfCancels : Type 0
 LawOfCancels = (g : Settings) (by : Actor) (timer : TimerRef) → IsRead (Cancels g by timer)
 
--- so is the answer to a start, but for want of memory
+-- so is the answer to a start, unless memory ran out
 abbrev pub LawOfStarts : Type 0
 LawOfStarts = (g : Settings) (by wheel : ℕ) (start : Start) → IsReadBut (Err starts.NoMemory) (Starts g by wheel start)
 
@@ -74,13 +74,13 @@ LawOfMarks = (g : Settings) (by : Actor) (process : ℕ) → IsRead (TellsAlive 
 
 -- so is what became of an expired timer that is handed over
 abbrev pub LawOfHandedOver : Type 0
-LawOfHandedOver = (g : Settings) (w : ℕ) (fired : Row) → IsRead (λ how. HandsOver g w fired (Ok how))
+LawOfHandedOver = (g : Settings) (w : ℕ) (expired : Row) → IsRead (λ how. HandsOver g w expired (Ok how))
 
 -- so is what is taken from a mailbox
 abbrev pub LawOfTaken : Type 0
 LawOfTaken = (g : Settings) (by process : ℕ) → IsRead (Takes g by process)
 
--- so is the answer to the making of a monitor, but for want of memory
+-- so is the answer to the making of a monitor, unless memory ran out
 abbrev pub LawOfMonitors : Type 0
 LawOfMonitors = (g : Settings) (by process : ℕ) → IsReadBut (Err monitors.NoMemory) (Monitors g by process)
 
@@ -90,7 +90,7 @@ LawOfDemonitors = (g : Settings) (by process monitor : ℕ) → IsRead (Demonito
 
 -- so is how many messages are put where monitors are told the offset
 abbrev pub LawOfTold : Type 0
-LawOfTold = (g : Settings) (by process : ℕ) → IsRead (λ (put : ℕ). Tells g by process (Ok put))
+LawOfTold = (g : Settings) (by process : ℕ) → IsRead (λ (put : ℕ). Notifies g by process (Ok put))
 
 -- so is the request that a scheduler picks, or that there was none
 abbrev pub LawOfPicks : Type 0
@@ -115,7 +115,7 @@ LawOfExits = (g : Settings) → ExitSettles g (alone g) × ((a : Actor) → Exit
 -- a turn that was made in a way served 64 at most, and leaves no expired timer to hand over
 abbrev pub EndsTurn : Settings → Way → Type 0
 EndsTurn g way = (w : ℕ) (t : Turned) (h m : List Entry) → Turns g way w (Ok t) h m
-    → (t.served ≤ 64) × (((state g (h ++ m)).scheds w).fired ≡ [])
+    → (t.served ≤ 64) × (((state g (h ++ m)).scheds w).expired ≡ [])
 
 -- so does each turn, alone and beside others
 abbrev pub LawOfTurns : Type 0

@@ -8,7 +8,7 @@ use Rattle.ert_defs.specs.States.{State}
 use Rattle.ert_defs.specs.Timers.{Row}
 use Rattle.ert_defs.specs.declared.entry.Actor.TheVariants.{Caller, Sched}
 use Rattle.ert_defs.specs.declared.entry.Entry.{Entry}
-use Rattle.ert_defs.specs.declared.memory.NoMemory.{NoMemory as WantOfMemory}
+use Rattle.ert_defs.specs.declared.memory.NoMemory.{NoMemory as OutOfMemory}
 use Rattle.ert_defs.specs.declared.settings.OffsetState.{OffsetState}
 use Rattle.ert_defs.specs.declared.settings.Settings.{Settings}
 use Rattle.ert_effects.specs.declared.answers.Handed.{Handed}
@@ -20,13 +20,13 @@ use Rattle.ert_effects.specs.declared.answers.Taken.TheVariants.{Mail, Empty, Ex
 
 -- the entries of one that is handed over: its destination is found to have exited, or it is put
 abbrev pub handed_entries : ℕ → Row → Handed → List Entry
-handed_entries w fired Put = mark_entry (Sched w) fired.dest false false ∷ (deliver_entry w fired.dest fired.timer ∷ [])
-handed_entries w fired Dropped = mark_entry (Sched w) fired.dest false true ∷ (drop_entry w fired.timer ∷ [])
+handed_entries w expired Put = mark_entry (Sched w) expired.dest false false ∷ (deliver_entry w expired.dest expired.timer ∷ [])
+handed_entries w expired Dropped = mark_entry (Sched w) expired.dest false true ∷ (drop_entry w expired.timer ∷ [])
 
 -- `deliver` of one expired timer, by a scheduler
-abbrev pub HandsOver : Settings → ℕ → Row → Result Handed WantOfMemory → State → List Entry → Type 0
-HandsOver g w fired (Ok how) s es = es ≡ handed_entries w fired how
-HandsOver g w fired (Err e) s es = es ≡ []
+abbrev pub HandsOver : Settings → ℕ → Row → Result Handed OutOfMemory → State → List Entry → Type 0
+HandsOver g w expired (Ok how) s es = es ≡ handed_entries w expired how
+HandsOver g w expired (Err e) s es = es ≡ []
 
 -- `take`, by a caller: it is seen whether the process had exited, and else the first message is taken
 abbrev pub Takes : Settings → ℕ → ℕ → Taken → State → List Entry → Type 0
@@ -63,7 +63,7 @@ pub record HasTold (by process : ℕ) (m : MailState) (put : ℕ) (es : List Ent
   pub put_is : put ≡ length (changes_of offset m.monitors)
   pub entries : es ≡ tell_entry by process offset ∷ []
 
--- `tell`, by a caller
-abbrev pub Tells : Settings → ℕ → ℕ → Result ℕ WantOfMemory → State → List Entry → Type 0
-Tells g by process (Ok put) s es = HasTold by process (s.mails process) put es
-Tells g by process (Err e) s es = es ≡ []
+-- `notify`, by a caller
+abbrev pub Notifies : Settings → ℕ → ℕ → Result ℕ OutOfMemory → State → List Entry → Type 0
+Notifies g by process (Ok put) s es = HasTold by process (s.mails process) put es
+Notifies g by process (Err e) s es = es ≡ []

@@ -27,14 +27,14 @@ AreTried false most count = count ≤ most
 pub record HasAdvancedSome (w most : ℕ) (answer : ℕ × ℕ × Bool) (s : State) (es : List Entry) : Type 0 where
   pub now : ℤ
   pub tries : List Try
-  pub fired : answer.1 ≡ hits tries
+  pub expired : answer.1 ≡ hits tries
   pub settled : AllMissesSettled tries
   pub due : AllDue (s.rows w) answer.0 tries
   pub once : AreOnce tries
   pub tried : AreTried answer.2 most (length tries)
   pub entries : es ≡ look_entry (Sched w) now ∷ (expiry_entries w tries ++ end_entries w answer.0 answer.2)
 
--- `advance_some`, of a scheduler's wheel; for want of memory it does no more than an advance does
+-- `advance_some`, of a scheduler's wheel; when out of memory it does no more than an advance does
 abbrev pub AdvancesSome : Settings → ℕ → ℕ → Result (ℕ × ℕ × Bool) NoMemory → State → List Entry → Type 0
 AdvancesSome g w most (Ok answer) s es = HasAdvancedSome w most answer s es
 AdvancesSome g w most (Err e) s es = Advances g w (Err e) s es

@@ -127,7 +127,7 @@ pub record IsWheelFull (g : Settings) (by wheel : ℕ) (start : Start) (s : Stat
       ⊎ ((length (s.rows wheel) ≡ 9007199254740992) × (probes ≡ []))
   pub entries : es ≡ look_entry (Caller by) now ∷ probes
 
--- want of memory: no entry, or a look and some probes
+-- out of memory: no entry, or a look and some probes
 pub record HasProbed (by wheel : ℕ) (es : List Entry) : Type 0 where
   pub now : ℤ
   pub probes : List Entry

@@ -60,7 +60,7 @@ abbrev pub turn_in : List Entry → Turned
 turn_in es = record {
   served = sum_of by_answer es;
   to = sum_of by_advance es;
-  fired = sum_of by_expiry es;
+  expired = sum_of by_expiry es;
   put = sum_of by_delivery es;
   dropped = sum_of by_drop es;
 }

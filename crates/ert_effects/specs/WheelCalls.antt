@@ -74,7 +74,7 @@ AreOnce (t ∷ tries) = IsUntried t.timer tries × AreOnce tries
 pub record HasAdvanced (w : ℕ) (answer : ℕ × ℕ) (s : State) (es : List Entry) : Type 0 where
   pub now : ℤ
   pub tries : List Try
-  pub fired : answer.1 ≡ hits tries
+  pub expired : answer.1 ≡ hits tries
   pub settled : AllMissesSettled tries
   pub due : AllDue (s.rows w) answer.0 tries
   pub once : AreOnce tries

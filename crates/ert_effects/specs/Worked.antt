@@ -144,9 +144,9 @@ abbrev pub turning : List Entry
 turning = (serving ++ idling) ++ advancing
 
 -- what a turn did: so many requests and messages
-abbrev pub turn_of : ℕ → ℕ → Turned
-turn_of served put = record { served = served; to = 1; fired = 1; put = put; dropped = 0 }
+abbrev pub worked_turn : ℕ → ℕ → Turned
+worked_turn served put = record { served = served; to = 1; expired = 1; put = put; dropped = 0 }
 
 -- the process is told that the offset fell by 5 seconds
-abbrev pub telling : List Entry
-telling = tell_entry 0 0 (negsuc 4999999999) ∷ []
+abbrev pub notifying : List Entry
+notifying = tell_entry 0 0 (negsuc 4999999999) ∷ []

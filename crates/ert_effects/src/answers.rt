@@ -79,7 +79,7 @@ pub struct Turned {
     /// To where its wheel was advanced, in milliseconds after the start time of the service.
     pub to: u64,
     /// The timers that expired by the turn.
-    pub fired: u32,
+    pub expired: u32,
     /// The expired timers whose message it put into a mailbox.
     pub put: u32,
     /// The expired timers whose message it threw away, since their destination had exited.

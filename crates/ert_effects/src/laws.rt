@@ -6,7 +6,7 @@ ghost use Rattle.ert_effects.specs.Laws.{LawOfHandedOver, LawOfTaken, LawOfMonit
 ghost use Rattle.ert_effects.specs.Laws.{LawOfPicks, LawOfAnswers, LawOfExits, LawOfTurns};
 
 /// The answers of the calls on the clock and on timers are read from their entries: in one state the same
-/// entries have one answer, but for want of memory.
+/// entries have one answer, unless memory ran out.
 pub fn answers_are_read()
     ensures ticks { LawOfTicks }
     ensures finalizations { LawOfFinalizations }

@@ -2,7 +2,7 @@
 //!
 //! A call makes entries and answers by them. `specs/` has a relation for each call: of the settings, of who
 //! makes the call, of its arguments and its answer, of the state before, and of the list of its entries. The
-//! cases go by the answer, refusals and want of memory among them. What no step of the call tells is asked of
+//! cases go by the answer, refusals and running out of memory among them. What no step of the call tells is asked of
 //! the state; what a step tells, a time or an offset, is a field of its entry. So the same relation is read
 //! where others step between: there too, what it asks of the state belongs to an actor that the call holds.
 //!

@@ -12,13 +12,13 @@ ghost use Rattle.ert_effects.specs.Chains.{Exits, Turns};
 ghost use Rattle.ert_effects.specs.TimerCalls.{Reads, Cancels, Starts};
 ghost use Rattle.ert_effects.specs.Ways.{alone};
 ghost use Rattle.ert_effects.specs.WheelCalls.{Advances, Sweeps};
-ghost use Rattle.ert_effects.specs.MailCalls.{Takes, Monitors, Tells};
+ghost use Rattle.ert_effects.specs.MailCalls.{Takes, Monitors, Notifies};
 ghost use Rattle.ert_effects.specs.declared.answers.MonitorErr.TheVariants.{Full as MonitorsFull};
 ghost use Rattle.ert_effects.specs.declared.answers.Taken.TheVariants.{Empty, Exited};
 ghost use Rattle.ert_effects.specs.declared.answers.StartErr.TheVariants.{BadArg, Full};
 ghost use Rattle.ert_effects.specs.Worked.{one, idle, armed, start_before, look, starting, orphaned_by_exit, probed, reading, cancelling};
 ghost use Rattle.ert_effects.specs.Worked.{unbound, two, first_timer_of, both_armed, exiting, asked_at_once, turning, advancing};
-ghost use Rattle.ert_effects.specs.Worked.{missing, missing_twice, delivering, turn_of, telling};
+ghost use Rattle.ert_effects.specs.Worked.{missing, missing_twice, delivering, worked_turn, notifying};
 
 /// A start of a timer for a process that had exited cancels it, or finds it settled: it doesn't leave it
 /// armed.
@@ -63,8 +63,8 @@ pub fn exits_are_judged()
 
 /// A turn serves, advances and delivers, until nothing is left to deliver.
 pub fn turns_are_judged()
-    ensures done { Turns one (alone one) 0 (Ok (turn_of 1 1)) asked_at_once (turning ++ delivering) }
-    ensures undelivered { Turns one (alone one) 0 (Ok (turn_of 1 0)) asked_at_once turning → ⊥ }
+    ensures done { Turns one (alone one) 0 (Ok (worked_turn 1 1)) asked_at_once (turning ++ delivering) }
+    ensures undelivered { Turns one (alone one) 0 (Ok (worked_turn 1 0)) asked_at_once turning → ⊥ }
 {}
 
 /// An advance answers how many timers expired, and not how many it tried. It tries timers that are due, each once. A
@@ -82,9 +82,9 @@ pub fn advances_are_judged()
 /// A process is told an offset once for each monitor that it is new to. A monitor's number has 32 bits, and
 /// none is refused while fewer than 64 stand.
 pub fn monitors_are_judged()
-    ensures told { Tells (small Multi) 0 0 (Ok 1) (state (small Multi) leapt_back) telling }
-    ensures not_again { Tells (small Multi) 0 0 (Ok 0) (state (small Multi) told) telling }
-    ensures untold { Tells (small Multi) 0 0 (Ok 0) (state (small Multi) leapt_back) telling → ⊥ }
+    ensures told { Notifies (small Multi) 0 0 (Ok 1) (state (small Multi) leapt_back) notifying }
+    ensures not_again { Notifies (small Multi) 0 0 (Ok 0) (state (small Multi) told) notifying }
+    ensures untold { Notifies (small Multi) 0 0 (Ok 0) (state (small Multi) leapt_back) notifying → ⊥ }
     ensures first { Monitors one 0 0 (Ok 0) idle (watch_entry 0 0 0 (pos 0) ∷ []) }
     ensures beyond { Monitors one 0 0 (Ok 4294967296) idle (watch_entry 0 0 4294967296 (pos 0) ∷ []) → ⊥ }
     ensures refused { Monitors one 0 0 (Err MonitorsFull) idle (off_entry (Caller 0) (pos 0) Final ∷ []) → ⊥ }

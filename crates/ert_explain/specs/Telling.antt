@@ -13,6 +13,6 @@ pub record TellsWhy (race : Bool) (bytes : List ℕ) (why : ScenarioErr) (old ne
   pub is : IsExplained race bytes why explanation
   pub writes : TakesFront old new (message bytes explanation)
 
--- the same, or nothing was written for want of memory
+-- the same, or nothing was written because memory ran out
 abbrev pub TellsWhyOrNothing : Bool → List ℕ → ScenarioErr → SinkTold → SinkTold → Type 0
 TellsWhyOrNothing race bytes why old new = (new ≡ old) ⊎ TellsWhy race bytes why old new

@@ -44,8 +44,8 @@ pub struct Explanation {
     pub near: Option<Near>,
 }
 
-/// The explanation of a refusal of bytes, of a scenario with a race where one is wanted. It fails only for want of
-/// memory.
+/// The explanation of a refusal of bytes, of a scenario with a race where one is wanted. It fails only when memory runs
+/// out.
 pub fn explanation_of(
     alloc: Global,
     bytes: &[u8],

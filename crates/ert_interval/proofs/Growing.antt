@@ -10,11 +10,11 @@ use Rattle.ert_defs.specs.declared.settings.Settings.{Settings}
 use Rattle.ert_defs.specs.declared.timer.TimerRef.{TimerRef}
 use Rattle.ert_defs.proofs.Runs.{legal_first, legal_then, state-append, exit_stays}
 use Rattle.ert_defs.proofs.Slots.{IsOrdered, ordered}
-use Rattle.ert_interval.specs.Intervals.{IsFiring, HasToldDeadline, IsAfter, AreFirings, HasFired, CannotGoOn, IsInState, IsIntervalOf, row_for}
+use Rattle.ert_interval.specs.Intervals.{IsFiring, HasToldDeadline, IsAfter, AreFirings, IsPastExpiry, CannotGoOn, IsInState, IsIntervalOf, row_for}
 use Rattle.ert_interval.specs.declared.interval.Interval.{Interval}
 use Rattle.ert_interval.specs.declared.interval.IntervalState.{IntervalState}
 use Rattle.ert_interval.specs.declared.interval.IntervalState.TheVariants.{Running, Waiting, Stopped, Ended}
-use Rattle.ert_interval.proofs.Steps.{AllSpare, row_stays, fired_stays, used_stays, done_stays, going_stays}
+use Rattle.ert_interval.proofs.Steps.{AllSpare, row_stays, expired_stays, used_stays, done_stays, going_stays}
 
 -- the same interval, in another state
 abbrev pub with_state : Interval → IntervalState → Interval
@@ -58,16 +58,16 @@ firings_grow g h m i st legal f =
                 (row_stays g s m r (row_for i r one.deadline) one.row);
             told = told_grows g h m r one.deadline one.told;
           };
-      fired = λ j d low.
+      expired = λ j d low.
           let r : TimerRef = slice_index_or i.firings.items j d in
-          subst (λ (t : State). HasFired (t.status r)) grown (fired_stays g s m r (ordered g h legal_h) legal_m (f.fired j d low));
+          subst (λ (t : State). IsPastExpiry (t.status r)) grown (expired_stays g s m r (ordered g h legal_h) legal_m (f.expired j d low));
       after = λ j d low.
           let one = f.after j d low in
           record {
             before = one.before;
             behind = one.behind ++ m;
             parted = ap (λ l. l ++ m) one.parted ∙ append_assoc one.before one.behind m;
-            fired = one.fired;
+            expired = one.expired;
             unarmed = one.unarmed;
           };
     }
@@ -130,7 +130,7 @@ kept_moved g h i k same kept =
       due = kept.due;
       firings = record {
         each = λ j d low. subst (IsFiring g h (with_timers i k i.state) j) (at j d) (as_moved (f.each j d (subst (λ l. j < length l) same low)));
-        fired = λ j d low. subst (λ r. HasFired (s.status r)) (at j d) (f.fired j d (subst (λ l. suc j < length l) same low));
+        expired = λ j d low. subst (λ r. IsPastExpiry (s.status r)) (at j d) (f.expired j d (subst (λ l. suc j < length l) same low));
         after = λ j d low.
             subst (λ r. IsAfter g h r (slice_index_or k.firings.items (suc j) d)) (at j d)
             (subst (IsAfter g h (slice_index_or i.firings.items j d)) (at (suc j) d) (f.after j d (subst (λ l. suc j < length l) same low)));

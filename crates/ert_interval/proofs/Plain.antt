@@ -1,7 +1,7 @@
 -- The calls on intervals cancel no timer but by a stop, and ask nothing.
 
 use Rattle.std.proofs.Common.{◌≡◌, ℕ, zero, suc, ℤ, Bool, true, false, cond, nat_lt, List, [], ◌∷◌, ◌++◌, Option, Some, None, Result, Ok, Err, refl, sym, ap, subst, ◌∙◌, inl, inr}
-use Rattle.ert_effects.specs.Chains.{HoldsRequest, HoldsBy, Serves, ServesMany, ServesAll, so_many_steps, AdvancesWheel, Hands, HandsMany, Delivers, Turns, SweepsWheels, Exits}
+use Rattle.ert_effects.specs.Chains.{HoldsRequest, HoldsBy, Serves, ServesMany, ServesAll, units, AdvancesWheel, Hands, HandsMany, Delivers, Turns, SweepsWheels, Exits}
 use Rattle.ert_effects.specs.ClockCalls.{RefusesTick, Ticks}
 use Rattle.ert_effects.specs.MailCalls.{Takes}
 use Rattle.ert_effects.proofs.Told.{round_probes}
@@ -28,7 +28,7 @@ use Rattle.ert_defs.specs.declared.entry.Entry.{Entry}
 use Rattle.ert_defs.specs.declared.entry.Event.{Event}
 use Rattle.ert_defs.specs.declared.entry.Event.TheVariants.{Cancel, Ask, Pick}
 use Rattle.ert_defs.specs.declared.mail.Request.{Request}
-use Rattle.ert_defs.specs.declared.memory.NoMemory.{NoMemory as WantOfMemory}
+use Rattle.ert_defs.specs.declared.memory.NoMemory.{NoMemory as OutOfMemory}
 use Rattle.ert_defs.specs.declared.settings.Reading.{Reading}
 use Rattle.ert_defs.specs.declared.settings.Settings.{Settings}
 use Rattle.ert_defs.specs.declared.timer.Start.{Start}
@@ -160,7 +160,7 @@ exits_plain g p true h m exits =
     (plain_append exits.before exits.after (plain_as exits.before _ exits.one (refl, tt)) (sweeps_plain g 0 p 0 g.schedulers _ exits.after exits.other))
 exits_plain g p false h m exits = plain_as m _ exits (refl, tt)
 
-hands_plain : (g : Settings) (w : ℕ) (how : Result Handed WantOfMemory) (h m : List Entry) → Hands g (alone g) w how h m → ArePlain m
+hands_plain : (g : Settings) (w : ℕ) (how : Result Handed OutOfMemory) (h m : List Entry) → Hands g (alone g) w how h m → ArePlain m
 hands_plain g w (Ok Put) h m hands = plain_as m _ hands.step (refl, (refl, tt))
 hands_plain g w (Ok Dropped) h m hands = plain_as m _ hands.step (refl, (refl, tt))
 hands_plain g w (Err e) h m hands = plain_as m [] hands.step tt
@@ -171,14 +171,14 @@ many_plain g w (how ∷ hows) h m many =
     plain_as m _ many.joined
     (plain_append many.before many.after (hands_plain g w (Ok how) h many.before many.one) (many_plain g w hows _ many.after many.other))
 
-delivers_plain : (g : Settings) (w : ℕ) (answer : Result (ℕ × ℕ) WantOfMemory) (h m : List Entry) → Delivers g (alone g) w answer h m → ArePlain m
+delivers_plain : (g : Settings) (w : ℕ) (answer : Result (ℕ × ℕ) OutOfMemory) (h m : List Entry) → Delivers g (alone g) w answer h m → ArePlain m
 delivers_plain g w (Ok answer) h m delivers = many_plain g w delivers.hows h m delivers.runs
 delivers_plain g w (Err e) h m delivers =
     plain_as m _ delivers.runs.joined
     (plain_append delivers.runs.before delivers.runs.after (many_plain g w delivers.hows h delivers.runs.before delivers.runs.one)
     (hands_plain g w (Err e) _ delivers.runs.after delivers.runs.other))
 
-advances_plain : (g : Settings) (w : ℕ) (answer : Result (ℕ × ℕ) WantOfMemory) (h m : List Entry) → AdvancesWheel g (alone g) w answer h m → ArePlain m
+advances_plain : (g : Settings) (w : ℕ) (answer : Result (ℕ × ℕ) OutOfMemory) (h m : List Entry) → AdvancesWheel g (alone g) w answer h m → ArePlain m
 advances_plain g w (Ok answer) h m advances =
     plain_as m _ advances.entries (refl, plain_append _ _ (expiries_plain w advances.tries) (refl, tt))
 advances_plain g w (Err e) h m (inl none) = plain_as m [] none tt
@@ -202,7 +202,7 @@ nothing_plain g w h m idle holds =
     let picks : m ≡ pick_entry w None ∷ [] = subst (λ (x : Option Request). HoldsBy x (alone g) g w None h m) none holds in
     plain_as m _ picks (refl, tt)
 
-serves_plain : (g : Settings) (w : ℕ) (answer : Result Bool WantOfMemory) (h m : List Entry) → HasNoRequests (state g h) → LegalFrom g (state g h) m
+serves_plain : (g : Settings) (w : ℕ) (answer : Result Bool OutOfMemory) (h m : List Entry) → HasNoRequests (state g h) → LegalFrom g (state g h) m
     → Serves g (alone g) w answer h m → ArePlain m
 serves_plain g w (Ok true) h m idle legal serves =
     absurd (held_none g w serves.request h serves.steps.before idle
@@ -234,24 +234,24 @@ served_plain g w (one ∷ ones) h m idle legal many =
 all_served : (g : Settings) (w n : ℕ) (b : Bool) (h m : List Entry) → HasNoRequests (state g h) → LegalFrom g (state g h) m
     → cond b (Then (ServesMany g (alone g) w n) (Serves g (alone g) w (Ok false)) h m) (ServesMany g (alone g) w n h m) → ArePlain m
 all_served g w n true h m idle legal steps =
-    then_plain g h m steps.before steps.after steps.joined idle legal (λ l. served_plain g w (so_many_steps n) h steps.before idle l steps.one)
+    then_plain g h m steps.before steps.after steps.joined idle legal (λ l. served_plain g w (units n) h steps.before idle l steps.one)
     (λ i l. serves_plain g w (Ok false) (h ++ steps.before) steps.after i l steps.other)
-all_served g w n false h m idle legal steps = served_plain g w (so_many_steps n) h m idle legal steps
+all_served g w n false h m idle legal steps = served_plain g w (units n) h m idle legal steps
 
-serves_all_plain : (g : Settings) (w : ℕ) (answer : Result ℕ WantOfMemory) (h m : List Entry) → HasNoRequests (state g h) → LegalFrom g (state g h) m
+serves_all_plain : (g : Settings) (w : ℕ) (answer : Result ℕ OutOfMemory) (h m : List Entry) → HasNoRequests (state g h) → LegalFrom g (state g h) m
     → ServesAll g (alone g) w answer h m → ArePlain m
 serves_all_plain g w (Ok n) h m idle legal serves = all_served g w n (nat_lt n 64) h m idle legal serves.1
 serves_all_plain g w (Err e) h m idle legal serves =
     let steps = serves.2 in
-    then_plain g h m steps.before steps.after steps.joined idle legal (λ l. served_plain g w (so_many_steps serves.0) h steps.before idle l steps.one)
+    then_plain g h m steps.before steps.after steps.joined idle legal (λ l. served_plain g w (units serves.0) h steps.before idle l steps.one)
     (λ i l. serves_plain g w (Err e) (h ++ steps.before) steps.after i l steps.other)
 
 -- a turn with no request
-pub turns_plain : (g : Settings) (w : ℕ) (answer : Result Turned WantOfMemory) (h m : List Entry) → HasNoRequests (state g h) → LegalFrom g (state g h) m
+pub turns_plain : (g : Settings) (w : ℕ) (answer : Result Turned OutOfMemory) (h m : List Entry) → HasNoRequests (state g h) → LegalFrom g (state g h) m
     → Turns g (alone g) w answer h m → ArePlain m
 turns_plain g w (Ok t) h m idle legal turns =
     then_plain g h m turns.before turns.after turns.joined idle legal (λ l. serves_all_plain g w (Ok t.served) h turns.before idle l turns.one)
-    (λ i l. plain_as turns.after _ turns.other.joined (plain_append _ _ (advances_plain g w (Ok (t.to, t.fired)) (h ++ turns.before) _ turns.other.one)
+    (λ i l. plain_as turns.after _ turns.other.joined (plain_append _ _ (advances_plain g w (Ok (t.to, t.expired)) (h ++ turns.before) _ turns.other.one)
     (delivers_plain g w (Ok (t.put, t.dropped)) _ _ turns.other.other)))
 turns_plain g w (Err e) h m idle legal (inl serves) = serves_all_plain g w (Err e) h m idle legal serves
 turns_plain g w (Err e) h m idle legal (inr (inl advances)) =

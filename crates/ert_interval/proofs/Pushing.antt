@@ -16,24 +16,24 @@ use Rattle.ert_defs.specs.declared.timer.TimerRef.{TimerRef}
 use Rattle.ert_defs.proofs.Runs.{legal_first, legal_then, state-append}
 use Rattle.ert_defs.proofs.Slots.{ordered}
 use Rattle.ert_interval.specs.Deadlines.{base, start_at, time_of_deadline}
-use Rattle.ert_interval.specs.Intervals.{IsFiring, IsAfter, AreFirings, HasFired, IsGoing, IsInState, IsIntervalOf}
+use Rattle.ert_interval.specs.Intervals.{IsFiring, IsAfter, AreFirings, IsPastExpiry, IsGoing, IsInState, IsIntervalOf}
 use Rattle.ert_interval.specs.declared.interval.Interval.{Interval}
 use Rattle.ert_interval.specs.declared.interval.IntervalState.TheVariants.{Running}
 use Rattle.ert_interval.proofs.Deadlines.{deadline_more}
 use Rattle.ert_interval.proofs.Growing.{firings_grow}
 use Rattle.ert_interval.proofs.Starting.{HasStarted}
-use Rattle.ert_interval.proofs.Steps.{fired_stays}
+use Rattle.ert_interval.proofs.Steps.{expired_stays}
 use Rattle.ert_world.specs.Worlds.{Seen}
 
--- a timer that goes on and isn't armed has fired, where its destination lives
-pub going_fired : (x : Option Status) (exited : Bool) → IsGoing x exited → x ≢ Some Armed → exited ≡ false → HasFired x
-going_fired None exited going other lives = absurd going
-going_fired (Some Cancelled) exited going other lives = absurd going
-going_fired (Some Orphaned) exited going other lives = let clash : true ≡ false = sym going ∙ lives in absurd cc
-going_fired (Some Armed) exited going other lives = absurd (other refl)
-going_fired (Some Expired) exited going other lives = tt
-going_fired (Some Delivered) exited going other lives = tt
-going_fired (Some Dropped) exited going other lives = tt
+-- a timer that goes on and isn't armed has expired, where its destination lives
+pub going_expired : (x : Option Status) (exited : Bool) → IsGoing x exited → x ≢ Some Armed → exited ≡ false → IsPastExpiry x
+going_expired None exited going other lives = absurd going
+going_expired (Some Cancelled) exited going other lives = absurd going
+going_expired (Some Orphaned) exited going other lives = let clash : true ≡ false = sym going ∙ lives in absurd cc
+going_expired (Some Armed) exited going other lives = absurd (other refl)
+going_expired (Some Expired) exited going other lives = tt
+going_expired (Some Delivered) exited going other lives = tt
+going_expired (Some Dropped) exited going other lives = tt
 
 -- the interval with one timer more, as the timers of `k` are
 abbrev pub next_of : Interval → Interval → TimerRef → ℕ → Interval
@@ -61,9 +61,9 @@ count i before ends = ap length ends ∙ length-append before (i.last ∷ [])
 
 firings_push : (g : Settings) (h : List Entry) (i k : Interval) (timer : TimerRef) (d : ℕ) (before : List TimerRef) → IsNext i k timer
     → i.firings.items ≡ before ++ i.last ∷ []
-    → AreFirings g h i → IsFiring g h i (length before + 1) timer → HasFired ((state g h).status i.last) → IsAfter g h i.last timer
+    → AreFirings g h i → IsFiring g h i (length before + 1) timer → IsPastExpiry ((state g h).status i.last) → IsAfter g h i.last timer
     → AreFirings g h (next_of i k timer d)
-firings_push g h i k timer d before push ends f new fired behind =
+firings_push g h i k timer d before push ends f new expired behind =
     let s : State = state g h in
     let n : ℕ = length i.firings.items in
     let all : length k.firings.items ≡ n + 1 = many i k timer push in
@@ -78,15 +78,15 @@ firings_push g h i k timer d before push ends f new fired behind =
             let below : j < n = omega (arith, all, low, not) in
             subst (IsFiring g h (next_of i k timer d) j) (sym (old_at i k timer push j e below)) (as_next (f.each j e below))
       ];
-      fired = λ j e low. elim (cases_eq (suc j) n) [
+      expired = λ j e low. elim (cases_eq (suc j) n) [
         | inl is ↦
             let place : j ≡ length before = omega (arith, is, some) in
             let at : slice_index_or k.firings.items j e ≡ i.last =
             old_at i k timer push j e (omega (arith, is)) ∙ subst (λ x. slice_index_or i.firings.items x e ≡ i.last) (sym place) (last_at i before ends e) in
-            subst (λ r. HasFired (s.status r)) (sym at) fired
+            subst (λ r. IsPastExpiry (s.status r)) (sym at) expired
         | inr not ↦
             let below : suc j < n = omega (arith, all, low, not) in
-            subst (λ r. HasFired (s.status r)) (sym (old_at i k timer push j e (omega (arith, below)))) (f.fired j e below)
+            subst (λ r. IsPastExpiry (s.status r)) (sym (old_at i k timer push j e (omega (arith, below)))) (f.expired j e below)
       ];
       after = λ j e low. elim (cases_eq (suc j) n) [
         | inl is ↦
@@ -119,11 +119,11 @@ pushed a b piece i k timer d settings grown legal_b kept going start lives other
     let h' : List Entry = b.history in
     let legal : Legal g (h ++ piece) = subst (Legal g) grown (subst (λ x. Legal x b.history) settings legal_b) in
     let legal_h = legal_first g _ h piece legal in
-    let fired : HasFired ((state g h).status i.last) = going_fired _ _ going other lives in
-    let fired' : HasFired ((state g h').status i.last) =
-    subst (λ l. HasFired ((state g l).status i.last)) (sym grown)
-    (subst (λ (s : State). HasFired (s.status i.last)) (sym (state-append g h piece))
-    (fired_stays g (state g h) piece i.last (ordered g h legal_h) (legal_then g _ h piece legal) fired)) in
+    let expired : IsPastExpiry ((state g h).status i.last) = going_expired _ _ going other lives in
+    let expired' : IsPastExpiry ((state g h').status i.last) =
+    subst (λ l. IsPastExpiry ((state g l).status i.last)) (sym grown)
+    (subst (λ (s : State). IsPastExpiry (s.status i.last)) (sym (state-append g h piece))
+    (expired_stays g (state g h) piece i.last (ordered g h legal_h) (legal_then g _ h piece legal) expired)) in
     let firings : AreFirings g h' i = subst (λ l. AreFirings g l i) (sym grown) (firings_grow g h piece i i.state legal kept.firings) in
     let due : deadline_at ((i.first +ℤ pos ((length kept.before + 1) * i.period)) -ℤ base g) ≡ Some d =
     deadline_more i.first (base g) (length kept.before) i.period i.deadline kept.due (subst (λ x. x ≤ 8796093022207) next low) ∙ ap Some (sym next) in
@@ -134,8 +134,8 @@ pushed a b piece i k timer d settings grown legal_b kept going start lives other
       ends = push ∙ ap (λ l. l ++ timer ∷ []) kept.ends;
       due = subst (λ n. deadline_at ((i.first +ℤ pos (n * i.period)) -ℤ base g) ≡ Some d) (sym (length-append kept.before (i.last ∷ []))) due;
       firings = firings_push g h' i k timer d kept.before push kept.ends firings
-          (record { wheel = start.on; deadline = d; due = due; row = start.row; told = start.told }) fired'
-          (record { before = start.before; behind = start.behind; parted = start.parted; fired = start.early i.last fired; unarmed = start.unarmed });
+          (record { wheel = start.on; deadline = d; due = due; row = start.row; told = start.told }) expired'
+          (record { before = start.before; behind = start.behind; parted = start.parted; expired = start.early i.last expired; unarmed = start.unarmed });
       used = start.used;
       named = start.named;
       on = start.on;
@@ -166,7 +166,7 @@ begun a b j time settings firings running same due wheel dest start =
             subst (IsFiring g h' j k) (sym at)
             (subst (λ n. IsFiring g h' j n j.last) (sym none)
             (record { wheel = start.on; deadline = j.deadline; due = due0; row = start.row; told = start.told }));
-        fired = λ k d low. absurd (omega (arith, low, one));
+        expired = λ k d low. absurd (omega (arith, low, one));
         after = λ k d low. absurd (omega (arith, low, one));
       };
       used = start.used;

@@ -19,7 +19,7 @@ use Rattle.ert_defs.specs.declared.settings.Settings.{Settings}
 use Rattle.ert_defs.specs.declared.timer.Start.{Start}
 use Rattle.ert_defs.specs.declared.timer.Status.TheVariants.{Armed}
 use Rattle.ert_defs.specs.declared.timer.TimerRef.{TimerRef}
-use Rattle.ert_defs.proofs.FiredTimers.{row_named, same_timer_self}
+use Rattle.ert_defs.proofs.ExpiredTimers.{row_named, same_timer_self}
 use Rattle.ert_defs.proofs.Rows.{IsRow, rows_hold}
 use Rattle.ert_defs.proofs.Runs.{legal_first, legal_then, state-append}
 use Rattle.ert_defs.proofs.Settlings.{armed_first}
@@ -27,10 +27,10 @@ use Rattle.ert_defs.proofs.Slots.{IsOrdered, ordered, ordered_next}
 use Rattle.ert_defs.proofs.Standing.{of_row}
 use Rattle.ert_defs.proofs.Uses.{IsBefore, Use, used, fresh, before_self, told_is}
 use Rattle.ert_interval.specs.Calls.{Still, AreStill, IsFull}
-use Rattle.ert_interval.specs.Intervals.{HasFired, IsGoing, IsToldAt, HasToldDeadline}
+use Rattle.ert_interval.specs.Intervals.{IsPastExpiry, IsGoing, IsToldAt, HasToldDeadline}
 use Rattle.ert_interval.proofs.Plain.{ArePlain, plain_spares, starts_plain}
 use Rattle.ert_interval.proofs.Reading.{piece_legal, piece_state}
-use Rattle.ert_interval.proofs.Steps.{row_stays, fired_stays, used_stays, going_stays, none_from}
+use Rattle.ert_interval.proofs.Steps.{row_stays, expired_stays, used_stays, going_stays, none_from}
 use Rattle.ert_interval.proofs.Still.{still_armed, still_lives, still_full, still_append, probes_still, full_round}
 use Rattle.ert_world.specs.Worlds.{Seen, Goes, By}
 
@@ -142,7 +142,7 @@ pub record HasStarted (a b : Seen) (w : ℕ) (start : Start) (timer : TimerRef) 
   pub before : List Entry
   pub behind : List Entry
   pub parted : b.history ≡ before ++ behind
-  pub early : (r : TimerRef) → HasFired ((state a.settings a.history).status r) → HasFired ((state a.settings before).status r)
+  pub early : (r : TimerRef) → IsPastExpiry ((state a.settings a.history).status r) → IsPastExpiry ((state a.settings before).status r)
   pub unarmed : (state a.settings before).status timer ≡ None
   pub new : (state a.settings a.history).status timer ≡ None
   pub row : row_of ((state a.settings b.history).rows timer.wheel) timer ≡ Some (row_at timer start deadline)
@@ -192,8 +192,8 @@ started a b w start timer deadline goes lone legal_b due =
       before = h1;
       behind = arm ∷ post;
       parted = parted;
-      early = λ r fired. subst (λ (s : State). HasFired (s.status r)) (sym at1)
-          (fired_stays g (state g a.history) pre r (ordered g a.history legal_a) legal_pre fired);
+      early = λ r expired. subst (λ (s : State). IsPastExpiry (s.status r)) (sym at1)
+          (expired_stays g (state g a.history) pre r (ordered g a.history legal_a) legal_pre expired);
       unarmed = unarmed;
       new = none_from ((state g a.history).status timer) (λ some.
           subst (λ (s : State). s.status timer ≢ None) (sym at1)
@@ -281,7 +281,7 @@ refused_full a b w start deadline Full goes lone legal due memory =
       record { piece = grows.piece; grown = grows.grown; still = subst AreStill (sym st.entries) still; settings = goes.settings; next = goes.next },
     )
 
--- a start that has a deadline, and isn't refused for want of memory, is refused for a full wheel
+-- a start that has a deadline, and isn't refused because memory ran out, is refused for a full wheel
 pub full_start : (a b : Seen) (w : ℕ) (start : Start) (deadline : ℕ) (e : StartErr) → Goes a (By a (λ g. Starts g 0 w start (Err e))) b
     → a.next ≡ 1 → ((look : ℤ) → deadline_of a.settings start look ≡ Some deadline) → (e ≡ NoMemory → ⊥) → Goes a (By a (λ g. Starts g 0 w start (Err Full))) b
 full_start a b w start deadline BadArg goes lone due memory =

@@ -17,10 +17,10 @@ use Rattle.ert_defs.specs.declared.settings.Settings.{Settings}
 use Rattle.ert_defs.specs.declared.timer.Status.{Status}
 use Rattle.ert_defs.specs.declared.timer.Status.TheVariants.{Armed, Expired, Delivered, Cancelled, Orphaned, Dropped}
 use Rattle.ert_defs.specs.declared.timer.TimerRef.{TimerRef}
-use Rattle.ert_defs.proofs.FiredTimers.{row_kept}
+use Rattle.ert_defs.proofs.ExpiredTimers.{row_kept}
 use Rattle.ert_defs.proofs.Settlings.{moves_next}
 use Rattle.ert_defs.proofs.Slots.{IsOrdered, ordered_next, same_timer-true}
-use Rattle.ert_interval.specs.Intervals.{HasFired, IsGoing, HasNoRequests}
+use Rattle.ert_interval.specs.Intervals.{IsPastExpiry, IsGoing, HasNoRequests}
 
 -- a row stays
 pub row_stays : (g : Settings) (s : State) (es : List Entry) (r : TimerRef) (row : Row) → row_of (s.rows r.wheel) r ≡ Some row
@@ -37,20 +37,20 @@ stays_from P moves g s (e ∷ es) r ordered legal p =
     stays_from P moves g (next g s e) es r (ordered_next g s e ordered legal.0) legal.1
     (moves (s.status r) ((next g s e).status r) (moves_next g s e r ordered legal.0) p)
 
-fired_moves : (x y : Option Status) → MayMove x y → HasFired x → HasFired y
-fired_moves None y may fired = absurd fired
-fired_moves (Some Armed) y may fired = absurd fired
-fired_moves (Some Cancelled) y may fired = absurd fired
-fired_moves (Some Orphaned) y may fired = absurd fired
-fired_moves (Some Expired) y may fired =
-    elim may [ inl a ↦ subst HasFired (sym a) tt | inr b ↦ elim b [ inl c ↦ subst HasFired (sym c) tt | inr d ↦ subst HasFired (sym d) tt ] ]
-fired_moves (Some Delivered) y may fired = subst HasFired (sym may) tt
-fired_moves (Some Dropped) y may fired = subst HasFired (sym may) tt
+expired_moves : (x y : Option Status) → MayMove x y → IsPastExpiry x → IsPastExpiry y
+expired_moves None y may expired = absurd expired
+expired_moves (Some Armed) y may expired = absurd expired
+expired_moves (Some Cancelled) y may expired = absurd expired
+expired_moves (Some Orphaned) y may expired = absurd expired
+expired_moves (Some Expired) y may expired =
+    elim may [ inl a ↦ subst IsPastExpiry (sym a) tt | inr b ↦ elim b [ inl c ↦ subst IsPastExpiry (sym c) tt | inr d ↦ subst IsPastExpiry (sym d) tt ] ]
+expired_moves (Some Delivered) y may expired = subst IsPastExpiry (sym may) tt
+expired_moves (Some Dropped) y may expired = subst IsPastExpiry (sym may) tt
 
--- a timer that has fired has fired for ever
-pub fired_stays : (g : Settings) (s : State) (es : List Entry) (r : TimerRef) → IsOrdered s → LegalFrom g s es → HasFired (s.status r)
-    → HasFired ((run g s es).status r)
-fired_stays = stays_from HasFired fired_moves
+-- a timer that has expired has expired for ever
+pub expired_stays : (g : Settings) (s : State) (es : List Entry) (r : TimerRef) → IsOrdered s → LegalFrom g s es → IsPastExpiry (s.status r)
+    → IsPastExpiry ((run g s es).status r)
+expired_stays = stays_from IsPastExpiry expired_moves
 
 used_moves : (x y : Option Status) → MayMove x y → x ≢ None → y ≢ None
 used_moves None y may used = absurd (used refl)

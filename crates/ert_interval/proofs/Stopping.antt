@@ -12,7 +12,7 @@ use Rattle.ert_defs.specs.declared.settings.Settings.{Settings}
 use Rattle.ert_defs.specs.declared.timer.Status.{Status}
 use Rattle.ert_defs.specs.declared.timer.Status.TheVariants.{Armed, Expired, Delivered, Cancelled, Orphaned, Dropped}
 use Rattle.ert_defs.specs.declared.timer.TimerRef.{TimerRef}
-use Rattle.ert_defs.proofs.FiredTimers.{same_timer_self, same_timer-false}
+use Rattle.ert_defs.proofs.ExpiredTimers.{same_timer_self, same_timer-false}
 use Rattle.ert_interval.specs.Intervals.{IsIntervalOf, IsOpen, row_for}
 use Rattle.ert_interval.specs.declared.interval.Interval.{Interval}
 use Rattle.ert_interval.specs.declared.interval.IntervalState.{IntervalState}

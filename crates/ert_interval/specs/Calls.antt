@@ -10,7 +10,7 @@ use Rattle.ert_defs.specs.declared.entry.Actor.TheVariants.{Caller}
 use Rattle.ert_defs.specs.declared.entry.Entry.{Entry}
 use Rattle.ert_defs.specs.declared.entry.Event.{Event}
 use Rattle.ert_defs.specs.declared.entry.Event.TheVariants.{Look, Arm, Probe, Peek, Mark}
-use Rattle.ert_defs.specs.declared.memory.NoMemory.{NoMemory as WantOfMemory}
+use Rattle.ert_defs.specs.declared.memory.NoMemory.{NoMemory as OutOfMemory}
 use Rattle.ert_defs.specs.declared.settings.Settings.{Settings}
 use Rattle.ert_defs.specs.declared.timer.Status.TheVariants.{Armed}
 use Rattle.ert_defs.specs.declared.timer.TimerRef.{TimerRef}
@@ -85,8 +85,8 @@ pub record Passed (w : Seen) (old new : Interval) (armed : Bool) : Type 0 where
   pub fires : Fires armed old new
   pub ends : EndsAs w.settings (state w.settings w.history) new new.state
 
--- a turn has gone on with an interval, or for want of memory has left it as it was
-abbrev pub PassedBy : Result Bool WantOfMemory → Seen → Interval → Interval → Type 0
+-- a turn has gone on with an interval, or, out of memory, has left it as it was
+abbrev pub PassedBy : Result Bool OutOfMemory → Seen → Interval → Interval → Type 0
 PassedBy (Ok armed) w old new = Passed w old new armed
 PassedBy (Err e) w old new = Unmoved old new
 
@@ -104,7 +104,7 @@ timers [] = 0
 timers (i ∷ is) = length i.firings.items + timers is
 
 -- one timer more, if an interval started one
-abbrev pub CountsTimers : Result Bool WantOfMemory → List Interval → List Interval → Type 0
+abbrev pub CountsTimers : Result Bool OutOfMemory → List Interval → List Interval → Type 0
 CountsTimers (Ok true) is js = timers js ≡ timers is + 1
 CountsTimers (Ok false) is js = timers js ≡ timers is
 CountsTimers (Err e) is js = timers js ≡ timers is
@@ -118,13 +118,13 @@ pub record PassesAll (w : ℕ) (new : Seen) (is js : List Interval) (armed : ℕ
   pub others : (n : ℕ) (d : Interval) → n < length is → (IsTurnedBy w (slice_index_or is n d) → ⊥) → slice_index_or js n d ≡ slice_index_or is n d
 
 -- it has gone on with one interval, if that is of its wheel
-pub record PassesOne (answer : Result Bool WantOfMemory) (n w : ℕ) (new : Seen) (is js : List Interval) : Type 0 where
+pub record PassesOne (answer : Result Bool OutOfMemory) (n w : ℕ) (new : Seen) (is js : List Interval) : Type 0 where
   pub counted : length js ≡ length is
   pub one : (d : Interval) → IsTurnedBy w (slice_index_or is n d) → PassedBy answer new (slice_index_or is n d) (slice_index_or js n d)
   pub other : (d : Interval) → (IsTurnedBy w (slice_index_or is n d) → ⊥) → (answer ≡ Ok false) × (slice_index_or js n d ≡ slice_index_or is n d)
   pub others : (m : ℕ) (d : Interval) → m ≢ n → slice_index_or js m d ≡ slice_index_or is m d
 
--- or only through some, for want of memory
+-- or only through some, because memory ran out
 pub record PassesSome (w : ℕ) (new : Seen) (is js : List Interval) : Type 0 where
   pub counted : length js ≡ length is
   pub passed : (n : ℕ) (d : Interval) → n < length is → IsTurnedBy w (slice_index_or is n d)
@@ -132,8 +132,8 @@ pub record PassesSome (w : ℕ) (new : Seen) (is js : List Interval) : Type 0 wh
       ⊎ ((b : Bool) × Passed new (slice_index_or is n d) (slice_index_or js n d) b)
   pub others : (n : ℕ) (d : Interval) → n < length is → (IsTurnedBy w (slice_index_or is n d) → ⊥) → slice_index_or js n d ≡ slice_index_or is n d
 
--- a turn has gone once through the intervals of its wheel, or only through some for want of memory
-abbrev pub PassesBy : Result ℕ WantOfMemory → ℕ → Seen → List Interval → List Interval → Type 0
+-- a turn has gone once through the intervals of its wheel, or only through some because memory ran out
+abbrev pub PassesBy : Result ℕ OutOfMemory → ℕ → Seen → List Interval → List Interval → Type 0
 PassesBy (Ok armed) w new is js = PassesAll w new is js armed
 PassesBy (Err e) w new is js = PassesSome w new is js
 

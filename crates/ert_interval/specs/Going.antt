@@ -42,8 +42,8 @@ pub record HasNext (timer : TimerRef) (old new : Interval) : Type 0 where
   pub deadline : new.deadline ≡ old.deadline + old.period
   pub firings : new.firings.items ≡ old.firings.items ++ timer ∷ []
 
--- the next timer is started on the wheel of the interval; where no slot is free the interval waits; for
--- want of memory no start is made, and the interval stays as it was
+-- the next timer is started on the wheel of the interval; where no slot is free the interval waits; when
+-- out of memory no start is made, and the interval stays as it was
 abbrev pub StartsNext : Result Bool NoMemory → Seen → Interval → Seen → Interval → Type 0
 StartsNext (Ok true) old i new j =
     (timer : TimerRef) × Goes old (By old (λ g. Starts g 0 i.wheel (next_start g i) (Ok timer))) new × HasNext timer i j
@@ -126,7 +126,7 @@ pub record StepsSome (w : ℕ) (e : NoMemory) (old : Seen) (is : List Interval) 
   pub before : StepsTo w number old is so_far between intervals
   pub step : StepsOne (Err e) w number between intervals new js
 
--- all intervals make their steps in order of number, or for want of memory only the first ones
+-- all intervals make their steps in order of number, or, out of memory, only the first ones
 abbrev pub StepsAll : ℕ → Result ℕ NoMemory → Seen → List Interval → Seen → List Interval → Type 0
 StepsAll w (Ok armed) old is new js = StepsTo w (length is) old is armed new js
 StepsAll w (Err e) old is new js = StepsSome w e old is new js

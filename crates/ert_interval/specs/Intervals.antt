@@ -28,11 +28,11 @@ IsOpen Stopped = ⊥
 IsOpen Ended = ⊥
 
 -- a timer has expired, and maybe its message was put or thrown away
-abbrev pub HasFired : Option Status → Type 0
-HasFired (Some Expired) = Unit {0}
-HasFired (Some Delivered) = Unit {0}
-HasFired (Some Dropped) = Unit {0}
-HasFired _ = ⊥
+abbrev pub IsPastExpiry : Option Status → Type 0
+IsPastExpiry (Some Expired) = Unit {0}
+IsPastExpiry (Some Delivered) = Unit {0}
+IsPastExpiry (Some Dropped) = Unit {0}
+IsPastExpiry _ = ⊥
 
 -- the row of a timer of an interval that was started for this deadline
 abbrev pub row_for : Interval → TimerRef → ℕ → Row
@@ -66,17 +66,17 @@ pub record IsAfter (g : Settings) (h : List Entry) (r next : TimerRef) : Type 0 
   pub before : List Entry
   pub behind : List Entry
   pub parted : h ≡ before ++ behind
-  pub fired : HasFired ((state g before).status r)
+  pub expired : IsPastExpiry ((state g before).status r)
   pub unarmed : (state g before).status next ≡ None
 
--- the timers of an interval: each names its row, and each but the last has fired before the next was armed
+-- the timers of an interval: each names its row, and each but the last has expired before the next was armed
 pub record AreFirings (g : Settings) (h : List Entry) (i : Interval) : Type 0 where
   pub each : (j : ℕ) (d : TimerRef) → j < length i.firings.items → IsFiring g h i j (slice_index_or i.firings.items j d)
-  pub fired : (j : ℕ) (d : TimerRef) → suc j < length i.firings.items → HasFired ((state g h).status (slice_index_or i.firings.items j d))
+  pub expired : (j : ℕ) (d : TimerRef) → suc j < length i.firings.items → IsPastExpiry ((state g h).status (slice_index_or i.firings.items j d))
   pub after : (j : ℕ) (d : TimerRef) → suc j < length i.firings.items
       → IsAfter g h (slice_index_or i.firings.items j d) (slice_index_or i.firings.items (suc j) d)
 
--- the last timer of an interval is armed, or has fired, or was cancelled for the exit of its destination
+-- the last timer of an interval is armed, or has expired, or was cancelled for the exit of its destination
 abbrev pub IsGoing : Option Status → Bool → Type 0
 IsGoing None exited = ⊥
 IsGoing (Some Cancelled) exited = ⊥

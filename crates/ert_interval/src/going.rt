@@ -17,7 +17,7 @@ use ert_world::World;
 
 /// Goes on with an interval that is Running or Waiting, and tells whether its next timer was started.
 ///
-/// After want of memory the interval is as before.
+/// If memory runs out, the interval is as before.
 pub(crate) fn go_on(world: &mut World, interval: &mut Interval) -> Result<bool, NoMemory>
     requires legal { Legal world.old.settings world.old.history }
     requires lone { world.old.next ≡ 1 }

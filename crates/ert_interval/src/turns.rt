@@ -25,7 +25,7 @@ impl IntervalWorld {
     /// A turn of a scheduler (`World::turn`), and then one step of each interval of its wheel, in order of
     /// number.
     ///
-    /// After want of memory what was done stays done: the interval in hand has read its last timer and looked
+    /// If memory runs out, what was done stays done: the interval in hand has read its last timer and looked
     /// at its destination, and has started none. A later turn goes on from there.
     pub fn turn(&mut self, sched: u32) -> Result<IntervalTurn, NoMemory>
         requires kept { AreIntervalsKept self.old.world self.old.intervals.items }

@@ -4,7 +4,7 @@
 use Rattle.std.proofs.Common.{◌≡◌, ◌∙◌, refl, sym, ap, inl, inr, ℕ, ℤ, ◌<◌, cond, nat_eq, List, [], length, get_or, set, Option, Some, eq-eqb, ne_eqb}
 use Rattle.std.proofs.lemmas.Bool.{cases_eq}
 use Rattle.std.proofs.lemmas.List.{length-set, get_or-set_same, get_or-set_other}
-use Rattle.ert_defs.proofs.FiredTimers.{cond_same}
+use Rattle.ert_defs.proofs.ExpiredTimers.{cond_same}
 use Rattle.ert_defs.specs.Actors.{same_actor, is_with, IsUser}
 use Rattle.ert_defs.specs.Mails.{SchedState, idle_sched, inbox_after, sched_after}
 use Rattle.ert_defs.specs.States.{look_after}

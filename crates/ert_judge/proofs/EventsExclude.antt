@@ -140,29 +140,29 @@ orphan_excludes s timer (NotExited dest) h is found =
     (some_same (row_of (s.rows timer.wheel) timer) h.1.row is.row h.1.stands is.stands) h.1.to h.2 is.exited
 orphan_excludes s timer _ h is found = absurd h
 
-none_waits : (fired : List Row) (timer : TimerRef) → first_of fired ≡ None → IsFirst fired timer → ⊥
-none_waits fired timer none is = none_is_some is.row (first_of fired) none is.first
+none_waits : (expired : List Row) (timer : TimerRef) → first_of expired ≡ None → IsFirst expired timer → ⊥
+none_waits expired timer none is = none_is_some is.row (first_of expired) none is.first
 
-other_waits : (fired : List Row) (first timer : TimerRef) → IsBehind fired first timer → IsFirst fired timer → ⊥
-other_waits fired first timer h is =
-    h.other (h.named ∙ ap (λ (r : Row). r.timer) (some_same (first_of fired) h.row is.row h.waits is.first) ∙ is.named)
+other_waits : (expired : List Row) (first timer : TimerRef) → IsBehind expired first timer → IsFirst expired timer → ⊥
+other_waits expired first timer h is =
+    h.other (h.named ∙ ap (λ (r : Row). r.timer) (some_same (first_of expired) h.row is.row h.waits is.first) ∙ is.named)
 
-deliver_excludes : (fired : List Row) (with : Option Actor) (timer : TimerRef) (reason : Reason)
-    → DeliverBreaks fired with timer reason → (first : IsFirst fired timer) → with ≡ Some (MailOf first.row.dest) → ⊥
-deliver_excludes fired with timer (OtherDest dest) h is same =
+deliver_excludes : (expired : List Row) (with : Option Actor) (timer : TimerRef) (reason : Reason)
+    → DeliverBreaks expired with timer reason → (first : IsFirst expired timer) → with ≡ Some (MailOf first.row.dest) → ⊥
+deliver_excludes expired with timer (OtherDest dest) h is same =
     h.1 (same ∙ ap (λ (n : ℕ). Some (MailOf n)) (sym (h.0.to
-    ∙ ap (λ (r : Row). r.dest) (some_same (first_of fired) h.0.row is.row h.0.waits is.first))))
-deliver_excludes fired with timer NoneWaits h is same = none_waits fired timer h is
-deliver_excludes fired with timer (OtherWaits first) h is same = other_waits fired first timer h is
-deliver_excludes fired with timer _ h is same = absurd h
+    ∙ ap (λ (r : Row). r.dest) (some_same (first_of expired) h.0.row is.row h.0.waits is.first))))
+deliver_excludes expired with timer NoneWaits h is same = none_waits expired timer h is
+deliver_excludes expired with timer (OtherWaits first) h is same = other_waits expired first timer h is
+deliver_excludes expired with timer _ h is same = absurd h
 
-drop_excludes : (fired : List Row) (exited : ℕ → Bool) (timer : TimerRef) (reason : Reason)
-    → DropBreaks fired exited timer reason → (first : IsFirst fired timer) → exited first.row.dest ≡ true → ⊥
-drop_excludes fired exited timer (NotExited dest) h is gone =
-    stays_alive exited h.0.row is.row dest (some_same (first_of fired) h.0.row is.row h.0.waits is.first) h.0.to h.1 gone
-drop_excludes fired exited timer NoneWaits h is gone = none_waits fired timer h is
-drop_excludes fired exited timer (OtherWaits first) h is gone = other_waits fired first timer h is
-drop_excludes fired exited timer _ h is gone = absurd h
+drop_excludes : (expired : List Row) (exited : ℕ → Bool) (timer : TimerRef) (reason : Reason)
+    → DropBreaks expired exited timer reason → (first : IsFirst expired timer) → exited first.row.dest ≡ true → ⊥
+drop_excludes expired exited timer (NotExited dest) h is gone =
+    stays_alive exited h.0.row is.row dest (some_same (first_of expired) h.0.row is.row h.0.waits is.first) h.0.to h.1 gone
+drop_excludes expired exited timer NoneWaits h is gone = none_waits expired timer h is
+drop_excludes expired exited timer (OtherWaits first) h is gone = other_waits expired first timer h is
+drop_excludes expired exited timer _ h is gone = absurd h
 
 mark_excludes : (exited was : Bool) (reason : Reason) → MarkBreaks exited was reason → was ≡ exited → ⊥
 mark_excludes exited was (OtherExit is) h same = differs_not was is exited h same
@@ -254,9 +254,9 @@ event_excludes g s by with (Cancel timer left) r h known found = left_excludes g
 event_excludes g s by with (Expire timer) r h known found = expire_excludes g s by timer r h known found
 event_excludes g s by with (Orphan timer) r h known found = orphan_excludes s timer r h known found
 event_excludes g s by with (Deliver timer) r h known found =
-    deliver_excludes (s.scheds timer.wheel).fired with timer r h known.0 known.1
+    deliver_excludes (s.scheds timer.wheel).expired with timer r h known.0 known.1
 event_excludes g s by with (Drop timer) r h known found =
-    drop_excludes (s.scheds timer.wheel).fired s.exited timer r h known.0 known.1
+    drop_excludes (s.scheds timer.wheel).expired s.exited timer r h known.0 known.1
 event_excludes g s by with (Mark process exits was) r h known found = mark_excludes (s.exited process) was r h found
 event_excludes g s by with (Advanced wheel to) r h known found = advanced_excludes g s by wheel to r h known.0 known.1
 event_excludes g s by with (Ask wheel request) r h known found = absurd h

@@ -42,10 +42,10 @@ pub left_none : (g : Settings) (look : ℤ) (ts : List Timer) (r : TimerRef) →
 left_none g look ts r e = left_found g look ts r None e
 
 -- something of the first that expired is something of the row that it is
-pub first_so : (fired : List Row) (timer : TimerRef) (row : Row) (b : Bool) (Q : Row → Type 0)
-    → Some row ≡ first_of fired → row.timer ≡ timer → IsTrue b ↔ Q row
-    → IsTrue b ↔ ((first : IsFirst fired timer) × Q first.row)
-first_so fired timer row b Q e named is = (
+pub first_so : (expired : List Row) (timer : TimerRef) (row : Row) (b : Bool) (Q : Row → Type 0)
+    → Some row ≡ first_of expired → row.timer ≡ timer → IsTrue b ↔ Q row
+    → IsTrue b ↔ ((first : IsFirst expired timer) × Q first.row)
+first_so expired timer row b Q e named is = (
   (λ yes. (record { row = row; first = sym e; named = named }, is.0 yes)),
   (λ p. is.1 (let same : p.0.row ≡ row = some_same p.0.row row (sym p.0.first ∙ sym e) in subst Q same p.1)),
 )

@@ -81,16 +81,16 @@ pub record GoesTo (s : State) (timer : TimerRef) (dest : ℕ) : Type 0 where
   pub to : dest ≡ row.dest
 
 -- the first of the expired timers that wait is another
-pub record IsBehind (fired : List Row) (first timer : TimerRef) : Type 0 where
+pub record IsBehind (expired : List Row) (first timer : TimerRef) : Type 0 where
   pub row : Row
-  pub waits : first_of fired ≡ Some row
+  pub waits : first_of expired ≡ Some row
   pub named : first ≡ row.timer
   pub other : first ≢ timer
 
 -- a timer is the first of them, and goes to a process
-pub record FirstGoesTo (fired : List Row) (timer : TimerRef) (dest : ℕ) : Type 0 where
+pub record FirstGoesTo (expired : List Row) (timer : TimerRef) (dest : ℕ) : Type 0 where
   pub row : Row
-  pub waits : first_of fired ≡ Some row
+  pub waits : first_of expired ≡ Some row
   pub named : row.timer ≡ timer
   pub to : dest ≡ row.dest
 
@@ -217,19 +217,19 @@ OrphanBreaks s timer _ = ⊥
 
 -- of the end of an expired timer, which is to be the first that waits
 abbrev pub WaitBreaks : List Row → TimerRef → Reason → Type 0
-WaitBreaks fired timer NoneWaits = first_of fired ≡ None
-WaitBreaks fired timer (OtherWaits first) = IsBehind fired first timer
-WaitBreaks fired timer _ = ⊥
+WaitBreaks expired timer NoneWaits = first_of expired ≡ None
+WaitBreaks expired timer (OtherWaits first) = IsBehind expired first timer
+WaitBreaks expired timer _ = ⊥
 
 -- and goes into the mailbox of its destination
 abbrev pub DeliverBreaks : List Row → Option Actor → TimerRef → Reason → Type 0
-DeliverBreaks fired with timer (OtherDest dest) = FirstGoesTo fired timer dest × (with ≢ Some (MailOf dest))
-DeliverBreaks fired with timer reason = WaitBreaks fired timer reason
+DeliverBreaks expired with timer (OtherDest dest) = FirstGoesTo expired timer dest × (with ≢ Some (MailOf dest))
+DeliverBreaks expired with timer reason = WaitBreaks expired timer reason
 
 -- or is thrown away, where its destination has exited
 abbrev pub DropBreaks : List Row → (ℕ → Bool) → TimerRef → Reason → Type 0
-DropBreaks fired exited timer (NotExited dest) = FirstGoesTo fired timer dest × (exited dest ≡ false)
-DropBreaks fired exited timer reason = WaitBreaks fired timer reason
+DropBreaks expired exited timer (NotExited dest) = FirstGoesTo expired timer dest × (exited dest ≡ false)
+DropBreaks expired exited timer reason = WaitBreaks expired timer reason
 
 -- of a look at a process
 abbrev pub MarkBreaks : Bool → Bool → Reason → Type 0
@@ -293,8 +293,8 @@ Breaks g s by with (Peek timer left) reason = LeftBreaks g s by timer left reaso
 Breaks g s by with (Cancel timer left) reason = LeftBreaks g s by timer left reason
 Breaks g s by with (Expire timer) reason = ExpireBreaks g s by timer reason
 Breaks g s by with (Orphan timer) reason = OrphanBreaks s timer reason
-Breaks g s by with (Deliver timer) reason = DeliverBreaks (s.scheds timer.wheel).fired with timer reason
-Breaks g s by with (Drop timer) reason = DropBreaks (s.scheds timer.wheel).fired s.exited timer reason
+Breaks g s by with (Deliver timer) reason = DeliverBreaks (s.scheds timer.wheel).expired with timer reason
+Breaks g s by with (Drop timer) reason = DropBreaks (s.scheds timer.wheel).expired s.exited timer reason
 Breaks g s by with (Mark process exits was) reason = MarkBreaks (s.exited process) was reason
 Breaks g s by with (Advanced wheel to) reason = AdvancedBreaks g s by wheel to reason
 Breaks g s by with (Ask wheel request) reason = ⊥

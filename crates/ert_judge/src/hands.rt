@@ -14,11 +14,11 @@ use ert_defs::{Actor, Request, TimerRef};
 
 /// Why an expired timer can't be put into a mailbox.
 pub fn of_deliver(judge: &Judge, with: Option<Actor>, timer: TimerRef) -> Option<Reason>
-    ensures some { IfSome result (DeliverBreaks (sched_at judge.now.schedulers timer.wheel).fired with timer) }
-    ensures none { IfNone result ((first : IsFirst (sched_at judge.now.schedulers timer.wheel).fired timer)
+    ensures some { IfSome result (DeliverBreaks (sched_at judge.now.schedulers timer.wheel).expired with timer) }
+    ensures none { IfNone result ((first : IsFirst (sched_at judge.now.schedulers timer.wheel).expired timer)
         × (with ≡ Some (Actor.MailOf first.row.dest))) }
 {
-    let Some(row) = judge.schedulers.first_fired(timer.wheel) else {
+    let Some(row) = judge.schedulers.first_expired(timer.wheel) else {
         return Some(Reason::NoneWaits);
     };
     if timer != row.timer {
@@ -33,11 +33,11 @@ pub fn of_deliver(judge: &Judge, with: Option<Actor>, timer: TimerRef) -> Option
 
 /// Why an expired timer can't be thrown away.
 pub fn of_drop(judge: &Judge, timer: TimerRef) -> Option<Reason>
-    ensures some { IfSome result (DropBreaks (sched_at judge.now.schedulers timer.wheel).fired (exited_at judge.now.exits) timer) }
-    ensures none { IfNone result ((first : IsFirst (sched_at judge.now.schedulers timer.wheel).fired timer)
+    ensures some { IfSome result (DropBreaks (sched_at judge.now.schedulers timer.wheel).expired (exited_at judge.now.exits) timer) }
+    ensures none { IfNone result ((first : IsFirst (sched_at judge.now.schedulers timer.wheel).expired timer)
         × (exited_at judge.now.exits first.row.dest ≡ true)) }
 {
-    let Some(row) = judge.schedulers.first_fired(timer.wheel) else {
+    let Some(row) = judge.schedulers.first_expired(timer.wheel) else {
         return Some(Reason::NoneWaits);
     };
     if row.timer != timer {

@@ -154,9 +154,9 @@ impl Judge {
     /// mailbox the entry is made.
     fn can_deliver(&self, with: Option<Actor>, timer: TimerRef) -> bool
         ensures { IsTrue result
-            ↔ ((first : IsFirst (sched_at self.now.schedulers timer.wheel).fired timer) × (with ≡ Some (MailOf first.row.dest))) }
+            ↔ ((first : IsFirst (sched_at self.now.schedulers timer.wheel).expired timer) × (with ≡ Some (MailOf first.row.dest))) }
     {
-        match self.schedulers.first_fired(timer.wheel) {
+        match self.schedulers.first_expired(timer.wheel) {
             Some(row) if row.timer == timer => with == Some(Actor::MailOf(row.dest)),
             _ => false,
         }
@@ -165,9 +165,9 @@ impl Judge {
     /// Whether a timer is the first of its scheduler's expired ones, and its destination has exited.
     fn can_drop(&self, timer: TimerRef) -> bool
         ensures { IsTrue result
-            ↔ ((first : IsFirst (sched_at self.now.schedulers timer.wheel).fired timer) × (exited_at self.now.exits first.row.dest ≡ true)) }
+            ↔ ((first : IsFirst (sched_at self.now.schedulers timer.wheel).expired timer) × (exited_at self.now.exits first.row.dest ≡ true)) }
     {
-        match self.schedulers.first_fired(timer.wheel) {
+        match self.schedulers.first_expired(timer.wheel) {
             Some(row) if row.timer == timer => self.exits.has_exited(row.dest),
             _ => false,
         }

@@ -3,8 +3,8 @@
 use Rattle.std.proofs.Common.{◌≡◌, ◌≢◌, ℕ, ◌+◌, Bool, true, false, cond, nat_eq, List, [], ◌∷◌, ◌++◌, All, get_or, Option, Some, None, refl, sym, ap, subst, ◌∙◌, arith}
 use Rattle.std.proofs.Math.Bool.{or-true}
 use Rattle.std.proofs.lemmas.List.Elements.{All-weaker, Contains-get_or}
-use Rattle.ert_defs.proofs.FiredLists.{made, kept_after}
-use Rattle.ert_defs.proofs.FiredTimers.{cond_same, same_timer-false}
+use Rattle.ert_defs.proofs.ExpiredLists.{made, kept_after}
+use Rattle.ert_defs.proofs.ExpiredTimers.{cond_same, same_timer-false}
 use Rattle.ert_defs.proofs.Rows.{IsRow, AreRows, rows_hold}
 use Rattle.ert_defs.proofs.Runs.{carry}
 use Rattle.ert_defs.proofs.Settlings.{row_was_armed}

@@ -4,7 +4,7 @@ use Rattle.std.proofs.Common.{◌≡◌, ℕ, ◌+◌, Bool, true, false, cond, 
 use Rattle.std.proofs.Math.Bool.{and-false, and-true}
 use Rattle.std.proofs.lemmas.List.{length-append}
 use Rattle.std.proofs.lemmas.List.Elements.{filter-append}
-use Rattle.ert_defs.proofs.FiredLists.{made}
+use Rattle.ert_defs.proofs.ExpiredLists.{made}
 use Rattle.ert_defs.specs.Actors.{is_with}
 use Rattle.ert_defs.specs.Legal.{Can, IsWithMail, Keeps, Legal}
 use Rattle.ert_defs.specs.States.{State, next, state}
@@ -19,7 +19,7 @@ use Rattle.ert_defs.specs.declared.timer.Status.TheVariants.{Armed, Expired, Del
 use Rattle.ert_laws.proofs.Counted.{one_if}
 use Rattle.ert_laws.proofs.CountSteps.{come, gone, counted, count_step}
 use Rattle.ert_laws.proofs.Counting.{arms_counted, expiries_counted, orphans_counted, six_statuses}
-use Rattle.ert_laws.proofs.FiredCounts.{expired_wait}
+use Rattle.ert_laws.proofs.ExpiredCounts.{expired_wait}
 use Rattle.ert_laws.proofs.Histories.{by_entries, state-more}
 use Rattle.ert_laws.proofs.Totals.{only, total_only, total_same, total_sum, total_zero}
 use Rattle.ert_laws.specs.Counts.{total, has_status, count_at, count_in, Counts, counts_of, is_arm, is_expire, is_orphan, entries_of, delivers_to, deliveries, Agrees, LawOfDeliveries, LawOfCounts, LawOfOneCount}
@@ -116,7 +116,7 @@ counts_agree g h legal =
     let s : State = state g h in
     record {
       armed = refl;
-      expired = total_same (count_at s Expired) (λ w. length (s.scheds w).fired) g.schedulers (λ w. sym (expired_wait g h w legal));
+      expired = total_same (count_at s Expired) (λ w. length (s.scheds w).expired) g.schedulers (λ w. sym (expired_wait g h w legal));
       delivered = sym (deliveries_counted g h legal);
       orphaned = total_same (count_at s Orphaned) (λ w. entries_of is_orphan w h) g.schedulers (λ w. sym (orphans_counted g h w legal));
       expiries = total_three (λ w. entries_of is_expire w h) (count_at s Expired) (count_at s Delivered) (count_at s Dropped) g.schedulers

@@ -2,7 +2,7 @@
 
 use Rattle.std.proofs.Common.{◌≡◌, ◌≢◌, ℕ, ◌+◌, Bool, true, false, cond, nat_eq, List, [], ◌∷◌, ◌++◌, length, All, AllPairs, get_or, Option, Some, None, refl, sym, ap, subst, ◌∙◌, arith, eqb-true, eq-eqb}
 use Rattle.std.proofs.lemmas.List.Elements.{All-head, All-tail}
-use Rattle.ert_defs.proofs.FiredTimers.{cond_same, same_timer_self, same_timer-false}
+use Rattle.ert_defs.proofs.ExpiredTimers.{cond_same, same_timer_self, same_timer-false}
 use Rattle.ert_defs.proofs.Lists.{pairs_head, pairs_tail}
 use Rattle.ert_defs.proofs.Rows.{Differ}
 use Rattle.ert_defs.proofs.Slots.{same_timer-true}

@@ -4,7 +4,7 @@ use Rattle.std.proofs.Common.{◌≡◌, ◌≢◌, ℕ, ◌+◌, Bool, true, fa
 use Rattle.std.proofs.Math.Bool.{and-false, and-true}
 use Rattle.std.proofs.lemmas.List.Elements.{All-head, All-tail, Contains-get_or}
 use Rattle.std.proofs.lemmas.List.Sums.{sum_by_push}
-use Rattle.ert_defs.proofs.FiredLists.{made}
+use Rattle.ert_defs.proofs.ExpiredLists.{made}
 use Rattle.ert_defs.proofs.Settlings.{row_was_armed}
 use Rattle.ert_defs.specs.Actors.{has_actor, same_actor, IsCaller}
 use Rattle.ert_defs.specs.Legal.{Can, Keeps, Legal}

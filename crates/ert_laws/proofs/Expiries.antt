@@ -9,8 +9,8 @@ use Rattle.ert_defs.specs.Legal.{Can, IsFirst, Legal}
 use Rattle.ert_defs.specs.Mails.{SchedState, first_of, others_of, answer_in, changes_of, sched_after, with_row}
 use Rattle.ert_defs.specs.States.{State, next, state}
 use Rattle.ert_defs.specs.Timers.{Row, row_of}
-use Rattle.ert_defs.proofs.FiredLists.{IsKept, first_has_expired, made, kept_after}
-use Rattle.ert_defs.proofs.FiredTimers.{same_timer_self}
+use Rattle.ert_defs.proofs.ExpiredLists.{IsKept, first_has_expired, made, kept_after}
+use Rattle.ert_defs.proofs.ExpiredTimers.{same_timer_self}
 use Rattle.ert_defs.proofs.Runs.{carry}
 use Rattle.ert_defs.specs.declared.entry.Actor.{Actor}
 use Rattle.ert_defs.specs.declared.entry.Actor.TheVariants.{Sched, MailOf}
@@ -41,26 +41,26 @@ none_if w true new none = none
 none_if w false new none = refl
 
 -- a scheduler whose list an event leaves
-fired_if : (b : Bool) (x y : SchedState) → x.fired ≡ y.fired → (cond b x y).fired ≡ y.fired ++ []
-fired_if true x y same = same ∙ sym (append-nil y.fired)
-fired_if false x y same = sym (append-nil y.fired)
+expired_if : (b : Bool) (x y : SchedState) → x.expired ≡ y.expired → (cond b x y).expired ≡ y.expired ++ []
+expired_if true x y same = same ∙ sym (append-nil y.expired)
+expired_if false x y same = sym (append-nil y.expired)
 
-fired_not : (b : Bool) (x y : SchedState) → b ≡ false → (cond b x y).fired ≡ y.fired ++ []
-fired_not b x y is = rw is (sym (append-nil y.fired))
+expired_not : (b : Bool) (x y : SchedState) → b ≡ false → (cond b x y).expired ≡ y.expired ++ []
+expired_not b x y is = rw is (sym (append-nil y.expired))
 
-with_row_last : (fired : List Row) (o : Option Row) → with_row fired o ≡ fired ++ option_to_list o
-with_row_last fired None = sym (append-nil fired)
-with_row_last fired (Some row) = refl
+with_row_last : (expired : List Row) (o : Option Row) → with_row expired o ≡ expired ++ option_to_list o
+with_row_last expired None = sym (append-nil expired)
+with_row_last expired (Some row) = refl
 
 -- a timer that expires waits behind the others
 expires_behind : (s : State) (v w : ℕ) (timer : TimerRef) (b : Bool) (x : SchedState) → nat_eq v w ≡ b
-    → (cond b (record { hand = x.hand; result = x.result; fired = with_row x.fired (row_of (s.rows v) timer) }) x).fired
-    ≡ x.fired ++ cond (nat_eq v w) (option_to_list (row_of (s.rows w) timer)) []
+    → (cond b (record { hand = x.hand; result = x.result; expired = with_row x.expired (row_of (s.rows v) timer) }) x).expired
+    ≡ x.expired ++ cond (nat_eq v w) (option_to_list (row_of (s.rows w) timer)) []
 expires_behind s v w timer true x is =
-    ap (with_row x.fired) (ap (λ u. row_of (s.rows u) timer) (eqb-true v w is))
-    ∙ (with_row_last x.fired (row_of (s.rows w) timer)
-    ∙ ap (λ b. x.fired ++ cond b (option_to_list (row_of (s.rows w) timer)) []) (sym is))
-expires_behind s v w timer false x is = rw is (sym (append-nil x.fired))
+    ap (with_row x.expired) (ap (λ u. row_of (s.rows u) timer) (eqb-true v w is))
+    ∙ (with_row_last x.expired (row_of (s.rows w) timer)
+    ∙ ap (λ b. x.expired ++ cond b (option_to_list (row_of (s.rows w) timer)) []) (sym is))
+expires_behind s v w timer false x is = rw is (sym (append-nil x.expired))
 
 -- what a delivery puts into a mailbox
 delivery_sent : (g : Settings) (s : State) (by : Actor) (with : Option Actor) (timer : TimerRef) (p : ℕ) → IsKept s
@@ -85,18 +85,18 @@ other_sent : (w : ℕ) (row : Row) → nat_eq row.timer.wheel w ≡ false → fi
 other_sent w row wheel = rw wheel refl
 
 -- the timer of the first row is of the scheduler's wheel
-first_wheel : (fired : List Row) (timer : TimerRef) (w : ℕ) (b : Bool) → (first : IsFirst fired timer) → nat_eq timer.wheel w ≡ b
+first_wheel : (expired : List Row) (timer : TimerRef) (w : ℕ) (b : Bool) → (first : IsFirst expired timer) → nat_eq timer.wheel w ≡ b
     → nat_eq first.row.timer.wheel w ≡ b
-first_wheel fired timer w b first is = carry (λ (t : TimerRef). nat_eq t.wheel w ≡ b) first.named is
+first_wheel expired timer w b first is = carry (λ (t : TimerRef). nat_eq t.wheel w ≡ b) first.named is
 
 -- the first of the scheduler of a timer is that of this scheduler
-first_here : (s : State) (timer : TimerRef) (w : ℕ) → (first : IsFirst (s.scheds timer.wheel).fired timer) → nat_eq timer.wheel w ≡ true
-    → first_of (s.scheds w).fired ≡ Some first.row
-first_here s timer w first is = subst (λ v. first_of (s.scheds v).fired ≡ Some first.row) (eqb-true timer.wheel w is) first.first
+first_here : (s : State) (timer : TimerRef) (w : ℕ) → (first : IsFirst (s.scheds timer.wheel).expired timer) → nat_eq timer.wheel w ≡ true
+    → first_of (s.scheds w).expired ≡ Some first.row
+first_here s timer w first is = subst (λ v. first_of (s.scheds v).expired ≡ Some first.row) (eqb-true timer.wheel w is) first.first
 
 -- a scheduler that hands its first timer over has the others
 others_if : (b : Bool) (x : SchedState) → b ≡ true
-    → (cond b (record { hand = x.hand; result = x.result; fired = others_of x.fired }) x).fired ≡ others_of x.fired
+    → (cond b (record { hand = x.hand; result = x.result; expired = others_of x.expired }) x).expired ≡ others_of x.expired
 others_if b x is = rw is refl
 
 delivered_at : (g : Settings) (s : State) (by : Actor) (with : Option Actor) (timer : TimerRef) (w p : ℕ) → IsKept s
@@ -108,14 +108,14 @@ delivered_at g s by with timer w p kept can true is sent expired h =
     let first = can.known.0 in
     let has : has_actor e (Sched w) ≡ true =
     sched_has e timer.wheel w can.keeps.0 (carry (λ x. is_with x (Sched w) ≡ false) can.known.1 refl) ∙ is in
-    let before : s.status timer ≡ Some Expired = first_has_expired s timer.wheel timer (kept.fired timer.wheel) first in
+    let before : s.status timer ≡ Some Expired = first_has_expired s timer.wheel timer (kept.expired timer.wheel) first in
     let now : (next g s e).status first.row.timer ≡ Some Delivered =
     carry (λ t. (next g s e).status t ≡ Some Delivered) first.named (rw (same_timer_self timer, before) refl) in
     one_handed g s e w p sent (sent_at p s e) expired first.row kept can (first_here s timer w first is)
     (others_if (has_actor e (Sched w)) (s.scheds w) has)
     (carry (λ x. is_handed_over x ≡ true) now refl)
     (ap (filter (is_from w)) (delivery_sent g s by with timer p kept can)
-    ∙ one_sent (next g s e) w p first.row (nat_eq first.row.dest p) (first_wheel (s.scheds timer.wheel).fired timer w true first is) now refl)
+    ∙ one_sent (next g s e) w p first.row (nat_eq first.row.dest p) (first_wheel (s.scheds timer.wheel).expired timer w true first is) now refl)
     h
 delivered_at g s by with timer w p kept can false is sent expired h =
     let e : Entry = made by with (Deliver timer) in
@@ -123,10 +123,10 @@ delivered_at g s by with timer w p kept can false is sent expired h =
     let has : has_actor e (Sched w) ≡ false =
     sched_has e timer.wheel w can.keeps.0 (carry (λ x. is_with x (Sched w) ≡ false) can.known.1 refl) ∙ is in
     none_handed g s e w p sent (sent_at p s e) expired [] kept can
-    (fired_not (has_actor e (Sched w)) (sched_after s.rows (s.scheds w) (Deliver timer)) (s.scheds w) has)
+    (expired_not (has_actor e (Sched w)) (sched_after s.rows (s.scheds w) (Deliver timer)) (s.scheds w) has)
     (ap (filter (is_from w)) (delivery_sent g s by with timer p kept can)
     ∙ none_if w (nat_eq first.row.dest p) (sent_by_row first.row ∷ [])
-    (other_sent w first.row (first_wheel (s.scheds timer.wheel).fired timer w false first is)))
+    (other_sent w first.row (first_wheel (s.scheds timer.wheel).expired timer w false first is)))
     h
 
 dropped_at : (g : Settings) (s : State) (by : Actor) (with : Option Actor) (timer : TimerRef) (w p : ℕ) → IsKept s
@@ -138,7 +138,7 @@ dropped_at g s by with timer w p kept can true is sent expired h =
     let first = can.known.0 in
     let has : has_actor e (Sched w) ≡ true =
     sched_has e timer.wheel w can.keeps.0 (carry (λ x. is_with x (Sched w) ≡ false) can.keeps.1 refl) ∙ is in
-    let before : s.status timer ≡ Some Expired = first_has_expired s timer.wheel timer (kept.fired timer.wheel) first in
+    let before : s.status timer ≡ Some Expired = first_has_expired s timer.wheel timer (kept.expired timer.wheel) first in
     let now : (next g s e).status first.row.timer ≡ Some Dropped =
     carry (λ t. (next g s e).status t ≡ Some Dropped) first.named (rw (same_timer_self timer, before) refl) in
     one_handed g s e w p sent (sent_at p s e) expired first.row kept can (first_here s timer w first is)
@@ -154,7 +154,7 @@ dropped_at g s by with timer w p kept can false is sent expired h =
     let has : has_actor e (Sched w) ≡ false =
     sched_has e timer.wheel w can.keeps.0 (carry (λ x. is_with x (Sched w) ≡ false) can.keeps.1 refl) ∙ is in
     none_handed g s e w p sent (sent_at p s e) expired [] kept can
-    (fired_not (has_actor e (Sched w)) (sched_after s.rows (s.scheds w) (Drop timer)) (s.scheds w) has)
+    (expired_not (has_actor e (Sched w)) (sched_after s.rows (s.scheds w) (Drop timer)) (s.scheds w) has)
     (none_if w (has_actor e (MailOf p)) [] refl) h
 
 handing_event : (g : Settings) (s : State) (by : Actor) (with : Option Actor) (event : Event) (w p : ℕ) → IsKept s → Can g s (made by with event)
@@ -174,17 +174,17 @@ handing_event g s by with (Drop timer) w p kept can sent expired h =
 handing_event g s by with (Answer wheel left) w p kept can sent expired h =
     let e : Entry = made by with (Answer wheel left) in
     none_handed g s e w p sent (sent_at p s e) expired [] kept can
-    (fired_if (has_actor e (Sched w)) (sched_after s.rows (s.scheds w) (Answer wheel left)) (s.scheds w) refl)
+    (expired_if (has_actor e (Sched w)) (sched_after s.rows (s.scheds w) (Answer wheel left)) (s.scheds w) refl)
     (none_if w (has_actor e (MailOf p)) (map sent_by_none (answer_in (s.scheds wheel).hand left)) (none_sent w (answer_in (s.scheds wheel).hand left))) h
 handing_event g s by with (Tell process offset) w p kept can sent expired h =
     let e : Entry = made by with (Tell process offset) in
     none_handed g s e w p sent (sent_at p s e) expired [] kept can
-    (fired_if (has_actor e (Sched w)) (sched_after s.rows (s.scheds w) (Tell process offset)) (s.scheds w) refl)
+    (expired_if (has_actor e (Sched w)) (sched_after s.rows (s.scheds w) (Tell process offset)) (s.scheds w) refl)
     (none_if w (has_actor e (MailOf p)) (map sent_by_none (changes_of offset (s.mails p).monitors)) (none_sent w (changes_of offset (s.mails p).monitors))) h
 handing_event g s by with event w p kept can sent expired h =
     let e : Entry = made by with event in
     none_handed g s e w p sent (sent_at p s e) expired [] kept can
-    (fired_if (has_actor e (Sched w)) (sched_after s.rows (s.scheds w) event) (s.scheds w) refl)
+    (expired_if (has_actor e (Sched w)) (sched_after s.rows (s.scheds w) event) (s.scheds w) refl)
     (none_if w (has_actor e (MailOf p)) [] refl) h
 
 pub hands_over : (g : Settings) (h : List Entry) (w p : ℕ) → Legal g h → HandsOver (state g h) w p (sent_to g p h) (expired_of g w h)
@@ -207,10 +207,10 @@ in_turn g h w legal =
 pub in_order : LawOfOrder
 in_order g h w p legal =
     let over = hands_over g h w p legal in
-    let waiting : List Row = ((state g h).scheds w).fired in
+    let waiting : List Row = ((state g h).scheds w).expired in
     let wait : All (λ row. is_delivered_to (state g h) p row ≡ false) waiting = λ k d lt.
     carry (λ x. (is_delivered x && nat_eq (get_or waiting k d).dest p) ≡ false)
-    (((kept_after g h legal).fired w).each k d lt).expired refl in
+    (((kept_after g h legal).expired w).each k d lt).expired refl in
     over.order
     ∙ ap (map sent_by_row)
     (sym (ap (filter (is_delivered_to (state g h) p)) over.all

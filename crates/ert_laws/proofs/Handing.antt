@@ -9,7 +9,7 @@ use Rattle.ert_defs.specs.Legal.{Can}
 use Rattle.ert_defs.specs.Mails.{first_of, others_of}
 use Rattle.ert_defs.specs.States.{State, next}
 use Rattle.ert_defs.specs.Timers.{Row}
-use Rattle.ert_defs.proofs.FiredLists.{IsKept}
+use Rattle.ert_defs.proofs.ExpiredLists.{IsKept}
 use Rattle.ert_defs.proofs.Runs.{carry}
 use Rattle.ert_defs.proofs.Settlings.{moves_next}
 use Rattle.ert_defs.specs.declared.entry.Entry.{Entry}
@@ -44,7 +44,7 @@ handed_stays (Some Dropped) y over may = may
 -- what a scheduler has handed over and put into a mailbox so far, of all that expired
 pub record HandsOver (s : State) (w p : ℕ) (sent : List Sent) (expired : List Row) : Type 0 where
   pub handed : List Row
-  pub all : expired ≡ handed ++ (s.scheds w).fired
+  pub all : expired ≡ handed ++ (s.scheds w).expired
   pub over : All (λ row. is_handed_over (s.status row.timer) ≡ true) handed
   pub order : filter (is_from w) sent ≡ map sent_by_row (filter (is_delivered_to s p) handed)
 
@@ -71,11 +71,11 @@ order_stays g s e p rows kept can over =
 
 -- an entry that hands none of this scheduler's timers over: some may expire
 pub none_handed : (g : Settings) (s : State) (e : Entry) (w p : ℕ) (sent new : List Sent) (expired more : List Row) → IsKept s → Can g s e
-    → ((next g s e).scheds w).fired ≡ (s.scheds w).fired ++ more → filter (is_from w) new ≡ []
+    → ((next g s e).scheds w).expired ≡ (s.scheds w).expired ++ more → filter (is_from w) new ≡ []
     → HandsOver s w p sent expired → HandsOver (next g s e) w p (sent ++ new) (expired ++ more)
-none_handed g s e w p sent new expired more kept can fired none h = record {
+none_handed g s e w p sent new expired more kept can waiting none h = record {
   handed = h.handed;
-  all = ap (λ x. x ++ more) h.all ∙ (append_assoc h.handed (s.scheds w).fired more ∙ ap (λ x. h.handed ++ x) (sym fired));
+  all = ap (λ x. x ++ more) h.all ∙ (append_assoc h.handed (s.scheds w).expired more ∙ ap (λ x. h.handed ++ x) (sym waiting));
   over = over_stays g s e h.handed kept can h.over;
   order = filter-append (is_from w) sent new
       ∙ (ap (λ x. filter (is_from w) sent ++ x) none
@@ -85,17 +85,17 @@ none_handed g s e w p sent new expired more kept can fired none h = record {
 
 -- an entry that hands the first of them over
 pub one_handed : (g : Settings) (s : State) (e : Entry) (w p : ℕ) (sent new : List Sent) (expired : List Row) (row : Row) → IsKept s → Can g s e
-    → first_of (s.scheds w).fired ≡ Some row → ((next g s e).scheds w).fired ≡ others_of (s.scheds w).fired
+    → first_of (s.scheds w).expired ≡ Some row → ((next g s e).scheds w).expired ≡ others_of (s.scheds w).expired
     → is_handed_over ((next g s e).status row.timer) ≡ true
     → filter (is_from w) new ≡ map sent_by_row (filter (is_delivered_to (next g s e) p) (row ∷ []))
     → HandsOver s w p sent expired → HandsOver (next g s e) w p (sent ++ new) (expired ++ [])
-one_handed g s e w p sent new expired row kept can first fired over one h = record {
+one_handed g s e w p sent new expired row kept can first waiting over one h = record {
   handed = h.handed ++ row ∷ [];
   all = append-nil expired
       ∙ (h.all
-      ∙ (ap (λ x. h.handed ++ x) (first_others (s.scheds w).fired row first)
-      ∙ (sym (append_assoc h.handed (row ∷ []) (others_of (s.scheds w).fired))
-      ∙ ap (λ x. (h.handed ++ row ∷ []) ++ x) (sym fired))));
+      ∙ (ap (λ x. h.handed ++ x) (first_others (s.scheds w).expired row first)
+      ∙ (sym (append_assoc h.handed (row ∷ []) (others_of (s.scheds w).expired))
+      ∙ ap (λ x. (h.handed ++ row ∷ []) ++ x) (sym waiting))));
   over = All-push (λ (row : Row). is_handed_over ((next g s e).status row.timer) ≡ true) h.handed row
       (over_stays g s e h.handed kept can h.over) over;
   order = filter-append (is_from w) sent new

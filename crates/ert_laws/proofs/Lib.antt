@@ -4,7 +4,7 @@ pub mod Counted
 pub mod Counting
 pub mod Expiries
 pub mod Few
-pub mod FiredCounts
+pub mod ExpiredCounts
 pub mod Handing
 pub mod Histories
 pub mod Kept

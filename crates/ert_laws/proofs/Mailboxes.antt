@@ -10,7 +10,7 @@ use Rattle.ert_defs.specs.Legal.{Can, IsFirst}
 use Rattle.ert_defs.specs.Mails.{first_of, others_of, message_in, message_of, mail_after, answer_in, changes_of}
 use Rattle.ert_defs.specs.States.{State, next, state}
 use Rattle.ert_defs.specs.Timers.{Row, row_of}
-use Rattle.ert_defs.proofs.FiredLists.{IsKept, first_is_fired, made, kept_after}
+use Rattle.ert_defs.proofs.ExpiredLists.{IsKept, first_is_expired, made, kept_after}
 use Rattle.ert_defs.proofs.Runs.{carry}
 use Rattle.ert_defs.specs.declared.entry.Actor.{Actor}
 use Rattle.ert_defs.specs.declared.entry.Actor.TheVariants.{MailOf, Caller}
@@ -35,13 +35,13 @@ caller_no_mail g (Caller n) p caller = refl
 caller_no_mail g _ p caller = absurd caller
 
 -- the row of the first of a scheduler's expired timers is that of the timer
-pub first_row : (s : State) (timer : TimerRef) → IsKept s → (first : IsFirst (s.scheds timer.wheel).fired timer)
+pub first_row : (s : State) (timer : TimerRef) → IsKept s → (first : IsFirst (s.scheds timer.wheel).expired timer)
     → row_of (s.rows timer.wheel) timer ≡ Some first.row
 first_row s timer kept first =
     subst (λ t. row_of (s.rows timer.wheel) t ≡ Some first.row) first.named
-    (first_is_fired s timer.wheel timer (kept.fired timer.wheel) first).stands
+    (first_is_expired s timer.wheel timer (kept.expired timer.wheel) first).stands
 
-first_message : (fired : List Row) (row : Row) → first_of fired ≡ Some row → message_in fired ≡ message_of row ∷ []
+first_message : (expired : List Row) (row : Row) → first_of expired ≡ Some row → message_in expired ≡ message_of row ∷ []
 first_message [] row is = absurd cc
 first_message (r ∷ rows) row is = let same : r ≡ row = cc in ap (λ x. message_of x ∷ []) same
 
@@ -90,8 +90,8 @@ mailbox_event g s by with (Take process got) p kept can b is sent taken h =
     sym (mail_has (made by with (Take process got)) process p (caller_no_mail g by p can.keeps.0) can.keeps.1) ∙ is in
     take_at s process p got b sent taken here can.known h
 mailbox_event g s by with (Deliver timer) p kept can true is sent taken h =
-    grown sent (map sent_by_row (option_to_list (row_of (s.rows timer.wheel) timer))) taken (s.mails p).queue (message_in (s.scheds timer.wheel).fired)
-    (rw (first_row s timer kept can.known.0) (sym (first_message (s.scheds timer.wheel).fired can.known.0.row can.known.0.first))) h
+    grown sent (map sent_by_row (option_to_list (row_of (s.rows timer.wheel) timer))) taken (s.mails p).queue (message_in (s.scheds timer.wheel).expired)
+    (rw (first_row s timer kept can.known.0) (sym (first_message (s.scheds timer.wheel).expired can.known.0.row can.known.0.first))) h
 mailbox_event g s by with (Answer wheel left) p kept can true is sent taken h =
     grown sent (map sent_by_none (answer_in (s.scheds wheel).hand left)) taken (s.mails p).queue (answer_in (s.scheds wheel).hand left)
     (mails_of_none (answer_in (s.scheds wheel).hand left)) h

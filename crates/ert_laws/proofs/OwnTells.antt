@@ -11,7 +11,7 @@ use Rattle.ert_defs.specs.Legal.{Can, Legal}
 use Rattle.ert_defs.specs.Mails.{answer_by, answer_in, changes_of, is_news, message_by}
 use Rattle.ert_defs.specs.States.{state}
 use Rattle.ert_defs.specs.Timers.{Row, row_of}
-use Rattle.ert_defs.proofs.FiredLists.{made}
+use Rattle.ert_defs.proofs.ExpiredLists.{made}
 use Rattle.ert_defs.proofs.Runs.{carry, legal_more, legal_one_more}
 use Rattle.ert_defs.specs.declared.entry.Actor.{Actor}
 use Rattle.ert_defs.specs.declared.entry.Actor.TheVariants.{MailOf}

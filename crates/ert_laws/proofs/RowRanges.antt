@@ -4,12 +4,12 @@ use Rattle.std.proofs.Common.{◌≡◌, ℕ, ℤ, ◌<◌, nat_eq, List, ◌++�
 use Rattle.std.proofs.lemmas.Bool.{cond_both}
 use Rattle.std.proofs.lemmas.List.Elements.{All-nil, All-push, All-weaker}
 use Rattle.ert_defs.specs.Actors.{has_actor}
-use Rattle.ert_defs.specs.Laws.{IsFired}
+use Rattle.ert_defs.specs.Laws.{IsExpired}
 use Rattle.ert_defs.specs.Legal.{Can, IsSlot, Keeps}
 use Rattle.ert_defs.specs.Milliseconds.{deadline_of}
 use Rattle.ert_defs.specs.States.{State, opening, next, state}
 use Rattle.ert_defs.specs.Timers.{Row, deadline_told, row_from, rows_after}
-use Rattle.ert_defs.proofs.FiredLists.{first_at, fired_timers}
+use Rattle.ert_defs.proofs.ExpiredLists.{first_at, expired_timers}
 use Rattle.ert_defs.proofs.Runs.{kept_from}
 use Rattle.ert_defs.proofs.Standing.{of_row}
 use Rattle.ert_defs.specs.declared.entry.Actor.{Actor}
@@ -20,7 +20,7 @@ use Rattle.ert_defs.specs.declared.entry.Event.TheVariants.{Arm}
 use Rattle.ert_defs.specs.declared.settings.Settings.{Settings}
 use Rattle.ert_defs.specs.declared.timer.Start.{Start}
 use Rattle.ert_defs.specs.declared.timer.TimerRef.{TimerRef}
-use Rattle.ert_laws.specs.Ranges.{IsPlaced, LawOfRowRanges, LawOfFiredRanges, LawOfFirstRanges}
+use Rattle.ert_laws.specs.Ranges.{IsPlaced, LawOfRowRanges, LawOfExpiredRanges, LawOfFirstRanges}
 
 -- all rows are in range
 abbrev pub AllPlaced : Settings → State → Type 0
@@ -51,11 +51,11 @@ placed_next g s e h can w =
 pub rows_placed : LawOfRowRanges
 rows_placed g h w legal = kept_from g (AllPlaced g) (placed_next g) (opening g) h (λ v. All-nil (IsPlaced g v)) legal w
 
-pub fired_placed : LawOfFiredRanges
-fired_placed g h w legal =
-    All-weaker (IsFired (state g h) w) (IsPlaced g w)
+pub expired_placed : LawOfExpiredRanges
+expired_placed g h w legal =
+    All-weaker (IsExpired (state g h) w) (IsPlaced g w)
     (λ row is. of_row (IsPlaced g w) ((state g h).rows w) row.timer row (rows_placed g h w legal) is.stands)
-    ((state g h).scheds w).fired (fired_timers g h w legal).each
+    ((state g h).scheds w).expired (expired_timers g h w legal).each
 
 pub first_placed : LawOfFirstRanges
-first_placed g h w row legal first = first_at (IsPlaced g w) ((state g h).scheds w).fired row first (fired_placed g h w legal)
+first_placed g h w row legal first = first_at (IsPlaced g w) ((state g h).scheds w).expired row first (expired_placed g h w legal)

@@ -8,7 +8,7 @@ use Rattle.ert_defs.specs.Actors.{has_actor, is_with, same_actor}
 use Rattle.ert_defs.specs.Legal.{Can, Legal, left_by}
 use Rattle.ert_defs.specs.States.{State, next, state}
 use Rattle.ert_defs.specs.Timers.{Row, Stands, row_of, same_timer, settled_as, handed_as, status_after}
-use Rattle.ert_defs.proofs.FiredLists.{IsKept, first_has_expired, made, kept_after}
+use Rattle.ert_defs.proofs.ExpiredLists.{IsKept, first_has_expired, made, kept_after}
 use Rattle.ert_defs.proofs.Runs.{carry, legal_one_more}
 use Rattle.ert_defs.proofs.Settlings.{armed_first}
 use Rattle.ert_defs.proofs.Slots.{same_timer-true}
@@ -92,10 +92,10 @@ moved_event g s by with (Orphan timer) r kept stand can =
     moved_settled Orphaned (same_timer timer r) (s.status r) refl (at_same (λ t. s.status t ≡ Some Armed) timer r can.found)
 moved_event g s by with (Deliver timer) r kept stand can =
     moved_handed Delivered (same_timer timer r) (s.status r) refl
-    (at_same (λ t. s.status t ≡ Some Expired) timer r (first_has_expired s timer.wheel timer (kept.fired timer.wheel) can.known.0))
+    (at_same (λ t. s.status t ≡ Some Expired) timer r (first_has_expired s timer.wheel timer (kept.expired timer.wheel) can.known.0))
 moved_event g s by with (Drop timer) r kept stand can =
     moved_handed Dropped (same_timer timer r) (s.status r) refl
-    (at_same (λ t. s.status t ≡ Some Expired) timer r (first_has_expired s timer.wheel timer (kept.fired timer.wheel) can.known.0))
+    (at_same (λ t. s.status t ≡ Some Expired) timer r (first_has_expired s timer.wheel timer (kept.expired timer.wheel) can.known.0))
 moved_event g s by with event r kept stand can = refl
 
 pub moved_next : (g : Settings) (s : State) (e : Entry) (r : TimerRef) → IsKept s → AllStand s → Can g s e

@@ -6,7 +6,7 @@ use Rattle.ert_defs.specs.Actors.{has_actor}
 use Rattle.ert_defs.specs.Legal.{Can, Legal}
 use Rattle.ert_defs.specs.Mails.{MailState, changes_of, mail_after, told_of, without}
 use Rattle.ert_defs.specs.States.{State, next, state}
-use Rattle.ert_defs.proofs.FiredLists.{made}
+use Rattle.ert_defs.proofs.ExpiredLists.{made}
 use Rattle.ert_defs.proofs.Runs.{carry}
 use Rattle.ert_defs.specs.declared.entry.Actor.{Actor}
 use Rattle.ert_defs.specs.declared.entry.Actor.TheVariants.{MailOf}

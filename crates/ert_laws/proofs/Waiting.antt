@@ -9,8 +9,8 @@ use Rattle.ert_defs.specs.Legal.{Can, IsFirst, IsNext, IsWithMail, Legal}
 use Rattle.ert_defs.specs.Mails.{others_of, first_of, sched_after, with_row}
 use Rattle.ert_defs.specs.States.{State, opening, next, state}
 use Rattle.ert_defs.specs.Timers.{Row, row_of, same_timer, status_after, settled_as, handed_as}
-use Rattle.ert_defs.proofs.FiredLists.{made, has_sched, sched_of}
-use Rattle.ert_defs.proofs.FiredTimers.{row_named, same_timer_self}
+use Rattle.ert_defs.proofs.ExpiredLists.{made, has_sched, sched_of}
+use Rattle.ert_defs.proofs.ExpiredTimers.{row_named, same_timer_self}
 use Rattle.ert_defs.proofs.Runs.{carry, kept_from}
 use Rattle.ert_defs.proofs.Slots.{same_timer-true}
 use Rattle.ert_defs.specs.declared.entry.Actor.{Actor}
@@ -30,7 +30,7 @@ waits_in r rows = list_any (λ row. same_timer row.timer r) rows
 
 -- each expired timer waits at the scheduler of its wheel
 abbrev pub AllWait : State → Type 0
-AllWait s = (r : TimerRef) → s.status r ≡ Some Expired → waits_in r (s.scheds r.wheel).fired ≡ true
+AllWait s = (r : TimerRef) → s.status r ≡ Some Expired → waits_in r (s.scheds r.wheel).expired ≡ true
 
 -- whether an event lets a timer expire
 abbrev expires : Event → TimerRef → Bool
@@ -72,9 +72,9 @@ was_expired r b x _ h = inl h
 waits-append : (r : TimerRef) (rows more : List Row) → waits_in r rows ≡ true → waits_in r (rows ++ more) ≡ true
 waits-append r rows more h = list_any-append (λ (row : Row). same_timer row.timer r) rows more ∙ rw h refl
 
-waits_with : (r : TimerRef) (fired : List Row) (o : Option Row) → waits_in r fired ≡ true → waits_in r (with_row fired o) ≡ true
-waits_with r fired None h = h
-waits_with r fired (Some row) h = waits-append r fired (row ∷ []) h
+waits_with : (r : TimerRef) (expired : List Row) (o : Option Row) → waits_in r expired ≡ true → waits_in r (with_row expired o) ≡ true
+waits_with r expired None h = h
+waits_with r expired (Some row) h = waits-append r expired (row ∷ []) h
 
 -- a row that stands is found
 row_found_at : (b : Bool) (row : Row) (o : Option Row) → ((x : Row) × (o ≡ Some x)) → (x : Row) × (cond b (Some row) o ≡ Some x)
@@ -94,20 +94,20 @@ next_has_row g s by timer known =
     (subst (P (known.before ++ (known.row ∷ known.behind))) known.named (row_found known.before known.row known.behind))
 
 -- and stands in the list behind the others
-expired_waits : (rows fired : List Row) (timer : TimerRef) → ((x : Row) × (row_of rows timer ≡ Some x))
-    → waits_in timer (with_row fired (row_of rows timer)) ≡ true
-expired_waits rows fired timer found =
+expired_waits : (rows expired : List Row) (timer : TimerRef) → ((x : Row) × (row_of rows timer ≡ Some x))
+    → waits_in timer (with_row expired (row_of rows timer)) ≡ true
+expired_waits rows expired timer found =
     let named : found.0.timer ≡ timer = row_named rows found.0 timer found.1 in
     let own : same_timer found.0.timer timer ≡ true = carry (λ t. same_timer t timer ≡ true) named (same_timer_self timer) in
     rw found.1
-    (list_any-append (λ (row : Row). same_timer row.timer timer) fired (found.0 ∷ [])
-    ∙ rw own (or-true (waits_in timer fired)))
+    (list_any-append (λ (row : Row). same_timer row.timer timer) expired (found.0 ∷ [])
+    ∙ rw own (or-true (waits_in timer expired)))
 
 -- what isn't the first of a list stands behind that
-others_wait : (fired : List Row) (row : Row) (r : TimerRef) → first_of fired ≡ Some row → same_timer row.timer r ≡ false
-    → waits_in r fired ≡ true → waits_in r (others_of fired) ≡ true
+others_wait : (expired : List Row) (row : Row) (r : TimerRef) → first_of expired ≡ Some row → same_timer row.timer r ≡ false
+    → waits_in r expired ≡ true → waits_in r (others_of expired) ≡ true
 others_wait [] row r first not h = h
-others_wait (x ∷ fired) row r first not h =
+others_wait (x ∷ expired) row r first not h =
     let same : x ≡ row = cc in
     let other : same_timer x.timer r ≡ false = carry (λ (y : Row). same_timer y.timer r ≡ false) same not in
     rw other at h
@@ -118,21 +118,21 @@ mail_no_sched g _ w mail = absurd mail
 
 -- the list of a scheduler, without the first of it
 handed_waits : (s : State) (e : Entry) (timer r : TimerRef) → e.by ≡ Sched timer.wheel → is_with e.with (Sched r.wheel) ≡ false
-    → IsFirst (s.scheds timer.wheel).fired timer → same_timer timer r ≡ false → has_actor e (Sched r.wheel) ≡ true
-    → waits_in r (s.scheds r.wheel).fired ≡ true → waits_in r (others_of (s.scheds r.wheel).fired) ≡ true
+    → IsFirst (s.scheds timer.wheel).expired timer → same_timer timer r ≡ false → has_actor e (Sched r.wheel) ≡ true
+    → waits_in r (s.scheds r.wheel).expired ≡ true → waits_in r (others_of (s.scheds r.wheel).expired) ≡ true
 handed_waits s e timer r by with first not has h =
     let same : timer.wheel ≡ r.wheel = sched_of e timer.wheel r.wheel by with has in
-    let here : first_of (s.scheds r.wheel).fired ≡ Some first.row = subst (λ v. first_of (s.scheds v).fired ≡ Some first.row) same first.first in
-    others_wait (s.scheds r.wheel).fired first.row r here (carry (λ t. same_timer t r ≡ false) first.named not) h
+    let here : first_of (s.scheds r.wheel).expired ≡ Some first.row = subst (λ v. first_of (s.scheds v).expired ≡ Some first.row) same first.first in
+    others_wait (s.scheds r.wheel).expired first.row r here (carry (λ t. same_timer t r ≡ false) first.named not) h
 
 -- what was expired and is so still waits on
 waits_on : (g : Settings) (s : State) (by : Actor) (with : Option Actor) (event : Event) (r : TimerRef) (has_wheel : Bool) → Can g s (made by with event)
-    → status_after r has_wheel (s.status r) event ≡ Some Expired → waits_in r (s.scheds r.wheel).fired ≡ true
+    → status_after r has_wheel (s.status r) event ≡ Some Expired → waits_in r (s.scheds r.wheel).expired ≡ true
     → (b : Bool) → has_actor (made by with event) (Sched r.wheel) ≡ b
-    → waits_in r (cond b (sched_after s.rows (s.scheds r.wheel) event) (s.scheds r.wheel)).fired ≡ true
+    → waits_in r (cond b (sched_after s.rows (s.scheds r.wheel) event) (s.scheds r.wheel)).expired ≡ true
 waits_on g s by with event r has_wheel can now h false is = h
 waits_on g s by with (Expire timer) r has_wheel can now h true is =
-    waits_with r (s.scheds r.wheel).fired (row_of (s.rows timer.wheel) timer) h
+    waits_with r (s.scheds r.wheel).expired (row_of (s.rows timer.wheel) timer) h
 waits_on g s by with (Deliver timer) r has_wheel can now h true is =
     handed_waits s (made by with (Deliver timer)) timer r can.keeps.0 (mail_no_sched g with r.wheel can.keeps.1) can.known.0
     (handed_not_expired Delivered (same_timer timer r) (s.status r) (λ is. cc) now).1 is h
@@ -144,16 +144,16 @@ waits_on g s by with _ r has_wheel can now h true is = h
 -- what expires waits from then on
 starts_waiting : (g : Settings) (s : State) (by : Actor) (with : Option Actor) (event : Event) (r : TimerRef) → Can g s (made by with event)
     → expires event r ≡ true → (b : Bool) → has_actor (made by with event) (Sched r.wheel) ≡ b
-    → waits_in r (cond b (sched_after s.rows (s.scheds r.wheel) event) (s.scheds r.wheel)).fired ≡ true
+    → waits_in r (cond b (sched_after s.rows (s.scheds r.wheel) event) (s.scheds r.wheel)).expired ≡ true
 starts_waiting g s by with (Expire timer) r can expires b is =
     let same : timer ≡ r = same_timer-true timer r expires in
     let has : has_actor (made by with (Expire timer)) (Sched r.wheel) ≡ true =
     has_sched (made by with (Expire timer)) r.wheel (can.keeps.0 ∙ ap (λ (t : TimerRef). Sched t.wheel) same) in
     let here : b ≡ true = sym is ∙ has in
-    let waits : waits_in timer (with_row (s.scheds timer.wheel).fired (row_of (s.rows timer.wheel) timer)) ≡ true =
-    expired_waits (s.rows timer.wheel) (s.scheds timer.wheel).fired timer (next_has_row g s by timer can.known) in
+    let waits : waits_in timer (with_row (s.scheds timer.wheel).expired (row_of (s.rows timer.wheel) timer)) ≡ true =
+    expired_waits (s.rows timer.wheel) (s.scheds timer.wheel).expired timer (next_has_row g s by timer can.known) in
     rw here
-    (subst (λ (t : TimerRef). waits_in t (with_row (s.scheds t.wheel).fired (row_of (s.rows timer.wheel) timer)) ≡ true) same waits)
+    (subst (λ (t : TimerRef). waits_in t (with_row (s.scheds t.wheel).expired (row_of (s.rows timer.wheel) timer)) ≡ true) same waits)
 starts_waiting g s by with _ r can expires b is = absurd cc
 
 waiting_next : (g : Settings) (s : State) (e : Entry) → AllWait s → Can g s e → AllWait (next g s e)
@@ -168,6 +168,6 @@ all_wait g h legal = kept_from g AllWait (waiting_next g) (opening g) h (λ r is
 
 pub expired_timers_wait : LawOfWaiting
 expired_timers_wait g h r legal is =
-    let rows : List Row = ((state g h).scheds r.wheel).fired in
+    let rows : List Row = ((state g h).scheds r.wheel).expired in
     let found = Any-from_list_any (λ (row : Row). same_timer row.timer r) rows (all_wait g h legal r is) in
     (found.0, found.1, found.2, found.3, same_timer-true found.1.timer r found.4)

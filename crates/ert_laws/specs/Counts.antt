@@ -113,7 +113,7 @@ LawOfOrphans = (g : Settings) (h : List Entry) (w : ℕ) → Legal g h
 -- those that are expired wait at the scheduler of their wheel
 abbrev pub LawOfWaits : Type 0
 LawOfWaits = (g : Settings) (h : List Entry) (w : ℕ) → Legal g h
-    → length ((state g h).scheds w).fired ≡ count_at (state g h) Expired w
+    → length ((state g h).scheds w).expired ≡ count_at (state g h) Expired w
 
 -- those that are delivered, of all wheels, were put into the mailboxes of all processes
 abbrev pub LawOfDeliveries : Type 0
@@ -139,7 +139,7 @@ LawOfAll = (g : Settings) (h : List Entry) (n : ℕ) → Legal g h
 -- the counts that agree with the entries of a history and with the lists of its schedulers
 pub record Agrees (g : Settings) (h : List Entry) (n : Counts) : Type 0 where
   pub armed : n.armed ≡ count_in (state g h) Armed g.schedulers
-  pub expired : n.expired ≡ total (λ w. length ((state g h).scheds w).fired) g.schedulers
+  pub expired : n.expired ≡ total (λ w. length ((state g h).scheds w).expired) g.schedulers
   pub delivered : n.delivered ≡ total (λ p. deliveries p h) g.processes
   pub orphaned : n.orphaned ≡ total (λ w. entries_of is_orphan w h) g.schedulers
   -- each timer that expired waits, or was delivered or dropped

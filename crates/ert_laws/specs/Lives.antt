@@ -65,4 +65,4 @@ LawOfMovers = (g : Settings) (h : List Entry) (e : Entry) (r : TimerRef) → Leg
 -- each expired timer waits at the scheduler of its wheel
 abbrev pub LawOfWaiting : Type 0
 LawOfWaiting = (g : Settings) (h : List Entry) (r : TimerRef) → Legal g h → (state g h).status r ≡ Some Expired
-    → Any (λ row. row.timer ≡ r) ((state g h).scheds r.wheel).fired
+    → Any (λ row. row.timer ≡ r) ((state g h).scheds r.wheel).expired

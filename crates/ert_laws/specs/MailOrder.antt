@@ -91,7 +91,7 @@ is_handed_over _ = false
 -- a scheduler hands its expired timers over in order of expiry: those that wait are the last
 pub record InTurn (g : Settings) (h : List Entry) (w : ℕ) : Type 0 where
   pub handed : List Row
-  pub all : expired_of g w h ≡ handed ++ ((state g h).scheds w).fired
+  pub all : expired_of g w h ≡ handed ++ ((state g h).scheds w).expired
   pub over : All (λ row. is_handed_over ((state g h).status row.timer) ≡ true) handed
 
 -- in each legal history each scheduler does so

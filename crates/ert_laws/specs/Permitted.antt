@@ -1,7 +1,7 @@
 -- What a clock is permitted to do, as a statement on a history (ERTS User's Guide, "Time Warp Modes").
 
 use Rattle.std.specs.Prelude.{◌≡◌, ◌⊎◌, ℕ, ◌+◌, ◌≤◌, ◌-ℤ◌, ◌≤ℤ◌, Bool, true, false, List, [], ◌∷◌}
-use Rattle.ert_defs.specs.ClockMoves.{GrowsAtRate, ShiftIs, OfLastTick}
+use Rattle.ert_defs.specs.ClockMoves.{GrowsWithinPercent, ShiftIs, OfLastTick}
 use Rattle.ert_defs.specs.Clocks.{Clock, last_mono}
 use Rattle.ert_defs.specs.States.{State, opening, next}
 use Rattle.ert_defs.specs.declared.entry.Entry.{Entry}
@@ -13,7 +13,7 @@ use Rattle.ert_defs.specs.declared.settings.Settings.{Settings}
 
 -- how a tick may move the time, with correction and without
 abbrev pub TimeMoves : Bool → Settings → Clock → Clock → Reading → Type 0
-TimeMoves true g a b r = GrowsAtRate (last_mono g a.ticks) (last_mono g b.ticks) a.now b.now
+TimeMoves true g a b r = GrowsWithinPercent (last_mono g a.ticks) (last_mono g b.ticks) a.now b.now
 TimeMoves false g a b r = (b.now ≡ a.now) ⊎ (b.now ≡ (r.sys -ℤ a.offset))
 
 -- how an event may move the clock

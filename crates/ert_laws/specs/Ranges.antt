@@ -35,18 +35,18 @@ abbrev pub LawOfRowRanges : Type 0
 LawOfRowRanges = (g : Settings) (h : List Entry) (w : ℕ) → Legal g h → All (IsPlaced g w) ((state g h).rows w)
 
 -- so is each expired timer that waits at a scheduler
-abbrev pub LawOfFiredRanges : Type 0
-LawOfFiredRanges = (g : Settings) (h : List Entry) (w : ℕ) → Legal g h → All (IsPlaced g w) ((state g h).scheds w).fired
+abbrev pub LawOfExpiredRanges : Type 0
+LawOfExpiredRanges = (g : Settings) (h : List Entry) (w : ℕ) → Legal g h → All (IsPlaced g w) ((state g h).scheds w).expired
 
 -- and so the first of them
 abbrev pub LawOfFirstRanges : Type 0
 LawOfFirstRanges = (g : Settings) (h : List Entry) (w : ℕ) (row : Row) → Legal g h
-    → first_of ((state g h).scheds w).fired ≡ Some row
+    → first_of ((state g h).scheds w).expired ≡ Some row
     → IsPlaced g w row
 
 -- at most as many expired timers wait at a scheduler as its wheel has slots
 abbrev pub LawOfFew : Type 0
-LawOfFew = (g : Settings) (h : List Entry) (w : ℕ) → Legal g h → length ((state g h).scheds w).fired ≤ g.slots
+LawOfFew = (g : Settings) (h : List Entry) (w : ℕ) → Legal g h → length ((state g h).scheds w).expired ≤ g.slots
 
 -- each timer that was ever armed has a row
 abbrev pub LawOfStanding : Type 0

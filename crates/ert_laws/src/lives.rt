@@ -1,6 +1,6 @@
 //! The lives of timers.
 
-ghost use Rattle.ert_defs.specs.Laws.{LawOfFired, LawOfDelivery, LawOfDrop};
+ghost use Rattle.ert_defs.specs.Laws.{LawOfExpired, LawOfDelivery, LawOfDrop};
 ghost use Rattle.ert_laws.specs.Lives.{LawOfLives, LawOfMovers, LawOfWaiting};
 
 /// The life of a timer is one of six: armed; armed, cancelled; armed, orphaned; armed, expired; armed, expired,
@@ -15,7 +15,7 @@ pub fn timers_have_six_lives()
 /// The list of a scheduler has just the expired timers of its wheel. Each is the last of its slot, and stands
 /// there once. So a delivery or a drop never misses.
 pub fn expired_timers_wait_once()
-    ensures lists { LawOfFired }
+    ensures lists { LawOfExpired }
     ensures waiting { LawOfWaiting }
     ensures delivery { LawOfDelivery }
     ensures drop { LawOfDrop }

@@ -1,6 +1,6 @@
 //! What the numbers in a legal history name.
 
-ghost use Rattle.ert_laws.specs.Ranges.{LawOfInboxes, LawOfHands, LawOfRowRanges, LawOfFiredRanges, LawOfFirstRanges, LawOfFew, LawOfStanding};
+ghost use Rattle.ert_laws.specs.Ranges.{LawOfInboxes, LawOfHands, LawOfRowRanges, LawOfExpiredRanges, LawOfFirstRanges, LawOfFew, LawOfStanding};
 
 /// Each request that waits in an inbox, and each that a scheduler has in its hand, names a process in range.
 pub fn requests_are_in_range()
@@ -12,7 +12,7 @@ pub fn requests_are_in_range()
 /// those of the expired timers that wait at a scheduler, and of the first of these.
 pub fn rows_are_in_range()
     ensures rows { LawOfRowRanges }
-    ensures fired { LawOfFiredRanges }
+    ensures expired { LawOfExpiredRanges }
     ensures first { LawOfFirstRanges }
 {}
 

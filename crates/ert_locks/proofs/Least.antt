@@ -8,7 +8,7 @@ use Rattle.ert_defs.specs.declared.entry.Actor.TheVariants.{Keeper, Caller}
 use Rattle.ert_defs.specs.declared.settings.OffsetState.{OffsetState}
 use Rattle.ert_defs.specs.declared.settings.OffsetState.TheVariants.{Preliminary, Final, Volatile}
 use Rattle.ert_defs.specs.declared.settings.Settings.{Settings}
-use Rattle.ert_calls.specs.Published.{ReadsOffsetBy}
+use Rattle.ert_calls.specs.Published.{ReadsByLeastCaller}
 use Rattle.ert_table.specs.Held.{least_caller}
 use Rattle.ert_table.specs.declared.view.View.{View}
 
@@ -38,7 +38,7 @@ least_one n (suc m) low = by_test (nat_eq n m) refl (λ below. least_one n m bel
         let below : n < m = less n m ne low in
         rw (more below) refl
 
-pub reads_by : (s : OffsetState) (g : Settings) (v : View) (by : ℕ) → v.actors ≡ Keeper ∷ (Caller by ∷ []) → by < g.callers → ReadsOffsetBy s g v by
+pub reads_by : (s : OffsetState) (g : Settings) (v : View) (by : ℕ) → v.actors ≡ Keeper ∷ (Caller by ∷ []) → by < g.callers → ReadsByLeastCaller s g v by
 reads_by Preliminary g v by actors low = tt
 reads_by Final g v by actors low = rw actors (least_one by g.callers low)
 reads_by Volatile g v by actors low = rw actors (least_one by g.callers low)

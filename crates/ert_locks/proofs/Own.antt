@@ -1,8 +1,8 @@
 -- Each entry of a call has the actor that makes the call.
 
 use Rattle.std.proofs.Common.{◌≡◌, ℕ, zero, suc, Bool, true, false, List, [], ◌∷◌, ◌++◌, Option, Some, None, Result, Ok, Err, inl, inr, refl, sym, subst}
-use Rattle.ert_effects.specs.ClockCalls.{Ticks, Finalizes, FinalizesFrom, TakesReading}
-use Rattle.ert_effects.specs.MailCalls.{HandsOver, Takes, Monitors, Demonitors, Tells}
+use Rattle.ert_effects.specs.ClockCalls.{Ticks, Finalizes, FinalizesFrom, ActsOnReading}
+use Rattle.ert_effects.specs.MailCalls.{HandsOver, Takes, Monitors, Demonitors, Notifies}
 use Rattle.ert_effects.specs.RequestCalls.{Asks, Picks, Answers, DoesAsked}
 use Rattle.ert_effects.proofs.Told.{round_probes}
 use Rattle.ert_effects.specs.TimerCalls.{Starts, AreProbes, Closes, read_entries, cancel_entries}
@@ -54,7 +54,7 @@ shifts_have by act None = tt
 shifts_have by act (Some offset) = (same_actor_self (Caller by), tt)
 
 acts_have : (g : Settings) (by : ℕ) (r : Reading) (act : Act) (answer : Result Moved ClockErr) (s : State) (es : List Entry)
-    → TakesReading g by r act answer s es → AllHave (Caller by) es
+    → ActsOnReading g by r act answer s es → AllHave (Caller by) es
 acts_have g by r act (Ok m) s es acts = as_these (Caller by) es _ acts.entries (same_actor_self (Caller by), shifts_have by act m.shift)
 acts_have g by r act (Err BadReading) s es acts = as_these (Caller by) es _ acts.none tt
 acts_have g by r act (Err (OffsetWide value)) s es acts = as_these (Caller by) es _ acts.none tt
@@ -165,11 +165,11 @@ answers_have g w request (Ok left) s es answers =
     (have-append (Sched w) answers.steps _ (asked_have request.kind g w request.timer left s answers.steps answers.done) ((rw (same_actor_self (Sched w)) refl), tt))
 answers_have g w request (Err e) s es answers = as_these (Sched w) es _ answers tt
 
-pub hands_have : (g : Settings) (w : ℕ) (fired : Row) (how : Result Handed NoMemory) (s : State) (es : List Entry)
-    → HandsOver g w fired how s es → AllHave (Sched w) es
-hands_have g w fired (Ok Put) s es hands = as_these (Sched w) es _ hands ((rw (same_actor_self (Sched w)) refl), ((rw (same_actor_self (Sched w)) refl), tt))
-hands_have g w fired (Ok Dropped) s es hands = as_these (Sched w) es _ hands ((rw (same_actor_self (Sched w)) refl), ((rw (same_actor_self (Sched w)) refl), tt))
-hands_have g w fired (Err e) s es hands = as_these (Sched w) es _ hands tt
+pub hands_have : (g : Settings) (w : ℕ) (expired : Row) (how : Result Handed NoMemory) (s : State) (es : List Entry)
+    → HandsOver g w expired how s es → AllHave (Sched w) es
+hands_have g w expired (Ok Put) s es hands = as_these (Sched w) es _ hands ((rw (same_actor_self (Sched w)) refl), ((rw (same_actor_self (Sched w)) refl), tt))
+hands_have g w expired (Ok Dropped) s es hands = as_these (Sched w) es _ hands ((rw (same_actor_self (Sched w)) refl), ((rw (same_actor_self (Sched w)) refl), tt))
+hands_have g w expired (Err e) s es hands = as_these (Sched w) es _ hands tt
 
 pub takes_have : (g : Settings) (by p : ℕ) (answer : Taken) (s : State) (es : List Entry) → Takes g by p answer s es → AllHave (Caller by) es
 takes_have g by p Exited s es takes = as_these (Caller by) es _ takes ((rw (same_actor_self (Caller by)) refl), tt)
@@ -186,6 +186,6 @@ pub demonitors_have : (g : Settings) (by p monitor : ℕ) (answer : Bool) (s : S
     → AllHave (Caller by) es
 demonitors_have g by p monitor answer s es demonitors = as_these (Caller by) es _ demonitors ((rw (same_actor_self (Caller by)) refl), tt)
 
-pub tells_have : (g : Settings) (by p : ℕ) (answer : Result ℕ NoMemory) (s : State) (es : List Entry) → Tells g by p answer s es → AllHave (Caller by) es
-tells_have g by p (Ok put) s es tells = as_these (Caller by) es _ tells.entries ((rw (same_actor_self (Caller by)) refl), tt)
-tells_have g by p (Err e) s es tells = as_these (Caller by) es _ tells tt
+pub notifies_have : (g : Settings) (by p : ℕ) (answer : Result ℕ NoMemory) (s : State) (es : List Entry) → Notifies g by p answer s es → AllHave (Caller by) es
+notifies_have g by p (Ok put) s es tells = as_these (Caller by) es _ tells.entries ((rw (same_actor_self (Caller by)) refl), tt)
+notifies_have g by p (Err e) s es tells = as_these (Caller by) es _ tells tt

@@ -25,7 +25,7 @@ use Rattle.ert_locks.specs.Hands.{hand_left, rows_left, counted}
 use Rattle.ert_locks.specs.Kinds.{PartFits, scheds}
 use Rattle.ert_locks.specs.Names.{IsDesk}
 use Rattle.ert_locks.specs.Passes.{PartMeets}
-use Rattle.ert_mail.specs.Mailboxes.{handed, after_answer}
+use Rattle.ert_mail.specs.Mailboxes.{handed, sched_after_answer}
 use Rattle.ert_world.proofs.Advances.{advance_hand, advance_still, advance_fits, difference}
 use Rattle.ert_world.proofs.SchedCalls.{sched_stands}
 use Rattle.ert_world.specs.Parts.{SchedStands}
@@ -42,54 +42,54 @@ use Rattle.ert_defs.specs.declared.settings.TheConstants.{MOST_SLOTS}
 -- after a step the part and its pass make a seat again, where the part has what the history has
 pub seat_after : {table : TableId} {g : Settings} {x : SchedPart} {p : Pass} {h : List Entry} (d : Desk) (after : SchedState) → IsDesk table g d → Belongs d p
     → actors_of p ≡ Sched x.wheel ∷ [] → front_of p ≡ h → x.wheel < g.schedulers → (state (settings_of d) h).scheds x.wheel ≡ after
-    → x.hand ≡ after.hand → x.fired.rows ≡ after.fired → PartFits table g scheds x p
-seat_after {table} {g} {x} {p} {h} d after desk belongs actors front low made hand fired =
+    → x.hand ≡ after.hand → x.expired.rows ≡ after.expired → PartFits table g scheds x p
+seat_after {table} {g} {x} {p} {h} d after desk belongs actors front low made hand expired =
     record {
       sits = is_of table g (Sched x.wheel) d p desk belongs actors;
       stands = sched_stands g (front_of p) x after low
-          (ap (λ l. (state g l).scheds x.wheel) front ∙ subst (λ s. (state s h).scheds x.wheel ≡ after) desk.settings_is made) hand fired;
+          (ap (λ l. (state g l).scheds x.wheel) front ∙ subst (λ s. (state s h).scheds x.wheel ≡ after) desk.settings_is made) hand expired;
     }
 
 -- an answer empties the hand, or leaves what the scheduler has
-pub answered_hand : (left : Result (Option ℕ) NoMemory) (s : SchedState) (hand : Option Request) → hand ≡ s.hand → hand_left left hand ≡ (after_answer left s).hand
+pub answered_hand : (left : Result (Option ℕ) NoMemory) (s : SchedState) (hand : Option Request) → hand ≡ s.hand → hand_left left hand ≡ (sched_after_answer left s).hand
 answered_hand (Ok left) s hand is = refl
 answered_hand (Err e) s hand is = is
 
-pub answered_fired : (left : Result (Option ℕ) NoMemory) (s : SchedState) (rows : List Row) → rows ≡ s.fired → rows ≡ (after_answer left s).fired
-answered_fired (Ok left) s rows is = is
-answered_fired (Err e) s rows is = is
+pub answered_expired : (left : Result (Option ℕ) NoMemory) (s : SchedState) (rows : List Row) → rows ≡ s.expired → rows ≡ (sched_after_answer left s).expired
+answered_expired (Ok left) s rows is = is
+answered_expired (Err e) s rows is = is
 
 -- one that is handed over goes from the list
 pub handed_hand : (how : Result Handed NoMemory) (s : SchedState) (hand : Option Request) → hand ≡ s.hand → hand ≡ (handed how s).hand
 handed_hand (Ok how) s hand is = is
 handed_hand (Err e) s hand is = is
 
-pub handed_fired : (how : Result Handed NoMemory) (s : SchedState) (rows : List Row) → rows ≡ s.fired → rows_left how rows ≡ (handed how s).fired
-handed_fired (Ok how) s rows is = ap (λ (l : List Row). others_of l) is
-handed_fired (Err e) s rows is = is
+pub handed_expired : (how : Result Handed NoMemory) (s : SchedState) (rows : List Row) → rows ≡ s.expired → rows_left how rows ≡ (handed how s).expired
+handed_expired (Ok how) s rows is = ap (λ (l : List Row). others_of l) is
+handed_expired (Err e) s rows is = is
 
 -- an advance of a scheduler, with its count, which is small
 pub record Advanced (g : Settings) (n m : ℕ) (to : Result ℕ NoMemory) (p : SchedPart) (x : SchedPart) (j u : View) : Type 0 where
   pub made : IsMade g j (Advances g p.wheel (counted to (n - m))) u
   pub hand : p.hand ≡ ((state g u.front).scheds p.wheel).hand
-  pub fired : x.fired.rows ≡ ((state g u.front).scheds p.wheel).fired
+  pub expired : x.expired.rows ≡ ((state g u.front).scheds p.wheel).expired
   pub few : IfOk to (λ at. (m ≤ n) × (n - m ≤ MOST_SLOTS))
 
 pub advanced : (g : Settings) (n m : ℕ) (to : Result ℕ NoMemory) (p x : SchedPart) (j u : View) → g.slots ≤ MOST_SLOTS → is_held j.actors (Sched p.wheel) ≡ true
-    → SchedStands g j.front p → IsAdvanced g j p.wheel to p.fired x.fired u → n ≡ length x.fired.rows → m ≡ length p.fired.rows → Advanced g n m to p x j u
+    → SchedStands g j.front p → IsAdvanced g j p.wheel to p.expired x.expired u → n ≡ length x.expired.rows → m ≡ length p.expired.rows → Advanced g n m to p x j u
 advanced g n m (Ok to) p x j u high held has is now was =
     let w = p.wheel in
-    let count : n - m ≡ length is.gained = difference n m p.fired.rows is.gained (now ∙ ap (λ (l : List Row). length l) is.fired) was in
+    let count : n - m ≡ length is.gained = difference n m p.expired.rows is.gained (now ∙ ap (λ (l : List Row). length l) is.expired) was in
     record {
       made = subst (λ k. IsMade g j (Advances g w (Ok (to, k))) u) (sym count) is.call;
       hand = has.hand ∙ sym (advance_hand g w (Ok (to, length is.gained)) j u held is.call);
-      fired = is.fired ∙ (ap (λ l. l ++ is.gained) has.fired ∙ sym is.waits);
-      few = advance_fits g w to n m p.fired x.fired j u high is now was;
+      expired = is.expired ∙ (ap (λ l. l ++ is.gained) has.expired ∙ sym is.waits);
+      few = advance_fits g w to n m p.expired x.expired j u high is now was;
     }
 advanced g n m (Err e) p x j u high held has is now was = record {
   made = is.call;
   hand = has.hand ∙ sym (advance_hand g p.wheel (Err e) j u held is.call);
-  fired = is.fired ∙ (has.fired ∙ sym (advance_still g p.wheel e j u held is.call));
+  expired = is.expired ∙ (has.expired ∙ sym (advance_still g p.wheel e j u held is.call));
   few = tt;
 }
 
@@ -112,22 +112,22 @@ swept g a by process w f h grows none = record {
 }
 
 -- the first expired timer of a scheduler is handed over
-pub hands : (g : Settings) (p : SchedPart) (fired : Row) (how : Result Handed NoMemory) (f h : List Entry) → SchedStands g f p
-    → first_of p.fired.rows ≡ Some fired → Grows (beside g (Sched p.wheel) (MailOf fired.dest ∷ []) (HandsOver g p.wheel fired how)) f h
+pub hands : (g : Settings) (p : SchedPart) (expired : Row) (how : Result Handed NoMemory) (f h : List Entry) → SchedStands g f p
+    → first_of p.expired.rows ≡ Some expired → Grows (beside g (Sched p.wheel) (MailOf expired.dest ∷ []) (HandsOver g p.wheel expired how)) f h
     → Grows (Hands g (beside g (Sched p.wheel)) p.wheel how) f h
-hands g p fired how f h stands first grows = record {
+hands g p expired how f h stands first grows = record {
   piece = grows.piece;
   grown = grows.grown;
   made = record {
-    fired = fired;
-    first = ap (λ (l : List Row). first_of l) (sym stands.fired) ∙ first;
+    expired = expired;
+    first = ap (λ (l : List Row). first_of l) (sym stands.expired) ∙ first;
     step = grows.made;
   };
 }
 
 -- it is the first that the front has, and one of the scheduler's wheel
-pub first_in : {t : Settings} {h : List Entry} {x : SchedPart} (row : Row) → Legal t h → SchedStands t h x → first_of x.fired.rows ≡ Some row
-    → (first_of ((state t h).scheds x.wheel).fired ≡ Some row) × (row.timer.wheel ≡ x.wheel)
+pub first_in : {t : Settings} {h : List Entry} {x : SchedPart} (row : Row) → Legal t h → SchedStands t h x → first_of x.expired.rows ≡ Some row
+    → (first_of ((state t h).scheds x.wheel).expired ≡ Some row) × (row.timer.wheel ≡ x.wheel)
 first_in {t} {h} {x} row legal stands first =
-    let here : first_of ((state t h).scheds x.wheel).fired ≡ Some row = ap (λ (l : List Row). first_of l) (sym stands.fired) ∙ first in
+    let here : first_of ((state t h).scheds x.wheel).expired ≡ Some row = ap (λ (l : List Row). first_of l) (sym stands.expired) ∙ first in
     (here, (first_placed t h x.wheel row legal here).wheel)

@@ -36,7 +36,7 @@ sched_on g f h p longer same stands =
     record {
       in_range = stands.in_range;
       hand = stands.hand ∙ ap (λ (s : SchedState). s.hand) (sym kept);
-      fired = stands.fired ∙ ap (λ (s : SchedState). s.fired) (sym kept);
+      expired = stands.expired ∙ ap (λ (s : SchedState). s.expired) (sym kept);
     }
 
 pub keepers_are : IsKind keepers

@@ -15,7 +15,7 @@ impl<L: DeskName> Locked<InboxPart, L> {
 
     /// Puts a request last, for a caller (`cancel_timer` and `read_timer`, option `async`).
     ///
-    /// After want of memory nothing has changed.
+    /// If memory runs out, nothing has changed.
     pub fn ask(
         &mut self,
         desk: &Desk,

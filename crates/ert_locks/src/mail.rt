@@ -10,7 +10,7 @@ mod handing;
 
 impl<L: DeskName> Locked<MailPart, L> {
     ghost use Rattle.std.specs.Prelude.{◌≡◌};
-    ghost use Rattle.ert_effects.specs.MailCalls.{Takes, Monitors, Demonitors, Tells};
+    ghost use Rattle.ert_effects.specs.MailCalls.{Takes, Monitors, Demonitors, Notifies};
     ghost use Rattle.ert_defs.specs.declared.entry.Actor.TheVariants.{MailOf, Caller};
     ghost use Rattle.ert_locks.specs.Names.{IsDesk};
     ghost use Rattle.ert_locks.specs.Passes.{StepsWith};
@@ -63,19 +63,19 @@ impl<L: DeskName> Locked<MailPart, L> {
         answer
     }
 
-    /// Tells the process the time offset by one message for each monitor to which it is news, and answers
+    /// Notifies the process of the time offset by one message for each monitor to which it is news, and answers
     /// how many there were (ERTS User's Guide, "Time Warp Modes": `CHANGE` messages).
     ///
-    /// After want of memory nothing has changed.
-    pub fn tell(&mut self, desk: &Desk, seat: &mut CallerSeat<L>) -> Result<u32, NoMemory>
+    /// If memory runs out, nothing has changed.
+    pub fn notify(&mut self, desk: &Desk, seat: &mut CallerSeat<L>) -> Result<u32, NoMemory>
         requires desk { IsDesk L.table L.settings desk.now }
         ensures same { self.new ≡ self.old }
         ensures number { seat.new.number ≡ seat.old.number }
-        ensures call { StepsWith L.settings (Caller seat.old.number) (MailOf self.old) (Tells L.settings seat.old.number self.old result) seat.old.pass seat.new.pass }
+        ensures call { StepsWith L.settings (Caller seat.old.number) (MailOf self.old) (Notifies L.settings seat.old.number self.old result) seat.old.pass seat.new.pass }
     {
         let by = seat.number;
         meet::<MailPart, L>(desk, &self.part, &mut self.pass, &mut seat.pass);
-        let answer = self.part.tell(desk, &mut self.pass, by);
+        let answer = self.part.notify(desk, &mut self.pass, by);
         seat.pass = self.pass.split(desk, Actor::Caller(by));
         answer
     }

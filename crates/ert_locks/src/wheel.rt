@@ -16,7 +16,7 @@ impl<L: DeskName> Locked<WheelPart, L> {
     ghost use Rattle.ert_effects.specs.Chains.{AdvancesWheel, SweepsWheel};
     ghost use Rattle.ert_effects.specs.TimerCalls.{Starts};
     ghost use Rattle.ert_effects.specs.Ways.{beside};
-    ghost use Rattle.ert_effects.specs.declared.answers.StartErr.TheVariants.{NoMemory as WantOfMemory};
+    ghost use Rattle.ert_effects.specs.declared.answers.StartErr.TheVariants.{NoMemory as OutOfMemory};
     ghost use Rattle.ert_defs.specs.States.{state};
     ghost use Rattle.ert_defs.specs.declared.entry.Actor.TheVariants.{Wheel, Sched, Caller};
     ghost use Rattle.ert_locks.specs.Names.{IsDesk};
@@ -38,7 +38,7 @@ impl<L: DeskName> Locked<WheelPart, L> {
         requires dest { start.now.dest < L.settings.processes }
         ensures same { self.new ≡ self.old }
         ensures number { seat.new.number ≡ seat.old.number }
-        ensures memory { result ≢ Err WantOfMemory }
+        ensures memory { result ≢ Err OutOfMemory }
         ensures call { StepsWith L.settings (Caller seat.old.number) (Wheel self.old)
             (Starts L.settings seat.old.number self.old start.now result) seat.old.pass seat.new.pass }
     {
@@ -67,7 +67,7 @@ impl<L: DeskName> Locked<WheelPart, L> {
     /// Lets every due timer expire, for the scheduler of this wheel, and answers the time, in whole
     /// milliseconds since the start time, and how many expired.
     ///
-    /// After want of memory none has expired.
+    /// If memory runs out, none has expired.
     pub fn advance(&mut self, desk: &Desk, seat: &mut SchedSeat<L>) -> Result<(u64, u32), NoMemory>
         requires desk { IsDesk L.table L.settings desk.now }
         requires own { self.old ≡ seat.old.part.wheel }
@@ -77,11 +77,11 @@ impl<L: DeskName> Locked<WheelPart, L> {
     {
         let wheel = seat.part.wheel;
         meet::<WheelPart, L>(desk, &self.part, &mut self.pass, &mut seat.pass);
-        let before = seat.part.fired.len();
+        let before = seat.part.expired.len();
         let to = self
             .part
-            .advance(desk, &mut self.pass, &mut seat.part.fired);
-        let after = seat.part.fired.len();
+            .advance(desk, &mut self.pass, &mut seat.part.expired);
+        let after = seat.part.expired.len();
         seat.pass = self.pass.split(desk, Actor::Sched(wheel));
         counted(to, before, after)
     }

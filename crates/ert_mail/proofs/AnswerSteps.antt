@@ -5,7 +5,7 @@ use Rattle.ert_defs.specs.Entries.{look_entry, peek_entry, cancel_entry, answer_
 use Rattle.ert_defs.specs.Legal.{IsResult, names_timer}
 use Rattle.ert_defs.specs.Mails.{SchedState, answer_in, is_about}
 use Rattle.ert_defs.specs.States.{State, next, run, state}
-use Rattle.ert_defs.proofs.FiredTimers.{same_timer_self}
+use Rattle.ert_defs.proofs.ExpiredTimers.{same_timer_self}
 use Rattle.ert_defs.specs.declared.entry.Actor.TheVariants.{Sched, MailOf}
 use Rattle.ert_defs.specs.declared.entry.Entry.{Entry}
 use Rattle.ert_defs.specs.declared.mail.Request.{Request}
@@ -22,7 +22,7 @@ use Rattle.ert_table.proofs.Calls.{step_takes_place, takes_place_then}
 use Rattle.ert_table.proofs.Parts.{AreByThemselves, mail_own, sched_own, own_after, stepped}
 use Rattle.ert_table.specs.declared.view.View.{View}
 use Rattle.ert_laws.specs.Counts.{deliveries}
-use Rattle.ert_mail.specs.Mailboxes.{HoldsMailbox, after_answer}
+use Rattle.ert_mail.specs.Mailboxes.{HoldsMailboxAndSched, sched_after_answer}
 use Rattle.ert_mail.specs.Steps.{IsReplied, with_answer}
 use Rattle.ert_mail.proofs.Standing.{deliveries_after, mails_before}
 use Rattle.ert_mail.proofs.Handings.{scheds_before}
@@ -82,12 +82,12 @@ mails_asked g n p timer left es (inr (inr are)) =
 -- the scheduler has then the same request in its hand, with this result
 pub record IsDone (g : Settings) (request : Request) (left : Option ℕ) (s t : SchedState) : Type 0 where
   pub hand : t.hand ≡ s.hand
-  pub fired : t.fired ≡ s.fired
+  pub expired : t.expired ≡ s.expired
   pub result : IsResult (names_timer g request.timer) t.result left
 
 -- what it has after a step on a timer
 abbrev noted : TimerRef → Option ℕ → SchedState → SchedState
-noted timer left s = record { hand = s.hand; result = cond (is_about timer s.hand) (Some left) s.result; fired = s.fired }
+noted timer left s = record { hand = s.hand; result = cond (is_about timer s.hand) (Some left) s.result; expired = s.expired }
 
 looked : (g : Settings) (n : ℕ) (now : ℤ) (s : State) → (next g s (look_entry (Sched n) now)).scheds n ≡ s.scheds n
 looked g n now s = rw (eq-eqb n n refl) refl
@@ -118,10 +118,10 @@ noted_is : (timer : TimerRef) (left : Option ℕ) (request : Request) (s : Sched
 noted_is timer left request s hand same = rw (hand, same, same_timer_self timer) refl
 
 done : (g : Settings) (request : Request) (left : Option ℕ) (s t u : SchedState) → s.hand ≡ Some request → names_timer g request.timer ≡ true
-    → t.hand ≡ s.hand → t.fired ≡ s.fired → u ≡ noted request.timer left t → IsDone g request left s u
-done g request left s t u hand names same_hand same_fired is = record {
+    → t.hand ≡ s.hand → t.expired ≡ s.expired → u ≡ noted request.timer left t → IsDone g request left s u
+done g request left s t u hand names same_hand same_expired is = record {
   hand = ap (λ (x : SchedState). x.hand) is ∙ same_hand;
-  fired = ap (λ (x : SchedState). x.fired) is ∙ same_fired;
+  expired = ap (λ (x : SchedState). x.expired) is ∙ same_expired;
   result = rw names (ap (λ (x : SchedState). x.result) is ∙ noted_is request.timer left request t (same_hand ∙ hand) refl);
 }
 
@@ -133,7 +133,7 @@ sched_asked g n request left es (inl are) =
       (by_look g n are.0, tt),
       λ s hand. record {
         hand = ap (λ (x : SchedState). x.hand) (looked g n are.0 s);
-        fired = ap (λ (x : SchedState). x.fired) (looked g n are.0 s);
+        expired = ap (λ (x : SchedState). x.expired) (looked g n are.0 s);
         result = rw are.1 are.2;
       },
     )
@@ -154,13 +154,13 @@ sched_asked g n request left es (inr (inr are)) =
 
 -- what a pass knows once the request in the hand of its scheduler is done
 record IsAnswerable (g : Settings) (v : View) (n : ℕ) (request : Request) (left : Option ℕ) (u : View) : Type 0 where
-  holds : HoldsMailbox g u n request.reply_to
+  holds : HoldsMailboxAndSched g u n request.reply_to
   sched : IsDone g request left ((state g v.front).scheds n) ((state g u.front).scheds n)
   hand : ((state g u.front).scheds n).hand ≡ Some request
   mails : (state g u.front).mails request.reply_to ≡ (state g v.front).mails request.reply_to
   undelivered : deliveries request.reply_to u.front ≡ deliveries request.reply_to v.front
 
-answerable : (g : Settings) (v : View) (n : ℕ) (request : Request) (left : Option ℕ) (u : View) → HoldsMailbox g v n request.reply_to
+answerable : (g : Settings) (v : View) (n : ℕ) (request : Request) (left : Option ℕ) (u : View) → HoldsMailboxAndSched g v n request.reply_to
     → ((state g v.front).scheds n).hand ≡ Some request → IsMade g v (DoesAsked request.kind g n request.timer left) u
     → IsAnswerable g v n request left u
 answerable g v n request left u holds hand does =
@@ -184,7 +184,7 @@ answerable g v n request left u holds hand does =
           ∙ (ap (λ d. deliveries p v.front + d) mail.2 ∙ add-zero (deliveries p v.front));
     }
 
-pub may_answer : (g : Settings) (v : View) (n : ℕ) (request : Request) (left : Option ℕ) (u : View) → HoldsMailbox g v n request.reply_to
+pub may_answer : (g : Settings) (v : View) (n : ℕ) (request : Request) (left : Option ℕ) (u : View) → HoldsMailboxAndSched g v n request.reply_to
     → request.reply_to < g.processes → ((state g v.front).scheds n).hand ≡ Some request
     → IsMade g v (DoesAsked request.kind g n request.timer left) u → MayStep g u (answer_entry n request.reply_to left)
 may_answer g v n request left u holds in_range hand does =
@@ -195,7 +195,7 @@ may_answer g v n request left u holds in_range hand does =
       known = record { request = request; hand = now.hand; asker = refl; result = now.sched.result };
     }
 
-pub replied : (g : Settings) (v : View) (n : ℕ) (request : Request) (left : Option ℕ) (u x : View) → HoldsMailbox g v n request.reply_to
+pub replied : (g : Settings) (v : View) (n : ℕ) (request : Request) (left : Option ℕ) (u x : View) → HoldsMailboxAndSched g v n request.reply_to
     → ((state g v.front).scheds n).hand ≡ Some request → IsMade g v (DoesAsked request.kind g n request.timer left) u
     → Appends g u (answer_entry n request.reply_to left) x → IsReplied g v n request left x
 replied g v n request left u x holds hand does step =
@@ -206,8 +206,8 @@ replied g v n request left u x holds hand does step =
     let sched_at = scheds_before g u e x n now.holds.sched step in
     let mail_at = mails_before g u e x p now.holds.mail step in
     let hand_at : (at.scheds n).hand ≡ Some request = ap (λ (s : SchedState). s.hand) sched_at ∙ now.hand in
-    let fired_at : (at.scheds n).fired ≡ ((state g v.front).scheds n).fired = ap (λ (s : SchedState). s.fired) sched_at ∙ now.sched.fired in
-    let sched_is : (s : State) → (next g s e).scheds n ≡ after_answer (Ok left) (s.scheds n) = λ s. rw (eq-eqb n n refl) refl in
+    let expired_at : (at.scheds n).expired ≡ ((state g v.front).scheds n).expired = ap (λ (s : SchedState). s.expired) sched_at ∙ now.sched.expired in
+    let sched_is : (s : State) → (next g s e).scheds n ≡ sched_after_answer (Ok left) (s.scheds n) = λ s. rw (eq-eqb n n refl) refl in
     let mail_is : (s : State) → (next g s e).mails p ≡ record { queue = (s.mails p).queue ++ answer_in (s.scheds n).hand left; monitors = (s.mails p).monitors; next = (s.mails p).next } =
     λ s. rw (eq-eqb p p refl) refl in
     let none : deliveries p (e ∷ []) ≡ 0 = rw (eq-eqb p p refl) refl in
@@ -218,7 +218,7 @@ replied g v n request left u x holds hand does step =
         call = takes_place_then g v u x does.entries (e ∷ []) does.call (step_takes_place g u e x step);
       };
       sched = ap (λ (s : State). s.scheds n) (stepped g u e x step)
-          ∙ (sched_is at ∙ ap (λ fired. record { hand = None; result = None; fired = fired }) fired_at);
+          ∙ (sched_is at ∙ ap (λ expired. record { hand = None; result = None; expired = expired }) expired_at);
       mails = ap (λ (s : State). s.mails p) (stepped g u e x step)
           ∙ (mail_is at
           ∙ (ap (λ hand. record { queue = (at.mails p).queue ++ answer_in hand left; monitors = (at.mails p).monitors; next = (at.mails p).next }) hand_at

@@ -15,7 +15,7 @@ use Rattle.ert_table.specs.Takes.{Appends}
 use Rattle.ert_table.proofs.Makings.{step_made}
 use Rattle.ert_table.proofs.Parts.{part_before, stepped}
 use Rattle.ert_table.specs.declared.view.View.{View}
-use Rattle.ert_mail.specs.Inboxes.{Waiting, InboxStands, after_pick}
+use Rattle.ert_mail.specs.Inboxes.{Waiting, InboxStands, sched_after_pick}
 
 -- an entry makes this of the requests that wait for a scheduler
 abbrev Turns : Settings → ℕ → Entry → (List Request → List Request) → Type 0
@@ -56,10 +56,10 @@ stands_picked g v w got q r held stands step wheel requests =
 
 -- what the scheduler has then
 pub sched_picked : (g : Settings) (v w : View) (n : ℕ) (got : Option Request) → is_held v.actors (Sched n) ≡ true
-    → Appends g v (pick_entry n got) w → (state g w.front).scheds n ≡ after_pick got ((state g v.front).scheds n)
+    → Appends g v (pick_entry n got) w → (state g w.front).scheds n ≡ sched_after_pick got ((state g v.front).scheds n)
 sched_picked g v w n got held step =
     let e : Entry = pick_entry n got in
     let before = part_before g v e w (Sched n) (λ (s : State). s.scheds n) (λ s e none. rw none refl) held step in
     let after = ap (λ (s : State). s.scheds n) (stepped g v e w step) in
-    let made : (s : State) → (next g s e).scheds n ≡ after_pick got (s.scheds n) = λ s. rw (eq-eqb n n refl) refl in
-    after ∙ (made (state g (v.front ++ step.between)) ∙ ap (after_pick got) before)
+    let made : (s : State) → (next g s e).scheds n ≡ sched_after_pick got (s.scheds n) = λ s. rw (eq-eqb n n refl) refl in
+    after ∙ (made (state g (v.front ++ step.between)) ∙ ap (sched_after_pick got) before)

@@ -15,7 +15,7 @@ use Rattle.ert_effects.specs.declared.answers.MonitorErr.TheVariants.{Full, NoMe
 use Rattle.ert_effects.specs.declared.answers.Taken.TheVariants.{Mail, Empty, Exited}
 use Rattle.ert_table.specs.Calls.{AreOnlyOf}
 use Rattle.ert_table.proofs.Parts.{free_later, of_one, of_both}
-use Rattle.ert_mail.specs.Laws.{AreWithMail, LawOfStandingMailboxes, LawOfWaitingAskers, LawOfTakes, LawOfMonitorEntries, LawOfDemonitorEntries, LawOfTells, LawOfHandingOver, LawOfAnswerEntries, LawOfAsks, LawOfPickEntries}
+use Rattle.ert_mail.specs.Laws.{AreWithMail, LawOfStandingMailboxes, LawOfStandingInboxes, LawOfTakes, LawOfMonitorEntries, LawOfDemonitorEntries, LawOfTells, LawOfHandingOver, LawOfAnswerEntries, LawOfAsks, LawOfPickEntries}
 use Rattle.ert_laws.specs.Counts.{delivers_to, deliveries}
 use Rattle.ert_mail.proofs.AnswerSteps.{AreAsked, asked}
 use Rattle.ert_mail.proofs.Standing.{undelivered}
@@ -39,7 +39,7 @@ mail_on g f h m longer same stands =
     ∙ (ap (λ l. filter (delivers_to p) f ++ l) (none_delivered p longer.later free) ∙ append-nil (filter (delivers_to p) f))) in
     record { in_range = stands.in_range; held = stands.held ∙ sym mails; delivered = stands.delivered ∙ sym count }
 
-pub inbox_on : LawOfWaitingAskers
+pub inbox_on : LawOfStandingInboxes
 inbox_on g f h q longer same stands =
     let w = q.wheel in
     let requests : (state g h).inboxes w ≡ (state g f).inboxes w =
@@ -65,16 +65,16 @@ monitors_only g by p (Err NoMemory) s es monitors = same_only (Caller by) p es _
 pub demonitors_only : LawOfDemonitorEntries
 demonitors_only g by p monitor answer s es demonitors = same_only (Caller by) p es _ demonitors (of_both (Caller by) (MailOf p), tt)
 
-pub tells_only : LawOfTells
-tells_only g by p (Ok put) s es tells = same_only (Caller by) p es _ tells.entries (of_both (Caller by) (MailOf p), tt)
-tells_only g by p (Err e) s es tells = same_only (Caller by) p es _ tells tt
+pub notifies_only : LawOfTells
+notifies_only g by p (Ok put) s es tells = same_only (Caller by) p es _ tells.entries (of_both (Caller by) (MailOf p), tt)
+notifies_only g by p (Err e) s es tells = same_only (Caller by) p es _ tells tt
 
 pub handing_only : LawOfHandingOver
-handing_only g w fired (Ok Put) s es hands =
-    same_only (Sched w) fired.dest es _ hands (of_one (Sched w) (MailOf fired.dest ∷ []), (of_both (Sched w) (MailOf fired.dest), tt))
-handing_only g w fired (Ok Dropped) s es hands =
-    same_only (Sched w) fired.dest es _ hands (of_one (Sched w) (MailOf fired.dest ∷ []), (of_one (Sched w) (MailOf fired.dest ∷ []), tt))
-handing_only g w fired (Err e) s es hands = same_only (Sched w) fired.dest es _ hands tt
+handing_only g w expired (Ok Put) s es hands =
+    same_only (Sched w) expired.dest es _ hands (of_one (Sched w) (MailOf expired.dest ∷ []), (of_both (Sched w) (MailOf expired.dest), tt))
+handing_only g w expired (Ok Dropped) s es hands =
+    same_only (Sched w) expired.dest es _ hands (of_one (Sched w) (MailOf expired.dest ∷ []), (of_one (Sched w) (MailOf expired.dest ∷ []), tt))
+handing_only g w expired (Err e) s es hands = same_only (Sched w) expired.dest es _ hands tt
 
 only-append : (actors : List Actor) (es fs : List Entry) → AreOnlyOf actors es → AreOnlyOf actors fs → AreOnlyOf actors (es ++ fs)
 only-append actors [] fs one other = other

@@ -8,7 +8,7 @@ use Rattle.ert_defs.specs.declared.entry.Actor.TheVariants.{MailOf, Caller}
 use Rattle.ert_defs.specs.declared.mail.Monitor.{Monitor}
 use Rattle.ert_defs.specs.declared.settings.OffsetState.{OffsetState}
 use Rattle.ert_defs.specs.declared.settings.Settings.{Settings}
-use Rattle.ert_effects.specs.MailCalls.{Monitors, Demonitors, Tells}
+use Rattle.ert_effects.specs.MailCalls.{Monitors, Demonitors, Notifies}
 use Rattle.ert_effects.specs.declared.answers.MonitorErr.TheVariants.{Full}
 use Rattle.ert_table.specs.Calls.{IsMade}
 use Rattle.ert_table.specs.Held.{is_held}
@@ -72,9 +72,9 @@ stands_watched g v w by made m n held stands step process one_more queue next de
     (λ s. rw (eq-eqb m.process m.process refl) refl) (rw (eq-eqb m.process m.process refl) refl) process queue one_more next delivered
 
 pub tell_made : (g : Settings) (v w : View) (by put : ℕ) (m : Mailbox) (offset : ℤ) → MailboxStands g v.front m → put ≡ length (changes_of offset m.held.monitors)
-    → Appends g v (tell_entry by m.process offset) w → IsMade g v (Tells g by m.process (Ok put)) w
+    → Appends g v (tell_entry by m.process offset) w → IsMade g v (Notifies g by m.process (Ok put)) w
 tell_made g v w by put m offset stands put_is step =
-    step_made g v (tell_entry by m.process offset) w (Tells g by m.process (Ok put))
+    step_made g v (tell_entry by m.process offset) w (Notifies g by m.process (Ok put))
     (record {
       offset = offset;
       put_is = put_is ∙ ap (λ (has : MailState). length (changes_of offset has.monitors)) stands.held;

@@ -27,10 +27,10 @@ pub record IsAskers (g : Settings) (v : View) (by w : ℕ) : Type 0 where
   pub inbox : is_held v.actors (Inbox w) ≡ true
 
 -- a pass holds the inbox of a scheduler, and the scheduler itself
-pub record HoldsInbox (g : Settings) (v : View) (w : ℕ) : Type 0 where
+pub record HoldsInboxAndSched (g : Settings) (v : View) (w : ℕ) : Type 0 where
   pub sched : is_held v.actors (Sched w) ≡ true
   pub inbox : is_held v.actors (Inbox w) ≡ true
 
 -- what a scheduler has after it took this into its hand
-abbrev pub after_pick : Option Request → SchedState → SchedState
-after_pick got s = record { hand = got; result = None; fired = s.fired }
+abbrev pub sched_after_pick : Option Request → SchedState → SchedState
+sched_after_pick got s = record { hand = got; result = None; expired = s.expired }

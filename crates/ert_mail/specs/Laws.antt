@@ -10,7 +10,7 @@ use Rattle.ert_defs.specs.declared.entry.Entry.{Entry}
 use Rattle.ert_defs.specs.declared.mail.Request.{Request}
 use Rattle.ert_defs.specs.declared.memory.NoMemory.{NoMemory}
 use Rattle.ert_defs.specs.declared.settings.Settings.{Settings}
-use Rattle.ert_effects.specs.MailCalls.{HandsOver, Takes, Monitors, Demonitors, Tells}
+use Rattle.ert_effects.specs.MailCalls.{HandsOver, Takes, Monitors, Demonitors, Notifies}
 use Rattle.ert_effects.specs.RequestCalls.{Answers, Asks, Picks}
 use Rattle.ert_effects.specs.declared.answers.Handed.{Handed}
 use Rattle.ert_effects.specs.declared.answers.MonitorErr.{MonitorErr}
@@ -27,8 +27,8 @@ LawOfStandingMailboxes = (g : Settings) (f h : List Entry) (m : Mailbox) → Beg
     → MailboxStands g f m → MailboxStands g h m
 
 -- and so does an inbox
-abbrev pub LawOfWaitingAskers : Type 0
-LawOfWaitingAskers = (g : Settings) (f h : List Entry) (q : Waiting) → Begins f h → of h (Inbox q.wheel) ≡ of f (Inbox q.wheel)
+abbrev pub LawOfStandingInboxes : Type 0
+LawOfStandingInboxes = (g : Settings) (f h : List Entry) (q : Waiting) → Begins f h → of h (Inbox q.wheel) ≡ of f (Inbox q.wheel)
     → InboxStands g f q → InboxStands g h q
 
 -- these entries are of an actor and of the mailbox of a process alone
@@ -52,13 +52,13 @@ LawOfDemonitorEntries = (g : Settings) (by process monitor : ℕ) (answer : Bool
 
 -- so are those by which monitors are told the offset
 abbrev pub LawOfTells : Type 0
-LawOfTells = (g : Settings) (by process : ℕ) (answer : Result ℕ NoMemory) (s : State) (es : List Entry) → Tells g by process answer s es
+LawOfTells = (g : Settings) (by process : ℕ) (answer : Result ℕ NoMemory) (s : State) (es : List Entry) → Notifies g by process answer s es
     → AreWithMail (Caller by) process es
 
 -- those by which an expired timer is handed over are of the scheduler and the destination's mailbox alone
 abbrev pub LawOfHandingOver : Type 0
-LawOfHandingOver = (g : Settings) (w : ℕ) (fired : Row) (answer : Result Handed NoMemory) (s : State) (es : List Entry)
-    → HandsOver g w fired answer s es → AreWithMail (Sched w) fired.dest es
+LawOfHandingOver = (g : Settings) (w : ℕ) (expired : Row) (answer : Result Handed NoMemory) (s : State) (es : List Entry)
+    → HandsOver g w expired answer s es → AreWithMail (Sched w) expired.dest es
 
 -- those by which a request is answered are of the scheduler and the asker's mailbox alone
 abbrev pub LawOfAnswerEntries : Type 0

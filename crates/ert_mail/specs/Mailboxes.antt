@@ -13,7 +13,7 @@ use Rattle.ert_laws.specs.Counts.{deliveries}
 use Rattle.ert_effects.specs.MailCalls.{Monitors}
 use Rattle.ert_effects.specs.declared.answers.Handed.{Handed}
 use Rattle.ert_effects.specs.declared.answers.MonitorErr.{MonitorErr}
-use Rattle.ert_effects.specs.declared.answers.MonitorErr.TheVariants.{Full, NoMemory as WantOfMemory}
+use Rattle.ert_effects.specs.declared.answers.MonitorErr.TheVariants.{Full, NoMemory as OutOfMemory}
 use Rattle.ert_effects.specs.declared.answers.Taken.{Taken}
 use Rattle.ert_effects.specs.declared.answers.Taken.TheVariants.{Mail as First, Empty, Exited}
 use Rattle.ert_table.specs.Calls.{IsMade, IsOmitted}
@@ -62,7 +62,7 @@ pub record IsCallers (g : Settings) (v : View) (by process : ℕ) : Type 0 where
   pub mail : is_held v.actors (MailOf process) ≡ true
 
 -- a pass holds the mailbox of a process, and a scheduler in range
-pub record HoldsMailbox (g : Settings) (v : View) (w process : ℕ) : Type 0 where
+pub record HoldsMailboxAndSched (g : Settings) (v : View) (w process : ℕ) : Type 0 where
   pub sched : is_held v.actors (Sched w) ≡ true
   pub below : w < g.schedulers
   pub mail : is_held v.actors (MailOf process) ≡ true
@@ -74,22 +74,22 @@ IsTaken before (First mail) after = before ≡ mail ∷ after
 IsTaken before Empty after = (before ≡ []) × (after ≡ [])
 IsTaken before Exited after = after ≡ before
 
--- a monitor is made, or none can be; for want of memory no step is taken
+-- a monitor is made, or none can be; when out of memory no step is taken
 abbrev pub IsMonitor : Settings → View → ℕ → ℕ → Result ℕ MonitorErr → View → Type 0
 IsMonitor g v by process (Ok number) w = IsMade g v (Monitors g by process (Ok number)) w
 IsMonitor g v by process (Err Full) w = IsMade g v (Monitors g by process (Err Full)) w
-IsMonitor g v by process (Err WantOfMemory) w = IsOmitted g v (Monitors g by process (Err WantOfMemory)) w
+IsMonitor g v by process (Err OutOfMemory) w = IsOmitted g v (Monitors g by process (Err OutOfMemory)) w
 
 -- no further monitor can be made: 64 stand, or the number 4294967295 was given
 abbrev pub AreMany : MailState → Type 0
 AreMany m = (64 ≤ length m.monitors) ⊎ (4294967295 < m.next)
 
--- what a scheduler has after its first expired timer was handed over, or wasn't for want of memory
+-- what a scheduler has after its first expired timer was handed over, or wasn't because memory ran out
 abbrev pub handed : Result Handed NoMemory → SchedState → SchedState
-handed (Ok how) s = record { hand = s.hand; result = s.result; fired = others_of s.fired }
+handed (Ok how) s = record { hand = s.hand; result = s.result; expired = others_of s.expired }
 handed (Err e) s = s
 
 -- and after the request in its hand was answered, or wasn't
-abbrev pub after_answer : Result (Option ℕ) NoMemory → SchedState → SchedState
-after_answer (Ok left) s = record { hand = None; result = None; fired = s.fired }
-after_answer (Err e) s = s
+abbrev pub sched_after_answer : Result (Option ℕ) NoMemory → SchedState → SchedState
+sched_after_answer (Ok left) s = record { hand = None; result = None; expired = s.expired }
+sched_after_answer (Err e) s = s

@@ -14,18 +14,18 @@ use Rattle.ert_table.specs.Calls.{IsMade}
 use Rattle.ert_table.specs.Takes.{TakesPlace}
 use Rattle.ert_table.specs.declared.view.View.{View}
 use Rattle.ert_laws.specs.Counts.{deliveries}
-use Rattle.ert_mail.specs.Mailboxes.{handed, after_answer}
+use Rattle.ert_mail.specs.Mailboxes.{handed, sched_after_answer}
 
 -- what a process has after an expired timer was handed over to it
-abbrev pub with_fired : Handed → Row → MailState → MailState
-with_fired Put fired m = record { queue = m.queue ++ message_of fired ∷ []; monitors = m.monitors; next = m.next }
-with_fired Dropped fired m = m
+abbrev pub with_expired : Handed → Row → MailState → MailState
+with_expired Put expired m = record { queue = m.queue ++ message_of expired ∷ []; monitors = m.monitors; next = m.next }
+with_expired Dropped expired m = m
 
 -- an expired timer was handed over, and so changed what its scheduler and its destination have
-pub record IsHanded (g : Settings) (v : View) (fired : Row) (how : Handed) (w : View) : Type 0 where
-  pub call : TakesPlace g v (handed_entries fired.timer.wheel fired how) w
-  pub sched : (state g w.front).scheds fired.timer.wheel ≡ handed (Ok how) ((state g v.front).scheds fired.timer.wheel)
-  pub mails : (state g w.front).mails fired.dest ≡ with_fired how fired ((state g v.front).mails fired.dest)
+pub record IsHanded (g : Settings) (v : View) (expired : Row) (how : Handed) (w : View) : Type 0 where
+  pub call : TakesPlace g v (handed_entries expired.timer.wheel expired how) w
+  pub sched : (state g w.front).scheds expired.timer.wheel ≡ handed (Ok how) ((state g v.front).scheds expired.timer.wheel)
+  pub mails : (state g w.front).mails expired.dest ≡ with_expired how expired ((state g v.front).mails expired.dest)
 
 -- what a process has after its request was answered
 abbrev pub with_answer : Request → Option ℕ → MailState → MailState
@@ -34,6 +34,6 @@ with_answer request left m = record { queue = m.queue ++ answer_of request left;
 -- a request was answered by a scheduler, and so changed what that and the asker have
 pub record IsReplied (g : Settings) (v : View) (n : ℕ) (request : Request) (left : Option ℕ) (w : View) : Type 0 where
   pub call : IsMade g v (HasAnswered g n request left) w
-  pub sched : (state g w.front).scheds n ≡ after_answer (Ok left) ((state g v.front).scheds n)
+  pub sched : (state g w.front).scheds n ≡ sched_after_answer (Ok left) ((state g v.front).scheds n)
   pub mails : (state g w.front).mails request.reply_to ≡ with_answer request left ((state g v.front).mails request.reply_to)
   pub undelivered : deliveries request.reply_to w.front ≡ deliveries request.reply_to v.front

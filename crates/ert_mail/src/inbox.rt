@@ -27,7 +27,7 @@ impl InboxPart {
     ghost use Rattle.ert_defs.specs.Mails.{first_of, others_of};
     ghost use Rattle.ert_table.specs.Calls.{IsMade, IsMadeIfOk};
     ghost use Rattle.ert_table.specs.Desks.{settings_of, view_of, front_of, state_of, Belongs};
-    ghost use Rattle.ert_mail.specs.Inboxes.{IsAskers, HoldsInbox, InboxStands, after_pick};
+    ghost use Rattle.ert_mail.specs.Inboxes.{IsAskers, HoldsInboxAndSched, InboxStands, sched_after_pick};
 
     /// The inbox of a scheduler on a desk that has just been opened. It is empty.
     pub fn open(alloc: Global, wheel: u32) -> InboxPart
@@ -48,7 +48,7 @@ impl InboxPart {
 
     /// Puts a request last (`erlang` module reference, `cancel_timer` and `read_timer`, option `async`).
     ///
-    /// After want of memory no step was taken and nothing has changed.
+    /// If memory runs out, no step was taken and nothing has changed.
     pub fn ask(
         &mut self,
         desk: &Desk,
@@ -77,14 +77,14 @@ impl InboxPart {
     /// Takes the first request, for the scheduler whose hand is empty. None comes exactly where none waits.
     pub fn pick(&mut self, desk: &Desk, pass: &mut Pass) -> Option<Request>
         requires belongs { Belongs desk.now pass.old }
-        requires holds { HoldsInbox (settings_of desk.now) (view_of pass.old) self.old.wheel }
+        requires holds { HoldsInboxAndSched (settings_of desk.now) (view_of pass.old) self.old.wheel }
         requires empty { ((state_of desk.now pass.old).scheds self.old.wheel).hand ≡ None }
         requires stands { InboxStands (settings_of desk.now) (front_of pass.old) self.old }
         ensures belongs { Belongs desk.now pass.new }
         ensures call { IsMade (settings_of desk.now) (view_of pass.old) (Picks (settings_of desk.now) self.old.wheel result) (view_of pass.new) }
         ensures first { result ≡ first_of self.old.requests }
         ensures others { self.new.requests ≡ others_of self.old.requests }
-        ensures sched { (state_of desk.now pass.new).scheds self.old.wheel ≡ after_pick result ((state_of desk.now pass.old).scheds self.old.wheel) }
+        ensures sched { (state_of desk.now pass.new).scheds self.old.wheel ≡ sched_after_pick result ((state_of desk.now pass.old).scheds self.old.wheel) }
         ensures wheel { self.new.wheel ≡ self.old.wheel }
         ensures stands { InboxStands (settings_of desk.now) (front_of pass.new) self.new }
     {

@@ -1,6 +1,6 @@
 //! Laws of mailboxes and inboxes, each the contract of a function that does nothing.
 
-ghost use Rattle.ert_mail.specs.Laws.{LawOfStandingMailboxes, LawOfWaitingAskers, LawOfTakes, LawOfMonitorEntries, LawOfDemonitorEntries, LawOfTells};
+ghost use Rattle.ert_mail.specs.Laws.{LawOfStandingMailboxes, LawOfStandingInboxes, LawOfTakes, LawOfMonitorEntries, LawOfDemonitorEntries, LawOfTells};
 ghost use Rattle.ert_mail.specs.Laws.{LawOfHandingOver, LawOfAnswerEntries, LawOfAsks, LawOfPickEntries};
 
 /// A mailbox stands on while its process's mailbox has no more entries, whatever others do meanwhile.
@@ -10,7 +10,7 @@ pub fn mailboxes_stand_on()
 
 /// An inbox stands on while it has no more entries, whatever others do meanwhile.
 pub fn inboxes_stand_on()
-    ensures { LawOfWaitingAskers }
+    ensures { LawOfStandingInboxes }
 {}
 
 /// Each call on a mailbox or an inbox makes entries of the caller or scheduler and of that one alone. So every
@@ -19,7 +19,7 @@ pub fn calls_leave_other_parts()
     ensures takes { LawOfTakes }
     ensures monitors { LawOfMonitorEntries }
     ensures demonitors { LawOfDemonitorEntries }
-    ensures tells { LawOfTells }
+    ensures notifies { LawOfTells }
     ensures hands_over { LawOfHandingOver }
     ensures answers { LawOfAnswerEntries }
     ensures asks { LawOfAsks }

@@ -18,7 +18,7 @@
 //! | `answer` | a scheduler | those of a cancel or a read; records the answer | what was left |
 //! | `monitor` | a caller | reads the offset, which counts as told | the number, or Full |
 //! | `demonitor` | a caller | records that it was removed | whether it stood |
-//! | `tell` | a caller | reads the offset | how many messages were put |
+//! | `notify` | a caller | reads the offset | how many messages were put |
 //! | `ask` | a caller | records the request, which is put last | |
 //! | `pick` | a scheduler | records the first request, which goes into its empty hand | that request, if one waits |
 //!
@@ -28,8 +28,8 @@
 //! changes what the scheduler has, it tells what that is then. A part stands on while others act
 //! (`mailboxes_stand_on`, `inboxes_stand_on`).
 //!
-//! **Memory.** A call that may put something makes room first, and takes no step where it finds none. So after
-//! want of memory nothing has changed: a request is still in the hand, and its timer as it was. `take`,
+//! **Memory.** A call that may put something makes room first, and takes no step where it finds none. So when
+//! out of memory nothing has changed: a request is still in the hand, and its timer as it was. `take`,
 //! `demonitor` and `pick` take no memory. Messages and requests stand in rings: to put or to take one moves no other.
 //!
 //! It stands on `ert_defs`, `ert_laws`, `ert_effects`, `ert_table` and `ert_calls`.

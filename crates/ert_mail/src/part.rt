@@ -2,7 +2,7 @@ ghost use Rattle.std.specs.Prelude.{◌≡◌};
 
 use crate::handing::hand_over;
 use crate::replies::{put_answer, reply};
-use ert_defs::{Actor, Fired, Mail, Monitor, NoMemory, Request};
+use ert_defs::{Actor, TimerRow, Mail, Monitor, NoMemory, Request};
 use ert_effects::{Handed, Taken};
 use ert_table::{Desk, Pass, TimeCarry};
 use std::alloc::Global;
@@ -42,7 +42,7 @@ impl MailPart {
     ghost use Rattle.ert_effects.specs.RequestCalls.{Answers};
     ghost use Rattle.ert_table.specs.Calls.{IsMade, IsMadeIfOk};
     ghost use Rattle.ert_table.specs.Desks.{settings_of, view_of, front_of, state_of, Belongs};
-    ghost use Rattle.ert_mail.specs.Mailboxes.{IsEmpty, IsSame, IsCallers, HoldsMailbox, IsTaken, MailboxStands, handed, after_answer};
+    ghost use Rattle.ert_mail.specs.Mailboxes.{IsEmpty, IsSame, IsCallers, HoldsMailboxAndSched, IsTaken, MailboxStands, handed, sched_after_answer};
 
     /// The mailbox of a process on a desk that has just been opened. It is empty.
     pub fn open(alloc: Global, process: u32) -> MailPart
@@ -115,33 +115,33 @@ impl MailPart {
     /// Hands over an expired timer to its process, for its scheduler of which it is the first: its message
     /// is put last, or thrown away where the process is seen to have exited.
     ///
-    /// Want of memory comes only where there was no room. Then no step was taken and nothing has changed.
+    /// Out of memory comes only where there was no room. Then no step was taken and nothing has changed.
     #[inline(always)]
     pub fn deliver(
         &mut self,
         desk: &Desk,
         pass: &mut Pass,
-        fired: &Fired,
+        expired: &TimerRow,
     ) -> Result<Handed, NoMemory>
         requires belongs { Belongs desk.now pass.old }
-        requires holds { HoldsMailbox (settings_of desk.now) (view_of pass.old) fired.now.timer.wheel self.old.process }
-        requires dest { fired.now.dest ≡ self.old.process }
-        requires first { first_of ((state_of desk.now pass.old).scheds fired.now.timer.wheel).fired ≡ Some fired.now }
+        requires holds { HoldsMailboxAndSched (settings_of desk.now) (view_of pass.old) expired.now.timer.wheel self.old.process }
+        requires dest { expired.now.dest ≡ self.old.process }
+        requires first { first_of ((state_of desk.now pass.old).scheds expired.now.timer.wheel).expired ≡ Some expired.now }
         requires stands { MailboxStands (settings_of desk.now) (front_of pass.old) self.old }
         ensures belongs { Belongs desk.now pass.new }
         ensures call { IsMadeIfOk (settings_of desk.now) (view_of pass.old)
-            (HandsOver (settings_of desk.now) fired.now.timer.wheel fired.now) result (view_of pass.new) }
-        ensures sched { (state_of desk.now pass.new).scheds fired.now.timer.wheel ≡ handed result ((state_of desk.now pass.old).scheds fired.now.timer.wheel) }
+            (HandsOver (settings_of desk.now) expired.now.timer.wheel expired.now) result (view_of pass.new) }
+        ensures sched { (state_of desk.now pass.new).scheds expired.now.timer.wheel ≡ handed result ((state_of desk.now pass.old).scheds expired.now.timer.wheel) }
         ensures memory { OnErr result (self.old.room ≡ 0) }
         ensures err { OnErr result (IsSame self.old self.new) }
         ensures process { self.new.process ≡ self.old.process }
         ensures stands { MailboxStands (settings_of desk.now) (front_of pass.new) self.new }
     {
         self.queue.reserve(1)?;
-        if let Handed::Dropped = hand_over(desk, pass, fired) {
+        if let Handed::Dropped = hand_over(desk, pass, expired) {
             return Ok(Handed::Dropped);
         }
-        self.queue.push_back_reserved(Mail::of_fired(fired));
+        self.queue.push_back_reserved(Mail::of_expired(expired));
         self.delivered += 1;
         Ok(Handed::Put)
     }
@@ -149,7 +149,7 @@ impl MailPart {
     /// Answers the request in the hand of a scheduler: cancels or reads its timer, puts the answer last where
     /// one is wanted, empties the hand, and tells the whole milliseconds that were left of the timer.
     ///
-    /// Want of memory comes only where there was no room. Then no step was taken and nothing has changed: the
+    /// Out of memory comes only where there was no room. Then no step was taken and nothing has changed: the
     /// request is in the hand, and the timer is as it was.
     pub fn answer(
         &mut self,
@@ -159,13 +159,13 @@ impl MailPart {
         request: &Request,
     ) -> Result<Option<u64>, NoMemory>
         requires belongs { Belongs desk.now pass.old }
-        requires holds { HoldsMailbox (settings_of desk.now) (view_of pass.old) sched self.old.process }
+        requires holds { HoldsMailboxAndSched (settings_of desk.now) (view_of pass.old) sched self.old.process }
         requires asker { request.now.reply_to ≡ self.old.process }
         requires hand { ((state_of desk.now pass.old).scheds sched).hand ≡ Some request.now }
         requires stands { MailboxStands (settings_of desk.now) (front_of pass.old) self.old }
         ensures belongs { Belongs desk.now pass.new }
         ensures call { IsMadeIfOk (settings_of desk.now) (view_of pass.old) (Answers (settings_of desk.now) sched request.now) result (view_of pass.new) }
-        ensures sched { (state_of desk.now pass.new).scheds sched ≡ after_answer result ((state_of desk.now pass.old).scheds sched) }
+        ensures sched { (state_of desk.now pass.new).scheds sched ≡ sched_after_answer result ((state_of desk.now pass.old).scheds sched) }
         ensures process { self.new.process ≡ self.old.process }
         ensures stands { MailboxStands (settings_of desk.now) (front_of pass.new) self.new }
         ensures memory { OnErr result (self.old.room ≡ 0) }

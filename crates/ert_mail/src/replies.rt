@@ -7,7 +7,7 @@ ghost use Rattle.ert_defs.specs.declared.entry.Actor.TheVariants.{Sched};
 ghost use Rattle.ert_table.specs.Desks.{settings_of, view_of, actors_of, state_of, Belongs};
 ghost use Rattle.ert_table.specs.Held.{is_held};
 ghost use Rattle.ert_table.specs.Calls.{IsMade};
-ghost use Rattle.ert_mail.specs.Mailboxes.{HoldsMailbox};
+ghost use Rattle.ert_mail.specs.Mailboxes.{HoldsMailboxAndSched};
 ghost use Rattle.ert_mail.specs.Steps.{IsReplied};
 
 use ert_calls::{cancel_timer, read_timer};
@@ -19,7 +19,7 @@ use std::collections::VecDeque;
 /// whole milliseconds that were left.
 pub(crate) fn reply(desk: &Desk, pass: &mut Pass, sched: u32, request: &Request) -> Option<u64>
     requires belongs { Belongs desk.now pass.old }
-    requires holds { HoldsMailbox (settings_of desk.now) (view_of pass.old) sched request.now.reply_to }
+    requires holds { HoldsMailboxAndSched (settings_of desk.now) (view_of pass.old) sched request.now.reply_to }
     requires in_range { request.now.reply_to < (settings_of desk.now).processes }
     requires hand { ((state_of desk.now pass.old).scheds sched).hand ≡ Some request.now }
     ensures belongs { Belongs desk.now pass.new }

@@ -2,7 +2,7 @@
 ghost use Rattle.std.specs.Prelude.{◌≡◌};
 
 use crate::part::MailPart;
-use ert_defs::{Actor, Monitor, NoMemory, has_monitor, remove_monitor, tell_monitors};
+use ert_defs::{Actor, Monitor, NoMemory, has_monitor, remove_monitor, notify_monitors};
 use ert_effects::MonitorErr;
 use ert_table::{Desk, OffsetCarry, Pass, TimeCarry};
 
@@ -12,7 +12,7 @@ const MOST_MONITORS: usize = 64;
 impl MailPart {
     ghost use Rattle.std.specs.Prelude.{◌↔◌, IsTrue, IfOk, OnErr, Err};
     ghost use Rattle.ert_defs.specs.Legal.{stands_in};
-    ghost use Rattle.ert_effects.specs.MailCalls.{Demonitors, Tells};
+    ghost use Rattle.ert_effects.specs.MailCalls.{Demonitors, Notifies};
     ghost use Rattle.ert_effects.specs.declared.answers.MonitorErr.TheVariants.{Full};
     ghost use Rattle.ert_table.specs.Calls.{IsMade, IsMadeIfOk};
     ghost use Rattle.ert_table.specs.Desks.{settings_of, view_of, front_of, Belongs};
@@ -89,13 +89,13 @@ impl MailPart {
 
     /// Puts a message for each monitor that the time offset is new to, and answers how many were put.
     ///
-    /// After want of memory no step was taken.
-    pub fn tell(&mut self, desk: &Desk, pass: &mut Pass, by: u32) -> Result<u32, NoMemory>
+    /// If memory runs out, no step was taken.
+    pub fn notify(&mut self, desk: &Desk, pass: &mut Pass, by: u32) -> Result<u32, NoMemory>
         requires belongs { Belongs desk.now pass.old }
         requires holds { IsCallers (settings_of desk.now) (view_of pass.old) by self.old.process }
         requires stands { MailboxStands (settings_of desk.now) (front_of pass.old) self.old }
         ensures belongs { Belongs desk.now pass.new }
-        ensures call { IsMadeIfOk (settings_of desk.now) (view_of pass.old) (Tells (settings_of desk.now) by self.old.process) result (view_of pass.new) }
+        ensures call { IsMadeIfOk (settings_of desk.now) (view_of pass.old) (Notifies (settings_of desk.now) by self.old.process) result (view_of pass.new) }
         ensures err { OnErr result (IsSame self.old self.new) }
         ensures process { self.new.process ≡ self.old.process }
         ensures stands { MailboxStands (settings_of desk.now) (front_of pass.new) self.new }
@@ -103,6 +103,6 @@ impl MailPart {
         self.queue.reserve(self.monitors.len())?;
         let process = self.process;
         let (offset, _) = pass.load_offset(desk, Actor::Caller(by), &OffsetCarry::Tell { process });
-        Ok(tell_monitors(&mut self.monitors, &mut self.queue, offset) as u32)
+        Ok(notify_monitors(&mut self.monitors, &mut self.queue, offset) as u32)
     }
 }

@@ -1,8 +1,8 @@
 -- What the calls of a world of names record fits its rows.
 
 use Rattle.std.proofs.Common.{◌≡◌, ◌≢◌, ℕ, zero, suc, ℤ, ◌<◌, ◌≤◌, Bool, true, false, cond, nat_lt, List, [], ◌∷◌, ◌++◌, Option, Some, None, Result, Ok, Err, inl, inr, refl, sym, subst, ◌∙◌, arith}
-use Rattle.ert_effects.specs.Chains.{HoldsBy, HoldsRequest, Serves, ServesMany, ServesAll, so_many_steps, AdvancesWheel, Hands, HandsMany, Delivers, Turns, SweepsWheel, SweepsWheels, Exits}
-use Rattle.ert_effects.specs.ClockCalls.{RefusesTick, TakesReading}
+use Rattle.ert_effects.specs.Chains.{HoldsBy, HoldsRequest, Serves, ServesMany, ServesAll, units, AdvancesWheel, Hands, HandsMany, Delivers, Turns, SweepsWheel, SweepsWheels, Exits}
+use Rattle.ert_effects.specs.ClockCalls.{RefusesTick, ActsOnReading}
 use Rattle.ert_effects.specs.MailCalls.{HandsOver, Takes}
 use Rattle.ert_effects.specs.RequestCalls.{Answers, DoesAsked}
 use Rattle.ert_effects.proofs.Told.{round_probes}
@@ -32,7 +32,7 @@ use Rattle.ert_defs.specs.declared.entry.Event.TheVariants.{Arm, Ask, Mark, Tell
 use Rattle.ert_defs.specs.declared.mail.Request.{Request}
 use Rattle.ert_defs.specs.declared.mail.RequestKind.{RequestKind}
 use Rattle.ert_defs.specs.declared.mail.RequestKind.TheVariants.{Cancel as ToCancel, Read as ToRead}
-use Rattle.ert_defs.specs.declared.memory.NoMemory.{NoMemory as WantOfMemory}
+use Rattle.ert_defs.specs.declared.memory.NoMemory.{NoMemory as OutOfMemory}
 use Rattle.ert_defs.specs.declared.settings.Reading.{Reading}
 use Rattle.ert_defs.specs.declared.settings.Settings.{Settings}
 use Rattle.ert_defs.specs.declared.timer.Kind.TheVariants.{Wrapped}
@@ -88,7 +88,7 @@ refused_fits n q g r act BadReading s es refused = fit_as n q es [] refused.none
 refused_fits n q g r act (OffsetWide value) s es refused = fit_as n q es [] refused.none tt
 
 pub acts_fit : (n q : ℕ) (g : Settings) (by : ℕ) (r : Reading) (act : Act) (answer : Result Moved ClockErr) (s : State) (es : List Entry)
-    → TakesReading g by r act answer s es → AllFit n q es
+    → ActsOnReading g by r act answer s es → AllFit n q es
 acts_fit n q g by r act (Ok m) s es acts = fit_as n q es _ acts.entries (moves_fit n q by r act m.now m.shift)
 acts_fit n q g by r act (Err e) s es acts = refused_fits n q g r act e s es acts
 
@@ -192,13 +192,13 @@ asked_fits : (n q : ℕ) (kind : RequestKind) (g : Settings) (w : ℕ) (timer : 
 asked_fits n q ToCancel g w timer left s es asked = cancels_fit n q g (Sched w) timer left s es asked
 asked_fits n q ToRead g w timer left s es asked = reads_fit n q g (Sched w) timer left s es asked
 
-answers_fit : (n q : ℕ) (g : Settings) (w : ℕ) (request : Request) (answer : Result (Option ℕ) WantOfMemory) (s : State) (es : List Entry)
+answers_fit : (n q : ℕ) (g : Settings) (w : ℕ) (request : Request) (answer : Result (Option ℕ) OutOfMemory) (s : State) (es : List Entry)
     → Answers g w request answer s es → AllFit n q es
 answers_fit n q g w request (Ok left) s es answers =
     fit_as n q es _ answers.entries (fit_append n q answers.steps _ (asked_fits n q request.kind g w request.timer left s answers.steps answers.done) (tt, tt))
 answers_fit n q g w request (Err e) s es answers = fit_as n q es [] answers tt
 
-serves_fit : (n q : ℕ) (g : Settings) (w : ℕ) (answer : Result Bool WantOfMemory) → AreFitting n q (Serves g (alone g) w answer)
+serves_fit : (n q : ℕ) (g : Settings) (w : ℕ) (answer : Result Bool OutOfMemory) → AreFitting n q (Serves g (alone g) w answer)
 serves_fit n q g w (Ok true) h m served =
     then_fits n q (HoldsRequest g (alone g) w (Some served.request)) (λ h m. Answers g w served.request (Ok served.left) (state g h) m)
     (hold_fits n q g w (Some served.request)) (λ h m. answers_fit n q g w served.request (Ok served.left) (state g h) m) h m served.steps
@@ -208,9 +208,9 @@ serves_fit n q g w (Err e) h m served =
     (hold_fits n q g w (Some served.request)) (λ h m. answers_fit n q g w served.request (Err e) (state g h) m) h m served.steps
 
 many_served_fit : (n q : ℕ) (g : Settings) (w k : ℕ) → AreFitting n q (ServesMany g (alone g) w k)
-many_served_fit n q g w k = many_fits n q (λ (one : Unit {0}). Serves g (alone g) w (Ok true)) (so_many_steps k) (λ one. serves_fit n q g w (Ok true))
+many_served_fit n q g w k = many_fits n q (λ (one : Unit {0}). Serves g (alone g) w (Ok true)) (units k) (λ one. serves_fit n q g w (Ok true))
 
-all_served_fit : (n q : ℕ) (g : Settings) (w : ℕ) (answer : Result ℕ WantOfMemory) → AreFitting n q (ServesAll g (alone g) w answer)
+all_served_fit : (n q : ℕ) (g : Settings) (w : ℕ) (answer : Result ℕ OutOfMemory) → AreFitting n q (ServesAll g (alone g) w answer)
 all_served_fit n q g w (Ok k) h m served = at (nat_lt k 64) served.1
   where
     at : (b : Bool) → cond b (Then (ServesMany g (alone g) w k) (Serves g (alone g) w (Ok false)) h m) (ServesMany g (alone g) w k h m) → AllFit n q m
@@ -228,35 +228,35 @@ expiries_fit n q w (t ∷ tries) es fit = (one t.timer t.missed, expiries_fit n 
     one timer None = tt
     one timer (Some found) = tt
 
-advances_fit : (n q : ℕ) (g : Settings) (w : ℕ) (answer : Result (ℕ × ℕ) WantOfMemory) → AreFitting n q (AdvancesWheel g (alone g) w answer)
+advances_fit : (n q : ℕ) (g : Settings) (w : ℕ) (answer : Result (ℕ × ℕ) OutOfMemory) → AreFitting n q (AdvancesWheel g (alone g) w answer)
 advances_fit n q g w (Ok answer) h m advanced = fit_as n q m _ advanced.entries (tt, expiries_fit n q w advanced.tries _ (tt, tt))
 advances_fit n q g w (Err e) h m (inl none) = fit_as n q m [] none tt
 advances_fit n q g w (Err e) h m (inr look) = fit_as n q m _ look.1 (tt, tt)
 
-over_fits : (n q : ℕ) (g : Settings) (w : ℕ) (fired : Row) (how : Result Handed WantOfMemory) (s : State) (es : List Entry)
-    → HandsOver g w fired how s es → AllFit n q es
-over_fits n q g w fired (Ok Put) s es hands = fit_as n q es _ hands ((λ is. refl), (tt, tt))
-over_fits n q g w fired (Ok Dropped) s es hands = fit_as n q es _ hands ((λ is. refl), (tt, tt))
-over_fits n q g w fired (Err e) s es hands = fit_as n q es [] hands tt
+over_fits : (n q : ℕ) (g : Settings) (w : ℕ) (expired : Row) (how : Result Handed OutOfMemory) (s : State) (es : List Entry)
+    → HandsOver g w expired how s es → AllFit n q es
+over_fits n q g w expired (Ok Put) s es hands = fit_as n q es _ hands ((λ is. refl), (tt, tt))
+over_fits n q g w expired (Ok Dropped) s es hands = fit_as n q es _ hands ((λ is. refl), (tt, tt))
+over_fits n q g w expired (Err e) s es hands = fit_as n q es [] hands tt
 
-hands_fit : (n q : ℕ) (g : Settings) (w : ℕ) (how : Result Handed WantOfMemory) → AreFitting n q (Hands g (alone g) w how)
-hands_fit n q g w how h m hands = over_fits n q g w hands.fired how (state g h) m hands.step
+hands_fit : (n q : ℕ) (g : Settings) (w : ℕ) (how : Result Handed OutOfMemory) → AreFitting n q (Hands g (alone g) w how)
+hands_fit n q g w how h m hands = over_fits n q g w hands.expired how (state g h) m hands.step
 
 many_handed_fit : (n q : ℕ) (g : Settings) (w : ℕ) (hows : List Handed) → AreFitting n q (HandsMany g (alone g) w hows)
 many_handed_fit n q g w hows = many_fits n q (λ how. Hands g (alone g) w (Ok how)) hows (λ how. hands_fit n q g w (Ok how))
 
-delivers_fit : (n q : ℕ) (g : Settings) (w : ℕ) (answer : Result (ℕ × ℕ) WantOfMemory) → AreFitting n q (Delivers g (alone g) w answer)
+delivers_fit : (n q : ℕ) (g : Settings) (w : ℕ) (answer : Result (ℕ × ℕ) OutOfMemory) → AreFitting n q (Delivers g (alone g) w answer)
 delivers_fit n q g w (Ok answer) h m delivered = many_handed_fit n q g w delivered.hows h m delivered.runs
 delivers_fit n q g w (Err e) h m delivered =
     then_fits n q (HandsMany g (alone g) w delivered.hows) (Hands g (alone g) w (Err e)) (many_handed_fit n q g w delivered.hows) (hands_fit n q g w (Err e))
     h m delivered.runs
 
-pub turns_fit : (n q : ℕ) (g : Settings) (w : ℕ) (answer : Result Turned WantOfMemory) → AreFitting n q (Turns g (alone g) w answer)
+pub turns_fit : (n q : ℕ) (g : Settings) (w : ℕ) (answer : Result Turned OutOfMemory) → AreFitting n q (Turns g (alone g) w answer)
 turns_fit n q g w (Ok t) h m turned =
-    then_fits n q (ServesAll g (alone g) w (Ok t.served)) (Then (AdvancesWheel g (alone g) w (Ok (t.to, t.fired))) (Delivers g (alone g) w (Ok (t.put, t.dropped))))
+    then_fits n q (ServesAll g (alone g) w (Ok t.served)) (Then (AdvancesWheel g (alone g) w (Ok (t.to, t.expired))) (Delivers g (alone g) w (Ok (t.put, t.dropped))))
     (all_served_fit n q g w (Ok t.served))
-    (then_fits n q (AdvancesWheel g (alone g) w (Ok (t.to, t.fired))) (Delivers g (alone g) w (Ok (t.put, t.dropped)))
-    (advances_fit n q g w (Ok (t.to, t.fired))) (delivers_fit n q g w (Ok (t.put, t.dropped)))) h m turned
+    (then_fits n q (AdvancesWheel g (alone g) w (Ok (t.to, t.expired))) (Delivers g (alone g) w (Ok (t.put, t.dropped)))
+    (advances_fit n q g w (Ok (t.to, t.expired))) (delivers_fit n q g w (Ok (t.put, t.dropped)))) h m turned
 turns_fit n q g w (Err e) h m (inl served) = all_served_fit n q g w (Err e) h m served
 turns_fit n q g w (Err e) h m (inr (inl advanced)) =
     then_fits n q (ServesAll g (alone g) w (Ok advanced.0)) (AdvancesWheel g (alone g) w (Err e)) (all_served_fit n q g w (Ok advanced.0))

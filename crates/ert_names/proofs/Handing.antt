@@ -158,7 +158,7 @@ none_others process k [] past all = refl
 none_others process zero (m ∷ ms) past all = absurd (omega (arith, all))
 none_others process (suc k) (m ∷ ms) past all = rw past.0 (ap (λ l. m ∷ l) (none_others process k ms past.1 (omega (arith, all))))
 
--- a start that the world refuses, and not for want of memory
+-- a start that the world refuses, and not because memory ran out
 pub refused_named : (a b : Registered) (wheel : ℕ) (when : When) (row : RowSeen) (e : StartErr)
     → ◌≢◌ {A = Result TimerRef StartErr} (Err e) (Err starts.NoMemory)
     → GoesAlone a (StartsAt a wheel when (Err e)) b → StartsNamed a wheel when row (Err e) b

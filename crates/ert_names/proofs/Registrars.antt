@@ -30,7 +30,7 @@ pub record IsKept (n : ℕ) (s : State) : Type 0 where
   pub inboxes : (w : ℕ) → s.inboxes w ≡ []
   pub hands : (w : ℕ) → (s.scheds w).hand ≡ None
   pub rows : (w : ℕ) → All (IsForName n) (s.rows w)
-  pub fired : (w : ℕ) → All (IsForName n) (s.scheds w).fired
+  pub expired : (w : ℕ) → All (IsForName n) (s.scheds w).expired
   pub queue : All (IsNamed n) (s.mails 0).queue
 
 others_all : {X : Type 0} (P : X → Type 0) (xs : List X) → All P xs → All P (others_of xs)
@@ -70,18 +70,18 @@ wheel_event g n s by w (Arm timer start) rows fits h =
     (λ is. rows_armed n rows timer start (deadline_of g start (s.looked by)) fits h) (λ not. h)
 wheel_event g n s by w _ rows fits h = h
 
-with_all : (n : ℕ) (fired rows : List Row) (timer : TimerRef) (o : Option Row) → row_of rows timer ≡ o → All (IsForName n) rows → All (IsForName n) fired
-    → All (IsForName n) (with_row fired o)
-with_all n fired rows timer None is all h = h
-with_all n fired rows timer (Some row) is all h = All-push (IsForName n) fired row h (of_row (IsForName n) rows timer row all is)
+with_all : (n : ℕ) (expired rows : List Row) (timer : TimerRef) (o : Option Row) → row_of rows timer ≡ o → All (IsForName n) rows → All (IsForName n) expired
+    → All (IsForName n) (with_row expired o)
+with_all n expired rows timer None is all h = h
+with_all n expired rows timer (Some row) is all h = All-push (IsForName n) expired row h (of_row (IsForName n) rows timer row all is)
 
-fired_event : (n : ℕ) (s : State) (event : Event) (x : SchedState) → IsKept n s → All (IsForName n) x.fired
-    → All (IsForName n) (sched_after s.rows x event).fired
-fired_event n s (Expire timer) x kept h =
-    with_all n x.fired (s.rows timer.wheel) timer (row_of (s.rows timer.wheel) timer) refl (kept.rows timer.wheel) h
-fired_event n s (Deliver timer) x kept h = others_all (IsForName n) x.fired h
-fired_event n s (Drop timer) x kept h = others_all (IsForName n) x.fired h
-fired_event n s _ x kept h = h
+expired_event : (n : ℕ) (s : State) (event : Event) (x : SchedState) → IsKept n s → All (IsForName n) x.expired
+    → All (IsForName n) (sched_after s.rows x event).expired
+expired_event n s (Expire timer) x kept h =
+    with_all n x.expired (s.rows timer.wheel) timer (row_of (s.rows timer.wheel) timer) refl (kept.rows timer.wheel) h
+expired_event n s (Deliver timer) x kept h = others_all (IsForName n) x.expired h
+expired_event n s (Drop timer) x kept h = others_all (IsForName n) x.expired h
+expired_event n s _ x kept h = h
 
 -- the message of the first expired timer, where that is for the registrar
 message_named : (n : ℕ) (row : Row) → IsForName n row → row.dest ≡ 0 → IsNamed n (message_of row)
@@ -89,8 +89,8 @@ message_named n row named dest =
     let is = named dest in
     subst (λ (k : Kind). IsNamed n (message_by k row.timer row.msg)) (sym is.0) is.1
 
-message_all : (n : ℕ) (fired : List Row) (row : Row) → first_of fired ≡ Some row → row.dest ≡ 0 → All (IsForName n) fired
-    → All (IsNamed n) (message_in fired)
+message_all : (n : ℕ) (expired : List Row) (row : Row) → first_of expired ≡ Some row → row.dest ≡ 0 → All (IsForName n) expired
+    → All (IsNamed n) (message_in expired)
 message_all n [] row first dest all = All-nil (IsNamed n)
 message_all n (x ∷ xs) row first dest all =
     let same : x ≡ row = cc in
@@ -108,9 +108,9 @@ queue_event : (g : Settings) (n : ℕ) (s : State) (by : Actor) (with : Option A
     → Known g s by with event → EventFits n 0 event → has_actor (record { by = by; with = with; event = event }) (MailOf 0) ≡ true
     → All (IsNamed n) x.queue → All (IsNamed n) (mail_after s.scheds x event).queue
 queue_event g n s by with (Deliver timer) x kept keeps known fits has h =
-    All-append (IsNamed n) x.queue (message_in (s.scheds timer.wheel).fired) h
-    (message_all n (s.scheds timer.wheel).fired known.0.row known.0.first
-    (goes_to by with (Deliver timer) timer.wheel known.0.row.dest keeps.0 known.1 has) (kept.fired timer.wheel))
+    All-append (IsNamed n) x.queue (message_in (s.scheds timer.wheel).expired) h
+    (message_all n (s.scheds timer.wheel).expired known.0.row known.0.first
+    (goes_to by with (Deliver timer) timer.wheel known.0.row.dest keeps.0 known.1 has) (kept.expired timer.wheel))
 queue_event g n s by with (Answer wheel left) x kept keeps known fits has h =
     rw (kept.hands wheel, append-nil) h
 queue_event g n s by with (Take process got) x kept keeps known fits has h = others_all (IsNamed n) x.queue h
@@ -126,8 +126,8 @@ kept_next g n s e kept can fits = record {
       (λ is. hand_event g n s e.by e.with e.event (s.scheds w) kept can.known (kept.hands w)) (λ not. kept.hands w);
   rows = λ w. cond_both (has_actor e (Wheel w)) (rows_after g (s.looked e.by) w (s.rows w) e.event) (s.rows w) (All (IsForName n))
       (λ is. wheel_event g n s e.by w e.event (s.rows w) fits (kept.rows w)) (λ not. kept.rows w);
-  fired = λ w. cond_both (has_actor e (Sched w)) (sched_after s.rows (s.scheds w) e.event) (s.scheds w) (λ (x : SchedState). All (IsForName n) x.fired)
-      (λ is. fired_event n s e.event (s.scheds w) kept (kept.fired w)) (λ not. kept.fired w);
+  expired = λ w. cond_both (has_actor e (Sched w)) (sched_after s.rows (s.scheds w) e.event) (s.scheds w) (λ (x : SchedState). All (IsForName n) x.expired)
+      (λ is. expired_event n s e.event (s.scheds w) kept (kept.expired w)) (λ not. kept.expired w);
   queue = cond_both (has_actor e (MailOf 0)) (mail_after s.scheds (s.mails 0) e.event) (s.mails 0) (λ (x : MailState). All (IsNamed n) x.queue)
       (λ is. queue_event g n s e.by e.with e.event (s.mails 0) kept can.keeps can.known fits is kept.queue) (λ not. kept.queue);
 }
@@ -138,7 +138,7 @@ kept_opening g n = record {
   inboxes = λ w. refl;
   hands = λ w. refl;
   rows = λ w. All-nil (IsForName n);
-  fired = λ w. All-nil (IsForName n);
+  expired = λ w. All-nil (IsForName n);
   queue = All-nil (IsNamed n);
 }
 

@@ -20,7 +20,7 @@ use Rattle.ert_names.specs.Handing.{waiting}
 use Rattle.ert_world.proofs.Totals.{delivered_few}
 use Rattle.ert_world.specs.Worlds.{Seen, StandsFor}
 
-message_one : (fired : List Row) → length (message_in fired) ≤ 1
+message_one : (expired : List Row) → length (message_in expired) ≤ 1
 message_one [] = omega arith
 message_one (r ∷ rows) = omega arith
 
@@ -46,8 +46,8 @@ queue_grows : (g : Settings) (n : ℕ) (s : State) (by : Actor) (with : Option A
     → EventFits n 0 event → has_actor (record { by = by; with = with; event = event }) (MailOf 0) ≡ true
     → length (mail_after s.scheds x event).queue ≤ length x.queue + counts 0 (record { by = by; with = with; event = event })
 queue_grows g n s by with (Deliver timer) x kept keeps fits has =
-    let one = message_one (s.scheds timer.wheel).fired in
-    let both = length-append x.queue (message_in (s.scheds timer.wheel).fired) in
+    let one = message_one (s.scheds timer.wheel).expired in
+    let both = length-append x.queue (message_in (s.scheds timer.wheel).expired) in
     rw (counts_one by with timer timer.wheel keeps.0 has) (omega (arith, one, both))
 queue_grows g n s by with (Answer wheel left) x kept keeps fits has = rw (kept.hands wheel, append-nil) (same_or (length x.queue) _)
 queue_grows g n s by with (Take process got) x kept keeps fits has =

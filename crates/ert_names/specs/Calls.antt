@@ -15,7 +15,7 @@ use Rattle.ert_effects.specs.declared.answers.Turned.{Turned}
 use Rattle.ert_defs.specs.States.{state}
 use Rattle.ert_defs.specs.declared.entry.Actor.TheVariants.{Caller}
 use Rattle.ert_defs.specs.declared.mail.Mail.TheVariants.{Timeout}
-use Rattle.ert_defs.specs.declared.memory.NoMemory.{NoMemory as WantOfMemory}
+use Rattle.ert_defs.specs.declared.memory.NoMemory.{NoMemory as OutOfMemory}
 use Rattle.ert_defs.specs.declared.settings.Settings.{Settings}
 use Rattle.ert_defs.specs.declared.timer.Kind.TheVariants.{Wrapped}
 use Rattle.ert_defs.specs.declared.timer.Start.{Start}
@@ -79,7 +79,7 @@ abbrev pub IsBadName : Registered → List ℕ → ℕ → Registered → Type 0
 IsBadName old name process new =
     ((AreFree old.names name process → ⊥) × (new ≡ old)) ⊎ (AreFree old.names name process × SeesAlive old process false new)
 
--- `register`: want of memory comes only where the name could have been given
+-- `register`: out of memory comes only where the name could have been given
 abbrev pub Registers : Registered → List ℕ → ℕ → Result (Unit {0}) NameErr → Registered → Type 0
 Registers old name process (Ok _) new = HasRegistered old name process new
 Registers old name process (Err BadArg) new = IsBadName old name process new
@@ -112,7 +112,7 @@ pub record HasStartedForName (old : Registered) (row : RowSeen) (call : Way → 
   pub rows : new.rows ≡ old.rows ++ row ∷ []
   pub mail : new.mail ≡ old.mail
 
--- `start_named`: a refusal leaves no row, and want of memory changes nothing
+-- `start_named`: a refusal leaves no row, and running out of memory changes nothing
 abbrev pub StartsNamed : Registered → ℕ → When → RowSeen → Result TimerRef StartErr → Registered → Type 0
 StartsNamed old wheel when row (Ok timer) new = HasStartedForName old row (StartsAt old wheel when (Ok timer)) new
 StartsNamed old wheel when row (Err starts.NoMemory) new = new ≡ old
@@ -185,7 +185,7 @@ pub record HasTurnedInPart (old : Registered) (sched : ℕ) (new : Registered) :
       (λ way. Then (Turns old.world.settings way sched (Ok turned)) (TakesMany old.world.settings messages way)) new
 
 -- `turn`
-abbrev pub TurnsNamed : Registered → ℕ → Result NamedTurn WantOfMemory → Registered → Type 0
+abbrev pub TurnsNamed : Registered → ℕ → Result NamedTurn OutOfMemory → Registered → Type 0
 TurnsNamed old sched (Ok t) new = HasTurnedAndHanded old sched t new
 TurnsNamed old sched (Err e) new =
     GoesAlone old (λ way. Turns old.world.settings way sched (Err e)) new ⊎ HasTurnedInPart old sched new

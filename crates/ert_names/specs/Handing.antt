@@ -51,7 +51,7 @@ pub record HandsNone (old new : Registered) : Type 0 where
   pub alone : GoesAlone old (FindsNoMessage old.world.settings) new
   pub empty : waiting new.world ≡ []
 
--- the next message is handed over or lost, or there is none; for want of memory nothing changes
+-- the next message is handed over or lost, or there is none; when out of memory nothing changes
 abbrev pub HandsNext : Registered → Result (Option Bool) NoMemory → Registered → Type 0
 HandsNext old (Ok (Some handed)) new = HandsOne old handed new
 HandsNext old (Ok None) new = HandsNone old new
@@ -69,7 +69,7 @@ pub record HandsSome (old new : Registered) : Type 0 where
   pub messages : List Message
   pub hands : HandsMessagesOver old messages (TakesMany old.world.settings messages) new
 
--- all messages are, or for want of memory only some
+-- all messages are, or, out of memory, only some
 abbrev pub HandsAll : Registered → Result (ℕ × ℕ) NoMemory → Registered → Type 0
 HandsAll old (Ok answer) new = HandsThem old answer new
 HandsAll old (Err e) new = HandsSome old new

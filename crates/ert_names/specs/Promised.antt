@@ -28,7 +28,7 @@ IsNamed n _ = ⊥
 -- another process than the registrar
 abbrev pub SparesNamed : Settings → List Entry → Event → Type 0
 SparesNamed g f (Orphan timer) = (row : Row) × (row_of ((state g f).rows timer.wheel) timer ≡ Some row) × (row.dest ≢ 0)
-SparesNamed g f (Drop timer) = (first : IsFirst ((state g f).scheds timer.wheel).fired timer) × (first.row.dest ≢ 0)
+SparesNamed g f (Drop timer) = (first : IsFirst ((state g f).scheds timer.wheel).expired timer) × (first.row.dest ≢ 0)
 SparesNamed g f _ = Unit {0}
 
 -- a world that gave out no seat, in which so many timers were started for a name

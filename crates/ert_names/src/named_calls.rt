@@ -11,7 +11,7 @@ impl NameWorld {
     /// Starts a timer on a wheel for a name: when it expires, its message goes to the process that has the
     /// name at the turn that hands it over. No process needs to have the name now, and it may be any text.
     ///
-    /// It is refused as `World::start` is, and then no row is kept. After want of memory nothing has changed.
+    /// It is refused as `World::start` is, and then no row is kept. If memory runs out, nothing has changed.
     pub fn start_named(
         &mut self,
         wheel: u32,

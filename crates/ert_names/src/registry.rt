@@ -63,7 +63,7 @@ impl Registry {
 
     /// Gives a name that no process has to a process that has none.
     ///
-    /// After want of memory nothing has changed.
+    /// If memory runs out, nothing has changed.
     pub(crate) fn insert(&mut self, alloc: Global, name: &str, process: u32) -> Result<(), NoMemory>
         requires free { map.get self.old name.now ≡ None }
         requires unnamed { Unnamed self.old process }

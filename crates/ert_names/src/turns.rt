@@ -17,7 +17,7 @@ impl NameWorld {
     /// A turn of a scheduler, as `World::turn`, and then every message for a name goes to the named mail of
     /// the process that has the name now, in order. It is lost where no process has it.
     ///
-    /// After want of memory what was done stays done, and the messages that weren't handed over wait for the
+    /// If memory runs out, what was done stays done, and the messages that weren't handed over wait for the
     /// next turn.
     pub fn turn(&mut self, sched: u32) -> Result<NamedTurn, NoMemory>
         requires { sched < self.old.world.settings.schedulers }
@@ -54,7 +54,7 @@ impl NameWorld {
     /// Hands over the first message for a name, and tells whether a process has the name; None where there is
     /// no message.
     ///
-    /// After want of memory nothing has changed.
+    /// If memory runs out, nothing has changed.
     fn hand_next(&mut self) -> Result<Option<bool>, NoMemory>
         ensures call { HandsNext self.old result self.new }
     {

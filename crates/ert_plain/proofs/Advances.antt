@@ -6,7 +6,7 @@ use Rattle.std.proofs.lemmas.Int.{ints}
 use Rattle.std.proofs.lemmas.Bool.Decides.{nat_tests}
 use Rattle.std.proofs.lemmas.List.Elements.{All-head, All-tail}
 use Rattle.ert_effects.specs.WheelCalls.{Try, expires_by, expiry_entries, hits, HasAdvanced}
-use Rattle.ert_defs.proofs.FiredTimers.{cond_same, same_timer_self, same_timer-false}
+use Rattle.ert_defs.proofs.ExpiredTimers.{cond_same, same_timer_self, same_timer-false}
 use Rattle.ert_defs.proofs.Lists.{pairs_head, pairs_tail}
 use Rattle.ert_defs.proofs.Rows.{Differ}
 use Rattle.ert_defs.specs.Actors.{has_actor}
@@ -54,11 +54,11 @@ differs_from x [] row behind all = All-head (Differ x) row behind all
 differs_from x (y ∷ before) row behind all = differs_from x before row behind (All-tail (Differ x) y (before ++ (row ∷ behind)) all)
 
 -- the statuses after a timer has expired
-abbrev expired : TimerRef → (TimerRef → Option Status) → TimerRef → Option Status
-expired t status r = cond (same_timer t r) (settled_as Expired (status r)) (status r)
+abbrev status_after_expiry : TimerRef → (TimerRef → Option Status) → TimerRef → Option Status
+status_after_expiry t status r = cond (same_timer t r) (settled_as Expired (status r)) (status r)
 
 others_before : (t : TimerRef) (status : TimerRef → Option Status) (before : List Row) (row : Row) (behind : List Row) → row.timer ≡ t
-    → AllPairs Differ (before ++ (row ∷ behind)) → SameArmed status (expired t status) before
+    → AllPairs Differ (before ++ (row ∷ behind)) → SameArmed status (status_after_expiry t status) before
 others_before t status [] row behind named apart = tt
 others_before t status (x ∷ before) row behind named apart = (
   other_armed t x.timer (status x.timer)
@@ -67,7 +67,7 @@ others_before t status (x ∷ before) row behind named apart = (
 )
 
 all_others : (t : TimerRef) (status : TimerRef → Option Status) (row : Row) (xs : List Row) → row.timer ≡ t → All (Differ row) xs
-    → SameArmed status (expired t status) xs
+    → SameArmed status (status_after_expiry t status) xs
 all_others t status row [] named all = tt
 all_others t status row (x ∷ xs) named all = (
   other_armed t x.timer (status x.timer) (λ same. All-head (Differ row) x xs all (named ∙ sym same)),
@@ -75,7 +75,7 @@ all_others t status row (x ∷ xs) named all = (
 )
 
 others_behind : (t : TimerRef) (status : TimerRef → Option Status) (before : List Row) (row : Row) (behind : List Row) → row.timer ≡ t
-    → AllPairs Differ (before ++ (row ∷ behind)) → SameArmed status (expired t status) behind
+    → AllPairs Differ (before ++ (row ∷ behind)) → SameArmed status (status_after_expiry t status) behind
 others_behind t status [] row behind named apart = all_others t status row behind named (pairs_head Differ row behind apart)
 others_behind t status (x ∷ before) row behind named apart =
     others_behind t status before row behind named (pairs_tail Differ x (before ++ (row ∷ behind)) apart)
@@ -105,7 +105,7 @@ expires_here g to t z kept can is =
     let apart : AllPairs Differ (known.before ++ (row ∷ known.behind)) = subst (AllPairs Differ) rows (kept.rows t.wheel).apart in
     let armed : is_armed (z.status row.timer) ≡ true = ap (λ (x : TimerRef). is_armed (z.status x)) known.named ∙ ap is_armed can.found in
     let due : nat_le row.deadline to ≡ true = due_at_look g to row.deadline (z.looked (Sched t.wheel)) is known.due in
-    let later : TimerRef → Option Status = expired t z.status in
+    let later : TimerRef → Option Status = status_after_expiry t z.status in
     let over : is_armed (later row.timer) ≡ false =
     ap (λ (x : TimerRef). is_armed (later x)) known.named
     ∙ ap (λ (b : Bool). is_armed (cond b (settled_as Expired (z.status t)) (z.status t))) (same_timer_self t)
@@ -139,12 +139,12 @@ expires_first g w to t z kept can is =
 -- the tries and the record, beside the expiries of as many rows
 
 pub record AreTried (g : Settings) (n : ℕ) (ls : Labels) (w to : ℕ) (tries : List Try) (z c : State) (ys : List Row) : Type 0 where
-  pub fired : hits tries ≡ length ys
+  pub expired : hits tries ≡ length ys
   pub meets : Meets g n ls (run g z (expiry_entries w tries ++ advanced_entry w to ∷ [])) (run g c (expiries w ys ++ advanced_entry w to ∷ []))
 
 none_tried : (g : Settings) (n : ℕ) (ls : Labels) (w to : ℕ) (z c : State) (ys : List Row) → Meets g n ls z c → Can g z (advanced_entry w to)
     → Pairs (SameRow (IsName g ls)) [] ys → AreTried g n ls w to [] z c ys
-none_tried g n ls w to z c [] h can same = record { fired = refl; meets = meets_next g n ls (as_advanced w to) (Sched w) (Some (Wheel w)) z c h can }
+none_tried g n ls w to z c [] h can same = record { expired = refl; meets = meets_next g n ls (as_advanced w to) (Sched w) (Some (Wheel w)) z c h can }
 none_tried g n ls w to z c (y ∷ ys) h can same = absurd same
 
 hit_tried : (g : Settings) (n : ℕ) (ls : Labels) (w to : ℕ) (t : TimerRef) (tries : List Try) (z c : State) (row : Row) (rest ys : List Row) → Meets g n ls z c
@@ -157,7 +157,7 @@ hit_tried g n ls w to t tries z c row rest (y ∷ ys) h can named same later =
     let name : IsName g ls t y.timer = subst (λ (x : TimerRef). IsName g ls x y.timer) named same.0.timer in
     let after = meets_next g n ls (as_expire t y.timer name) (Sched w) (Some (Wheel w)) z c h can in
     let more = later (next g c (expire_entry w y.timer)) ys after same.1 in
-    record { fired = omega (arith, more.fired); meets = more.meets }
+    record { expired = omega (arith, more.expired); meets = more.meets }
 
 abbrev TriedLater : Settings → ℕ → Labels → ℕ → ℕ → List Try → Type 0
 TriedLater g n ls w to tries =
@@ -179,7 +179,7 @@ one_tried g n ls w to t (Some found) tries later z c ys h legal is same =
     let rows : (next g z probe).rows w ≡ z.rows w = cond_same (has_actor probe (Wheel w)) (z.rows w) in
     let more = later (next g z probe) c ys after legal.1 later_look
     (subst (λ (xs : List Row). Pairs (SameRow (IsName g ls)) (due_rows z.status to xs) ys) (sym rows) same) in
-    record { fired = omega (arith, more.fired); meets = more.meets }
+    record { expired = omega (arith, more.expired); meets = more.meets }
 
 all_tried : (g : Settings) (n : ℕ) (ls : Labels) (w to : ℕ) (tries : List Try) → TriedLater g n ls w to tries
 all_tried g n ls w to [] z c ys h legal is same =
@@ -189,14 +189,14 @@ all_tried g n ls w to (t ∷ tries) z c ys h legal is same =
     one_tried g n ls w to t.timer t.missed tries (all_tried g n ls w to tries) z c ys h legal is same
 
 -- an advance of both
-pub record AreAdvanced (g : Settings) (n : ℕ) (ls : Labels) (w to fired : ℕ) (s c : State) (es : List Entry) : Type 0 where
+pub record AreAdvanced (g : Settings) (n : ℕ) (ls : Labels) (w to expired : ℕ) (s c : State) (es : List Entry) : Type 0 where
   pub to_is : to ≡ (advance_now g c w).to
-  pub fired_is : fired ≡ (advance_now g c w).fired
+  pub expired_is : expired ≡ (advance_now g c w).expired
   pub meets : Meets g n ls (run g s es) (run g c (advance_now g c w).entries)
 
-pub advance_meets : (g : Settings) (n : ℕ) (ls : Labels) (w to fired : ℕ) (s c : State) (es : List Entry) → Meets g n ls s c → LegalFrom g s es
-    → HasAdvanced w (to, fired) s es → AreAdvanced g n ls w to fired s c es
-advance_meets g n ls w to fired s c es h legal does =
+pub advance_meets : (g : Settings) (n : ℕ) (ls : Labels) (w to expired : ℕ) (s c : State) (es : List Entry) → Meets g n ls s c → LegalFrom g s es
+    → HasAdvanced w (to, expired) s es → AreAdvanced g n ls w to expired s c es
+advance_meets g n ls w to expired s c es h legal does =
     let lawful = subst (λ (x : List Entry). LegalFrom g s x) does.entries legal in
     let time : does.now ≡ c.clock.now = lawful.0.found ∙ ap (λ (k : Clock). k.now) h.shows.clock in
     let z : State = next g s (look_entry (Sched w) does.now) in
@@ -213,7 +213,7 @@ advance_meets g n ls w to fired s c es h legal does =
     (run g c (look_entry (Sched w) now ∷ (expiries w xs ++ advanced_entry w k ∷ []))) in
     record {
       to_is = same;
-      fired_is = does.fired ∙ tried.fired ∙ ap (λ (k : ℕ). length (due_rows c.status k (c.rows w))) same;
+      expired_is = does.expired ∙ tried.expired ∙ ap (λ (k : ℕ). length (due_rows c.status k (c.rows w))) same;
       meets = subst (λ (x : List Entry). Meets g n ls (run g s x) (run g c (advance_now g c w).entries)) (sym does.entries)
           (subst (λ (k : ℕ). P (due_rows c.status k (c.rows w)) k c.clock.now) same
           (subst (λ (now : ℤ). P (due_rows c.status to (c.rows w)) to now) time tried.meets));

@@ -3,7 +3,7 @@
 use Rattle.std.proofs.Common.{◌≡◌, ◌≢◌, ℕ, ℤ, suc, ◌+◌, ◌<◌, ◌≤◌, Bool, true, false, cond, ◌&&◌, nat_eq, List, [], ◌∷◌, ◌++◌, length, length-append, append-nil, Option, Some, None, refl, sym, ap, ◌∙◌, subst, subst₂, arith, eq-eqb, eqb-true}
 use Rattle.std.proofs.lemmas.Bool.{and_parts}
 use Rattle.std.proofs.lemmas.Bool.Decides.{nat_tests}
-use Rattle.ert_defs.proofs.FiredTimers.{same_timer_self}
+use Rattle.ert_defs.proofs.ExpiredTimers.{same_timer_self}
 use Rattle.ert_defs.proofs.Slots.{same_timer-true}
 use Rattle.ert_defs.proofs.Uses.{told_low}
 use Rattle.ert_defs.specs.Actors.{same_actor, has_actor}

@@ -3,7 +3,7 @@
 use Rattle.std.proofs.Common.{◌≡◌, ℕ, ℤ, Bool, true, false, cond, ◌&&◌, nat_lt, nat_le, List, ◌∷◌, Option, Some, None, refl, sym, ap, ◌∙◌, subst, inl, inr, eq-eqb}
 use Rattle.std.proofs.lemmas.Bool.{cases_eq}
 use Rattle.ert_effects.specs.TimerCalls.{read_entries, cancel_entries, Reads, Cancels}
-use Rattle.ert_defs.proofs.FiredTimers.{cond_same}
+use Rattle.ert_defs.proofs.ExpiredTimers.{cond_same}
 use Rattle.ert_defs.specs.Actors.{same_actor, has_actor}
 use Rattle.ert_defs.specs.Clocks.{Clock}
 use Rattle.ert_defs.specs.Entries.{look_entry, peek_entry}

@@ -38,12 +38,12 @@ serve_done g n ls w served h m c meets legal does =
     let told : has_served (serve_one g c w) ≡ served = tells_served served (serve_one g c w) one.counts in
     record { line = serve_prints ls served (has_served (serve_one g c w)) (sym told); meets = one.meets }
 
-pub advance_done : (g : Settings) (n : ℕ) (ls : Labels) (w to fired : ℕ) (s c : State) (es : List Entry) → Meets g n ls s c → LegalFrom g s es
-    → HasAdvanced w (to, fired) s es → IsDone g n ls s c (Advance to fired) es (advance_op g c w)
-advance_done g n ls w to fired s c es meets legal does =
-    let one = advance_meets g n ls w to fired s c es meets legal does in
+pub advance_done : (g : Settings) (n : ℕ) (ls : Labels) (w to expired : ℕ) (s c : State) (es : List Entry) → Meets g n ls s c → LegalFrom g s es
+    → HasAdvanced w (to, expired) s es → IsDone g n ls s c (Advance to expired) es (advance_op g c w)
+advance_done g n ls w to expired s c es meets legal does =
+    let one = advance_meets g n ls w to expired s c es meets legal does in
     record {
-      line = ap (λ (x : ℕ). line_of slot_of (Advance x fired)) one.to_is ∙ ap (λ (x : ℕ). line_of slot_of (Advance (advance_now g c w).to x)) one.fired_is;
+      line = ap (λ (x : ℕ). line_of slot_of (Advance x expired)) one.to_is ∙ ap (λ (x : ℕ). line_of slot_of (Advance (advance_now g c w).to x)) one.expired_is;
       meets = one.meets;
     }
 
@@ -54,7 +54,7 @@ deliver_done g n ls w put dropped h m c meets legal does =
     let one = deliver_meets g n ls w put dropped h m c meets legal does in
     record {
       line = ap (λ (x : ℕ). line_of slot_of (Deliver x dropped)) one.put_is
-          ∙ ap (λ (x : ℕ). line_of slot_of (Deliver (puts (hows_of c.exited (c.scheds w).fired)) x)) one.dropped_is;
+          ∙ ap (λ (x : ℕ). line_of slot_of (Deliver (puts (hows_of c.exited (c.scheds w).expired)) x)) one.dropped_is;
       meets = one.meets;
     }
 
@@ -68,14 +68,14 @@ joined_meets g n ls h m before after c first second joined meets =
     (ap (λ (z : State). run g z after) (state-append g h before) ∙ sym (run-append g (state g h) before after))
     (subst (λ (d : State). Meets g n ls (run g (state g (h ++ before)) after) d) (sym (run-append g c first second)) meets))
 
-turned_same : (t : Turned) (served to fired put dropped : ℕ) → t.served ≡ served → t.to ≡ to → t.fired ≡ fired → t.put ≡ put → t.dropped ≡ dropped
-    → t ≡ record { served = served; to = to; fired = fired; put = put; dropped = dropped }
-turned_same t served to fired put dropped a b c d e =
-    ap (λ (x : ℕ). record { served = x; to = t.to; fired = t.fired; put = t.put; dropped = t.dropped }) a
-    ∙ ap (λ (x : ℕ). record { served = served; to = x; fired = t.fired; put = t.put; dropped = t.dropped }) b
-    ∙ ap (λ (x : ℕ). record { served = served; to = to; fired = x; put = t.put; dropped = t.dropped }) c
-    ∙ ap (λ (x : ℕ). record { served = served; to = to; fired = fired; put = x; dropped = t.dropped }) d
-    ∙ ap (λ (x : ℕ). record { served = served; to = to; fired = fired; put = put; dropped = x }) e
+turned_same : (t : Turned) (served to expired put dropped : ℕ) → t.served ≡ served → t.to ≡ to → t.expired ≡ expired → t.put ≡ put → t.dropped ≡ dropped
+    → t ≡ record { served = served; to = to; expired = expired; put = put; dropped = dropped }
+turned_same t served to expired put dropped a b c d e =
+    ap (λ (x : ℕ). record { served = x; to = t.to; expired = t.expired; put = t.put; dropped = t.dropped }) a
+    ∙ ap (λ (x : ℕ). record { served = served; to = x; expired = t.expired; put = t.put; dropped = t.dropped }) b
+    ∙ ap (λ (x : ℕ). record { served = served; to = to; expired = x; put = t.put; dropped = t.dropped }) c
+    ∙ ap (λ (x : ℕ). record { served = served; to = to; expired = expired; put = x; dropped = t.dropped }) d
+    ∙ ap (λ (x : ℕ). record { served = served; to = to; expired = expired; put = put; dropped = x }) e
 
 pub turn_done : (g : Settings) (n : ℕ) (ls : Labels) (w : ℕ) (t : Turned) (h m : List Entry) (c : State) → Meets g n ls (state g h) c
     → LegalFrom g (state g h) m → HasTurned g (alone g) w t h m → IsDone g n ls (state g h) c (Turn t) m (turn_op g c w)
@@ -87,15 +87,15 @@ turn_done g n ls w t h m c meets legal does =
     let here = meets_after g n ls h does.before d served.meets in
     let lawful = legal_after g h m does.before does.after does.joined legal in
     let rest = does.other in
-    let advanced = advance_meets g n ls w t.to t.fired (state g later) d rest.before here (legal_before g later does.after rest.before rest.after rest.joined lawful) rest.one in
+    let advanced = advance_meets g n ls w t.to t.expired (state g later) d rest.before here (legal_before g later does.after rest.before rest.after rest.joined lawful) rest.one in
     let last : State = run g d (advance_now g d w).entries in
     let there = meets_after g n ls later rest.before last advanced.meets in
     let delivered = deliver_meets g n ls w t.put t.dropped (later ++ rest.before) rest.after last there
     (legal_after g later does.after rest.before rest.after rest.joined lawful) rest.other in
     let tail = joined_meets g n ls later does.after rest.before rest.after d (advance_now g d w).entries (handing last w) rest.joined delivered.meets in
     record {
-      line = ap (λ (x : Turned). turn_line x) (turned_same t more.count (advance_now g d w).to (advance_now g d w).fired
-          (puts (hows_of last.exited (last.scheds w).fired)) (drops (hows_of last.exited (last.scheds w).fired)) (sym served.counts) advanced.to_is advanced.fired_is delivered.put_is delivered.dropped_is);
+      line = ap (λ (x : Turned). turn_line x) (turned_same t more.count (advance_now g d w).to (advance_now g d w).expired
+          (puts (hows_of last.exited (last.scheds w).expired)) (drops (hows_of last.exited (last.scheds w).expired)) (sym served.counts) advanced.to_is advanced.expired_is delivered.put_is delivered.dropped_is);
       meets = joined_meets g n ls h m does.before does.after c more.entries ((advance_now g d w).entries ++ handing last w) does.joined tail;
     }
 

@@ -6,7 +6,7 @@ use Rattle.ert_effects.specs.MailCalls.{handed_entries}
 use Rattle.ert_effects.specs.Ways.{alone}
 use Rattle.ert_effects.specs.declared.answers.Handed.{Handed}
 use Rattle.ert_effects.specs.declared.answers.Handed.TheVariants.{Put, Dropped}
-use Rattle.ert_defs.proofs.FiredTimers.{cond_same}
+use Rattle.ert_defs.proofs.ExpiredTimers.{cond_same}
 use Rattle.ert_defs.proofs.Runs.{run-append, state-append}
 use Rattle.ert_defs.specs.Actors.{has_actor}
 use Rattle.ert_defs.specs.Entries.{mark_entry, deliver_entry, drop_entry}
@@ -30,7 +30,7 @@ use Rattle.ert_plain.specs.PlainTurns.{how_by, hows_of, hand_entries, handing}
 pub record IsHanded (g : Settings) (n : ℕ) (ls : Labels) (w : ℕ) (s c : State) (how : Handed) (row y : Row) (es : List Entry) : Type 0 where
   pub how_is : how ≡ how_by (c.exited y.dest)
   pub meets : Meets g n ls (run g s es) (run g c (handed_entries w y how))
-  pub fired : ((run g s es).scheds w).fired ≡ others_of (s.scheds w).fired
+  pub expired : ((run g s es).scheds w).expired ≡ others_of (s.scheds w).expired
   pub exited : (p : ℕ) → (run g c (handed_entries w y how)).exited p ≡ c.exited p
 
 -- a look at an exit changes none
@@ -41,18 +41,18 @@ unmarked false false = refl
 
 -- the scheduler keeps the others
 kept_others : (g : Settings) (w p : ℕ) (was : Bool) (s : State) (e : Entry) → e.by ≡ Sched w
-    → ((z : State) → ((next g z e).scheds w).fired ≡ (cond (has_actor e (Sched w)) (others_of (z.scheds w).fired) (z.scheds w).fired))
+    → ((z : State) → ((next g z e).scheds w).expired ≡ (cond (has_actor e (Sched w)) (others_of (z.scheds w).expired) (z.scheds w).expired))
     → has_actor e (Sched w) ≡ true
-    → ((next g (next g s (mark_entry (Sched w) p false was)) e).scheds w).fired ≡ others_of (s.scheds w).fired
+    → ((next g (next g s (mark_entry (Sched w) p false was)) e).scheds w).expired ≡ others_of (s.scheds w).expired
 kept_others g w p was s e by goes has =
     let z : State = next g s (mark_entry (Sched w) p false was) in
     let same : z.scheds w ≡ s.scheds w = cond_same (has_actor (mark_entry (Sched w) p false was) (Sched w)) (s.scheds w) in
-    goes z ∙ ap (λ (b : Bool). cond b (others_of (z.scheds w).fired) (z.scheds w).fired) has
-    ∙ ap (λ (x : SchedState). others_of x.fired) same
+    goes z ∙ ap (λ (b : Bool). cond b (others_of (z.scheds w).expired) (z.scheds w).expired) has
+    ∙ ap (λ (x : SchedState). others_of x.expired) same
 
-fired_if : (b : Bool) (x y : SchedState) → (cond b x y).fired ≡ cond b x.fired y.fired
-fired_if true x y = refl
-fired_if false x y = refl
+expired_if : (b : Bool) (x y : SchedState) → (cond b x y).expired ≡ cond b x.expired y.expired
+expired_if true x y = refl
+expired_if false x y = refl
 
 -- a message is put
 put_meets : (g : Settings) (n : ℕ) (ls : Labels) (w : ℕ) (s c : State) (row y : Row) (es : List Entry) → SameRow (IsName g ls) row y → Meets g n ls s c
@@ -69,8 +69,8 @@ put_meets g n ls w s c row y es same h legal is =
       meets = subst (λ (x : List Entry). Meets g n ls (run g s x) (run g c (handed_entries w y Put))) (sym is)
           (subst (λ (p : ℕ). Meets g n ls (run g s (handed_entries w row Put)) (run g c (mark_entry (Sched w) p false false ∷ deliver_entry w p y.timer ∷ [])))
           same.dest handed);
-      fired = subst (λ (x : List Entry). ((run g s x).scheds w).fired ≡ others_of (s.scheds w).fired) (sym is)
-          (kept_others g w row.dest false s deliver refl (λ z. fired_if (has_actor deliver (Sched w)) _ _) has);
+      expired = subst (λ (x : List Entry). ((run g s x).scheds w).expired ≡ others_of (s.scheds w).expired) (sym is)
+          (kept_others g w row.dest false s deliver refl (λ z. expired_if (has_actor deliver (Sched w)) _ _) has);
       exited = λ p. unmarked (c.exited p) (nat_eq y.dest p);
     }
 
@@ -89,8 +89,8 @@ drop_meets g n ls w s c row y es same h legal is =
       meets = subst (λ (x : List Entry). Meets g n ls (run g s x) (run g c (handed_entries w y Dropped))) (sym is)
           (subst (λ (p : ℕ). Meets g n ls (run g s (handed_entries w row Dropped)) (run g c (mark_entry (Sched w) p false true ∷ drop_entry w y.timer ∷ [])))
           same.dest handed);
-      fired = subst (λ (x : List Entry). ((run g s x).scheds w).fired ≡ others_of (s.scheds w).fired) (sym is)
-          (kept_others g w row.dest true s drop refl (λ z. fired_if (has_actor drop (Sched w)) _ _) has);
+      expired = subst (λ (x : List Entry). ((run g s x).scheds w).expired ≡ others_of (s.scheds w).expired) (sym is)
+          (kept_others g w row.dest true s drop refl (λ z. expired_if (has_actor drop (Sched w)) _ _) has);
       exited = λ p. unmarked (c.exited p) (nat_eq y.dest p);
     }
 
@@ -114,28 +114,28 @@ none_handed g n ls w gone s c xs (y ∷ ys) es h is none same = absurd (subst (�
 abbrev HandedLater : Settings → ℕ → Labels → ℕ → (ℕ → Bool) → List Handed → Type 0
 HandedLater g n ls w gone hows =
     (h m : List Entry) (c : State) (ys : List Row) → Meets g n ls (state g h) c → LegalFrom g (state g h) m → HandsMany g (alone g) w hows h m
-    → ((state g (h ++ m)).scheds w).fired ≡ [] → ((p : ℕ) → c.exited p ≡ gone p)
-    → Pairs (SameRow (IsName g ls)) ((state g h).scheds w).fired ys → AreHanded g n ls w gone (state g h) c hows ys m
+    → ((state g (h ++ m)).scheds w).expired ≡ [] → ((p : ℕ) → c.exited p ≡ gone p)
+    → Pairs (SameRow (IsName g ls)) ((state g h).scheds w).expired ys → AreHanded g n ls w gone (state g h) c hows ys m
 
 first_handed : (g : Settings) (n : ℕ) (ls : Labels) (w : ℕ) (gone : ℕ → Bool) (how : Handed) (hows : List Handed) → HandedLater g n ls w gone hows
-    → (h m : List Entry) (c : State) (xs ys : List Row) → xs ≡ ((state g h).scheds w).fired → Meets g n ls (state g h) c → LegalFrom g (state g h) m
-    → (steps : HandsMany g (alone g) w (how ∷ hows) h m) → first_of xs ≡ Some steps.one.fired
-    → ((state g (h ++ m)).scheds w).fired ≡ [] → ((p : ℕ) → c.exited p ≡ gone p)
+    → (h m : List Entry) (c : State) (xs ys : List Row) → xs ≡ ((state g h).scheds w).expired → Meets g n ls (state g h) c → LegalFrom g (state g h) m
+    → (steps : HandsMany g (alone g) w (how ∷ hows) h m) → first_of xs ≡ Some steps.one.expired
+    → ((state g (h ++ m)).scheds w).expired ≡ [] → ((p : ℕ) → c.exited p ≡ gone p)
     → Pairs (SameRow (IsName g ls)) xs ys → AreHanded g n ls w gone (state g h) c (how ∷ hows) ys m
-first_handed g n ls w gone how hows later h m c [] ys here meets legal steps first done exited same = let clash : None ≡ Some steps.one.fired = first in cc
+first_handed g n ls w gone how hows later h m c [] ys here meets legal steps first done exited same = let clash : None ≡ Some steps.one.expired = first in cc
 first_handed g n ls w gone how hows later h m c (x ∷ xs) [] here meets legal steps first done exited same = absurd same
 first_handed g n ls w gone how hows later h m c (x ∷ xs) (y ∷ ys) here meets legal steps first done exited same =
     let R = IsName g ls in
-    let row : Row = steps.one.fired in
+    let row : Row = steps.one.expired in
     let own : x ≡ row = let e : Some x ≡ Some row = first in cc in
     let named : SameRow R row y = subst (λ (r : Row). SameRow R r y) own same.0 in
     let one = hand_meets g n ls w (state g h) c how row y steps.before named meets
     (legal_before g h m steps.before steps.after steps.joined legal) steps.one.step in
     let d : State = run g c (handed_entries w y how) in
-    let left : ((state g (h ++ steps.before)).scheds w).fired ≡ xs =
-    ap (λ (z : State). (z.scheds w).fired) (state-append g h steps.before) ∙ one.fired ∙ ap others_of (sym here) in
-    let over : ((state g ((h ++ steps.before) ++ steps.after)).scheds w).fired ≡ [] =
-    ap (λ (e : List Entry). ((state g e).scheds w).fired) (append_assoc h steps.before steps.after ∙ ap (λ (e : List Entry). h ++ e) (sym steps.joined)) ∙ done in
+    let left : ((state g (h ++ steps.before)).scheds w).expired ≡ xs =
+    ap (λ (z : State). (z.scheds w).expired) (state-append g h steps.before) ∙ one.expired ∙ ap others_of (sym here) in
+    let over : ((state g ((h ++ steps.before) ++ steps.after)).scheds w).expired ≡ [] =
+    ap (λ (e : List Entry). ((state g e).scheds w).expired) (append_assoc h steps.before steps.after ∙ ap (λ (e : List Entry). h ++ e) (sym steps.joined)) ∙ done in
     let rest = later (h ++ steps.before) steps.after d ys (meets_after g n ls h steps.before d one.meets)
     (legal_after g h m steps.before steps.after steps.joined legal) steps.other over (λ p. one.exited p ∙ exited p)
     (subst (λ (r : List Row). Pairs (SameRow R) r ys) (sym left) same.1) in
@@ -153,22 +153,22 @@ first_handed g n ls w gone how hows later h m c (x ∷ xs) (y ∷ ys) here meets
 
 all_handed : (g : Settings) (n : ℕ) (ls : Labels) (w : ℕ) (gone : ℕ → Bool) (hows : List Handed) → HandedLater g n ls w gone hows
 all_handed g n ls w gone [] h m c ys meets legal steps done exited same =
-    let none : ((state g h).scheds w).fired ≡ [] =
-    ap (λ (e : List Entry). ((state g e).scheds w).fired) (sym (append-nil h) ∙ ap (λ (e : List Entry). h ++ e) (sym steps)) ∙ done in
-    none_handed g n ls w gone (state g h) c ((state g h).scheds w).fired ys m meets steps none same
+    let none : ((state g h).scheds w).expired ≡ [] =
+    ap (λ (e : List Entry). ((state g e).scheds w).expired) (sym (append-nil h) ∙ ap (λ (e : List Entry). h ++ e) (sym steps)) ∙ done in
+    none_handed g n ls w gone (state g h) c ((state g h).scheds w).expired ys m meets steps none same
 all_handed g n ls w gone (how ∷ hows) h m c ys meets legal steps done exited same =
-    first_handed g n ls w gone how hows (all_handed g n ls w gone hows) h m c ((state g h).scheds w).fired ys refl meets legal steps steps.one.first done exited same
+    first_handed g n ls w gone how hows (all_handed g n ls w gone hows) h m c ((state g h).scheds w).expired ys refl meets legal steps steps.one.first done exited same
 
 -- a delivery of both
 pub record AreDelivered (g : Settings) (n : ℕ) (ls : Labels) (w put dropped : ℕ) (s c : State) (es : List Entry) : Type 0 where
-  pub put_is : put ≡ puts (hows_of c.exited (c.scheds w).fired)
-  pub dropped_is : dropped ≡ drops (hows_of c.exited (c.scheds w).fired)
+  pub put_is : put ≡ puts (hows_of c.exited (c.scheds w).expired)
+  pub dropped_is : dropped ≡ drops (hows_of c.exited (c.scheds w).expired)
   pub meets : Meets g n ls (run g s es) (run g c (handing c w))
 
 pub deliver_meets : (g : Settings) (n : ℕ) (ls : Labels) (w put dropped : ℕ) (h m : List Entry) (c : State) → Meets g n ls (state g h) c
     → LegalFrom g (state g h) m → HasDelivered g (alone g) w (put, dropped) h m → AreDelivered g n ls w put dropped (state g h) c m
 deliver_meets g n ls w put dropped h m c meets legal does =
-    let all = all_handed g n ls w c.exited does.hows h m c (c.scheds w).fired meets legal does.runs does.done (λ p. refl) (meets.shows.scheds w).fired in
+    let all = all_handed g n ls w c.exited does.hows h m c (c.scheds w).expired meets legal does.runs does.done (λ p. refl) (meets.shows.scheds w).expired in
     record {
       put_is = does.put_is ∙ ap puts all.hows_are;
       dropped_is = does.dropped_is ∙ ap drops all.hows_are;

@@ -2,7 +2,7 @@
 -- by the labels that are bound.
 
 use Rattle.std.proofs.Common.{◌≡◌, ℕ, ℤ, ◌≤◌, cond, List, [], ◌∷◌, length, Option, refl, sym, ap, ◌∙◌, subst, arith}
-use Rattle.ert_defs.proofs.FiredTimers.{cond_same}
+use Rattle.ert_defs.proofs.ExpiredTimers.{cond_same}
 use Rattle.ert_defs.proofs.Rows.{AreRows, rows_next}
 use Rattle.ert_defs.proofs.Slots.{IsOrdered, ordered_next}
 use Rattle.ert_defs.proofs.Standing.{AllStand, stands_next}

@@ -123,7 +123,7 @@ serve_an_op g n ls h m c w _ meets legal does = absurd does
 
 pub advance_an_op : (g : Settings) (n : ℕ) (ls : Labels) (h m : List Entry) (c : State) (w : ℕ) (reply : Reply) → Meets g n ls (state g h) c
     → LegalFrom g (state g h) m → Calls g (alone g) 0 ls (ops.Advance w) reply h m → IsDone g n ls (state g h) c reply m (advance_op g c w)
-advance_an_op g n ls h m c w (Advance to fired) meets legal does = advance_done g n ls w to fired (state g h) c m meets legal does
+advance_an_op g n ls h m c w (Advance to expired) meets legal does = advance_done g n ls w to expired (state g h) c m meets legal does
 advance_an_op g n ls h m c w _ meets legal does = absurd does
 
 pub deliver_an_op : (g : Settings) (n : ℕ) (ls : Labels) (h m : List Entry) (c : State) (w : ℕ) (reply : Reply) → Meets g n ls (state g h) c

@@ -8,7 +8,7 @@ use Rattle.std.proofs.lemmas.Bool.{cases_eq, cases_lt}
 use Rattle.ert_effects.proofs.Told.{round_probes}
 use Rattle.ert_effects.specs.declared.answers.TheConstants.{MOST_LOOKS}
 use Rattle.ert_effects.specs.TimerCalls.{AreTaken, Round, IsInRound, IsRoundTaken, Rests, IsBadArg, IsWheelFull}
-use Rattle.ert_defs.proofs.FiredTimers.{cond_same}
+use Rattle.ert_defs.proofs.ExpiredTimers.{cond_same}
 use Rattle.ert_defs.specs.Actors.{has_actor}
 use Rattle.ert_defs.specs.Clocks.{Clock}
 use Rattle.ert_defs.specs.Entries.{look_entry, probe_entry}

@@ -209,7 +209,7 @@ opened g = record {
       rows = λ w. tt;
       mails = λ p. record { queue = tt; monitors = refl; next = refl };
       inboxes = λ w. tt;
-      scheds = λ w. record { hand = tt; fired = tt };
+      scheds = λ w. record { hand = tt; expired = tt };
       status = λ r n named. refl;
     };
     used = tt;

@@ -67,7 +67,7 @@ pub record SameMails (R : Names) (a b : MailState) : Type 0 where
 
 pub record SameSched (R : Names) (a b : SchedState) : Type 0 where
   pub hand : Both (SameRequest R) a.hand b.hand
-  pub fired : Pairs (SameRow R) a.fired b.fired
+  pub expired : Pairs (SameRow R) a.expired b.expired
 
 -- two states that differ in names alone
 pub record Shows (R : Names) (s c : State) : Type 0 where
@@ -149,7 +149,7 @@ mails_grow R S grows a b h = record {
 pub sched_grows : (R S : Names) → Grows R S → (a b : SchedState) → SameSched R a b → SameSched S a b
 sched_grows R S grows a b h = record {
   hand = both_weaker (SameRequest R) (SameRequest S) (request_grows R S grows) a.hand b.hand h.hand;
-  fired = rows_grow R S grows a.fired b.fired h.fired;
+  expired = rows_grow R S grows a.expired b.expired h.expired;
 }
 
 -- what is found in such lists

@@ -1,7 +1,7 @@
 -- Two states that differ in names alone still do so after the same event, told of each by its names.
 
 use Rattle.std.proofs.Common.{◌≡◌, ℕ, ℤ, Bool, true, false, cond, List, [], ◌∷◌, ◌++◌, map, filter, Option, refl, sym, ap, ◌∙◌, subst}
-use Rattle.ert_defs.proofs.FiredTimers.{cond_same}
+use Rattle.ert_defs.proofs.ExpiredTimers.{cond_same}
 use Rattle.ert_defs.specs.Actors.{same_actor, has_actor}
 use Rattle.ert_defs.specs.Clocks.{Clock, clock_after}
 use Rattle.ert_defs.specs.Entries.{entry_by, probe_entry}
@@ -130,8 +130,8 @@ mail_same : (R : Names) → AreNames R → (x : Step R) (scheds others : ℕ →
     → SameMails R m k → SameMails R (mail_after scheds m (first R x)) (mail_after others k (second R x))
 mail_same R names (as_deliver t n is) scheds others m k are h = record {
   queue = pairs-append (SameMail R) m.queue k.queue _ _ h.queue
-      (messages_same R (scheds t.wheel).fired (others n.wheel).fired
-      (subst (λ (w : ℕ). Pairs (SameRow R) (scheds t.wheel).fired (others w).fired) (sym (names.wheel t n is)) (are t.wheel).fired));
+      (messages_same R (scheds t.wheel).expired (others n.wheel).expired
+      (subst (λ (w : ℕ). Pairs (SameRow R) (scheds t.wheel).expired (others w).expired) (sym (names.wheel t n is)) (are t.wheel).expired));
   monitors = h.monitors;
   next = h.next;
 }
@@ -160,20 +160,20 @@ mail_same R names _ scheds others m k are h = h
 sched_same : (R : Names) → AreNames R → (x : Step R) (rows others : ℕ → List Row) (a b : SchedState)
     → ((w : ℕ) → Pairs (SameRow R) (rows w) (others w)) → SameSched R a b
     → SameSched R (sched_after rows a (first R x)) (sched_after others b (second R x))
-sched_same R names (as_peek t n is left) rows others a b are h = record { hand = h.hand; fired = h.fired }
-sched_same R names (as_cancel t n is left) rows others a b are h = record { hand = h.hand; fired = h.fired }
+sched_same R names (as_peek t n is left) rows others a b are h = record { hand = h.hand; expired = h.expired }
+sched_same R names (as_cancel t n is left) rows others a b are h = record { hand = h.hand; expired = h.expired }
 sched_same R names (as_expire t n is) rows others a b are h = record {
   hand = h.hand;
-  fired = with_row_same R a.fired b.fired _ _ h.fired
+  expired = with_row_same R a.expired b.expired _ _ h.expired
       (row_both R names t n is (rows t.wheel) (others n.wheel)
       (subst (λ (w : ℕ). Pairs (SameRow R) (rows t.wheel) (others w)) (sym (names.wheel t n is)) (are t.wheel)));
 }
 sched_same R names (as_deliver t n is) rows others a b are h =
-    record { hand = h.hand; fired = pairs_others (SameRow R) a.fired b.fired h.fired }
+    record { hand = h.hand; expired = pairs_others (SameRow R) a.expired b.expired h.expired }
 sched_same R names (as_drop t n is) rows others a b are h =
-    record { hand = h.hand; fired = pairs_others (SameRow R) a.fired b.fired h.fired }
-sched_same R names (as_pick w p q is) rows others a b are h = record { hand = is; fired = h.fired }
-sched_same R names (as_answer w left) rows others a b are h = record { hand = tt; fired = h.fired }
+    record { hand = h.hand; expired = pairs_others (SameRow R) a.expired b.expired h.expired }
+sched_same R names (as_pick w p q is) rows others a b are h = record { hand = is; expired = h.expired }
+sched_same R names (as_answer w left) rows others a b are h = record { hand = tt; expired = h.expired }
 sched_same R names _ rows others a b are h = h
 
 -- one of two references has a name of the other's

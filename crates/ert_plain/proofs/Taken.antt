@@ -5,8 +5,8 @@ use Rattle.std.proofs.Common.{◌≡◌, ◌≢◌, ℕ, zero, suc, ◌+◌, ◌
 use Rattle.std.proofs.lemmas.Bool.{cases_eq, and_parts}
 use Rattle.std.proofs.lemmas.Bool.Decides.{nat_tests}
 use Rattle.std.proofs.lemmas.List.Elements.{All-head, All-tail}
-use Rattle.ert_defs.proofs.FiredLists.{taken_last}
-use Rattle.ert_defs.proofs.FiredTimers.{same_timer_self, same_timer-false}
+use Rattle.ert_defs.proofs.ExpiredLists.{taken_last}
+use Rattle.ert_defs.proofs.ExpiredTimers.{same_timer_self, same_timer-false}
 use Rattle.ert_defs.proofs.Lists.{pairs_head, pairs_tail}
 use Rattle.ert_defs.proofs.Rows.{IsRow, AreRows, Differ}
 use Rattle.ert_defs.proofs.Slots.{IsOrdered, same_timer-true}

@@ -104,7 +104,7 @@ due_rows status to rows = by_deadline (filter (is_due_at status to) rows)
 pub record Advancing : Type 0 where
   pub entries : List Entry
   pub to : ℕ
-  pub fired : ℕ
+  pub expired : ℕ
 
 -- these timers of a wheel expire, one after the other
 abbrev pub expiries : ℕ → List Row → List Entry
@@ -118,7 +118,7 @@ advance_now g s w =
     record {
       entries = look_entry (Sched w) s.clock.now ∷ expiries w due ++ advanced_entry w to ∷ [];
       to = to;
-      fired = length due;
+      expired = length due;
     }
 
 -- what becomes of an expired timer, whose destination has exited or not
@@ -138,7 +138,7 @@ hand_entries exited w (r ∷ rows) = handed_entries w r (how_by (exited r.dest))
 
 -- a scheduler hands over all its expired timers
 abbrev pub handing : State → ℕ → List Entry
-handing s w = hand_entries s.exited w (s.scheds w).fired
+handing s w = hand_entries s.exited w (s.scheds w).expired
 
 -- one request is served, if there is any; the reply tells whether
 abbrev pub serve_op : Settings → State → ℕ → Piece
@@ -146,13 +146,13 @@ serve_op g s w = record { entries = (serve_one g s w).entries; reply = Serve (ha
 
 -- a wheel is advanced; the reply tells to which millisecond, and how many timers expired
 abbrev pub advance_op : Settings → State → ℕ → Piece
-advance_op g s w = let a = advance_now g s w in record { entries = a.entries; reply = Advance a.to a.fired }
+advance_op g s w = let a = advance_now g s w in record { entries = a.entries; reply = Advance a.to a.expired }
 
 -- all expired timers are handed over; the reply tells how many messages were put and how many dropped
 abbrev pub deliver_op : State → ℕ → Piece
 deliver_op s w = record {
   entries = handing s w;
-  reply = Deliver (puts (hows_of s.exited (s.scheds w).fired)) (drops (hows_of s.exited (s.scheds w).fired));
+  reply = Deliver (puts (hows_of s.exited (s.scheds w).expired)) (drops (hows_of s.exited (s.scheds w).expired));
 }
 
 -- a turn serves at most 64 requests, then advances, then delivers
@@ -167,8 +167,8 @@ turn_op g s w =
       reply = Turn (record {
         served = served.count;
         to = advanced.to;
-        fired = advanced.fired;
-        put = puts (hows_of last.exited (last.scheds w).fired);
-        dropped = drops (hows_of last.exited (last.scheds w).fired);
+        expired = advanced.expired;
+        put = puts (hows_of last.exited (last.scheds w).expired);
+        dropped = drops (hows_of last.exited (last.scheds w).expired);
       });
     }

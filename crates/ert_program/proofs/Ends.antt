@@ -98,7 +98,7 @@ ran_ends race does i j o p plan (Err OutOfMemory) read ok err cause = record {
     all : TakesUpTo 16777217 i.left j.left
     all = let short = read.takes.short in record { bytes = read.bytes; few = omega arith; taken = read.takes.taken }
 
--- and so is want of memory before the input is read
+-- and so is out of memory before the input is read
 pub memory_ends : (race : Bool) (does : Doing) (i : Input) (o : Output) (e : Ended) → e ≡ without_desk NoMemory → InputEnds race does i i o o e
 memory_ends race does i o e is =
     subst (λ (x : Ended). InputEnds race does i i o o x) (sym is) (unread_ends race does i i o o (without_desk NoMemory) (unread_memory race i o))

@@ -105,7 +105,7 @@ pub record InputEnds (race : Bool) (does : Doing) (i j : Input) (o p : Output) (
   pub write_fault : e.status ≡ WriteFault → Rose o.faults p.faults × StopsShort race does i.left j.left o.told p.told
   pub no_memory : e.status ≡ NoMemory → TakesUpTo 16777217 i.left j.left × ((p ≡ o) ⊎ StopsShort race does i.left j.left o.told p.told)
   pub others : (e.status ≢ Usage) × (e.status ≢ ClockFault)
-  -- where nothing fails and the input is a scenario, only want of memory keeps it from being done
+  -- where nothing fails and the input is a scenario, only running out of memory keeps it from being done
   pub complete : (Rose i.faults j.faults → ⊥) → (Rose o.faults p.faults → ⊥)
       → (bytes : List ℕ) (plan : Plan) → i.left ≡ Some bytes → length bytes ≤ 16777216 → IsScenario race bytes plan
       → (e.status ≡ Done) ⊎ (e.status ≡ NoMemory)

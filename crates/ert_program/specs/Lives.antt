@@ -143,7 +143,7 @@ pub record LiveEnds (n : ℕ) (c d : ClockStream) (o p : Output) (e : Ended) : T
   pub write_fault : e.status ≡ WriteFault → Rose o.faults p.faults × WatchBreaksOff n c d o p
   pub no_memory : e.status ≡ NoMemory → TakesReadings n c.left d.left × (p ≡ o)
   pub only : (e.status ≡ Done) ⊎ (e.status ≡ Refused) ⊎ (e.status ≡ ClockFault) ⊎ (e.status ≡ WriteFault) ⊎ (e.status ≡ NoMemory)
-  -- where nothing fails and the readings are valid, only want of memory keeps it from being done
+  -- where nothing fails and the readings are valid, only running out of memory keeps it from being done
   pub complete : (Rose c.faults d.faults → ⊥) → (Rose o.faults p.faults → ⊥)
       → (readings later : List Reading) → c.left ≡ Some (readings ++ later) → length readings ≡ n → AreValid readings
       → (e.status ≡ Done) ⊎ (e.status ≡ NoMemory)

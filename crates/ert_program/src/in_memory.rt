@@ -12,7 +12,7 @@ use ert_scenario::one_verdict;
 use std::alloc::Global;
 
 /// As `run`, from memory and into memory that was reserved: where the input is a scenario, its transcript is
-/// written, and nothing but want of memory keeps it from that.
+/// written, and nothing but running out of memory keeps it from that.
 pub fn run_in_memory(alloc: Global, input: &mut SureSource, output: &mut SureSink) -> Ended
     requires { InputFits (Some (sure_left input.old)) (Some (sure_room output.old)) }
     ensures { (plan : Plan) → length (sure_left input.old) ≤ 16777216 → IsScenario false (sure_left input.old) plan

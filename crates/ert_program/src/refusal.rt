@@ -14,7 +14,7 @@ use ert_script::write_page;
 use std::alloc::{AllocError, Global};
 use std::fmt::Write;
 
-/// Writes the line of a refusal, which isn't want of memory. Where that was written, the refusal is returned with the
+/// Writes the line of a refusal, which isn't out of memory. Where that was written, the refusal is returned with the
 /// end.
 pub(crate) fn refuse<O: Sink>(alloc: Global, refusal: Refusal, output: &mut O) -> Ended
     requires fits { HasRoomFor (O.room output.old) (length (refusal_line refusal.why)) }
@@ -45,7 +45,7 @@ pub(crate) fn refuse<O: Sink>(alloc: Global, refusal: Refusal, output: &mut O) -
     }
 }
 
-/// Appends the line of a refusal, which isn't want of memory.
+/// Appends the line of a refusal, which isn't out of memory.
 fn write_refusal(page: &mut String, refusal: &ScenarioErr) -> Result<(), AllocError>
     requires { refusal.now ≢ NoMemory }
     ensures { OnOk result (string_bytes page.new ≡ string_bytes page.old ++ refusal_line refusal.now) }

@@ -4,7 +4,7 @@ use Rattle.std.proofs.Common.{◌≡◌, ℕ, suc, ◌+◌, Bool, true, false, c
 use Rattle.std.specs.Prelude.{nat_lt}
 use Rattle.std.proofs.lemmas.List.Elements.{filter-append}
 use Rattle.ert_effects.proofs.Growing.{whole_own}
-use Rattle.ert_effects.specs.Chains.{HoldsBy, Serves, ServesAll, ServesMany, AdvancesWheel, Hands, Delivers, HasTurned, Turns, so_many_steps}
+use Rattle.ert_effects.specs.Chains.{HoldsBy, Serves, ServesAll, ServesMany, AdvancesWheel, Hands, Delivers, HasTurned, Turns, units}
 use Rattle.ert_effects.specs.MailCalls.{handed_entries, HandsOver}
 use Rattle.ert_effects.specs.RequestCalls.{Picks, Answers, DoesAsked, HasAnswered}
 use Rattle.ert_effects.specs.TimerCalls.{read_entries, cancel_entries}
@@ -61,9 +61,9 @@ answered_none g w request left s es answered =
     ap (λ (l : List Entry). advances l) answered.entries ∙ (advances-append answered.steps last
     ∙ ap (λ n. n + 0) (asked_none request.kind g w request.timer left s answered.steps answered.done))
 
-handed_none : (w : ℕ) (fired : Row) (how : Handed) → advances (handed_entries w fired how) ≡ 0
-handed_none w fired Put = refl
-handed_none w fired Dropped = refl
+handed_none : (w : ℕ) (expired : Row) (how : Handed) → advances (handed_entries w expired how) ≡ 0
+handed_none w expired Put = refl
+handed_none w expired Dropped = refl
 
 expiry_none : (w : ℕ) (tries : List Try) → advances (expiry_entries w tries) ≡ 0
 expiry_none w [] = refl
@@ -119,7 +119,7 @@ module _ (g : Settings) (w : ℕ) (way : Way) (count : List Entry → ℕ) (is :
 
   serves_many_none : (n : ℕ) (h m : List Entry) → ServesMany g way w n h m → count m ≡ 0
   serves_many_none n h m made =
-      many_none way count is (λ (one : Unit {0}). Serves g way w (Ok true)) (so_many_steps n) h m (λ one h m served. serves_none h m served) made
+      many_none way count is (λ (one : Unit {0}). Serves g way w (Ok true)) (units n) h m (λ one h m served. serves_none h m served) made
 
   serves_all_none : (n : ℕ) (h m : List Entry) → ServesAll g way w (Ok n) h m → count m ≡ 0
   serves_all_none n h m served = at (nat_lt n 64) served.1
@@ -132,16 +132,16 @@ module _ (g : Settings) (w : ℕ) (way : Way) (count : List Entry → ℕ) (is :
 
   hands_none : (how : Handed) (h m : List Entry) → Hands g way w (Ok how) h m → count m ≡ 0
   hands_none how h m hands =
-      step_count way count is (MailOf hands.fired.dest ∷ []) (HandsOver g w hands.fired (Ok how)) h m 0
-      (λ s es handed. ap (λ (l : List Entry). advances l) handed ∙ handed_none w hands.fired how) hands.step
+      step_count way count is (MailOf hands.expired.dest ∷ []) (HandsOver g w hands.expired (Ok how)) h m 0
+      (λ s es handed. ap (λ (l : List Entry). advances l) handed ∙ handed_none w hands.expired how) hands.step
 
   turn_count : (t : Turned) (h m : List Entry) → HasTurned g way w t h m → count m ≡ 1
   turn_count t h m turned =
-      then_count way count is (ServesAll g way w (Ok t.served)) (Then (AdvancesWheel g way w (Ok (t.to, t.fired))) (Delivers g way w (Ok (t.put, t.dropped)))) h m 0 1
+      then_count way count is (ServesAll g way w (Ok t.served)) (Then (AdvancesWheel g way w (Ok (t.to, t.expired))) (Delivers g way w (Ok (t.put, t.dropped)))) h m 0 1
       (λ h m served. serves_all_none t.served h m served)
-      (λ h m rest. then_count way count is (AdvancesWheel g way w (Ok (t.to, t.fired))) (Delivers g way w (Ok (t.put, t.dropped))) h m 1 0
-      (λ h m made. step_count way count is (Wheel w ∷ []) (Advances g w (Ok (t.to, t.fired))) h m 1
-      (λ s es advanced. advanced_once w (t.to, t.fired) es (advance_is w (t.to, t.fired) es advanced)) made)
+      (λ h m rest. then_count way count is (AdvancesWheel g way w (Ok (t.to, t.expired))) (Delivers g way w (Ok (t.put, t.dropped))) h m 1 0
+      (λ h m made. step_count way count is (Wheel w ∷ []) (Advances g w (Ok (t.to, t.expired))) h m 1
+      (λ s es advanced. advanced_once w (t.to, t.expired) es (advance_is w (t.to, t.expired) es advanced)) made)
       (λ h m delivered. many_none way count is (λ how. Hands g way w (Ok how)) delivered.hows h m (λ how h m hands. hands_none how h m hands) delivered.runs) rest)
       turned
 

@@ -12,7 +12,7 @@
 //! knows a first part of the history. What it knows at the end is longer by what it did and what others did
 //! meanwhile. A list of ops is a script run of them (`ert_transcript`), told over the way `beside`: it stands piece
 //! by piece, each piece allowed with its reply in the state at its place. The turns of a scheduler stand so too.
-//! After want of memory a worker stops, and has its seat still, whose pass knows what the first ops made, and the
+//! If memory runs out, a worker stops, and has its seat still, whose pass knows what the first ops made, and the
 //! one that failed.
 //!
 //! **Labels.** A list knows the labels that were bound before the race, by the `LabelMap` of the ops, which all

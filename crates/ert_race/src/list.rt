@@ -28,7 +28,7 @@ pub struct ListDone {
 /// that the list binds stands after them. Before each op it passes the gate: its worker's number is that of the
 /// caller, or above those of the schedulers, and the ops count from 1.
 ///
-/// After want of memory it has stopped at an op, and what was done stays done: some first ops, and of the next
+/// If memory runs out, it has stopped at an op, and what was done stays done: some first ops, and of the next
 /// what it makes before it takes memory.
 pub(crate) fn do_list<L: DeskName, R: Wait, G: Gate>(
     alloc: Global,

@@ -107,8 +107,8 @@ impl<'a, L: DeskName, R: Wait> Doer for Member<'a, L, R> {
             .demonitor(self.rt, &mut self.seat, process, monitor)
     }
 
-    fn tell(&mut self, process: u32) -> Result<u32, NoMemory> {
-        self.service.tell(self.rt, &mut self.seat, process)
+    fn notify(&mut self, process: u32) -> Result<u32, NoMemory> {
+        self.service.notify(self.rt, &mut self.seat, process)
     }
 
     ghost same = { λ m. refl };

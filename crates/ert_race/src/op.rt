@@ -17,7 +17,7 @@ use std::sync::Wait;
 /// Does one op as a caller. `known` has the labels that were bound before its list, and `own` those of the list.
 /// A start binds its label once its timer was started.
 ///
-/// After want of memory the timer of a start was started, and its label isn't bound; of another op nothing was
+/// If memory runs out, the timer of a start was started, and its label isn't bound; of another op nothing was
 /// done.
 #[tactic(auto, using(crate::proofs::CallsMade::own_done, crate::proofs::CallsMade::own_failed, crate::proofs::CallsMade::own_unbound))]
 pub(crate) fn do_one<L: DeskName, R: Wait>(

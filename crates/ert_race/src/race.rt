@@ -43,7 +43,7 @@ pub struct RaceEnd {
 /// A worker passes the gate before each of its ops or turns. Worker 0 does the keeper list, the workers from 1
 /// on make the turns of the schedulers, and those after them do the lists of the callers from 1 on.
 ///
-/// After want of memory the world is given up.
+/// If memory runs out, the world is given up.
 pub fn race_on<R: Threads + Wait + Sync, G: Gate + Sync>(
     rt: &R,
     alloc: Global,

@@ -12,7 +12,7 @@ use std::sync::Wait;
 /// Makes so many turns of a scheduler, one after the other. Before each it passes the gate, as this worker;
 /// the turns count from 1.
 ///
-/// After want of memory it has stopped in a turn, and what was done stays done.
+/// If memory runs out, it has stopped in a turn, and what was done stays done.
 pub(crate) fn do_turns<L: DeskName, R: Wait, G: Gate>(
     rt: &R,
     service: &Service<L>,

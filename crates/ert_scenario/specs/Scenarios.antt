@@ -99,7 +99,7 @@ IsValueWith race bytes verdict = (d : Data) × IsValue bytes d × (verdict_of ra
 abbrev pub IsScenario : Bool → List ℕ → Plan → Type 0
 IsScenario race bytes plan = IsValueWith race bytes (Ok plan)
 
--- the bytes are refused for this reason; want of memory is never one
+-- the bytes are refused for this reason; out of memory is never one
 abbrev pub HasRefusal : Bool → List ℕ → ScenarioErr → Type 0
 HasRefusal race bytes Json = (d : Data) → IsValue bytes d → ⊥
 HasRefusal race bytes (Shape place) = IsValueWith race bytes (Err (Shape place))

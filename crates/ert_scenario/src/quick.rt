@@ -3,7 +3,7 @@
 
 ghost use Rattle.std.specs.Prelude.{◌≡◌, false, Some, IsTrue, IfOk, IfErr, IfSome};
 ghost use Rattle.serde_json.specs.Data.{Members, object};
-ghost use Rattle.serde_json.specs.Read.{read as read_text};
+ghost use Rattle.serde_json.specs.Read.{read};
 ghost use Rattle.ert_scenario.specs.QuickMembers.{IsSeenAs, IsPlanOf, IsPlanWith, plan_for_one};
 ghost use Rattle.ert_scenario.specs.Scenarios.{plan_of, IsScenario};
 
@@ -45,7 +45,7 @@ pub(crate) fn read_quickly(alloc: Global, bytes: &[u8]) -> Result<Option<Scenari
 /// The members of the object that a text is.
 fn read_seen(alloc: Global, text: &str) -> Result<Option<Seen>, AllocError>
     ensures { IfOk result (λ o. IfSome o (λ seen. (all : Members)
-        × (read_text text.now ≡ Some (object all)) × IsSeenAs seen all)) }
+        × (read text.now ≡ Some (object all)) × IsSeenAs seen all)) }
 {
     let mut scratch = Scratch::new(alloc);
     let mut reader = Reader::new(text, &mut scratch)?;

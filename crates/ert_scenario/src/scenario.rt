@@ -92,7 +92,7 @@ pub enum ScenarioErr {
 pub fn read_scenario(alloc: Global, bytes: &[u8], race: bool) -> Result<Scenario, ScenarioErr>
     ensures ok { IfOk result (λ s. IsScenario race bytes.now (plan_of s)) }
 
-    // Want of memory may come in place of any answer.
+    // Out of memory may come in place of any answer.
     ensures err { IfErr result (λ e. e ≢ ScenarioErr.NoMemory → HasRefusal race bytes.now e) }
 {
     if !race {

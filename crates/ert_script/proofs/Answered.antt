@@ -20,7 +20,7 @@ use Rattle.ert_effects.specs.RequestCalls.{inbox_for, Asks}
 use Rattle.ert_effects.specs.TimerCalls.{Reads, Cancels, Starts}
 use Rattle.ert_effects.specs.Ways.{Grows, Way}
 use Rattle.ert_effects.specs.declared.answers.StartErr.{StartErr}
-use Rattle.ert_effects.specs.declared.answers.StartErr.TheVariants.{BadArg, Full, NoMemory as WantOfMemory}
+use Rattle.ert_effects.specs.declared.answers.StartErr.TheVariants.{BadArg, Full, NoMemory as OutOfMemory}
 use Rattle.ert_effects.specs.declared.answers.Taken.{Taken}
 use Rattle.ert_effects.specs.declared.answers.Taken.TheVariants.{Mail as Taking, Empty, Exited}
 use Rattle.ert_ops.specs.declared.op.Op.{Op}
@@ -65,21 +65,21 @@ module _ (g : Settings) (way : Way) (n : ℕ) (timer : TimerRef) (f h : List Ent
   info_answered offset state grows =
       done _ _ (λ ls. record { piece = grows.piece; grown = grows.grown; made = (record { starts = refl; ends = refl; of_mode = refl; corrects = refl }, grows.made) })
 
-  pub start_answered : (label wheel : ℕ) (when : When) (dest msg : ℕ) (r : Result TimerRef StartErr) → r ≢ Err WantOfMemory
+  pub start_answered : (label wheel : ℕ) (when : When) (dest msg : ℕ) (r : Result TimerRef StartErr) → r ≢ Err OutOfMemory
       → Grows (way (Wheel wheel ∷ []) (Starts g n wheel (start_for_op when dest msg Wrapped) r)) f h
       → IsAnswered g way n (ops.Start label wheel when dest msg) timer (Ok (start_told Wrapped r)) f h
   start_answered label wheel when dest msg (Ok t) some grows = done _ _ (λ ls. grows)
   start_answered label wheel when dest msg (Err BadArg) some grows = done _ _ (λ ls. grows)
   start_answered label wheel when dest msg (Err Full) some grows = done _ _ (λ ls. grows)
-  start_answered label wheel when dest msg (Err WantOfMemory) some grows = absurd (some refl)
+  start_answered label wheel when dest msg (Err OutOfMemory) some grows = absurd (some refl)
 
-  pub send_after_answered : (label wheel : ℕ) (when : When) (dest msg : ℕ) (r : Result TimerRef StartErr) → r ≢ Err WantOfMemory
+  pub send_after_answered : (label wheel : ℕ) (when : When) (dest msg : ℕ) (r : Result TimerRef StartErr) → r ≢ Err OutOfMemory
       → Grows (way (Wheel wheel ∷ []) (Starts g n wheel (start_for_op when dest msg Bare) r)) f h
       → IsAnswered g way n (ops.SendAfter label wheel when dest msg) timer (Ok (start_told Bare r)) f h
   send_after_answered label wheel when dest msg (Ok t) some grows = done _ _ (λ ls. grows)
   send_after_answered label wheel when dest msg (Err BadArg) some grows = done _ _ (λ ls. grows)
   send_after_answered label wheel when dest msg (Err Full) some grows = done _ _ (λ ls. grows)
-  send_after_answered label wheel when dest msg (Err WantOfMemory) some grows = absurd (some refl)
+  send_after_answered label wheel when dest msg (Err OutOfMemory) some grows = absurd (some refl)
 
   pub take_answered : (p : ℕ) (r : Taken) → Grows (way (MailOf p ∷ []) (Takes g n p r)) f h → IsAnswered g way n (ops.Receive p) timer (Ok (take_told r)) f h
   take_answered p (Taking mail) grows = done _ _ (λ ls. grows)

@@ -11,11 +11,11 @@ use Rattle.ert_defs.specs.declared.timer.Kind.TheVariants.{Wrapped, Bare}
 use Rattle.ert_defs.specs.declared.timer.Start.{Start}
 use Rattle.ert_defs.specs.declared.timer.TimerRef.{TimerRef}
 use Rattle.ert_effects.specs.Chains.{Serves, AdvancesWheel, Delivers, Turns}
-use Rattle.ert_effects.specs.MailCalls.{Monitors, Tells}
+use Rattle.ert_effects.specs.MailCalls.{Monitors, Notifies}
 use Rattle.ert_effects.specs.RequestCalls.{inbox_for, Asks}
 use Rattle.ert_effects.specs.TimerCalls.{Starts}
 use Rattle.ert_effects.specs.Ways.{Growth, Grows, Way}
-use Rattle.ert_effects.specs.declared.answers.MonitorErr.TheVariants.{NoMemory as WantOfMemory}
+use Rattle.ert_effects.specs.declared.answers.MonitorErr.TheVariants.{NoMemory as OutOfMemory}
 use Rattle.ert_ops.specs.declared.op.Op.{Op}
 use Rattle.ert_ops.specs.declared.op.Op.TheVariants as ops
 use Rattle.ert_transcript.specs.Calls.{Calls, start_for_op, request_for_op}
@@ -83,7 +83,7 @@ HasStarted op reply = ⊥
 abbrev pub StartsOnWheel : Settings → Way → ℕ → ℕ → Start → Growth
 StartsOnWheel g way n wheel start h m = (timer : TimerRef) × way (Wheel wheel ∷ []) (Starts g n wheel start (Ok timer)) h m
 
--- a request isn't put into the inbox of its scheduler, for want of memory
+-- a request isn't put into the inbox of its scheduler, because memory ran out
 abbrev pub CannotAsk : Settings → Way → ℕ → Request → Growth
 CannotAsk g way n request = way (Inbox (inbox_for g request) ∷ []) (Asks g n (inbox_for g request) request (Err (record {})))
 
@@ -91,7 +91,7 @@ CannotAsk g way n request = way (Inbox (inbox_for g request) ∷ []) (Asks g n (
 -- timer, for only then it takes memory; a scheduler has done what it could; another op that takes memory has made no
 -- entry; and no other op ends so
 abbrev pub BreaksOff : Settings → Way → ℕ → Labels → Op → Growth
-BreaksOff g way n ls (ops.Notify process) h m = way (MailOf process ∷ []) (Tells g n process (Err (record {}))) h m
+BreaksOff g way n ls (ops.Notify process) h m = way (MailOf process ∷ []) (Notifies g n process (Err (record {}))) h m
 BreaksOff g way n ls (ops.Start label wheel when dest msg) h m = StartsOnWheel g way n wheel (start_for_op when dest msg Wrapped) h m
 BreaksOff g way n ls (ops.SendAfter label wheel when dest msg) h m = StartsOnWheel g way n wheel (start_for_op when dest msg Bare) h m
 BreaksOff g way n ls (ops.CancelAsync label process info) h m = CannotAsk g way n (request_for_op ToCancel ls label process info) h m
@@ -100,7 +100,7 @@ BreaksOff g way n ls (ops.Serve sched) h m = Serves g way sched (Err (record {})
 BreaksOff g way n ls (ops.Advance sched) h m = AdvancesWheel g way sched (Err (record {})) h m
 BreaksOff g way n ls (ops.Deliver sched) h m = Delivers g way sched (Err (record {})) h m
 BreaksOff g way n ls (ops.Turn sched) h m = Turns g way sched (Err (record {})) h m
-BreaksOff g way n ls (ops.Monitor process) h m = way (MailOf process ∷ []) (Monitors g n process (Err WantOfMemory)) h m
+BreaksOff g way n ls (ops.Monitor process) h m = way (MailOf process ∷ []) (Monitors g n process (Err OutOfMemory)) h m
 BreaksOff g way n ls op h m = ⊥
 
 -- an op was done for a timer, or there was no memory for it, whatever the labels are by which it is that timer's: a

@@ -14,12 +14,12 @@ pub trait Doer {
     ghost use Rattle.ert_defs.specs.declared.settings.Settings.{Settings};
     ghost use Rattle.ert_effects.specs.Chains.{Exits};
     ghost use Rattle.ert_effects.specs.ClockCalls.{Ticks, Finalizes, TellsTime, TellsOffset, TellsSystemTime};
-    ghost use Rattle.ert_effects.specs.MailCalls.{Takes, Monitors, Demonitors, Tells};
+    ghost use Rattle.ert_effects.specs.MailCalls.{Takes, Monitors, Demonitors, Notifies};
     ghost use Rattle.ert_effects.specs.RequestCalls.{inbox_for, Asks};
     ghost use Rattle.ert_effects.specs.TimerCalls.{Reads, Cancels, Starts};
     ghost use Rattle.ert_effects.specs.Ways.{Way, Grows};
     ghost use Rattle.ert_effects.specs.WheelCalls.{TellsAlive};
-    ghost use Rattle.ert_effects.specs.declared.answers.StartErr.TheVariants.{NoMemory as WantOfMemory};
+    ghost use Rattle.ert_effects.specs.declared.answers.StartErr.TheVariants.{NoMemory as OutOfMemory};
 
     // The number of the caller.
     ghost number: { Self → ℕ };
@@ -79,7 +79,7 @@ pub trait Doer {
         requires dest { start.now.dest < (settings self.old).processes }
         ensures call { Grows (way self.old (Wheel wheel ∷ []) (Starts (settings self.old) (number self.old) wheel start.now result)) (history self.old) (history self.new) }
         ensures stays { stays self.old self.new }
-        ensures memory { result ≢ Err WantOfMemory };
+        ensures memory { result ≢ Err OutOfMemory };
 
     fn cancel_timer(&mut self, timer: TimerRef) -> Option<u64>
         requires { may self.old }
@@ -128,10 +128,10 @@ pub trait Doer {
         ensures call { Grows (way self.old (MailOf process ∷ []) (Demonitors (settings self.old) (number self.old) process monitor result)) (history self.old) (history self.new) }
         ensures stays { stays self.old self.new };
 
-    fn tell(&mut self, process: u32) -> Result<u32, NoMemory>
+    fn notify(&mut self, process: u32) -> Result<u32, NoMemory>
         requires may { may self.old }
         requires process { process < (settings self.old).processes }
-        ensures call { Grows (way self.old (MailOf process ∷ []) (Tells (settings self.old) (number self.old) process result)) (history self.old) (history self.new) }
+        ensures call { Grows (way self.old (MailOf process ∷ []) (Notifies (settings self.old) (number self.old) process result)) (history self.old) (history self.new) }
         ensures stays { stays self.old self.new };
 
     ghost same: { (a : Self) → stays a a };

@@ -14,7 +14,7 @@ use ert_transcript::Reply;
 /// Does an op of a caller. `timer` is the timer that the op cancels, reads or asks for; another op makes no use of
 /// it.
 ///
-/// After want of memory nothing was done.
+/// If memory runs out, nothing was done.
 pub fn do_op<D: Doer>(doer: &mut D, op: &Op, timer: TimerRef) -> Result<Reply, NoMemory>
     requires caller { IsCallersOp op.now }
     requires range { IsOpInRange (D.settings doer.old) op.now }
@@ -82,7 +82,7 @@ fn process_op<D: Doer>(doer: &mut D, op: &Op, timer: TimerRef) -> Result<Reply, 
     ensures stays { D.stays doer.old doer.new }
 {
     match *op {
-        Op::Notify { process } => match doer.tell(process) {
+        Op::Notify { process } => match doer.notify(process) {
             Ok(put) => Ok(Reply::Notify { put }),
             Err(e) => Err(e),
         },

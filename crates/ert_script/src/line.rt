@@ -43,7 +43,7 @@ pub fn write_line(page: &mut String, reply: &Reply, labels: &LabelMap) -> Result
         Reply::ReadAsync => write!(page, "read_async ok\n"),
         Reply::Serve { served: true } => write!(page, "serve 1\n"),
         Reply::Serve { served: false } => write!(page, "serve 0\n"),
-        Reply::Advance { to, fired } => write!(page, "advance {to} {fired}\n"),
+        Reply::Advance { to, expired } => write!(page, "advance {to} {expired}\n"),
         Reply::Deliver { put, dropped } => write!(page, "deliver {put} {dropped}\n"),
         Reply::Turn { turned } => write_turn(page, &turned),
         Reply::Received { mail } => write_mail(page, &mail, labels),

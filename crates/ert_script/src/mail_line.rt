@@ -45,11 +45,11 @@ pub fn write_turn(page: &mut String, turned: &Turned) -> Result<(), AllocError>
     let Turned {
         served,
         to,
-        fired,
+        expired,
         put,
         dropped,
     } = *turned;
-    write!(page, "turn {served} {to} {fired} {put} {dropped}\n")
+    write!(page, "turn {served} {to} {expired} {put} {dropped}\n")
 }
 
 fn write_timeout(page: &mut String, label: u32, msg: u64) -> Result<(), AllocError>

@@ -2,7 +2,7 @@
 ghost use Rattle.std.specs.Prelude.{◌≡◌, ◌≢◌, [], Err};
 ghost use Rattle.ert_clock.specs.declared.clock.ClockErr.TheVariants.{BadReading};
 ghost use Rattle.ert_defs.specs.Settings.{IsChecked};
-ghost use Rattle.ert_effects.specs.declared.answers.StartErr.TheVariants.{NoMemory as WantOfMemory};
+ghost use Rattle.ert_effects.specs.declared.answers.StartErr.TheVariants.{NoMemory as OutOfMemory};
 ghost use Rattle.ert_script.specs.Replies.{tick_told, check_told, finalize_told, settings_told, start_told, take_told};
 ghost use Rattle.ert_transcript.specs.Calls.{Converts};
 
@@ -75,7 +75,7 @@ pub(crate) fn convert_time(time: i64, from: Unit, to: Unit) -> Reply
 
 /// The reply of a start of either kind, for which there was memory.
 pub(crate) fn start_told(kind: Kind, answer: Result<TimerRef, StartErr>) -> Reply
-    requires { answer ≢ Err WantOfMemory }
+    requires { answer ≢ Err OutOfMemory }
     ensures { result ≡ start_told kind answer }
 {
     match (kind, answer) {

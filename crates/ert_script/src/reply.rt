@@ -17,7 +17,7 @@ use ert_world::World;
 /// Does one op: as the scheduler that it names, or else as caller 0. A start binds its label once its timer was
 /// started. The world gave out no seat.
 ///
-/// After want of memory the world may have done a part of the op: it has started the timer of a start, and has
+/// If memory runs out, the world may have done a part of the op: it has started the timer of a start, and has
 /// done what it could of the steps of a scheduler. No label was bound.
 pub fn reply_op(world: &mut World, labels: &mut LabelMap, op: &Op) -> Result<Reply, NoMemory>
     requires range { IsOpInRange world.old.settings op.now }

@@ -29,7 +29,7 @@ pub fn advance(world: &mut World, sched: u32) -> Result<Reply, NoMemory>
     ensures err { (ls : Labels) → OnErr result (Fails world.old ls (Op.Advance sched) world.new) }
 {
     match world.advance(sched) {
-        Ok((to, fired)) => Ok(Reply::Advance { to, fired }),
+        Ok((to, expired)) => Ok(Reply::Advance { to, expired }),
         Err(e) => Err(e),
     }
 }

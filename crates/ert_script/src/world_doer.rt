@@ -83,8 +83,8 @@ impl Doer for World {
         World::demonitor(self, process, monitor)
     }
 
-    fn tell(&mut self, process: u32) -> Result<u32, NoMemory> {
-        World::tell(self, process)
+    fn notify(&mut self, process: u32) -> Result<u32, NoMemory> {
+        World::notify(self, process)
     }
 
     ghost same = { λ w. record { settings = refl; next = refl } };

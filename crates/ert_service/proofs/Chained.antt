@@ -16,7 +16,7 @@ use Rattle.ert_defs.specs.declared.entry.Entry.{Entry}
 use Rattle.ert_defs.specs.declared.mail.Request.{Request}
 use Rattle.ert_defs.specs.declared.memory.NoMemory.{NoMemory}
 use Rattle.ert_defs.specs.declared.settings.Settings.{Settings}
-use Rattle.ert_laws.proofs.Few.{fired_few}
+use Rattle.ert_laws.proofs.Few.{expired_few}
 use Rattle.ert_laws.proofs.Requests.{held_have_askers}
 use Rattle.ert_laws.proofs.RowRanges.{first_placed}
 use Rattle.ert_service.proofs.Settling.{place, turns_leave_none}
@@ -67,17 +67,17 @@ asker_low g p part q named stands hand =
     (λ legal. held_have_askers g (front_of p) part.wheel q legal (sym stands.hand ∙ hand))
 
 pub dest_low : (g : Settings) (p : Pass) (part : SchedPart) (row : Row) → p.seat.me.0.settings ≡ Some g → SchedStands g (front_of p) part
-    → first_of part.fired.rows ≡ Some row → row.dest < g.processes
+    → first_of part.expired.rows ≡ Some row → row.dest < g.processes
 dest_low g p part row named stands first =
     legal_by g p.seat.me.0.settings (front_of p) le_prop named p.legal
-    (λ legal. (first_placed g (front_of p) part.wheel row legal (ap (λ (l : List Row). first_of l) (sym stands.fired) ∙ first)).dest)
+    (λ legal. (first_placed g (front_of p) part.wheel row legal (ap (λ (l : List Row). first_of l) (sym stands.expired) ∙ first)).dest)
 
 -- a list has few rows
 pub rows_few : (g : Settings) (p : Pass) (part : SchedPart) → g.slots ≤ MOST_SLOTS → p.seat.me.0.settings ≡ Some g → SchedStands g (front_of p) part
-    → length part.fired.rows ≤ MOST_SLOTS
+    → length part.expired.rows ≤ MOST_SLOTS
 rows_few g p part high named stands =
     legal_by g p.seat.me.0.settings (front_of p) le_prop named p.legal
     (λ legal.
-    let low : length ((state g (front_of p)).scheds part.wheel).fired ≤ g.slots = fired_few g (front_of p) part.wheel legal in
-    let same : length part.fired.rows ≡ length ((state g (front_of p)).scheds part.wheel).fired = ap (λ (l : List Row). length l) stands.fired in
+    let low : length ((state g (front_of p)).scheds part.wheel).expired ≤ g.slots = expired_few g (front_of p) part.wheel legal in
+    let same : length part.expired.rows ≡ length ((state g (front_of p)).scheds part.wheel).expired = ap (λ (l : List Row). length l) stands.expired in
     omega (arith, low, same, high))

@@ -33,7 +33,7 @@ use Rattle.ert_defs.specs.declared.timer.Status.TheVariants.{Armed}
 use Rattle.ert_defs.specs.declared.timer.TimerRef.{TimerRef}
 use Rattle.ert_defs.proofs.Runs.{state-append, legal_first, legal_then, rows_stay, last_stays, exit_stays}
 use Rattle.ert_defs.proofs.Settlings.{rows_stay_settled, settled_timers_stay}
-use Rattle.ert_defs.proofs.FiredTimers.{same_timer_self}
+use Rattle.ert_defs.proofs.ExpiredTimers.{same_timer_self}
 use Rattle.ert_defs.proofs.Slots.{ordered}
 use Rattle.ert_defs.proofs.Uses.{Use, before_self}
 use Rattle.ert_service.specs.Settled.{LawOfSettledByAdvance, LawOfSettledByExit, LawOfSettledByStart, LawOfNoneWaiting, NoneDue, NoneFor, NoneWaits, WasSettled}
@@ -116,10 +116,10 @@ settled_at status to (r ∷ rows) row zero settled low is due =
 settled_at status to (r ∷ rows) row (suc k) settled low is due = settled_at status to rows row k settled.1 (omega arith) is due
 
 -- what was settled at a place is so after all that follows
-pub due_settled : (g : Settings) (a : Actor) (w to fired : ℕ) (row : Row) (f m after : List Entry) → Legal g (f ++ (m ++ after))
-    → AdvancesWheel g (beside g a) w (Ok (to, fired)) f m → Contains ((state g (f ++ m)).rows w) row → row.deadline ≤ to
+pub due_settled : (g : Settings) (a : Actor) (w to expired : ℕ) (row : Row) (f m after : List Entry) → Legal g (f ++ (m ++ after))
+    → AdvancesWheel g (beside g a) w (Ok (to, expired)) f m → Contains ((state g (f ++ m)).rows w) row → row.deadline ≤ to
     → (state g (f ++ (m ++ after))).status row.timer ≢ Some Armed
-due_settled g a w to fired row f m after legal step among due =
+due_settled g a w to expired row f m after legal step among due =
     let answer = step.allowed in
     let e = advanced_entry w to in
     let spot = place (is_ours (Wheel w ∷ (a ∷ []))) step.during (look_entry (Sched w) answer.now ∷ expiry_entries w answer.tries) e [] (step.whole ∙ answer.entries) in
@@ -239,10 +239,10 @@ grown_on : (f h m after : List Entry) → h ≡ f ++ m → h ++ after ≡ f ++ (
 grown_on f h m after grown = ap (λ l. l ++ after) grown ∙ append_assoc f m after
 
 pub advances_settle : LawOfSettledByAdvance
-advances_settle g a wheel to fired row f h after legal call among due =
+advances_settle g a wheel to expired row f h after legal call among due =
     let on = grown_on f h call.piece after call.grown in
     subst (λ l. (state g l).status row.timer ≢ Some Armed) (sym on)
-    (due_settled g a wheel to fired row f call.piece after (subst (Legal g) on legal) call.made
+    (due_settled g a wheel to expired row f call.piece after (subst (Legal g) on legal) call.made
     (subst (λ l. Contains ((state g l).rows wheel) row) call.grown among) due)
 
 pub exits_settle : LawOfSettledByExit
@@ -270,9 +270,9 @@ refute_by g p named refutes =
 -- after an advance none is armed that is due
 pub due_in : (g : Settings) (a : Actor) (wheel : ℕ) (answer : Result (ℕ × ℕ) NoMemory) (f : List Entry) (p : Pass) → p.seat.me.0.settings ≡ Some g
     → Grows (AdvancesWheel g (beside g a) wheel answer) f (front_of p) → IfOk answer (λ x. NoneDue (state g (front_of p)) wheel x.0)
-due_in g a wheel (Ok (to, fired)) f p named call = λ row among due armed.
+due_in g a wheel (Ok (to, expired)) f p named call = λ row among due armed.
     refute_by g p named (λ legal.
-    advances_settle g a wheel to fired row f (front_of p) [] (subst (Legal g) (sym (append-nil (front_of p))) legal) call among due
+    advances_settle g a wheel to expired row f (front_of p) [] (subst (Legal g) (sym (append-nil (front_of p))) legal) call among due
     (subst (λ l. (state g l).status row.timer ≡ Some Armed) (sym (append-nil (front_of p))) armed))
 due_in g a wheel (Err e) f p named call = tt
 

@@ -28,7 +28,7 @@ NoneFor was s wheel process = (row : Row) → Contains (was.rows wheel) row → 
 
 -- no expired timer waits at a scheduler
 abbrev pub NoneWaits : State → ℕ → Type 0
-NoneWaits s wheel = (s.scheds wheel).fired ≡ []
+NoneWaits s wheel = (s.scheds wheel).expired ≡ []
 
 -- a timer was started and has been settled
 abbrev pub WasSettled : State → TimerRef → Type 0
@@ -37,8 +37,8 @@ WasSettled s timer = has_settled (s.status timer) ≡ true
 -- after an advance to a time, no timer is armed that the wheel has by then and that is due, whatever comes
 -- after the call
 abbrev pub LawOfSettledByAdvance : Type 0
-LawOfSettledByAdvance = (g : Settings) (a : Actor) (wheel to fired : ℕ) (row : Row) (f h after : List Entry) → Legal g (h ++ after)
-    → Grows (AdvancesWheel g (beside g a) wheel (Ok (to, fired))) f h
+LawOfSettledByAdvance = (g : Settings) (a : Actor) (wheel to expired : ℕ) (row : Row) (f h after : List Entry) → Legal g (h ++ after)
+    → Grows (AdvancesWheel g (beside g a) wheel (Ok (to, expired))) f h
     → Contains ((state g h).rows wheel) row → row.deadline ≤ to
     → (state g (h ++ after)).status row.timer ≢ Some Armed
 

@@ -12,7 +12,7 @@ impl<L: DeskName> Service<L> {
     ghost use Rattle.std.specs.Prelude.{◌≡◌, ◌≢◌, ◌<◌, Err, IfOk};
     ghost use Rattle.ert_effects.specs.ClockCalls.{Ticks, Finalizes};
     ghost use Rattle.ert_effects.specs.TimerCalls.{Starts};
-    ghost use Rattle.ert_effects.specs.declared.answers.StartErr.TheVariants.{NoMemory as WantOfMemory};
+    ghost use Rattle.ert_effects.specs.declared.answers.StartErr.TheVariants.{NoMemory as OutOfMemory};
     ghost use Rattle.ert_defs.specs.States.{HasExited, state};
     ghost use Rattle.ert_defs.specs.declared.entry.Actor.TheVariants.{Keeper, Wheel, Caller};
     ghost use Rattle.ert_locks.specs.Passes.{StepsWith};
@@ -68,7 +68,7 @@ impl<L: DeskName> Service<L> {
     ) -> Result<TimerRef, StartErr>
         requires wheel { wheel < L.settings.schedulers }
         requires dest { start.now.dest < L.settings.processes }
-        ensures memory { result ≢ Err WantOfMemory }
+        ensures memory { result ≢ Err OutOfMemory }
         ensures settled { HasExited L.settings (front_of seat.old.pass) start.now.dest
             → IfOk result (λ timer. WasSettled (state L.settings (front_of seat.new.pass)) timer) }
         ensures call { StepsWith L.settings (Caller seat.old.number) (Wheel wheel)

@@ -9,7 +9,7 @@ use std::sync::Wait;
 
 impl<L: DeskName> Service<L> {
     ghost use Rattle.std.specs.Prelude.{◌≡◌, ◌<◌};
-    ghost use Rattle.ert_effects.specs.MailCalls.{Takes, Monitors, Demonitors, Tells};
+    ghost use Rattle.ert_effects.specs.MailCalls.{Takes, Monitors, Demonitors, Notifies};
     ghost use Rattle.ert_effects.specs.RequestCalls.{Asks, inbox_for};
     ghost use Rattle.ert_defs.specs.declared.entry.Actor.TheVariants.{Inbox, MailOf, Caller};
     ghost use Rattle.ert_locks.specs.Passes.{StepsWith};
@@ -19,7 +19,7 @@ impl<L: DeskName> Service<L> {
     /// Asks the scheduler of a timer to cancel or to read it (`erlang` module reference, `cancel_timer` and
     /// `read_timer`, option `async`). A reference of no wheel goes to the first scheduler.
     ///
-    /// After want of memory nothing has changed.
+    /// If memory runs out, nothing has changed.
     pub fn ask<R: Wait>(
         &self,
         rt: &R,
@@ -85,21 +85,21 @@ impl<L: DeskName> Service<L> {
             .demonitor(self.desk(), seat, monitor)
     }
 
-    /// Tells a process the time offset by one message for each monitor to which it is news, and answers how
+    /// Notifies a process of the time offset by one message for each monitor to which it is news, and answers how
     /// many there were (ERTS User's Guide, "Time Warp Modes": `CHANGE` messages).
     ///
-    /// After want of memory nothing has changed.
-    pub fn tell<R: Wait>(
+    /// If memory runs out, nothing has changed.
+    pub fn notify<R: Wait>(
         &self,
         rt: &R,
         seat: &mut CallerSeat<L>,
         process: u32,
     ) -> Result<u32, NoMemory>
         requires { process < L.settings.processes }
-        ensures call { StepsWith L.settings (Caller seat.old.number) (MailOf process) (Tells L.settings seat.old.number process result) seat.old.pass seat.new.pass }
+        ensures call { StepsWith L.settings (Caller seat.old.number) (MailOf process) (Notifies L.settings seat.old.number process result) seat.old.pass seat.new.pass }
         ensures number { seat.new.number ≡ seat.old.number }
         ensures legal { IsLegal L.settings (front_of seat.new.pass) }
     {
-        self.mails.at(rt, process).tell(self.desk(), seat)
+        self.mails.at(rt, process).notify(self.desk(), seat)
     }
 }

@@ -5,7 +5,7 @@ ghost use Rattle.std.specs.Prelude.{◌≡◌, ◌<◌, Some};
 ghost use Rattle.ert_defs.specs.Mails.{first_of};
 
 use crate::service::Service;
-use ert_defs::{Fired, NoMemory, Request};
+use ert_defs::{TimerRow, NoMemory, Request};
 use ert_locks::{DeskName, SchedSeat};
 use ert_mail::Handed;
 use std::sync::Wait;
@@ -69,7 +69,7 @@ impl<L: DeskName> Service<L> {
     /// milliseconds since the start time, and how many expired. After that no timer of the wheel is armed that
     /// is due by then.
     ///
-    /// After want of memory none has expired.
+    /// If memory runs out, none has expired.
     pub fn advance<R: Wait>(&self, rt: &R, seat: &mut SchedSeat<L>) -> Result<(u64, u32), NoMemory>
         ensures due { IfOk result (λ answer. NoneDue (state L.settings (front_of seat.new.pass)) seat.old.part.wheel answer.0) }
         ensures call { FrontGrows (AdvancesWheel L.settings (beside L.settings (Sched seat.old.part.wheel)) seat.old.part.wheel result) seat.old.pass seat.new.pass }
@@ -85,17 +85,17 @@ impl<L: DeskName> Service<L> {
         &self,
         rt: &R,
         seat: &mut SchedSeat<L>,
-        fired: &Fired,
+        expired: &TimerRow,
     ) -> Result<Handed, NoMemory>
-        requires first { first_of seat.old.part.fired.rows ≡ Some fired.now }
-        ensures fired { OnOk result (seat.new.part.fired.rows ≡ others_of seat.old.part.fired.rows) }
+        requires first { first_of seat.old.part.expired.rows ≡ Some expired.now }
+        ensures expired { OnOk result (seat.new.part.expired.rows ≡ others_of seat.old.part.expired.rows) }
         ensures call { FrontGrows (Hands L.settings (beside L.settings (Sched seat.old.part.wheel)) seat.old.part.wheel result) seat.old.pass seat.new.pass }
         ensures number { seat.new.part.wheel ≡ seat.old.part.wheel }
     {
-        let process = destination_of(seat, fired);
+        let process = destination_of(seat, expired);
         self.mails
             .at(rt, process)
-            .hand_over(self.desk(), seat, fired)
+            .hand_over(self.desk(), seat, expired)
     }
 }
 
@@ -111,12 +111,12 @@ fn asker_of<L: DeskName>(seat: &SchedSeat<L>, request: &Request) -> u32
 }
 
 /// The process that is to get the message of a scheduler's first expired timer.
-fn destination_of<L: DeskName>(seat: &SchedSeat<L>, fired: &Fired) -> u32
-    requires { first_of seat.now.part.fired.rows ≡ Some fired.now }
-    ensures value { result ≡ fired.now.dest }
+fn destination_of<L: DeskName>(seat: &SchedSeat<L>, expired: &TimerRow) -> u32
+    requires { first_of seat.now.part.expired.rows ≡ Some expired.now }
+    ensures value { result ≡ expired.now.dest }
     ensures in_range { result < L.settings.processes }
 {
     // For the prover alone: what is known of a seat is known of one that is read.
     let _seat = seat;
-    fired.dest
+    expired.dest
 }

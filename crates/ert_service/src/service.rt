@@ -61,7 +61,7 @@ impl<L: DeskName> Service<L> {
     /// Opens a service on the desk of a world that was taken apart, which `L` names. Each part gets its lock
     /// and each thread its seat; no entry is made.
     ///
-    /// After want of memory the parts are given up.
+    /// If memory runs out, the parts are given up.
     pub fn open(alloc: Global, parts: Parts) -> Result<Opened<L>, NoMemory>
         requires desk { IsDesk L.table L.settings (arc_value parts.desk) }
         requires fit { AreFit (arc_value parts.desk) parts.pass 1 (parts_of parts.keeper parts.wheels.items parts.inboxes.items parts.mails.items parts.scheds.items) }

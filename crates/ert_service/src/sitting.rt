@@ -2,7 +2,7 @@
 #![tactic(auto, using(crate::proofs::LegalFronts::legal_front))]
 
 use crate::service::Service;
-use ert_defs::{Fired, NoMemory, Request};
+use ert_defs::{TimerRow, NoMemory, Request};
 use ert_locks::{CallerSeat, DeskName, SchedSeat};
 use ert_mail::Handed;
 use ert_world::{CallerSteps, SchedSteps};
@@ -65,12 +65,12 @@ impl<'a, L: DeskName, R: Wait> SchedSteps for Sitting<'a, L, R> {
         self.service.advance(self.rt, self.seat)
     }
 
-    fn first_of_fired(&self, _sched: u32) -> Option<Fired> {
-        self.seat.part.fired.first()
+    fn first_of_expired(&self, _sched: u32) -> Option<TimerRow> {
+        self.seat.part.expired.first()
     }
 
-    fn hand_first(&mut self, _sched: u32, fired: &Fired) -> Result<Handed, NoMemory> {
-        self.service.hand_over(self.rt, self.seat, fired)
+    fn hand_first(&mut self, _sched: u32, expired: &TimerRow) -> Result<Handed, NoMemory> {
+        self.service.hand_over(self.rt, self.seat, expired)
     }
 
     ghost same_settings = { λ s t stay. refl };

@@ -23,7 +23,7 @@ impl<L: DeskName> Service<L> {
     /// Serves one request: that in the scheduler's hand, or the first of its inbox. False comes where there is
     /// none.
     ///
-    /// After want of memory the request stays in the hand.
+    /// If memory runs out, the request stays in the hand.
     pub fn serve<R: Wait>(&self, rt: &R, seat: &mut SchedSeat<L>) -> Result<bool, NoMemory>
         ensures call { FrontGrows (Serves L.settings (beside L.settings (Sched seat.old.part.wheel)) seat.old.part.wheel result) seat.old.pass seat.new.pass }
         ensures number { seat.new.part.wheel ≡ seat.old.part.wheel }
@@ -36,7 +36,7 @@ impl<L: DeskName> Service<L> {
     /// Hands over the scheduler's expired timers until there is none, and answers how many messages were put
     /// into mailboxes and how many were thrown away, since their process has exited.
     ///
-    /// After want of memory those that weren't handed over stay in the list.
+    /// If memory runs out, those that weren't handed over stay in the list.
     pub fn deliver<R: Wait>(&self, rt: &R, seat: &mut SchedSeat<L>) -> Result<(u32, u32), NoMemory>
         ensures none { OnOk result (NoneWaits (state L.settings (front_of seat.new.pass)) seat.old.part.wheel) }
         ensures call { FrontGrows (Delivers L.settings (beside L.settings (Sched seat.old.part.wheel)) seat.old.part.wheel result) seat.old.pass seat.new.pass }
@@ -50,7 +50,7 @@ impl<L: DeskName> Service<L> {
     /// A turn of a scheduler: it serves requests until there is none, 64 at most, lets due timers expire, and
     /// hands over all expired timers.
     ///
-    /// After want of memory what was done stays done.
+    /// If memory runs out, what was done stays done.
     pub fn turn<R: Wait>(&self, rt: &R, seat: &mut SchedSeat<L>) -> Result<Turned, NoMemory>
         ensures none { OnOk result (NoneWaits (state L.settings (front_of seat.new.pass)) seat.old.part.wheel) }
         ensures call { FrontGrows (Turns L.settings (beside L.settings (Sched seat.old.part.wheel)) seat.old.part.wheel result) seat.old.pass seat.new.pass }

@@ -51,12 +51,12 @@ front_home s (e ∷ es) fs all = (all.0, front_home s es fs all.1)
 -- the entries of one with a bound are those of an advance: all, or but for the record
 pub some_are : (s : Share) (g : Settings) (most : ℕ) (answer : Result (ℕ × ℕ × Bool) NoMemory) (st : State) (es : List Entry)
     → AdvancesSome g s.number most answer st es → AreOfTurn s es
-some_are s g most (Ok (to, fired, true)) st es some =
+some_are s g most (Ok (to, expired, true)) st es some =
     let record_of : List Entry = advanced_entry s.number to ∷ [] in
-    let all : AreOfTurn s (es ++ record_of) = all_are s g (Ok (to, fired)) st (es ++ record_of) (record {
+    let all : AreOfTurn s (es ++ record_of) = all_are s g (Ok (to, expired)) st (es ++ record_of) (record {
       now = some.now;
       tries = some.tries;
-      fired = some.fired;
+      expired = some.expired;
       settled = some.settled;
       due = some.due;
       once = some.once;
@@ -68,11 +68,11 @@ some_are s g most (Ok (to, fired, true)) st es some =
       leave = front_leaves es record_of all.leave;
       home = front_home s es record_of all.home;
     }
-some_are s g most (Ok (to, fired, false)) st es some =
-    all_are s g (Ok (to, fired)) st es (record {
+some_are s g most (Ok (to, expired, false)) st es some =
+    all_are s g (Ok (to, expired)) st es (record {
       now = some.now;
       tries = some.tries;
-      fired = some.fired;
+      expired = some.expired;
       settled = some.settled;
       due = some.due;
       once = some.once;

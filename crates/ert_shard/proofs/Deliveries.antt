@@ -21,8 +21,8 @@ use Rattle.ert_defs.specs.declared.timer.TimerRef.{TimerRef}
 use Rattle.ert_laws.proofs.RowRanges.{first_placed}
 use Rattle.ert_laws.specs.Ranges.{IsPlaced}
 use Rattle.ert_mail.proofs.LawsHold.{handing_only}
-use Rattle.ert_mail.specs.Mailboxes.{Mailbox, HoldsMailbox, handed, MailboxStands as MailStands}
-use Rattle.ert_shard.specs.Turning.{fired_of}
+use Rattle.ert_mail.specs.Mailboxes.{Mailbox, HoldsMailboxAndSched, handed, MailboxStands as MailStands}
+use Rattle.ert_shard.specs.Turning.{shard_expired}
 use Rattle.ert_shard.specs.Shards.{Share, counted_from, IsHome, Owned, shard_way, ShardSteps, ShardParts, AreShardPartsFit}
 use Rattle.ert_shard.proofs.Home.{first_home}
 use Rattle.ert_shard.proofs.Kept.{self_own, home_own}
@@ -35,7 +35,7 @@ use Rattle.ert_table.specs.Held.{is_held}
 use Rattle.ert_table.specs.Takes.{TakesPlace}
 use Rattle.ert_table.specs.declared.desk.Desk.{Desk}
 use Rattle.ert_table.specs.declared.desk.Pass.{Pass}
-use Rattle.ert_timers.proofs.Settled.{fired_let_go, handed_free}
+use Rattle.ert_timers.proofs.Settled.{expired_let_go, handed_free}
 use Rattle.ert_timers.specs.Freeing.{IsLetGo}
 use Rattle.ert_world.proofs.Bounding.{puts_drops}
 use Rattle.ert_world.proofs.Standing.{free_kept}
@@ -47,49 +47,49 @@ use Rattle.ert_world.specs.Parts.{SchedStands}
 use Rattle.ert_world.specs.declared.sched_part.SchedPart.{SchedPart}
 
 -- the first expired timer is of the shard's wheel and for a process of its share
-pub record IsOwnFirst (g : Settings) (s : Share) (fired : Row) : Type 0 where
-  pub placed : IsPlaced g s.number fired
-  pub home : IsHome s fired.dest
+pub record IsOwnFirst (g : Settings) (s : Share) (expired : Row) : Type 0 where
+  pub placed : IsPlaced g s.number expired
+  pub home : IsHome s expired.dest
 
-pub own_first : (before : Owned) (d : Desk) (p : Pass) (s : Share) (parts : ShardParts) (fired : Row) → Has before d p s parts
-    → first_of (fired_of before) ≡ Some fired → IsOwnFirst (settings_of d) s fired
-own_first before d p s parts fired has first =
-    let mine = subst (λ (o : Owned). first_of (fired_of o) ≡ Some fired) (sym has.is) first in
+pub own_first : (before : Owned) (d : Desk) (p : Pass) (s : Share) (parts : ShardParts) (expired : Row) → Has before d p s parts
+    → first_of (shard_expired before) ≡ Some expired → IsOwnFirst (settings_of d) s expired
+own_first before d p s parts expired has first =
+    let mine = subst (λ (o : Owned). first_of (shard_expired o) ≡ Some expired) (sym has.is) first in
     record {
-      placed = first_placed (settings_of d) (front_of p) s.number fired has.fit.stand.legal mine;
-      home = first_home s (settings_of d) (front_of p) s.number fired has.fit.stand.legal has.fit.home mine;
+      placed = first_placed (settings_of d) (front_of p) s.number expired has.fit.stand.legal mine;
+      home = first_home s (settings_of d) (front_of p) s.number expired has.fit.stand.legal has.fit.home mine;
     }
 
 -- it was handed over, and is out of the list
-pub handed_now : (before : Owned) (d : Desk) (p q : Pass) (s : Share) (parts : ShardParts) (list : Option (List Bool)) (old new : Mailbox) (fired : Row) (how : Handed) (x : SchedPart)
-    → Has before d p s parts → Belongs d q → first_of (fired_of before) ≡ Some fired
-    → old ≡ slice_index_or parts.mails (fired.dest - s.from) old → new.process ≡ old.process → MailStands (settings_of d) (front_of q) new
-    → IsMade (settings_of d) (view_of p) (HandsOver (settings_of d) fired.timer.wheel fired (Ok how)) (view_of q)
-    → (state (settings_of d) (front_of q)).scheds fired.timer.wheel ≡ handed (Ok how) ((state (settings_of d) (front_of p)).scheds fired.timer.wheel)
-    → x.wheel ≡ parts.sched.wheel → x.hand ≡ parts.sched.hand → x.fired.rows ≡ others_of parts.sched.fired.rows
-    → IsListedOn parts (fired.dest - s.from) new list
-    → Does before d q s (record parts { mails = slice_set parts.mails (fired.dest - s.from) new; sched = x; list = list })
+pub handed_now : (before : Owned) (d : Desk) (p q : Pass) (s : Share) (parts : ShardParts) (list : Option (List Bool)) (old new : Mailbox) (expired : Row) (how : Handed) (x : SchedPart)
+    → Has before d p s parts → Belongs d q → first_of (shard_expired before) ≡ Some expired
+    → old ≡ slice_index_or parts.mails (expired.dest - s.from) old → new.process ≡ old.process → MailStands (settings_of d) (front_of q) new
+    → IsMade (settings_of d) (view_of p) (HandsOver (settings_of d) expired.timer.wheel expired (Ok how)) (view_of q)
+    → (state (settings_of d) (front_of q)).scheds expired.timer.wheel ≡ handed (Ok how) ((state (settings_of d) (front_of p)).scheds expired.timer.wheel)
+    → x.wheel ≡ parts.sched.wheel → x.hand ≡ parts.sched.hand → x.expired.rows ≡ others_of parts.sched.expired.rows
+    → IsListedOn parts (expired.dest - s.from) new list
+    → Does before d q s (record parts { mails = slice_set parts.mails (expired.dest - s.from) new; sched = x; list = list })
     (λ o way. Hands o.settings way o.share.number (Ok how))
-handed_now before d p q s parts list old new fired how x has belongs first lent named stands made_w sched wheel hand rows listed =
+handed_now before d p q s parts list old new expired how x has belongs first lent named stands made_w sched wheel hand rows listed =
     let g : Settings = settings_of d in
     let n : ℕ = s.number in
     let st : State = state g (front_of p) in
-    let own : IsOwnFirst g s fired = own_first before d p s parts fired has first in
+    let own : IsOwnFirst g s expired = own_first before d p s parts expired has first in
     let was : Had d p s parts.sched = had has in
     let at : x.wheel ≡ n = wheel ∙ was.wheel in
-    let one : old.process ≡ fired.dest = mail_named has.fit fired.dest old own.home lent in
-    let made : IsMade g (view_of p) (HandsOver g n fired (Ok how)) (view_of q) =
-    subst (λ m. IsMade g (view_of p) (HandsOver g m fired (Ok how)) (view_of q)) own.placed.wheel made_w in
+    let one : old.process ≡ expired.dest = mail_named has.fit expired.dest old own.home lent in
+    let made : IsMade g (view_of p) (HandsOver g n expired (Ok how)) (view_of q) =
+    subst (λ m. IsMade g (view_of p) (HandsOver g m expired (Ok how)) (view_of q)) own.placed.wheel made_w in
     let sched_n : (state g (front_of q)).scheds n ≡ handed (Ok how) (st.scheds n) =
     subst (λ m. (state g (front_of q)).scheds m ≡ handed (Ok how) (st.scheds m)) own.placed.wheel sched in
     let below : x.wheel < g.schedulers = rw at has.fit.holds.low in
     let now : SchedStands g (front_of q) x =
     sched_stands g (front_of q) x (handed (Ok how) (st.scheds n)) below (subst (λ m. (state g (front_of q)).scheds m ≡ handed (Ok how) (st.scheds n)) (sym at) sched_n)
-    (hand ∙ was.hand) (rows ∙ ap (λ (l : List Row). others_of l) was.fired) in
-    let lending : List Actor = Sched n ∷ (MailOf fired.dest ∷ []) in
-    let only = handing_only g n fired (Ok how) st made.entries made.allowed in
-    finish before d p q s parts (record parts { mails = slice_set parts.mails (fired.dest - s.from) new; sched = x; list = list }) made.entries lending
-    (λ o way. Hands o.settings way o.share.number (Ok how)) has belongs made.call only (self_own n, (home_own s fired.dest own.home, tt))
+    (hand ∙ was.hand) (rows ∙ ap (λ (l : List Row). others_of l) was.expired) in
+    let lending : List Actor = Sched n ∷ (MailOf expired.dest ∷ []) in
+    let only = handing_only g n expired (Ok how) st made.entries made.allowed in
+    finish before d p q s parts (record parts { mails = slice_set parts.mails (expired.dest - s.from) new; sched = x; list = list }) made.entries lending
+    (λ o way. Hands o.settings way o.share.number (Ok how)) has belongs made.call only (self_own n, (home_own s expired.dest own.home, tt))
     (home_kept before d p q s parts made.entries lending has made.call only refl)
     (λ stand. record {
       legal = stand.legal;
@@ -99,19 +99,19 @@ handed_now before d p q s parts list old new fired how x has belongs first lent 
       inbox = λ apart. stand.inbox refl;
       sched_is = at;
       sched = λ apart. now;
-      mails = mails_back g (front_of q) s [] parts.mails fired.dest new own.home
+      mails = mails_back g (front_of q) s [] parts.mails expired.dest new own.home
           (record { counted = stand.mails.counted; named = stand.mails.named; stand = stand.mails.stand }) (named ∙ one) stands;
-      listed = listed (counted_from s.from (state g (front_of q))) stand.listed (place_low has.fit fired.dest own.home);
+      listed = listed (counted_from s.from (state g (front_of q))) stand.listed (place_low has.fit expired.dest own.home);
     })
     (λ m grown mine. record {
-      fired = fired;
-      first = subst (λ (o : Owned). first_of (fired_of o) ≡ Some fired) (sym has.is) first;
-      step = subst (HandsOver g n fired (Ok how) st) (sym mine) made.allowed;
+      expired = expired;
+      first = subst (λ (o : Owned). first_of (shard_expired o) ≡ Some expired) (sym has.is) first;
+      step = subst (HandsOver g n expired (Ok how) st) (sym mine) made.allowed;
     })
 
 -- a pass of a shard holds its scheduler and the mailbox of a process of its share
 pub sched_holds : (d : Desk) (p : Pass) (s : Share) (parts : ShardParts) (w process m : ℕ) → AreShardPartsFit d p s parts → w ≡ s.number → IsHome s process → m ≡ process
-    → HoldsMailbox (settings_of d) (view_of p) w m
+    → HoldsMailboxAndSched (settings_of d) (view_of p) w m
 sched_holds d p s parts w process m fit one home named =
     let most = fit.holds.most in
     let high = home.1 in
@@ -138,40 +138,40 @@ mail_waits before d p s parts process x has home is =
     ∙ ap (λ (o : Owned). length ((state o.settings o.history).mails process).queue) has.is
 
 -- what its scheduler has after its first expired timer was handed over
-pub hands_on : (before : Owned) (d : Desk) (p q : Pass) (s : Share) (parts : ShardParts) (fired : Row) (how : Handed) → Has before d p s parts
-    → first_of (fired_of before) ≡ Some fired
-    → (state (settings_of d) (front_of q)).scheds fired.timer.wheel ≡ handed (Ok how) ((state (settings_of d) (front_of p)).scheds fired.timer.wheel)
-    → ((state (settings_of d) (front_of q)).scheds s.number).fired ≡ others_of (fired_of before)
-hands_on before d p q s parts fired how has first sched =
+pub hands_on : (before : Owned) (d : Desk) (p q : Pass) (s : Share) (parts : ShardParts) (expired : Row) (how : Handed) → Has before d p s parts
+    → first_of (shard_expired before) ≡ Some expired
+    → (state (settings_of d) (front_of q)).scheds expired.timer.wheel ≡ handed (Ok how) ((state (settings_of d) (front_of p)).scheds expired.timer.wheel)
+    → ((state (settings_of d) (front_of q)).scheds s.number).expired ≡ others_of (shard_expired before)
+hands_on before d p q s parts expired how has first sched =
     let g : Settings = settings_of d in
-    let own : IsOwnFirst g s fired = own_first before d p s parts fired has first in
+    let own : IsOwnFirst g s expired = own_first before d p s parts expired has first in
     let mine = subst (λ m. (state g (front_of q)).scheds m ≡ handed (Ok how) ((state g (front_of p)).scheds m)) own.placed.wheel sched in
-    ap (λ (s : SchedState). s.fired) mine ∙ ap (λ (o : Owned). others_of (fired_of o)) has.is
+    ap (λ (s : SchedState). s.expired) mine ∙ ap (λ (o : Owned). others_of (shard_expired o)) has.is
 
 -- its slot can be used again
 pub record CanReuse (g : Settings) (h : List Entry) (p : Part) (timer : TimerRef) : Type 0 where
   pub let_go : IsLetGo p timer
   pub free : is_taken ((state g h).status timer) ≡ false
 
-pub handed_in : (before : Owned) (d : Desk) (p q : Pass) (s : Share) (parts : ShardParts) (fired : Row) (how : Handed) → Has before d p s parts
-    → first_of (fired_of before) ≡ Some fired
-    → IsMade (settings_of d) (view_of p) (HandsOver (settings_of d) fired.timer.wheel fired (Ok how)) (view_of q)
-    → CanReuse (settings_of d) (front_of q) parts.wheel fired.timer
-handed_in before d p q s parts fired how has first made =
+pub handed_in : (before : Owned) (d : Desk) (p q : Pass) (s : Share) (parts : ShardParts) (expired : Row) (how : Handed) → Has before d p s parts
+    → first_of (shard_expired before) ≡ Some expired
+    → IsMade (settings_of d) (view_of p) (HandsOver (settings_of d) expired.timer.wheel expired (Ok how)) (view_of q)
+    → CanReuse (settings_of d) (front_of q) parts.wheel expired.timer
+handed_in before d p q s parts expired how has first made =
     let g : Settings = settings_of d in
     let h : List Entry = front_of p in
-    let w : ℕ = fired.timer.wheel in
-    let own : IsOwnFirst g s fired = own_first before d p s parts fired has first in
-    let mine : first_of ((state g h).scheds s.number).fired ≡ Some fired = subst (λ (o : Owned). first_of (fired_of o) ≡ Some fired) (sym has.is) first in
-    let first_w : first_of ((state g h).scheds w).fired ≡ Some fired = subst (λ m. first_of ((state g h).scheds m).fired ≡ Some fired) (sym own.placed.wheel) mine in
+    let w : ℕ = expired.timer.wheel in
+    let own : IsOwnFirst g s expired = own_first before d p s parts expired has first in
+    let mine : first_of ((state g h).scheds s.number).expired ≡ Some expired = subst (λ (o : Owned). first_of (shard_expired o) ≡ Some expired) (sym has.is) first in
+    let first_w : first_of ((state g h).scheds w).expired ≡ Some expired = subst (λ m. first_of ((state g h).scheds m).expired ≡ Some expired) (sym own.placed.wheel) mine in
     let held : is_held (actors_of p) (Wheel w) ≡ true =
     subst (λ n. is_held (actors_of p) (Wheel n) ≡ true) (sym own.placed.wheel) (has.fit.holds.own (Wheel s.number) has.fit.holds.low ∙ self_own s.number) in
-    let free = free_kept g (view_of p) made.entries (view_of q) (Sched w ∷ (MailOf fired.dest ∷ [])) (Wheel w) made.call
-    (handing_only g w fired (Ok how) (state g h) made.entries made.allowed) held refl in
+    let free = free_kept g (view_of p) made.entries (view_of q) (Sched w ∷ (MailOf expired.dest ∷ [])) (Wheel w) made.call
+    (handing_only g w expired (Ok how) (state g h) made.entries made.allowed) held refl in
     record {
-      let_go = fired_let_go g h parts.wheel fired (has.fit.stand.wheel refl)
-          (subst (λ m. first_of ((state g h).scheds m).fired ≡ Some fired) (sym has.fit.stand.wheel_is) mine);
-      free = handed_free g (view_of p) (view_of q) w fired how has.fit.stand.legal first_w made free;
+      let_go = expired_let_go g h parts.wheel expired (has.fit.stand.wheel refl)
+          (subst (λ m. first_of ((state g h).scheds m).expired ≡ Some expired) (sym has.fit.stand.wheel_is) mine);
+      free = handed_free g (view_of p) (view_of q) w expired how has.fit.stand.legal first_w made free;
     }
 
 -- so it is by whatever settings the pass names
@@ -242,13 +242,13 @@ none_left [] none = refl
 none_left (x ∷ xs) none = absurd cc
 
 pub all_handed : (old new : Owned) (hows : List Handed) (put dropped : ℕ) → Handing old hows new → Legal new.settings new.history → put ≡ puts hows → dropped ≡ drops hows
-    → first_of (fired_of new) ≡ None → ShardSteps old (λ way. Delivers old.settings way old.share.number (Ok (put, dropped))) new
+    → first_of (shard_expired new) ≡ None → ShardSteps old (λ way. Delivers old.settings way old.share.number (Ok (put, dropped))) new
 all_handed old new hows put dropped handing legal put_is dropped_is none =
     let made = handing.made in
-    let fired : (sched_of new.settings new.history new.share.number).fired ≡ [] = none_left (fired_of new) none in
-    let at : ((state old.settings new.history).scheds old.share.number).fired ≡ [] =
-    subst (λ s. ((state old.settings new.history).scheds s.number).fired ≡ []) handing.share
-    (subst (λ g. ((state g new.history).scheds new.share.number).fired ≡ []) handing.settings fired) in
+    let expired : (sched_of new.settings new.history new.share.number).expired ≡ [] = none_left (shard_expired new) none in
+    let at : ((state old.settings new.history).scheds old.share.number).expired ≡ [] =
+    subst (λ s. ((state old.settings new.history).scheds s.number).expired ≡ []) handing.share
+    (subst (λ g. ((state g new.history).scheds new.share.number).expired ≡ []) handing.settings expired) in
     record {
       rows = handing.rows;
       goes = record {
@@ -260,7 +260,7 @@ all_handed old new hows put dropped handing legal put_is dropped_is none =
             runs = made.made;
             put_is = put_is;
             dropped_is = dropped_is;
-            done = subst (λ h. ((state old.settings h).scheds old.share.number).fired ≡ []) made.grown at;
+            done = subst (λ h. ((state old.settings h).scheds old.share.number).expired ≡ []) made.grown at;
           };
         };
         legal = legal;
@@ -272,13 +272,13 @@ all_handed old new hows put dropped handing legal put_is dropped_is none =
 
 -- how so many timers at most were handed over
 pub some_handed : (old new : Owned) (most put dropped : ℕ) (more : Bool) (hows : List Handed) → Handing old hows new → Legal new.settings new.history
-    → put ≡ puts hows → dropped ≡ drops hows → put + dropped ≤ most → AreLeft more most (length hows) (fired_of new)
+    → put ≡ puts hows → dropped ≡ drops hows → put + dropped ≤ most → AreLeft more most (length hows) (shard_expired new)
     → ShardSteps old (λ way. DeliversSome old.settings way old.share.number most (Ok (put, dropped, more))) new
 some_handed old new most put dropped more hows handing legal put_is dropped_is few left =
     let made = handing.made in
-    let at : AreLeft more most (length hows) ((state old.settings new.history).scheds old.share.number).fired =
-    subst (λ s. AreLeft more most (length hows) ((state old.settings new.history).scheds s.number).fired) handing.share
-    (subst (λ g. AreLeft more most (length hows) ((state g new.history).scheds new.share.number).fired) handing.settings left) in
+    let at : AreLeft more most (length hows) ((state old.settings new.history).scheds old.share.number).expired =
+    subst (λ s. AreLeft more most (length hows) ((state old.settings new.history).scheds s.number).expired) handing.share
+    (subst (λ g. AreLeft more most (length hows) ((state g new.history).scheds new.share.number).expired) handing.settings left) in
     record {
       rows = handing.rows;
       goes = record {
@@ -291,7 +291,7 @@ some_handed old new most put dropped more hows handing legal put_is dropped_is f
             few = (let all = puts_drops hows in omega (arith, all, put_is, dropped_is, few));
             put_is = put_is;
             dropped_is = dropped_is;
-            rest = subst (λ h. AreLeft more most (length hows) ((state old.settings h).scheds old.share.number).fired) made.grown at;
+            rest = subst (λ h. AreLeft more most (length hows) ((state old.settings h).scheds old.share.number).expired) made.grown at;
           };
         };
         legal = legal;

@@ -13,8 +13,8 @@ use Rattle.ert_defs.specs.declared.memory.NoMemory.{NoMemory}
 use Rattle.ert_defs.specs.declared.settings.Settings.{Settings}
 use Rattle.ert_effects.specs.RequestCalls.{Asks, Picks, Answers}
 use Rattle.ert_mail.proofs.LawsHold.{asks_only, picks_only, answers_only}
-use Rattle.ert_mail.specs.Inboxes.{Waiting, InboxStands, after_pick}
-use Rattle.ert_mail.specs.Mailboxes.{Mailbox, after_answer, MailboxStands as MailStands}
+use Rattle.ert_mail.specs.Inboxes.{Waiting, InboxStands, sched_after_pick}
+use Rattle.ert_mail.specs.Mailboxes.{Mailbox, sched_after_answer, MailboxStands as MailStands}
 use Rattle.ert_shard.proofs.Called.{Did, Has, IsListedOn, finish, has_at, home_kept, losing, mail_named, mails_back, makes, place_low, same_rows, still}
 use Rattle.ert_shard.proofs.Gone.{IsGone, gone_by}
 use Rattle.ert_shard.proofs.Kept.{self_own, home_own}
@@ -24,7 +24,7 @@ use Rattle.ert_table.specs.Calls.{IsMade}
 use Rattle.ert_table.specs.Desks.{settings_of, view_of, front_of, Belongs}
 use Rattle.ert_table.specs.declared.desk.Desk.{Desk}
 use Rattle.ert_table.specs.declared.desk.Pass.{Pass}
-use Rattle.ert_timers.specs.FiredLists.{Queue}
+use Rattle.ert_timers.specs.ExpiredLists.{Queue}
 use Rattle.ert_world.proofs.Gone.{answers_hit}
 use Rattle.ert_world.proofs.SchedCalls.{sched_stands}
 use Rattle.ert_world.specs.Parts.{SchedStands}
@@ -67,10 +67,10 @@ asked before d e p q s parts new request answer same is fit belongs named stands
 pub picked : (before : Owned) (d e : Desk) (p q : Pass) (s : Share) (parts : ShardParts) (new : Waiting) (got : Option Request) (x : SchedPart) → d ≡ e
     → owned e p s parts.wheel ≡ before → AreShardPartsFit e p s parts → Belongs d q → new.wheel ≡ parts.inbox.wheel → InboxStands (settings_of d) (front_of q) new
     → IsMade (settings_of d) (view_of p) (Picks (settings_of d) parts.inbox.wheel got) (view_of q)
-    → (state (settings_of d) (front_of q)).scheds parts.inbox.wheel ≡ after_pick got ((state (settings_of d) (front_of p)).scheds parts.inbox.wheel)
-    → x.wheel ≡ parts.sched.wheel → x.hand ≡ got → x.fired ≡ parts.sched.fired
+    → (state (settings_of d) (front_of q)).scheds parts.inbox.wheel ≡ sched_after_pick got ((state (settings_of d) (front_of p)).scheds parts.inbox.wheel)
+    → x.wheel ≡ parts.sched.wheel → x.hand ≡ got → x.expired ≡ parts.sched.expired
     → Did before e q s (record parts { inbox = new; sched = x }) (λ o way. way (Inbox o.share.number ∷ []) (Picks o.settings o.share.number got))
-picked before d e p q s parts new got x same is fit belongs named stands made_w sched wheel hand fired =
+picked before d e p q s parts new got x same is fit belongs named stands made_w sched wheel hand expired =
     let g : Settings = settings_of d in
     let n : ℕ = s.number in
     let st : State = state g (front_of p) in
@@ -79,12 +79,12 @@ picked before d e p q s parts new got x same is fit belongs named stands made_w 
     let was : Had d p s parts.sched = had has in
     let at : x.wheel ≡ n = wheel ∙ was.wheel in
     let made : IsMade g (view_of p) (Picks g n got) (view_of q) = subst (λ i. IsMade g (view_of p) (Picks g i got) (view_of q)) one made_w in
-    let sched_n : (state g (front_of q)).scheds n ≡ after_pick got (st.scheds n) =
-    subst (λ m. (state g (front_of q)).scheds m ≡ after_pick got (st.scheds m)) one sched in
+    let sched_n : (state g (front_of q)).scheds n ≡ sched_after_pick got (st.scheds n) =
+    subst (λ m. (state g (front_of q)).scheds m ≡ sched_after_pick got (st.scheds m)) one sched in
     let below : x.wheel < g.schedulers = rw at has.fit.holds.low in
     let now : SchedStands g (front_of q) x =
-    sched_stands g (front_of q) x (after_pick got (st.scheds n)) below (subst (λ m. (state g (front_of q)).scheds m ≡ after_pick got (st.scheds n)) (sym at) sched_n)
-    hand (ap (λ (f : Queue). f.rows) fired ∙ was.fired) in
+    sched_stands g (front_of q) x (sched_after_pick got (st.scheds n)) below (subst (λ m. (state g (front_of q)).scheds m ≡ sched_after_pick got (st.scheds n)) (sym at) sched_n)
+    hand (ap (λ (f : Queue). f.rows) expired ∙ was.expired) in
     let lending : List Actor = Sched n ∷ (Inbox n ∷ []) in
     let only = picks_only g n got st made.entries made.allowed in
     still p parts (record parts { inbox = new; sched = x }) same is refl
@@ -106,7 +106,7 @@ picked before d e p q s parts new got x same is fit belongs named stands made_w 
 
 -- what is in the hand then
 pub hand_picked : (d : Desk) (p q : Pass) (s : Share) (parts : ShardParts) (got : Option Request) → AreShardPartsFit d p s parts
-    → (state (settings_of d) (front_of q)).scheds parts.inbox.wheel ≡ after_pick got ((state (settings_of d) (front_of p)).scheds parts.inbox.wheel)
+    → (state (settings_of d) (front_of q)).scheds parts.inbox.wheel ≡ sched_after_pick got ((state (settings_of d) (front_of p)).scheds parts.inbox.wheel)
     → (sched_of (settings_of d) (front_of q) s.number).hand ≡ got
 hand_picked d p q s parts got fit sched =
     ap (λ n. ((state (settings_of d) (front_of q)).scheds n).hand) (sym fit.stand.inbox_is) ∙ ap (λ (t : SchedState). t.hand) sched
@@ -116,11 +116,11 @@ pub answered_now : (before : Owned) (d : Desk) (p q : Pass) (s : Share) (parts :
     (left : Option ℕ) (x : SchedPart) → Has before d p s parts → Belongs d q → IsHome s request.reply_to
     → old ≡ slice_index_or parts.mails (request.reply_to - s.from) old → new.process ≡ old.process → MailStands (settings_of d) (front_of q) new
     → IsMade (settings_of d) (view_of p) (Answers (settings_of d) s.number request (Ok left)) (view_of q)
-    → (state (settings_of d) (front_of q)).scheds s.number ≡ after_answer (Ok left) ((state (settings_of d) (front_of p)).scheds s.number)
-    → x.wheel ≡ parts.sched.wheel → x.hand ≡ None → x.fired ≡ parts.sched.fired → IsListedOn parts (request.reply_to - s.from) new list
+    → (state (settings_of d) (front_of q)).scheds s.number ≡ sched_after_answer (Ok left) ((state (settings_of d) (front_of p)).scheds s.number)
+    → x.wheel ≡ parts.sched.wheel → x.hand ≡ None → x.expired ≡ parts.sched.expired → IsListedOn parts (request.reply_to - s.from) new list
     → Did before d q s (record parts { mails = slice_set parts.mails (request.reply_to - s.from) new; sched = x; list = list })
     (λ o way. way (MailOf request.reply_to ∷ []) (Answers o.settings o.share.number request (Ok left)))
-answered_now before d p q s parts list old new request left x has belongs home lent named stands made sched wheel empty fired listed =
+answered_now before d p q s parts list old new request left x has belongs home lent named stands made sched wheel empty expired listed =
     let g : Settings = settings_of d in
     let n : ℕ = s.number in
     let process : ℕ = request.reply_to in
@@ -130,8 +130,8 @@ answered_now before d p q s parts list old new request left x has belongs home l
     let one : old.process ≡ process = mail_named has.fit process old home lent in
     let below : x.wheel < g.schedulers = rw at has.fit.holds.low in
     let now : SchedStands g (front_of q) x =
-    sched_stands g (front_of q) x (after_answer (Ok left) (st.scheds n)) below (subst (λ m. (state g (front_of q)).scheds m ≡ after_answer (Ok left) (st.scheds n)) (sym at) sched)
-    empty (ap (λ (f : Queue). f.rows) fired ∙ was.fired) in
+    sched_stands g (front_of q) x (sched_after_answer (Ok left) (st.scheds n)) below (subst (λ m. (state g (front_of q)).scheds m ≡ sched_after_answer (Ok left) (st.scheds n)) (sym at) sched)
+    empty (ap (λ (f : Queue). f.rows) expired ∙ was.expired) in
     let lending : List Actor = Sched n ∷ (MailOf process ∷ []) in
     let only = answers_only g n request (Ok left) st made.entries made.allowed in
     losing has (same_rows parts.wheel)

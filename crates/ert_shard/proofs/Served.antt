@@ -12,7 +12,7 @@ use Rattle.ert_defs.specs.declared.memory.NoMemory.{NoMemory}
 use Rattle.ert_defs.specs.declared.settings.Settings.{Settings}
 use Rattle.ert_defs.specs.declared.timer.TimerRef.{TimerRef}
 use Rattle.ert_effects.proofs.Growing.{grows_more}
-use Rattle.ert_effects.specs.Chains.{HoldsBy, HoldsRequest, Serves, ServesMany, so_many_steps}
+use Rattle.ert_effects.specs.Chains.{HoldsBy, HoldsRequest, Serves, ServesMany, units}
 use Rattle.ert_effects.specs.RequestCalls.{Answers}
 use Rattle.ert_effects.specs.Ways.{Then, Many}
 use Rattle.ert_shard.proofs.Called.{same_rows, rows_then}
@@ -60,7 +60,7 @@ served_none a b c request e holds answers =
     (λ way. ShardServes a.settings way a.share (Err NoMemoryToServe)) (λ m made. (e, record { request = request; steps = made }))
     (steps_then a b c (λ g n way. HoldsRequest g way n (Some request)) (λ g n way. way (MailOf request.reply_to ∷ []) (Answers g n request (Err e))) holds answers)
 
-times_more : (n : ℕ) → so_many_steps n ++ tt ∷ [] ≡ so_many_steps (suc n)
+times_more : (n : ℕ) → units n ++ tt ∷ [] ≡ units (suc n)
 times_more zero = refl
 times_more (suc n) = ap (λ l. tt ∷ l) (times_more n)
 
@@ -71,7 +71,7 @@ suc_is n = omega arith
 pub served_more : (a b c : Owned) (n : ℕ) → ShardSteps a (λ way. ServesMany a.settings way a.share.number n) b
     → ShardSteps b (λ way. ShardServes b.settings way b.share (Ok true)) c → ShardSteps a (λ way. ServesMany a.settings way a.share.number (n + 1)) c
 served_more a b c n one other =
-    let more = grows_more (λ (u : Unit {0}). Serves a.settings (shard_way a) a.share.number (Ok true)) (so_many_steps n) tt a.history b.history c.history one.goes.grows
+    let more = grows_more (λ (u : Unit {0}). Serves a.settings (shard_way a) a.share.number (Ok true)) (units n) tt a.history b.history c.history one.goes.grows
     (since a b c (λ g n way. Serves g way n (Ok true)) one.goes.settings one.goes.share other.goes.grows) in
     record {
       goes = record {

@@ -94,12 +94,12 @@ served_then old mid new served call serves does =
     steps_then_share old mid new (λ g s way. ShardServesAll g way s (Ok served)) (λ g s. call g s.number) serves does
 
 pub turned : (old one two new : Owned) (t : Turn) → ShardSteps old (λ way. ShardServesAll old.settings way old.share (Ok t.served)) one
-    → ShardSteps one (λ way. AdvancesWheel one.settings way one.share.number (Ok (t.to, t.fired))) two
+    → ShardSteps one (λ way. AdvancesWheel one.settings way one.share.number (Ok (t.to, t.expired))) two
     → ShardSteps two (λ way. Delivers two.settings way two.share.number (Ok (t.put, t.dropped))) new
     → ShardSteps old (λ way. ShardTurns old.settings way old.share (Ok t)) new
 turned old one two new t serves advances delivers =
-    served_then old one new t.served (λ g n way. Then (AdvancesWheel g way n (Ok (t.to, t.fired))) (Delivers g way n (Ok (t.put, t.dropped)))) serves
-    (steps_then one two new (λ g n way. AdvancesWheel g way n (Ok (t.to, t.fired))) (λ g n way. Delivers g way n (Ok (t.put, t.dropped))) advances delivers)
+    served_then old one new t.served (λ g n way. Then (AdvancesWheel g way n (Ok (t.to, t.expired))) (Delivers g way n (Ok (t.put, t.dropped)))) serves
+    (steps_then one two new (λ g n way. AdvancesWheel g way n (Ok (t.to, t.expired))) (λ g n way. Delivers g way n (Ok (t.put, t.dropped))) advances delivers)
 
 pub turn_unserved : (old new : Owned) (e : NoMemory) → ShardSteps old (λ way. ShardServesAll old.settings way old.share (Err e)) new
     → ShardSteps old (λ way. ShardTurns old.settings way old.share (Err e)) new
@@ -128,15 +128,15 @@ turn_undelivered old one two new served advanced e serves advances delivers =
 
 pub turned_up_to : (most : ℕ) (old one two new : Owned) (t : Turn) (due waits : Bool)
     → ShardSteps old (λ way. ShardServesAll old.settings way old.share (Ok t.served)) one
-    → ShardSteps one (λ way. AdvancesWheelSome one.settings way one.share.number most (Ok (t.to, t.fired, due))) two
+    → ShardSteps one (λ way. AdvancesWheelSome one.settings way one.share.number most (Ok (t.to, t.expired, due))) two
     → ShardSteps two (λ way. DeliversSome two.settings way two.share.number most (Ok (t.put, t.dropped, waits))) new
     → ShardSteps old (λ way. TurnsUpTo old.settings way old.share most (Ok (t, (due || waits)))) new
 turned_up_to most old one two new t due waits serves advances delivers =
     steps_as old new
-    (λ way. Then (ShardServesAll old.settings way old.share (Ok t.served)) (Then (AdvancesWheelSome old.settings way old.share.number most (Ok (t.to, t.fired, due))) (DeliversSome old.settings way old.share.number most (Ok (t.put, t.dropped, waits)))))
+    (λ way. Then (ShardServesAll old.settings way old.share (Ok t.served)) (Then (AdvancesWheelSome old.settings way old.share.number most (Ok (t.to, t.expired, due))) (DeliversSome old.settings way old.share.number most (Ok (t.put, t.dropped, waits)))))
     (λ way. TurnsUpTo old.settings way old.share most (Ok (t, (due || waits)))) (λ m made. record { due = due; waits = waits; more_is = refl; runs = made })
-    (served_then old one new t.served (λ g n way. Then (AdvancesWheelSome g way n most (Ok (t.to, t.fired, due))) (DeliversSome g way n most (Ok (t.put, t.dropped, waits)))) serves
-    (steps_then one two new (λ g n way. AdvancesWheelSome g way n most (Ok (t.to, t.fired, due))) (λ g n way. DeliversSome g way n most (Ok (t.put, t.dropped, waits))) advances delivers))
+    (served_then old one new t.served (λ g n way. Then (AdvancesWheelSome g way n most (Ok (t.to, t.expired, due))) (DeliversSome g way n most (Ok (t.put, t.dropped, waits)))) serves
+    (steps_then one two new (λ g n way. AdvancesWheelSome g way n most (Ok (t.to, t.expired, due))) (λ g n way. DeliversSome g way n most (Ok (t.put, t.dropped, waits))) advances delivers))
 
 pub some_unserved : (most : ℕ) (old new : Owned) (e : NoMemory) → ShardSteps old (λ way. ShardServesAll old.settings way old.share (Err e)) new
     → ShardSteps old (λ way. TurnsUpTo old.settings way old.share most (Err e)) new

@@ -17,7 +17,7 @@ use Rattle.ert_defs.specs.declared.entry.Entry.{Entry}
 use Rattle.ert_defs.specs.declared.settings.OffsetState.{OffsetState}
 use Rattle.ert_defs.specs.declared.settings.OffsetState.TheVariants.{Preliminary, Final, Volatile}
 use Rattle.ert_defs.specs.declared.settings.Settings.{Settings}
-use Rattle.ert_calls.specs.Published.{ReadsOffsetBy}
+use Rattle.ert_calls.specs.Published.{ReadsByLeastCaller}
 use Rattle.ert_mail.proofs.LawsHold.{inbox_on, mail_on}
 use Rattle.ert_mail.specs.Inboxes.{Waiting, InboxStands}
 use Rattle.ert_mail.specs.Mailboxes.{Mailbox, MailboxStands as MailStands}
@@ -189,7 +189,7 @@ least_held : (actors : List Actor) (n : ℕ) → 0 < n → is_held actors (Calle
 least_held actors zero some held = absurd (omega (arith, some))
 least_held actors (suc n) some held = least_from actors n held
 
-pub reads_by : (s : OffsetState) (d : Desk) (p : Pass) (left first seat : ℕ) (homes : List Home) (parts : AllParts) → IsRest d p left first seat homes parts → ReadsOffsetBy s (settings_of d) (view_of p) 0
+pub reads_by : (s : OffsetState) (d : Desk) (p : Pass) (left first seat : ℕ) (homes : List Home) (parts : AllParts) → IsRest d p left first seat homes parts → ReadsByLeastCaller s (settings_of d) (view_of p) 0
 reads_by Preliminary d p left first seat homes parts fit = tt
 reads_by Final d p left first seat homes parts fit =
     let some = d.checked.counts.callers_low in

@@ -10,8 +10,8 @@ use Rattle.ert_defs.specs.declared.settings.Settings.{Settings}
 use Rattle.ert_effects.specs.Chains.{AdvancesWheel, SweepsWheel}
 use Rattle.ert_effects.specs.SomeCalls.{AdvancesSome, AdvancesWheelSome}
 use Rattle.ert_effects.specs.WheelCalls.{Advances, Sweeps, IsSwept}
-use Rattle.ert_laws.proofs.Few.{fired_few}
-use Rattle.ert_shard.specs.Turning.{fired_of}
+use Rattle.ert_laws.proofs.Few.{expired_few}
+use Rattle.ert_shard.specs.Turning.{shard_expired}
 use Rattle.ert_shard.specs.Shards.{Share, Owned, ShardParts}
 use Rattle.ert_shard.proofs.Advancing.{AreOfTurn, all_are, some_are, hand_kept}
 use Rattle.ert_shard.proofs.Home.{home_on, sweeps_home}
@@ -24,7 +24,7 @@ use Rattle.ert_table.specs.declared.desk.Desk.{Desk}
 use Rattle.ert_table.specs.declared.desk.Pass.{Pass}
 use Rattle.ert_timers.proofs.LawsHold.{sweeps_only}
 use Rattle.ert_timers.specs.Expiring.{HasExpired, HasNotExpired}
-use Rattle.ert_timers.specs.Trying.{HasExpiredSome, HasRefusedSome, fired_in}
+use Rattle.ert_timers.specs.Trying.{HasExpiredSome, HasRefusedSome, expired_after}
 use Rattle.ert_timers.specs.Parts.{Part, PartStands as WheelStands}
 use Rattle.ert_timers.specs.Passed.{LosesRows}
 use Rattle.ert_world.proofs.Advances.{advance_still, difference}
@@ -37,7 +37,7 @@ use Rattle.ert_defs.specs.declared.settings.TheConstants.{MOST_SLOTS}
 pub record Had (d : Desk) (p : Pass) (s : Share) (part : SchedPart) : Type 0 where
   pub wheel : part.wheel ≡ s.number
   pub hand : part.hand ≡ ((state (settings_of d) (front_of p)).scheds s.number).hand
-  pub fired : part.fired.rows ≡ ((state (settings_of d) (front_of p)).scheds s.number).fired
+  pub expired : part.expired.rows ≡ ((state (settings_of d) (front_of p)).scheds s.number).expired
 
 pub had : {before : Owned} {d : Desk} {p : Pass} {s : Share} {parts : ShardParts} → Has before d p s parts → Had d p s parts.sched
 had {before} {d} {p} {s} {parts} has =
@@ -47,7 +47,7 @@ had {before} {d} {p} {s} {parts} has =
     record {
       wheel = at;
       hand = stands.hand ∙ ap (λ m. ((state g (front_of p)).scheds m).hand) at;
-      fired = stands.fired ∙ ap (λ m. ((state g (front_of p)).scheds m).fired) at;
+      expired = stands.expired ∙ ap (λ m. ((state g (front_of p)).scheds m).expired) at;
     }
 
 -- the wheel was advanced, and the scheduler has these expired timers
@@ -56,7 +56,7 @@ advanced : (before : Owned) (d : Desk) (p q : Pass) (s : Share) (parts : ShardPa
     → ((st : State) (es : List Entry) → allows (settings_of d) s.number st es → AreOfTurn s es)
     → IsMade (settings_of d) (view_of p) (allows (settings_of d) parts.wheel.number) (view_of q)
     → x.wheel ≡ parts.sched.wheel → x.hand ≡ parts.sched.hand
-    → x.fired.rows ≡ ((state (settings_of d) (front_of q)).scheds parts.wheel.number).fired
+    → x.expired.rows ≡ ((state (settings_of d) (front_of q)).scheds parts.wheel.number).expired
     → Did before d q s (record parts { wheel = new; sched = x }) (λ o way. way (Wheel o.share.number ∷ []) (allows o.settings o.share.number))
 advanced before d p q s parts new x allows has belongs named stands loses are made_w wheel hand rows =
     let g : Settings = settings_of d in
@@ -72,7 +72,7 @@ advanced before d p q s parts new x allows has belongs named stands loses are ma
     let below : x.wheel < g.schedulers = rw at has.fit.holds.low in
     let now : SchedStands g (front_of q) x =
     sched_stands g (front_of q) x ((state g (front_of q)).scheds i) below (ap (λ n. (state g (front_of q)).scheds n) at)
-    (hand ∙ (was.hand ∙ sym kept)) (rows ∙ ap (λ n. ((state g (front_of q)).scheds n).fired) one) in
+    (hand ∙ (was.hand ∙ sym kept)) (rows ∙ ap (λ n. ((state g (front_of q)).scheds n).expired) one) in
     losing has loses (finish before d p q s parts (record parts { wheel = new; sched = x }) made.entries (Sched i ∷ (Wheel i ∷ []))
     (λ o way. way (Wheel o.share.number ∷ []) (allows o.settings o.share.number)) has belongs made.call of_turn.only (self_own i, (self_own i, tt))
     (home_on g (view_of p) made.entries (view_of q) s made.call has.fit.holds has.fit.home of_turn.home)
@@ -95,79 +95,79 @@ counted : (before : Owned) (d : Desk) (p q : Pass) (s : Share) (n m : ℕ) (gain
     → Has before d p s parts → Belongs d q → new.number ≡ parts.wheel.number → WheelStands (settings_of d) (front_of q) new → LosesRows parts.wheel new
     → ((st : State) (es : List Entry) → allows (length gained) (settings_of d) s.number st es → AreOfTurn s es)
     → IsMade (settings_of d) (view_of p) (allows (length gained) (settings_of d) parts.wheel.number) (view_of q)
-    → x.fired.rows ≡ parts.sched.fired.rows ++ gained
-    → fired_in (settings_of d) (front_of q) parts.wheel.number ≡ fired_in (settings_of d) (front_of p) parts.wheel.number ++ gained
-    → x.wheel ≡ parts.sched.wheel → x.hand ≡ parts.sched.hand → n ≡ length x.fired.rows → m ≡ length parts.sched.fired.rows
+    → x.expired.rows ≡ parts.sched.expired.rows ++ gained
+    → expired_after (settings_of d) (front_of q) parts.wheel.number ≡ expired_after (settings_of d) (front_of p) parts.wheel.number ++ gained
+    → x.wheel ≡ parts.sched.wheel → x.hand ≡ parts.sched.hand → n ≡ length x.expired.rows → m ≡ length parts.sched.expired.rows
     → Did before d q s (record parts { wheel = new; sched = x }) (λ o way. way (Wheel o.share.number ∷ []) (allows (n - m) o.settings o.share.number))
-counted before d p q s n m gained parts new x allows has belongs named stands loses are call fired waits wheel hand now was =
+counted before d p q s n m gained parts new x allows has belongs named stands loses are call expired waits wheel hand now was =
     let g : Settings = settings_of d in
     let one : parts.wheel.number ≡ s.number = has.fit.stand.wheel_is in
     let had_it : Had d p s parts.sched = had has in
-    let count : n - m ≡ length gained = difference n m parts.sched.fired.rows gained (now ∙ ap (λ (l : List Row). length l) fired) was in
+    let count : n - m ≡ length gained = difference n m parts.sched.expired.rows gained (now ∙ ap (λ (l : List Row). length l) expired) was in
     subst (λ k. Did before d q s (record parts { wheel = new; sched = x }) (λ o way. way (Wheel o.share.number ∷ []) (allows k o.settings o.share.number))) (sym count)
     (advanced before d p q s parts new x (allows (length gained)) has belongs named stands loses are call wheel hand
-    (fired ∙ (ap (λ l. l ++ gained) (had_it.fired ∙ ap (λ n. fired_in g (front_of p) n) (sym one)) ∙ sym waits)))
+    (expired ∙ (ap (λ l. l ++ gained) (had_it.expired ∙ ap (λ n. expired_after g (front_of p) n) (sym one)) ∙ sym waits)))
 
 -- an advance, with its count
 pub advance_ok : (before : Owned) (d : Desk) (p q : Pass) (s : Share) (to n m : ℕ) (parts : ShardParts) (new : Part) (x : SchedPart)
     → Has before d p s parts → Belongs d q → new.number ≡ parts.wheel.number → WheelStands (settings_of d) (front_of q) new → LosesRows parts.wheel new
-    → HasExpired (settings_of d) (view_of p) parts.wheel.number to parts.sched.fired x.fired (view_of q)
-    → x.wheel ≡ parts.sched.wheel → x.hand ≡ parts.sched.hand → n ≡ length x.fired.rows → m ≡ length parts.sched.fired.rows
+    → HasExpired (settings_of d) (view_of p) parts.wheel.number to parts.sched.expired x.expired (view_of q)
+    → x.wheel ≡ parts.sched.wheel → x.hand ≡ parts.sched.hand → n ≡ length x.expired.rows → m ≡ length parts.sched.expired.rows
     → Did before d q s (record parts { wheel = new; sched = x }) (λ o way. AdvancesWheel o.settings way o.share.number (Ok (to, n - m)))
 advance_ok before d p q s to n m parts new x has belongs named stands loses expired wheel hand now was =
     counted before d p q s n m expired.gained parts new x (λ k g i. Advances g i (Ok (to, k))) has belongs named stands loses
-    (λ st es made. all_are s (settings_of d) (Ok (to, length expired.gained)) st es made) expired.call expired.fired expired.waits wheel hand now was
+    (λ st es made. all_are s (settings_of d) (Ok (to, length expired.gained)) st es made) expired.call expired.expired expired.waits wheel hand now was
 
 -- one with a bound
 pub some_ok : (before : Owned) (d : Desk) (p q : Pass) (s : Share) (most to n m : ℕ) (more : Bool) (parts : ShardParts) (new : Part) (x : SchedPart)
     → Has before d p s parts → Belongs d q → new.number ≡ parts.wheel.number → WheelStands (settings_of d) (front_of q) new → LosesRows parts.wheel new
-    → HasExpiredSome (settings_of d) (view_of p) parts.wheel new most to more parts.sched.fired x.fired (view_of q)
-    → x.wheel ≡ parts.sched.wheel → x.hand ≡ parts.sched.hand → n ≡ length x.fired.rows → m ≡ length parts.sched.fired.rows
+    → HasExpiredSome (settings_of d) (view_of p) parts.wheel new most to more parts.sched.expired x.expired (view_of q)
+    → x.wheel ≡ parts.sched.wheel → x.hand ≡ parts.sched.hand → n ≡ length x.expired.rows → m ≡ length parts.sched.expired.rows
     → Did before d q s (record parts { wheel = new; sched = x }) (λ o way. AdvancesWheelSome o.settings way o.share.number most (Ok (to, n - m, more)))
 some_ok before d p q s most to n m more parts new x has belongs named stands loses expired wheel hand now was =
     counted before d p q s n m expired.gained parts new x (λ k g i. AdvancesSome g i most (Ok (to, k, more))) has belongs named stands loses
-    (λ st es made. some_are s (settings_of d) most (Ok (to, length expired.gained, more)) st es made) expired.call expired.fired expired.waits wheel hand now was
+    (λ st es made. some_are s (settings_of d) most (Ok (to, length expired.gained, more)) st es made) expired.call expired.expired expired.waits wheel hand now was
 
 -- one without memory leaves the list
 unmoved : (before : Owned) (d : Desk) (p q : Pass) (s : Share) (e : NoMemory) (parts : ShardParts) (x : SchedPart) → Has before d p s parts
-    → IsMade (settings_of d) (view_of p) (Advances (settings_of d) parts.wheel.number (Err e)) (view_of q) → x.fired.rows ≡ parts.sched.fired.rows
-    → x.fired.rows ≡ ((state (settings_of d) (front_of q)).scheds parts.wheel.number).fired
-unmoved before d p q s e parts x has call fired =
+    → IsMade (settings_of d) (view_of p) (Advances (settings_of d) parts.wheel.number (Err e)) (view_of q) → x.expired.rows ≡ parts.sched.expired.rows
+    → x.expired.rows ≡ ((state (settings_of d) (front_of q)).scheds parts.wheel.number).expired
+unmoved before d p q s e parts x has call expired =
     let g : Settings = settings_of d in
     let one : parts.wheel.number ≡ s.number = has.fit.stand.wheel_is in
     let was : Had d p s parts.sched = had has in
     let held : is_held (actors_of p) (Sched s.number) ≡ true = has.fit.holds.own (Sched s.number) has.fit.holds.low ∙ self_own s.number in
-    fired ∙ (was.fired ∙ (ap (λ n. ((state g (front_of p)).scheds n).fired) (sym one)
+    expired ∙ (was.expired ∙ (ap (λ n. ((state g (front_of p)).scheds n).expired) (sym one)
     ∙ sym (advance_still g parts.wheel.number e (view_of p) (view_of q) (subst (λ n. is_held (view_of p).actors (Sched n) ≡ true) (sym one) held) call)))
 
 -- an advance without memory
 pub advance_refused : (before : Owned) (d : Desk) (p q : Pass) (s : Share) (e : NoMemory) (parts : ShardParts) (new : Part) (x : SchedPart)
     → Has before d p s parts → Belongs d q → new.number ≡ parts.wheel.number → WheelStands (settings_of d) (front_of q) new → LosesRows parts.wheel new
-    → HasNotExpired (settings_of d) (view_of p) parts.wheel.number e parts.sched.fired x.fired (view_of q)
+    → HasNotExpired (settings_of d) (view_of p) parts.wheel.number e parts.sched.expired x.expired (view_of q)
     → x.wheel ≡ parts.sched.wheel → x.hand ≡ parts.sched.hand
     → Did before d q s (record parts { wheel = new; sched = x }) (λ o way. AdvancesWheel o.settings way o.share.number (Err e))
 advance_refused before d p q s e parts new x has belongs named stands loses refused wheel hand =
     advanced before d p q s parts new x (λ g i. Advances g i (Err e)) has belongs named stands loses
-    (λ st es made. all_are s (settings_of d) (Err e) st es made) refused.call wheel hand (unmoved before d p q s e parts x has refused.call refused.fired)
+    (λ st es made. all_are s (settings_of d) (Err e) st es made) refused.call wheel hand (unmoved before d p q s e parts x has refused.call refused.expired)
 
 -- one with a bound
 pub some_refused : (before : Owned) (d : Desk) (p q : Pass) (s : Share) (most : ℕ) (e : NoMemory) (parts : ShardParts) (new : Part) (x : SchedPart)
     → Has before d p s parts → Belongs d q → new.number ≡ parts.wheel.number → WheelStands (settings_of d) (front_of q) new → LosesRows parts.wheel new
-    → HasRefusedSome (settings_of d) (view_of p) parts.wheel.number most e parts.sched.fired x.fired (view_of q)
+    → HasRefusedSome (settings_of d) (view_of p) parts.wheel.number most e parts.sched.expired x.expired (view_of q)
     → x.wheel ≡ parts.sched.wheel → x.hand ≡ parts.sched.hand
     → Did before d q s (record parts { wheel = new; sched = x }) (λ o way. AdvancesWheelSome o.settings way o.share.number most (Err e))
 some_refused before d p q s most e parts new x has belongs named stands loses refused wheel hand =
     advanced before d p q s parts new x (λ g i. AdvancesSome g i most (Err e)) has belongs named stands loses
     (λ st es made. some_are s (settings_of d) most (Err e) st es made) refused.call wheel hand
-    (unmoved before d p q s e parts x has (record { entries = refused.call.entries; allowed = refused.call.allowed; call = refused.call.call }) refused.fired)
+    (unmoved before d p q s e parts x has (record { entries = refused.call.entries; allowed = refused.call.allowed; call = refused.call.call }) refused.expired)
 
 -- the expired timers of a shard are few
-pub few : (before : Owned) (d : Desk) (p : Pass) (s : Share) (parts : ShardParts) → Has before d p s parts → length (fired_of before) ≤ MOST_SLOTS
+pub few : (before : Owned) (d : Desk) (p : Pass) (s : Share) (parts : ShardParts) → Has before d p s parts → length (shard_expired before) ≤ MOST_SLOTS
 few before d p s parts has =
     let g : Settings = settings_of d in
-    let low : length ((state g (front_of p)).scheds s.number).fired ≤ g.slots = fired_few g (front_of p) s.number has.fit.stand.legal in
+    let low : length ((state g (front_of p)).scheds s.number).expired ≤ g.slots = expired_few g (front_of p) s.number has.fit.stand.legal in
     let high : g.slots ≤ MOST_SLOTS = d.checked.counts.slots_high in
-    subst (λ (o : Owned). length (fired_of o) ≤ MOST_SLOTS) has.is (omega (arith, low, high))
+    subst (λ (o : Owned). length (shard_expired o) ≤ MOST_SLOTS) has.is (omega (arith, low, high))
 
 -- the shard's wheel was swept for a process
 pub sweep_called : (before : Owned) (d : Desk) (p q : Pass) (s : Share) (parts : ShardParts) (process : ℕ) (new : Part) → Has before d p s parts → Belongs d q

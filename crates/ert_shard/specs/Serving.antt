@@ -4,7 +4,7 @@ use Rattle.std.specs.Prelude.{◌≡◌, ◌⊎◌, ℕ, ◌<◌, ◌≤◌, Boo
 use Rattle.ert_defs.specs.declared.entry.Entry.{Entry}
 use Rattle.ert_defs.specs.declared.entry.Event.TheVariants.{Cancel}
 use Rattle.ert_defs.specs.declared.mail.Request.{Request}
-use Rattle.ert_defs.specs.declared.memory.NoMemory.{NoMemory as WantOfMemory}
+use Rattle.ert_defs.specs.declared.memory.NoMemory.{NoMemory as OutOfMemory}
 use Rattle.ert_defs.specs.declared.settings.Settings.{Settings}
 use Rattle.ert_defs.specs.declared.timer.TimerRef.{TimerRef}
 use Rattle.ert_effects.specs.Chains.{HoldsRequest, Serves, ServesMany}
@@ -23,7 +23,7 @@ pub record HoldsForAnother (g : Settings) (way : Way) (s : Share) (h m : List En
 abbrev pub ShardServes : Settings → Way → Share → Result Bool ServeErr → Growth
 ShardServes g way s (Ok served) h m = Serves g way s.number (Ok served) h m
 ShardServes g way s (Err NotHome) h m = HoldsForAnother g way s h m
-ShardServes g way s (Err NoMemory) h m = (e : WantOfMemory) × Serves g way s.number (Err e) h m
+ShardServes g way s (Err NoMemory) h m = (e : OutOfMemory) × Serves g way s.number (Err e) h m
 
 -- the wheel of a shard holds no row of a timer that these entries cancelled, if that is of this wheel
 abbrev pub ShardHasForgottenAll : Owned → List Entry → Type 0
@@ -42,7 +42,7 @@ abbrev pub EndsServing : Settings → Way → Share → Growth
 EndsServing g way s h m = Serves g way s.number (Ok false) h m ⊎ HoldsForAnother g way s h m
 
 -- requests are served until then, 64 at most
-abbrev pub ShardServesAll : Settings → Way → Share → Result ℕ WantOfMemory → Growth
+abbrev pub ShardServesAll : Settings → Way → Share → Result ℕ OutOfMemory → Growth
 ShardServesAll g way s (Ok n) h m =
     (n ≤ 64) × cond (nat_lt n 64) (Then (ServesMany g way s.number n) (EndsServing g way s) h m) (ServesMany g way s.number n h m)
 ShardServesAll g way s (Err e) h m = (n : ℕ) × (n < 64) × Then (ServesMany g way s.number n) (Serves g way s.number (Err e)) h m

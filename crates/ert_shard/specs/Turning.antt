@@ -19,14 +19,14 @@ use Rattle.ert_timers.specs.Parts.{Part}
 use Rattle.ert_world.specs.Bounded.{DeliversSome}
 
 -- the expired timers of a shard
-abbrev pub fired_of : Owned → List Row
-fired_of o = (sched_of o.settings o.history o.share.number).fired
+abbrev pub shard_expired : Owned → List Row
+shard_expired o = (sched_of o.settings o.history o.share.number).expired
 
 -- a turn: requests are served, the wheel is advanced, and all expired timers are handed over. There may be no memory for one
 -- of these, and what was done before stays
 abbrev pub ShardTurns : Settings → Way → Share → Result Turn NoMemory → Growth
 ShardTurns g way s (Ok t) h m = Then (ShardServesAll g way s (Ok t.served))
-    (Then (AdvancesWheel g way s.number (Ok (t.to, t.fired))) (Delivers g way s.number (Ok (t.put, t.dropped)))) h m
+    (Then (AdvancesWheel g way s.number (Ok (t.to, t.expired))) (Delivers g way s.number (Ok (t.put, t.dropped)))) h m
 ShardTurns g way s (Err e) h m =
     ShardServesAll g way s (Err e) h m
     ⊎ ((served : ℕ) × Then (ShardServesAll g way s (Ok served)) (AdvancesWheel g way s.number (Err e)) h m)
@@ -44,7 +44,7 @@ pub record HasTurnedUpTo (g : Settings) (way : Way) (s : Share) (most : ℕ) (t 
   pub waits : Bool
   pub more_is : more ≡ (due || waits)
   pub runs : Then (ShardServesAll g way s (Ok t.served))
-      (Then (AdvancesWheelSome g way s.number most (Ok (t.to, t.fired, due))) (DeliversSome g way s.number most (Ok (t.put, t.dropped, waits)))) h m
+      (Then (AdvancesWheelSome g way s.number most (Ok (t.to, t.expired, due))) (DeliversSome g way s.number most (Ok (t.put, t.dropped, waits)))) h m
 
 -- `turn_some` of a shard. There may be no memory to serve, to advance or to deliver, and what was done before stays
 abbrev pub TurnsUpTo : Settings → Way → Share → ℕ → Result (Turn × Bool) NoMemory → Growth

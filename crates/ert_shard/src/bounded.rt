@@ -16,39 +16,39 @@ impl Shard {
     /// Lets so many timers at most of the shard's wheel expire that are due, and answers the time, in whole
     /// milliseconds since the start time, how many expired, and whether more are due.
     ///
-    /// Where more are due so many were tried: a timer that another thread cancelled counts too. After want of memory none
+    /// Where more are due so many were tried: a timer that another thread cancelled counts too. If memory runs out, none
     /// has expired.
     pub fn advance_some(&mut self, most: u32) -> Result<(u64, u32, bool), NoMemory>
         ensures call { ShardSteps self.old (λ way. AdvancesWheelSome self.old.settings way self.old.share.number most result) self.new }
         ensures left { IfOk result (λ answer. IsLeft self.new.wheel answer.0 answer.2) }
         ensures fewer { IfOk result (λ answer. LosesSome answer.2 most self.old.wheel self.new.wheel) }
     {
-        let before = self.sched.fired.len();
+        let before = self.sched.expired.len();
         let (to, due) = self
             .wheel
-            .advance_some(&self.desk, &mut self.pass, most, &mut self.sched.fired)?;
-        Ok((to, (self.sched.fired.len() - before) as u32, due))
+            .advance_some(&self.desk, &mut self.pass, most, &mut self.sched.expired)?;
+        Ok((to, (self.sched.expired.len() - before) as u32, due))
     }
 
     /// Hands over the shard's expired timers until there is none, but so many at most. It answers how many messages were
     /// put into mailboxes, how many were thrown away, since their process has exited, and whether more timers wait.
     ///
-    /// After want of memory those that weren't handed over stay in the list.
+    /// If memory runs out, those that weren't handed over stay in the list.
     pub fn deliver_some(&mut self, most: u32) -> Result<(u32, u32, bool), NoMemory>
         ensures { ShardSteps self.old (λ way. DeliversSome self.old.settings way self.old.share.number most result) self.new }
     {
         let mut put = 0;
         let mut dropped = 0;
         'hands: while put + dropped < most {
-            let Some(fired) = self.first_of_fired() else {
+            let Some(expired) = self.first_of_expired() else {
                 return Ok((put, dropped, false));
             };
-            match self.hand_first(&fired)? {
+            match self.hand_first(&expired)? {
                 Handed::Put => put += 1,
                 Handed::Dropped => dropped += 1,
             }
         }
-        let more = self.first_of_fired().is_some();
+        let more = self.first_of_expired().is_some();
         Ok((put, dropped, more))
     }
 
@@ -56,19 +56,19 @@ impl Shard {
     /// It tells whether more timers are due, or expired ones wait: the next turn goes on with them, in their order.
     ///
     /// Where it tells that there are none, the wheel holds no row that is due by the time of the advance. With 0 at most it
-    /// serves requests and tells what there is. After want of memory what was done stays done.
+    /// serves requests and tells what there is. If memory runs out, what was done stays done.
     pub fn turn_some(&mut self, most: u32) -> Result<(Turn, bool), NoMemory>
         ensures call { ShardSteps self.old (λ way. TurnsUpTo self.old.settings way self.old.share most result) self.new }
         ensures passed { IfOk result (λ answer. answer.1 ≡ false → HasPassed self.new.wheel answer.0.to) }
         ensures done { IfOk result (λ answer. answer.1 ≡ true → HasTurnedMost self.old.wheel self.new.wheel most answer.0) }
     {
         let served = self.serve_all()?;
-        let (to, fired, due) = self.advance_some(most)?;
+        let (to, expired, due) = self.advance_some(most)?;
         let (put, dropped, waits) = self.deliver_some(most)?;
         let turn = Turn {
             served,
             to,
-            fired,
+            expired,
             put,
             dropped,
         };

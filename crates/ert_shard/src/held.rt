@@ -6,7 +6,7 @@ impl Shard {
     ghost use Rattle.std.specs.Option.{is_some};
     ghost use Rattle.ert_defs.specs.States.{state};
     ghost use Rattle.ert_shard.specs.Shards.{IsHome};
-    ghost use Rattle.ert_shard.specs.Turning.{fired_of};
+    ghost use Rattle.ert_shard.specs.Turning.{shard_expired};
 
     /// How many timers the shard's wheel holds: those that are armed, and those that other threads cancelled and that
     /// would not be due yet. No entry is made.
@@ -18,9 +18,9 @@ impl Shard {
 
     /// How many expired timers of the shard wait to be handed over. No entry is made.
     pub fn expired(&self) -> u64
-        ensures { result ≡ length (fired_of self.now) }
+        ensures { result ≡ length (shard_expired self.now) }
     {
-        self.sched.fired.len() as u64
+        self.sched.expired.len() as u64
     }
 
     /// How many messages wait in the mailbox of a process of the shard, also of one that has exited. No entry is made.

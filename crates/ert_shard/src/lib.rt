@@ -21,7 +21,7 @@
 //! | `Shard::restart` | the shard's caller | gives an armed timer of any wheel a new deadline, on the shard's wheel | as a cancel and a start |
 //! | `Shard::exit` | the shard's caller | lets a process exit, and cancels its timers | those timers |
 //! | `Shard::ask` | the shard's caller | asks the shard's scheduler to cancel or to read a timer of any wheel | constant |
-//! | `Shard::take`, `monitor`, `demonitor`, `tell` | the shard's caller | calls on the mailbox of a process of the shard | constant, or the monitors of the process |
+//! | `Shard::take`, `monitor`, `demonitor`, `notify` | the shard's caller | calls on the mailbox of a process of the shard | constant, or the monitors of the process |
 //! | `Shard::take_some` | the shard's caller | takes the first messages of a process of the shard, so many at most | those messages |
 //! | `Shard::next_mail` | the shard's caller | finds a process of the shard that hasn't exited and has mail | as in `ert_world` |
 //! | `Shard::serve`, `advance`, `deliver`, `turn` | the shard's scheduler | serves a request; lets due timers expire; hands them over; all three | as in `ert_world` |
@@ -52,7 +52,7 @@
 //!
 //! **Memory.** `start`, `restart`, `cancel_timer`, `read_timer`, `take`, `take_some`, `exit`, the calls on the clock, `join`
 //! and `join_all` take none, and of the calls of `next_mail` only the first of a shard does, for its list. Where there is
-//! none, `next_mail`, `ask`, `monitor` and `tell` change nothing, `serve` keeps the request in the hand, `advance` and
+//! none, `next_mail`, `ask`, `monitor` and `notify` change nothing, `serve` keeps the request in the hand, `advance` and
 //! `advance_some` let no timer expire, `deliver` and `deliver_some` keep what wasn't handed over, `shard` and `seat` leave
 //! everything as it was.
 //!

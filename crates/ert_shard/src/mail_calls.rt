@@ -6,7 +6,7 @@ use ert_mail::{MonitorErr, Taken};
 
 impl Shard {
     ghost use Rattle.std.specs.Prelude.{◌+◌};
-    ghost use Rattle.ert_effects.specs.MailCalls.{Takes, Monitors, Demonitors, Tells};
+    ghost use Rattle.ert_effects.specs.MailCalls.{Takes, Monitors, Demonitors, Notifies};
     ghost use Rattle.ert_shard.specs.Shards.{ShardSteps, ShardBy, IsHome};
 
     /// Takes the first message of a process of the shard (`receive`): Exited where the process has exited, whatever
@@ -42,17 +42,17 @@ impl Shard {
         mail.demonitor(&self.desk, &mut self.pass, by, monitor)
     }
 
-    /// Tells a process of the shard the time offset by one message for each monitor to which it is news, and answers
+    /// Notifies a process of the shard of the time offset by one message for each monitor to which it is news, and answers
     /// how many there were (ERTS User's Guide, "Time Warp Modes": `CHANGE` messages).
     ///
-    /// After want of memory nothing has changed.
-    pub fn tell(&mut self, process: u32) -> Result<u32, NoMemory>
+    /// If memory runs out, nothing has changed.
+    pub fn notify(&mut self, process: u32) -> Result<u32, NoMemory>
         requires { IsHome self.old.share process }
-        ensures { ShardSteps self.old (ShardBy self.old (λ g. Tells g (self.old.share.number + 1) process result)) self.new }
+        ensures { ShardSteps self.old (ShardBy self.old (λ g. Notifies g (self.old.share.number + 1) process result)) self.new }
     {
         let by = self.number + 1;
         let place = process - self.from;
         may_get_mail(&mut self.list, place);
-        self.mails[place as usize].tell(&self.desk, &mut self.pass, by)
+        self.mails[place as usize].notify(&self.desk, &mut self.pass, by)
     }
 }

@@ -28,7 +28,7 @@ impl Shard {
     ///
     /// The shard's caller looks whether the process whose turn it is has exited. The work is constant, amortized: one step
     /// for each process whose mailbox got mail since it was found empty or exited. The first call of a shard makes the
-    /// list, with a step and 5 bytes for each of its processes; later calls take no memory. After want of memory nothing
+    /// list, with a step and 5 bytes for each of its processes; later calls take no memory. If memory runs out, nothing
     /// has changed.
     pub fn next_mail(&mut self) -> Result<Option<u32>, NoMemory>
         ensures next { IfOk result (λ answer. ShardFindsMail self.old answer self.new) }

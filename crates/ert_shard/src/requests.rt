@@ -30,7 +30,7 @@ impl Shard {
     /// reference, `cancel_timer` and `read_timer`, option `async`). It does so in one of its next turns.
     ///
     /// The timer may be of any wheel: as by `cancel_timer`, that of another shard holds the row until it would be due.
-    /// After want of memory nothing has changed.
+    /// If memory runs out, nothing has changed.
     pub fn ask(&mut self, request: Request) -> Result<(), NoMemory>
         requires { IsHome self.old.share request.reply_to }
         ensures { ShardSteps self.old (ShardBy self.old (λ g. Asks g (self.old.share.number + 1) self.old.share.number request result)) self.new }

@@ -1,7 +1,7 @@
 //! The turns of a shard.
 use crate::mailing::may_get_mail;
 use crate::shard::Shard;
-use ert_defs::{Fired, NoMemory};
+use ert_defs::{TimerRow, NoMemory};
 use ert_mail::Handed;
 
 /// What a turn of a shard did.
@@ -12,7 +12,7 @@ pub struct Turn {
     /// The time of the advance, in whole milliseconds since the start time.
     pub to: u64,
     /// How many timers expired.
-    pub fired: u32,
+    pub expired: u32,
     /// How many messages were put into mailboxes.
     pub put: u32,
     /// How many messages were thrown away, since their process has exited.
@@ -26,7 +26,7 @@ impl Shard {
     ghost use Rattle.ert_defs.specs.Mails.{first_of, others_of};
     ghost use Rattle.ert_defs.specs.States.{state};
     ghost use Rattle.ert_shard.specs.Shards.{ShardSteps};
-    ghost use Rattle.ert_shard.specs.Turning.{fired_of, ShardTurns};
+    ghost use Rattle.ert_shard.specs.Turning.{shard_expired, ShardTurns};
     ghost use Rattle.ert_timers.specs.NextDue.{NoneArmedBefore, IsNextHeld};
     ghost use Rattle.ert_timers.specs.Passed.{HasPassed};
     ghost use Rattle.ert_defs.specs.declared.settings.TheConstants.{MOST_SLOTS};
@@ -47,52 +47,52 @@ impl Shard {
     /// Lets every timer of the shard's wheel expire that is due, and answers the time, in whole milliseconds
     /// since the start time, and how many expired.
     ///
-    /// After want of memory none has expired. Else the wheel holds no row then that is due by that time.
+    /// If memory runs out, none has expired. Else the wheel holds no row then that is due by that time.
     pub fn advance(&mut self) -> Result<(u64, u32), NoMemory>
         ensures call { ShardSteps self.old (λ way. AdvancesWheel self.old.settings way self.old.share.number result) self.new }
         ensures passed { IfOk result (λ answer. HasPassed self.new.wheel answer.0) }
     {
-        let before = self.sched.fired.len();
+        let before = self.sched.expired.len();
         let to = self
             .wheel
-            .advance(&self.desk, &mut self.pass, &mut self.sched.fired)?;
-        Ok((to, (self.sched.fired.len() - before) as u32))
+            .advance(&self.desk, &mut self.pass, &mut self.sched.expired)?;
+        Ok((to, (self.sched.expired.len() - before) as u32))
     }
 
     /// The shard's first expired timer.
-    pub(crate) fn first_of_fired(&self) -> Option<Fired>
-        ensures first { result ≡ first_of (fired_of self.now) }
-        ensures few { length (fired_of self.now) ≤ MOST_SLOTS }
+    pub(crate) fn first_of_expired(&self) -> Option<TimerRow>
+        ensures first { result ≡ first_of (shard_expired self.now) }
+        ensures few { length (shard_expired self.now) ≤ MOST_SLOTS }
         ensures legal { Legal self.now.settings self.now.history }
     {
-        self.sched.fired.first()
+        self.sched.expired.first()
     }
 
     /// Hands over the shard's first expired timer to a process of its own.
-    pub(crate) fn hand_first(&mut self, fired: &Fired) -> Result<Handed, NoMemory>
-        requires { first_of (fired_of self.old) ≡ Some fired.now }
+    pub(crate) fn hand_first(&mut self, expired: &TimerRow) -> Result<Handed, NoMemory>
+        requires { first_of (shard_expired self.old) ≡ Some expired.now }
         ensures call { ShardSteps self.old (λ way. Hands self.old.settings way self.old.share.number result) self.new }
-        ensures fired { OnOk result (fired_of self.new ≡ others_of (fired_of self.old)) }
+        ensures expired { OnOk result (shard_expired self.new ≡ others_of (shard_expired self.old)) }
     {
-        let place = fired.dest - self.from;
+        let place = expired.dest - self.from;
         may_get_mail(&mut self.list, place);
-        let handed = self.mails[place as usize].deliver(&self.desk, &mut self.pass, fired)?;
-        self.sched.fired.pop();
-        self.wheel.reuse(&self.pass, fired.timer);
+        let handed = self.mails[place as usize].deliver(&self.desk, &mut self.pass, expired)?;
+        self.sched.expired.pop();
+        self.wheel.reuse(&self.pass, expired.timer);
         Ok(handed)
     }
 
     /// Hands over the shard's expired timers until there is none, and answers how many messages were put into
     /// mailboxes and how many were thrown away, since their process has exited.
     ///
-    /// After want of memory those that weren't handed over stay in the list.
+    /// If memory runs out, those that weren't handed over stay in the list.
     pub fn deliver(&mut self) -> Result<(u32, u32), NoMemory>
         ensures { ShardSteps self.old (λ way. Delivers self.old.settings way self.old.share.number result) self.new }
     {
         let mut put = 0;
         let mut dropped = 0;
-        while let Some(fired) = self.first_of_fired() {
-            match self.hand_first(&fired)? {
+        while let Some(expired) = self.first_of_expired() {
+            match self.hand_first(&expired)? {
                 Handed::Put => put += 1,
                 Handed::Dropped => dropped += 1,
             }
@@ -105,18 +105,18 @@ impl Shard {
     ///
     /// It serves none from one on whose answer is for a process of another shard (`ServeErr::NotHome`).
     ///
-    /// After want of memory what was done stays done.
+    /// If memory runs out, what was done stays done.
     pub fn turn(&mut self) -> Result<Turn, NoMemory>
         ensures call { ShardSteps self.old (λ way. ShardTurns self.old.settings way self.old.share result) self.new }
         ensures passed { IfOk result (λ t. HasPassed self.new.wheel t.to) }
     {
         let served = self.serve_all()?;
-        let (to, fired) = self.advance()?;
+        let (to, expired) = self.advance()?;
         let (put, dropped) = self.deliver()?;
         Ok(Turn {
             served,
             to,
-            fired,
+            expired,
             put,
             dropped,
         })

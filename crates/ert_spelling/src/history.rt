@@ -37,7 +37,7 @@ pub fn read_history(alloc: Global, bytes: &[u8]) -> Result<History, SpellingErr>
     ensures ok { IfOk result (λ h. Spells h.settings h.entries.items bytes.now
         × IsChecked h.settings) }
 
-    // Want of memory may come in place of any answer.
+    // Out of memory may come in place of any answer.
     ensures err { (line : ℕ) → result ≡ Err (SpellingErr.Misspelled line)
         → MisspelledAt bytes.now line }
 {

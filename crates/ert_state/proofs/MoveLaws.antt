@@ -4,7 +4,7 @@ use Rattle.std.proofs.Common.{◌≡◌, ◌≢◌, ◌∙◌, refl, sym, ap, in
 use Rattle.std.proofs.lemmas.Bool.{cases_Bool, cases_eq, and_right}
 use Rattle.std.proofs.lemmas.Option.{get_or_from_slice_get, same_Some}
 use Rattle.std.specs.Prelude.{slice_get}
-use Rattle.ert_defs.proofs.FiredTimers.{same_timer_self, same_timer-false}
+use Rattle.ert_defs.proofs.ExpiredTimers.{same_timer_self, same_timer-false}
 use Rattle.ert_defs.specs.Timers.{same_timer}
 use Rattle.ert_defs.specs.declared.timer.Status.{Status}
 use Rattle.ert_defs.specs.declared.timer.Status.TheVariants.{Armed, Expired, Delivered, Cancelled, Orphaned, Dropped}

@@ -110,15 +110,15 @@ sched_at xs w = get_or xs w idle_sched
 
 -- after a look at a timer, whose result it keeps where the request in its hand is about that
 abbrev pub noted : TimerRef → Option ℕ → SchedState → SchedState
-noted timer left s = record { hand = s.hand; result = cond (is_about timer s.hand) (Some left) s.result; fired = s.fired }
+noted timer left s = record { hand = s.hand; result = cond (is_about timer s.hand) (Some left) s.result; expired = s.expired }
 
 -- after a timer expired, where it has a row
-abbrev pub expired : Option Row → SchedState → SchedState
-expired row s = record { hand = s.hand; result = s.result; fired = with_row s.fired row }
+abbrev pub after_expiry : Option Row → SchedState → SchedState
+after_expiry row s = record { hand = s.hand; result = s.result; expired = with_row s.expired row }
 
 -- after its hand was filled or emptied
 abbrev pub with_hand : Option Request → SchedState → SchedState
-with_hand request s = record { hand = request; result = None; fired = s.fired }
+with_hand request s = record { hand = request; result = None; expired = s.expired }
 
 -- the schedulers after an event of an actor
 abbrev pub scheds_after : (ℕ → List Row) → Actor → Event → List SchedState → List SchedState

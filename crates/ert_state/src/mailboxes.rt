@@ -5,8 +5,8 @@ ghost use Rattle.ert_state.specs.Parts.{scheds_in, with_message, with_answer_in,
 use crate::lists::{drop_first, first, push, put};
 use crate::schedulers::Schedulers;
 use ert_defs::{
-    Actor, Event, Fired, Mail, Monitor, NoMemory, Request, has_monitor, remove_monitor,
-    tell_monitors,
+    Actor, Event, TimerRow, Mail, Monitor, NoMemory, Request, has_monitor, remove_monitor,
+    notify_monitors,
 };
 use std::alloc::Global;
 use std::collections::{BTreeMap, VecDeque};
@@ -50,7 +50,7 @@ impl Mailbox {
         ensures { OnOk result (self.new ≡ mail_after (scheds_in schedulers.now) self.old event.now) }
     {
         match *event {
-            Event::Deliver { timer } => self.deliver(schedulers.first_fired(timer.wheel)),
+            Event::Deliver { timer } => self.deliver(schedulers.first_expired(timer.wheel)),
             Event::Answer { wheel, left } => self.answer(schedulers.hand(wheel), left),
             Event::Take { .. } => {
                 drop_first(&mut self.queue);
@@ -71,11 +71,11 @@ impl Mailbox {
     }
 
     /// Puts the message of an expired timer last.
-    fn deliver(&mut self, row: Option<Fired>) -> Result<(), NoMemory>
+    fn deliver(&mut self, row: Option<TimerRow>) -> Result<(), NoMemory>
         ensures { OnOk result (self.new ≡ with_message row self.old) }
     {
         match row {
-            Some(row) => put(&mut self.queue, Mail::of_fired(&row)),
+            Some(row) => put(&mut self.queue, Mail::of_expired(&row)),
             None => Ok(()),
         }
     }
@@ -114,7 +114,7 @@ impl Mailbox {
         ensures { OnOk result (self.new ≡ told_all offset self.old) }
     {
         self.queue.reserve(self.monitors.len())?;
-        tell_monitors(&mut self.monitors, &mut self.queue, offset);
+        notify_monitors(&mut self.monitors, &mut self.queue, offset);
         Ok(())
     }
 }

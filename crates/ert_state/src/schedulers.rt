@@ -1,10 +1,10 @@
 ghost use Rattle.std.specs.Prelude.{◌≡◌, OnOk};
 ghost use Rattle.ert_defs.specs.Mails.{sched_after, is_about};
-ghost use Rattle.ert_state.specs.Parts.{rows_in, noted, expired, with_hand};
+ghost use Rattle.ert_state.specs.Parts.{rows_in, noted, after_expiry, with_hand};
 
 use crate::lists::{drop_first, first, put};
 use crate::timers::Timers;
-use ert_defs::{Actor, Event, Fired, NoMemory, Request, TimerRef};
+use ert_defs::{Actor, Event, TimerRow, NoMemory, Request, TimerRef};
 use std::alloc::Global;
 use std::collections::VecDeque;
 use std::marker::Model;
@@ -17,7 +17,7 @@ struct Scheduler {
     /// The result of its last step on that.
     outcome: Option<Option<u64>>,
     /// Its expired timers that are not handed over, in order of expiry.
-    fired: VecDeque<Fired>,
+    expired: VecDeque<TimerRow>,
 }
 
 impl Model for Scheduler {
@@ -25,7 +25,7 @@ impl Model for Scheduler {
 
     ghost Value = { SchedState };
 
-    ghost view = { λ s. record { hand = s.hand; result = s.outcome; fired = s.fired.items } };
+    ghost view = { λ s. record { hand = s.hand; result = s.outcome; expired = s.expired.items } };
 }
 
 impl Scheduler {
@@ -40,7 +40,7 @@ impl Scheduler {
             }
             Event::Expire { timer } => self.expire(timers.row(timer)),
             Event::Deliver { .. } | Event::Drop { .. } => {
-                drop_first(&mut self.fired);
+                drop_first(&mut self.expired);
                 Ok(())
             }
             Event::Pick { got, .. } => {
@@ -65,11 +65,11 @@ impl Scheduler {
     }
 
     /// Puts an expired timer last, where it has a row.
-    fn expire(&mut self, row: Option<Fired>) -> Result<(), NoMemory>
-        ensures { OnOk result (self.new ≡ expired row self.old) }
+    fn expire(&mut self, row: Option<TimerRow>) -> Result<(), NoMemory>
+        ensures { OnOk result (self.new ≡ after_expiry row self.old) }
     {
         match row {
-            Some(row) => put(&mut self.fired, row),
+            Some(row) => put(&mut self.expired, row),
             None => Ok(()),
         }
     }
@@ -122,7 +122,7 @@ impl Schedulers {
             let scheduler = Scheduler {
                 hand: None,
                 outcome: None,
-                fired: VecDeque::new(alloc),
+                expired: VecDeque::new(alloc),
             };
             if schedulers.push(scheduler).is_err() {
                 return Err(NoMemory);
@@ -146,10 +146,10 @@ impl Schedulers {
     }
 
     /// The first of a scheduler's expired timers.
-    pub fn first_fired(&self, number: u32) -> Option<Fired>
-        ensures { result ≡ first_of (sched_at self.now number).fired }
+    pub fn first_expired(&self, number: u32) -> Option<TimerRow>
+        ensures { result ≡ first_of (sched_at self.now number).expired }
     {
-        first(&self.schedulers.get(number as usize)?.fired)
+        first(&self.schedulers.get(number as usize)?.expired)
     }
 
     /// Goes on by an event of an actor. The timers are as they were before it.

@@ -1,6 +1,6 @@
 use crate::uses::{Uses, deadline_told};
 use crate::wheels::{Timer, Wheel};
-use ert_defs::{Event, Fired, NoMemory, Start, Status, TimerRef};
+use ert_defs::{Event, TimerRow, NoMemory, Start, Status, TimerRef};
 use std::alloc::Global;
 use std::marker::Model;
 
@@ -48,7 +48,7 @@ impl Timers {
     }
 
     /// The row of a timer.
-    pub fn row(&self, timer: TimerRef) -> Option<Fired>
+    pub fn row(&self, timer: TimerRef) -> Option<TimerRow>
         ensures { result ≡ row_of (rows_in self.now timer.wheel) timer }
     {
         Some(self.find(timer)?.row)
@@ -160,7 +160,7 @@ impl Timers {
         let Some(wanted) = deadline else {
             return Ok(());
         };
-        let row = Fired {
+        let row = TimerRow {
             timer,
             deadline: deadline_told(timer.generation, wanted),
             dest: start.dest,

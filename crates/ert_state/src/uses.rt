@@ -2,7 +2,7 @@ ghost use Rattle.std.specs.Prelude.{◌≡◌, ◌≤◌, zero, suc};
 ghost use Rattle.ert_defs.specs.Timers as timers;
 
 use ert_defs::milliseconds::LAST_DEADLINE;
-use ert_defs::{FIRST_LATER_GENERATION, Fired, USES_OF_ROUND, use_of};
+use ert_defs::{FIRST_LATER_GENERATION, TimerRow, USES_OF_ROUND, use_of};
 
 /// The uses of a slot.
 #[derive(Clone, Copy)]
@@ -50,7 +50,7 @@ impl Uses {
     }
 
     /// The uses after one more timer.
-    pub fn with(&self, row: &Fired) -> Uses
+    pub fn with(&self, row: &TimerRow) -> Uses
         requires { row.now.deadline ≤ 8796093022207 }
         ensures { uses_of result ≡ used_by row.now (uses_of self.now) }
     {

@@ -5,7 +5,7 @@ ghost use Rattle.ert_state.specs.Indexes.{PutsPlace, Sets, kept_at};
 
 use crate::lists::push;
 use crate::uses::Uses;
-use ert_defs::{Fired, NoMemory, Status, TimerRef};
+use ert_defs::{TimerRow, NoMemory, Status, TimerRef};
 use std::alloc::Global;
 use std::collections::{BTreeMap, BTreeSet};
 use std::marker::Model;
@@ -13,7 +13,7 @@ use std::marker::Model;
 /// A timer of a wheel.
 #[derive(Clone, Copy, PartialEq, Eq)]
 pub struct Timer {
-    pub row: Fired,
+    pub row: TimerRow,
     pub status: Status,
 }
 
@@ -140,7 +140,7 @@ impl Wheel {
 
     /// Puts an armed timer last. No timer of its slot has its generation, and its deadline is within the
     /// limits; without memory for it the timers stay as they were.
-    pub fn arm(&mut self, row: Fired) -> Result<(), NoMemory>
+    pub fn arm(&mut self, row: TimerRow) -> Result<(), NoMemory>
         requires new { IsNewUse self.old row.timer.slot row.timer.generation }
         requires low { row.deadline ≤ 8796093022207 }
         ensures armed { OnOk result (self.new ≡ self.old ++ (record { row = row; status = Status.Armed }) ∷ []) }

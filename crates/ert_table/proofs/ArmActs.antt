@@ -9,7 +9,7 @@ use Rattle.ert_defs.specs.Milliseconds.{natural, down, deadline_of}
 use Rattle.ert_defs.specs.States.{State, uses_at, next, state}
 use Rattle.ert_defs.specs.Timers.{Row, Uses, deadline_told, row_from, row_of, same_timer, timer_at}
 use Rattle.ert_defs.specs.Words.{timer_word, slot_word, word_of_slot}
-use Rattle.ert_defs.proofs.FiredTimers.{row_named, same_timer_self}
+use Rattle.ert_defs.proofs.ExpiredTimers.{row_named, same_timer_self}
 use Rattle.ert_defs.proofs.Standing.{of_row}
 use Rattle.ert_defs.proofs.Rows.{IsRow, rows_hold}
 use Rattle.ert_defs.proofs.Runs.{legal_one_more}
@@ -24,7 +24,7 @@ use Rattle.ert_defs.specs.declared.timer.Status.{Status}
 use Rattle.ert_defs.specs.declared.timer.Status.TheVariants.{Armed}
 use Rattle.ert_defs.specs.declared.timer.TimerRef.{TimerRef}
 use Rattle.ert_words.specs.Ranges.{IsTimer}
-use Rattle.ert_table.specs.Acts.{Acts, IsAtStep}
+use Rattle.ert_table.specs.Acts.{Acts, IsHistoryAtStep}
 use Rattle.ert_table.specs.Places.{slot_place}
 use Rattle.ert_defs.specs.Entries.{arm_entry}
 use Rattle.ert_table.specs.Takes.{MayStep}
@@ -135,22 +135,22 @@ module _ (g : Settings) (v : View) (by : ℕ) (timer : TimerRef) (start : Start)
   has_wheel = eq-eqb timer.wheel timer.wheel refl
 
   -- what is known at the step
-  can_then : (h : List Entry) (n : ℕ) → IsAtStep g v place n h → CanArm g (state g h) (Caller by) timer (deadline_of g start ((state g h).looked (Caller by)))
+  can_then : (h : List Entry) (n : ℕ) → IsHistoryAtStep g v place n h → CanArm g (state g h) (Caller by) timer (deadline_of g start ((state g h).looked (Caller by)))
   can_then h n then = ((legal_one_more g h e).0 (grows g v place n e h then may.ours may.keeps may.known tt)).1.known
 
-  due_then : (h : List Entry) (n : ℕ) → IsAtStep g v place n h
+  due_then : (h : List Entry) (n : ℕ) → IsHistoryAtStep g v place n h
       → option_map (deadline_told timer.generation) (deadline_of g start ((state g h).looked (Caller by))) ≡ Some deadline
   due_then h n then =
       ap (λ look. option_map (deadline_told timer.generation) (deadline_of g start look)) (look_then g v place n h then (Caller by) may.ours.0) ∙ due
 
   -- the rows of the wheel after the step
-  rows_then : (h : List Entry) (n : ℕ) → IsAtStep g v place n h
+  rows_then : (h : List Entry) (n : ℕ) → IsHistoryAtStep g v place n h
       → (next g (state g h) e).rows timer.wheel ≡ (state g h).rows timer.wheel ++ row ∷ []
   rows_then h n then =
       rw has_wheel
       (ap (λ rows. (state g h).rows timer.wheel ++ rows) (row_from_told timer start (deadline_of g start ((state g h).looked (Caller by))) deadline (due_then h n then)))
 
-  here_arm : (h : List Entry) (n : ℕ) → IsAtStep g v place n h
+  here_arm : (h : List Entry) (n : ℕ) → IsHistoryAtStep g v place n h
       → word_of_slot (next g (state g h) e) timer.wheel timer.slot ≡ timer_word Armed deadline timer.generation
   here_arm h n then =
       let s : State = state g h in

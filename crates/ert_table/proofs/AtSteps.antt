@@ -6,14 +6,14 @@ use Rattle.ert_defs.specs.Legal.{IsSlot}
 use Rattle.ert_defs.specs.States.{State, next, run, state}
 use Rattle.ert_defs.specs.Timers.{Row, row_of}
 use Rattle.ert_defs.specs.Words.{word_of_slot}
-use Rattle.ert_defs.proofs.FiredTimers.{row_kept}
+use Rattle.ert_defs.proofs.ExpiredTimers.{row_kept}
 use Rattle.ert_defs.proofs.Runs.{last_stays, look_stays, state-append}
 use Rattle.ert_defs.specs.declared.entry.Actor.{Actor}
 use Rattle.ert_defs.specs.declared.entry.Actor.TheVariants.{Wheel}
 use Rattle.ert_defs.specs.declared.entry.Entry.{Entry}
 use Rattle.ert_defs.specs.declared.settings.Settings.{Settings}
 use Rattle.ert_defs.specs.declared.timer.TimerRef.{TimerRef}
-use Rattle.ert_table.specs.Acts.{IsAtStep}
+use Rattle.ert_table.specs.Acts.{IsHistoryAtStep}
 use Rattle.ert_table.specs.Held.{is_held}
 use Rattle.ert_table.specs.Places.{slot_place}
 use Rattle.ert_table.proofs.WordPlaces.{word_of-slot}
@@ -27,7 +27,7 @@ row_stands g r row s (e ∷ m) h =
     row_stands g r row (next g s e) m
     (row_kept g (s.looked e.by) r.wheel (s.rows r.wheel) row r (has_actor e (Wheel r.wheel)) e.event h)
 
-module _ (g : Settings) (v : View) (i n : ℕ) (h : List Entry) (then : IsAtStep g v i n h) where
+module _ (g : Settings) (v : View) (i n : ℕ) (h : List Entry) (then : IsHistoryAtStep g v i n h) where
   later_state : state g h ≡ run g (state g v.front) then.later
   later_state = ap (state g) then.begins ∙ state-append g v.front then.later
 
@@ -47,6 +47,6 @@ module _ (g : Settings) (v : View) (i n : ℕ) (h : List Entry) (then : IsAtStep
       (row_stands g timer row (state g v.front) then.later stands)
 
 -- the word that a step finds at the place of a slot is that of the slot
-pub slot_then : (g : Settings) (v : View) (w k n : ℕ) (h : List Entry) → IsSlot g w k → IsAtStep g v (slot_place g w k) n h
+pub slot_then : (g : Settings) (v : View) (w k n : ℕ) (h : List Entry) → IsSlot g w k → IsHistoryAtStep g v (slot_place g w k) n h
     → word_of_slot (state g h) w k ≡ n
 slot_then g v w k n h slot then = sym (word_of-slot g (state g h) w k slot.wheel_high slot.slot_high) ∙ then.word

@@ -7,7 +7,7 @@ use Rattle.ert_defs.specs.Milliseconds.{left}
 use Rattle.ert_defs.specs.States.{State, next}
 use Rattle.ert_defs.specs.Timers.{Row, row_of, same_timer, status_after, is_taken, timer_at}
 use Rattle.ert_defs.specs.Words.{word_of, timer_word, slot_word, word_of_slot}
-use Rattle.ert_defs.proofs.FiredTimers.{same_timer_self}
+use Rattle.ert_defs.proofs.ExpiredTimers.{same_timer_self}
 use Rattle.ert_defs.proofs.Slots.{same_timer-true}
 use Rattle.ert_defs.specs.declared.entry.Actor.{Actor}
 use Rattle.ert_defs.specs.declared.entry.Actor.TheVariants.{Wheel}

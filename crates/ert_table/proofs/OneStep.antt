@@ -16,7 +16,7 @@ use Rattle.ert_defs.proofs.Runs.{state-append}
 use Rattle.ert_defs.specs.declared.entry.Actor.{Actor}
 use Rattle.ert_defs.specs.declared.entry.Entry.{Entry}
 use Rattle.ert_defs.specs.declared.settings.Settings.{Settings}
-use Rattle.ert_table.specs.Acts.{Acts, IsAtStep, FindsNumber, Sitter, Told, Read, Compared}
+use Rattle.ert_table.specs.Acts.{Acts, IsHistoryAtStep, FindsNumber, Sitter, Told, Read, Compared}
 use Rattle.ert_table.specs.Held.{is_held, IsOurs}
 use Rattle.ert_table.specs.Rule.{Fits, Holds, IsLegalBy}
 use Rattle.ert_table.specs.Takes.{Appends}
@@ -32,7 +32,7 @@ abbrev pub after : View → List Entry → Entry → View
 after v h e = record { front = h ++ e ∷ []; actors = v.actors; settings = v.settings; met = None }
 
 -- the history with the step's entry is legal
-pub grows : (g : Settings) (v : View) (i n : ℕ) (e : Entry) (h : List Entry) → IsAtStep g v i n h → IsOurs v.actors e.by e.with
+pub grows : (g : Settings) (v : View) (i n : ℕ) (e : Entry) (h : List Entry) → IsHistoryAtStep g v i n h → IsOurs v.actors e.by e.with
     → Keeps g e.by e.with e.event → Known g (state g v.front) e.by e.with e.event → Found g (state g h) e.by e.event
     → Legal g (h ++ e ∷ [])
 grows g v i n e h then ours ranged known found =
@@ -123,7 +123,7 @@ may_step g slots id v i f entry then lt acts wanted s kept homes at fits =
     let e : Entry = entry n in
     let h : List Entry = kept.history in
     let fit = kept.fits id v at in
-    let now : IsAtStep g v i n h = record {
+    let now : IsHistoryAtStep g v i n h = record {
       legal = kept.legal;
       later = fit.later;
       begins = fit.begins;

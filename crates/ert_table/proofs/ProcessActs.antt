@@ -11,7 +11,7 @@ use Rattle.ert_defs.specs.declared.entry.Actor.{Actor}
 use Rattle.ert_defs.specs.declared.entry.Actor.TheVariants.{Keeper, Wheel}
 use Rattle.ert_defs.specs.declared.entry.Entry.{Entry}
 use Rattle.ert_defs.specs.declared.settings.Settings.{Settings}
-use Rattle.ert_table.specs.Acts.{Acts, IsAtStep}
+use Rattle.ert_table.specs.Acts.{Acts, IsHistoryAtStep}
 use Rattle.ert_defs.specs.Entries.{mark_entry}
 use Rattle.ert_table.specs.Places.{process_place}
 use Rattle.ert_table.specs.Takes.{MayStep}
@@ -45,7 +45,7 @@ mark_acts : (g : Settings) (v : View) (by : Actor) (process : ℕ) (exits : Bool
 mark_acts g v by process exits f sets may =
     let place : ℕ = process_place g process in
     let entry = λ (n : ℕ). mark_entry by process exits (nat_eq n 1) in
-    let exited = λ (h : List Entry) (n : ℕ) (then : IsAtStep g v place n h).
+    let exited = λ (h : List Entry) (n : ℕ) (then : IsHistoryAtStep g v place n h).
     let r : process_word ((state g h).exited process) ≡ n = sym (word_of-process g (state g h) process) ∙ then.word in r in
     record {
       ours = λ n. (may (nat_eq n 1)).ours;

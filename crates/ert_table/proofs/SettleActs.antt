@@ -7,7 +7,7 @@ use Rattle.ert_defs.specs.Legal.{IsSlot, Found, Legal}
 use Rattle.ert_defs.specs.States.{State, opening, next, state}
 use Rattle.ert_defs.specs.Timers.{row_of, status_after, timer_at}
 use Rattle.ert_defs.specs.Words.{word_of, timer_word}
-use Rattle.ert_defs.proofs.FiredLists.{delivery_hits, drop_hits}
+use Rattle.ert_defs.proofs.ExpiredLists.{delivery_hits, drop_hits}
 use Rattle.ert_defs.proofs.Runs.{legal_first, state-append}
 use Rattle.ert_defs.specs.declared.entry.Actor.{Actor}
 use Rattle.ert_defs.specs.declared.entry.Actor.TheVariants.{Wheel}
@@ -17,7 +17,7 @@ use Rattle.ert_words.specs.Ranges.{IsTimer}
 use Rattle.ert_defs.specs.declared.timer.Status.{Status}
 use Rattle.ert_defs.specs.declared.timer.Status.TheVariants.{Armed}
 use Rattle.ert_defs.specs.declared.timer.TimerRef.{TimerRef}
-use Rattle.ert_table.specs.Acts.{Acts, IsAtStep, FindsNumber}
+use Rattle.ert_table.specs.Acts.{Acts, IsHistoryAtStep, FindsNumber}
 use Rattle.ert_table.specs.Held.{is_held}
 use Rattle.ert_table.specs.Places.{slot_place}
 use Rattle.ert_table.specs.Settlings.{HasRow, status_from, status_to, status_in, hit_entry, Settles, miss_entry, settle_entry}
@@ -46,7 +46,7 @@ module _ (g : Settings) (v : View) (by : Actor) (timer : TimerRef) (deadline : �
 
   -- where the timer's status is another than the exchange expects, the exchange is one that can miss: a
   -- delivery or a drop finds its timer expired
-  may_miss : (how : Settle) (h : List Entry) (n : ℕ) → IsAtStep g v place n h → MayStep g v (hit how)
+  may_miss : (how : Settle) (h : List Entry) (n : ℕ) → IsHistoryAtStep g v place n h → MayStep g v (hit how)
       → (state g h).status timer ≢ Some (status_from how) → can_miss how ≡ true
   may_miss Deliver h n then may not =
       absurd (not (delivery_hits g h (hit Deliver) timer (grows g v place n (hit Deliver) h then may.ours may.keeps may.known tt) refl).0)
@@ -55,7 +55,7 @@ module _ (g : Settings) (v : View) (by : Actor) (timer : TimerRef) (deadline : �
   may_miss _ h n then may not = refl
 
   -- what is handed over has expired
-  waits_for : (how : Settle) (h : List Entry) (n : ℕ) → IsAtStep g v place n h → MayStep g v (hit how) → can_miss how ≡ false
+  waits_for : (how : Settle) (h : List Entry) (n : ℕ) → IsHistoryAtStep g v place n h → MayStep g v (hit how) → can_miss how ≡ false
       → (state g h).status timer ≡ Some (status_from how)
   waits_for Deliver h n then may can =
       (delivery_hits g h (hit Deliver) timer (grows g v place n (hit Deliver) h then may.ours may.keeps may.known tt) refl).0
@@ -80,11 +80,11 @@ module _ (g : Settings) (v : View) (by : Actor) (timer : TimerRef) (deadline : �
     by_held = subst (λ a. is_held v.actors a ≡ true) (hit_by g front by timer deadline how)
         (held_maker v.actors (hit how).by (hit how).with may.ours)
 
-    stands : (h : List Entry) (n : ℕ) → IsAtStep g v place n h → row_of ((state g h).rows timer.wheel) timer ≡ Some has.row
+    stands : (h : List Entry) (n : ℕ) → IsHistoryAtStep g v place n h → row_of ((state g h).rows timer.wheel) timer ≡ Some has.row
     stands h n then = row_then g v place n h then timer has.row has.stands
 
     -- where the word is that of the timer, it has the status, and is the last of its slot
-    hits : (h : List Entry) (n : ℕ) → IsAtStep g v place n h → nat_eq n old ≡ true
+    hits : (h : List Entry) (n : ℕ) → IsHistoryAtStep g v place n h → nat_eq n old ≡ true
         → ((state g h).status timer ≡ Some (status_from how)) × ((state g h).last timer.wheel timer.slot ≡ timer.generation)
     hits h n then is = at (can_miss how) refl
       where
@@ -114,7 +114,7 @@ module _ (g : Settings) (v : View) (by : Actor) (timer : TimerRef) (deadline : �
       can : can_miss how ≡ true
       not_armed : (state g h).status timer ≢ Some Armed
 
-    misses : (h : List Entry) (n : ℕ) → IsAtStep g v place n h → nat_eq n old ≡ false → IsMissed h
+    misses : (h : List Entry) (n : ℕ) → IsHistoryAtStep g v place n h → nat_eq n old ≡ false → IsMissed h
     misses h n then is =
         let kept = slots_kept g h then.legal in
         let not_old : n ≢ timer_word (status_from how) has.row.deadline timer.generation = λ same.
@@ -126,7 +126,7 @@ module _ (g : Settings) (v : View) (by : Actor) (timer : TimerRef) (deadline : �
         record { can = can; not_armed = subst (λ x. (state g h).status timer ≢ Some x) (missed_from how can) not }
 
     -- the status in the word is that of the last timer of the slot
-    found_last : (h : List Entry) (n : ℕ) → IsAtStep g v place n h
+    found_last : (h : List Entry) (n : ℕ) → IsHistoryAtStep g v place n h
         → status_in n ≡ (state g h).status (timer_at timer.wheel timer.slot ((state g h).last timer.wheel timer.slot))
     found_last h n then =
         slot_found (state g h) timer.wheel timer.slot n (slots_kept g h then.legal) (slot_then g v timer.wheel timer.slot n h slot then)
@@ -135,7 +135,7 @@ module _ (g : Settings) (v : View) (by : Actor) (timer : TimerRef) (deadline : �
     may_at n true = may
     may_at n false = miss_may g v by timer deadline how n may
 
-    found_at : (h : List Entry) (n : ℕ) → IsAtStep g v place n h → (b : Bool) → nat_eq n old ≡ b
+    found_at : (h : List Entry) (n : ℕ) → IsHistoryAtStep g v place n h → (b : Bool) → nat_eq n old ≡ b
         → Found g (state g h) (cond b (hit how) (miss n)).by (cond b (hit how) (miss n)).event
     found_at h n then true is =
         hit_found g front by timer deadline (state g h) has.row (stands h n then) has.due how (hits h n then is).0
@@ -143,7 +143,7 @@ module _ (g : Settings) (v : View) (by : Actor) (timer : TimerRef) (deadline : �
     found_at h n then false is =
         miss_found g v by timer deadline (state g h) (misses h n then is).not_armed how n (found_last h n then)
 
-    here_at : (h : List Entry) (n : ℕ) → IsAtStep g v place n h → (b : Bool) → nat_eq n old ≡ b
+    here_at : (h : List Entry) (n : ℕ) → IsHistoryAtStep g v place n h → (b : Bool) → nat_eq n old ≡ b
         → word_of g (next g (state g h) (cond b (hit how) (miss n))) place ≡ either b new n
     here_at h n then true is =
         let sure = hits h n then is in
@@ -153,7 +153,7 @@ module _ (g : Settings) (v : View) (by : Actor) (timer : TimerRef) (deadline : �
         let sure = misses h n then is in
         miss_word g v by timer deadline (state g h) sure.not_armed how n place sure.can ∙ then.word
 
-    others_at : (h : List Entry) (n j : ℕ) → IsAtStep g v place n h → j ≢ place → (b : Bool) → nat_eq n old ≡ b
+    others_at : (h : List Entry) (n j : ℕ) → IsHistoryAtStep g v place n h → j ≢ place → (b : Bool) → nat_eq n old ≡ b
         → word_of g (next g (state g h) (cond b (hit how) (miss n))) j ≡ word_of g (state g h) j
     others_at h n j then not true is = hit_others g front by timer deadline how (state g h) j not
     others_at h n j then not false is =
@@ -176,7 +176,7 @@ module _ (g : Settings) (v : View) (by : Actor) (timer : TimerRef) (deadline : �
       abbrev before : List Entry
       before = v.front ++ finds.step.between
 
-      then_found : IsAtStep g v place n before
+      then_found : IsHistoryAtStep g v place n before
       then_found = record {
         legal = legal_first g (opening g) before (settle_entry g front by timer deadline how n ∷ [])
             (subst (Legal g) finds.step.grown finds.step.legal);

@@ -10,7 +10,7 @@ use Rattle.ert_defs.specs.Legal.{Can, Legal}
 use Rattle.ert_defs.specs.Milliseconds.{up, deadline_at, deadline_when, deadline_of}
 use Rattle.ert_defs.specs.States.{State, uses_at, opening, next, state}
 use Rattle.ert_defs.specs.Timers.{Row, Uses, deadline_told, row_from, rows_after, row_of}
-use Rattle.ert_defs.proofs.FiredTimers.{row_named}
+use Rattle.ert_defs.proofs.ExpiredTimers.{row_named}
 use Rattle.ert_defs.proofs.Rows.{IsRow, rows_hold}
 use Rattle.ert_defs.proofs.Runs.{kept_from}
 use Rattle.ert_defs.proofs.Slots.{IsOrdered, ordered}

@@ -4,8 +4,8 @@ use Rattle.std.proofs.Common.{◌≡◌, ◌≢◌, ◌⊎◌, inl, inr, ⊎_eli
 use Rattle.ert_defs.specs.States.{State, uses_at}
 use Rattle.ert_defs.specs.Timers.{Row, row_of, is_taken, timer_at}
 use Rattle.ert_defs.specs.Words.{timer_word, slot_word, word_of_slot}
-use Rattle.ert_defs.proofs.FiredLists.{taken_last}
-use Rattle.ert_defs.proofs.FiredTimers.{row_named}
+use Rattle.ert_defs.proofs.ExpiredLists.{taken_last}
+use Rattle.ert_defs.proofs.ExpiredTimers.{row_named}
 use Rattle.ert_defs.specs.declared.timer.Status.{Status}
 use Rattle.ert_defs.specs.declared.timer.Status.TheVariants.{Armed}
 use Rattle.ert_defs.specs.declared.timer.TimerRef.{TimerRef}

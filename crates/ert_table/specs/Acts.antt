@@ -17,7 +17,7 @@ use Rattle.ert_table.specs.Views.{HasMet}
 use Rattle.ert_table.specs.declared.view.View.{View}
 
 -- the history at a pass's step: the pass fits it, and its state gives the word that was found
-pub record IsAtStep (g : Settings) (v : View) (i n : ℕ) (h : List Entry) : Type 0 where
+pub record IsHistoryAtStep (g : Settings) (v : View) (i n : ℕ) (h : List Entry) : Type 0 where
   pub legal : Legal g h
   pub later : List Entry
   pub begins : h ≡ v.front ++ later
@@ -29,9 +29,9 @@ pub record Acts (g : Settings) (v : View) (i : ℕ) (f : ℕ → ℕ) (entry : �
   pub ours : (n : ℕ) → IsOurs v.actors (entry n).by (entry n).with
   pub keeps : (n : ℕ) → Keeps g (entry n).by (entry n).with (entry n).event
   pub known : (n : ℕ) → Known g (state g v.front) (entry n).by (entry n).with (entry n).event
-  pub found : (h : List Entry) (n : ℕ) → IsAtStep g v i n h → Found g (state g h) (entry n).by (entry n).event
-  pub here : (h : List Entry) (n : ℕ) → IsAtStep g v i n h → word_of g (next g (state g h) (entry n)) i ≡ f n
-  pub others : (h : List Entry) (n j : ℕ) → IsAtStep g v i n h → j < word_count g → j ≢ i
+  pub found : (h : List Entry) (n : ℕ) → IsHistoryAtStep g v i n h → Found g (state g h) (entry n).by (entry n).event
+  pub here : (h : List Entry) (n : ℕ) → IsHistoryAtStep g v i n h → word_of g (next g (state g h) (entry n)) i ≡ f n
+  pub others : (h : List Entry) (n j : ℕ) → IsHistoryAtStep g v i n h → j < word_count g → j ≢ i
       → word_of g (next g (state g h) (entry n)) j ≡ word_of g (state g h) j
 
 -- a pass as its seat has it

@@ -68,16 +68,16 @@ status_to ToDeliver = Delivered
 status_to ToDrop = Dropped
 
 -- with whom a message is delivered: the mailbox of its destination
-abbrev pub mailbox_of : Option Row → Option Actor
-mailbox_of None = None
-mailbox_of (Some row) = Some (MailOf row.dest)
+abbrev pub mailbox_actor : Option Row → Option Actor
+mailbox_actor None = None
+mailbox_actor (Some row) = Some (MailOf row.dest)
 
 -- what is recorded where a timer is settled or handed over by one that knows this state
 abbrev pub hit_entry : Settings → State → Actor → TimerRef → ℕ → Settle → Entry
 hit_entry g s by timer deadline ToCancel = entry_by by None (Cancel timer (Some (left g deadline (s.looked by))))
 hit_entry g s by timer deadline ToExpire = entry_by by (Some (Wheel timer.wheel)) (Expire timer)
 hit_entry g s by timer deadline ToOrphan = entry_by by (Some (Wheel timer.wheel)) (Orphan timer)
-hit_entry g s by timer deadline ToDeliver = entry_by by (mailbox_of (row_of (s.rows timer.wheel) timer)) (Deliver timer)
+hit_entry g s by timer deadline ToDeliver = entry_by by (mailbox_actor (row_of (s.rows timer.wheel) timer)) (Deliver timer)
 hit_entry g s by timer deadline ToDrop = entry_by by None (Drop timer)
 
 -- a timer wasn't armed when it was to be settled, and the last timer of its slot was looked at. That one

@@ -21,7 +21,7 @@ use Rattle.ert_timers.proofs.Forgotten.{stands_dropped}
 use Rattle.ert_timers.proofs.Passing.{loses_none}
 use Rattle.ert_timers.proofs.Standing.{clock_at, takes_none}
 use Rattle.ert_timers.proofs.Starts.{ahead_stands, now_is}
-use Rattle.ert_timers.specs.Changes.{CanTakeTimer, dropped, has_uses, kept, slot_for}
+use Rattle.ert_timers.specs.Changes.{MayBecomeFree, dropped, has_uses, kept, slot_for}
 use Rattle.ert_timers.specs.Freeing.{IsHeld, IsLast}
 use Rattle.ert_timers.specs.Looking.{LooksAhead, now_in}
 use Rattle.ert_timers.specs.Parts.{HoldsCaller, Part, PartStands, last_timer, slot_at}
@@ -50,7 +50,7 @@ kept_again p k start next =
     } in q) (sym (set_twice p.keys k None (Some (record { deadline = next.deadline; order = p.arms }))))
 
 -- without its row the slot is free
-pub free_again : (p : Part) (k : ℕ) → CanRenew p k → CanTakeTimer (dropped p k) k
+pub free_again : (p : Part) (k : ℕ) → CanRenew p k → MayBecomeFree (dropped p k) k
 free_again p k can =
     let has = some_key (key_in p.keys k) can.held in
     record { low = can.low; vacant = get_or-set_same p.keys k None None (key_low p.keys k has.0 has.1); away = can.away }
@@ -73,7 +73,7 @@ untaken g h p timer stands last can settled =
     (live_unexpired ((state g h).status (last_timer p.number p.slots k)) (stands.holds.rows.live k has.0 has.1))
 
 -- so a start finds it, with no look at slots
-takes_again : (g : Settings) (u : View) (by now : ℕ) (p : Part) (k : ℕ) → PartStands g u.front p → CanTakeTimer p k → has_uses (slot_at p.slots k) ≡ true
+takes_again : (g : Settings) (u : View) (by now : ℕ) (p : Part) (k : ℕ) → PartStands g u.front p → MayBecomeFree p k → has_uses (slot_at p.slots k) ≡ true
     → is_taken ((state g u.front).status (last_timer p.number p.slots k)) ≡ false → now ≡ clock_at g (state g u.front)
     → TakesSlot g u by now p p (Some k) u
 takes_again g u by now p k stands free has none is =

@@ -11,7 +11,7 @@ use Rattle.ert_defs.specs.Legal.{Legal}
 use Rattle.ert_defs.specs.Milliseconds.{deadline_of}
 use Rattle.ert_defs.specs.States.{State, uses_at, next, state}
 use Rattle.ert_defs.specs.Timers.{Row, Uses, above_with, deadline_told, row_from, is_taken, same_timer, timer_at}
-use Rattle.ert_defs.proofs.FiredTimers.{same_timer_self, same_timer-false}
+use Rattle.ert_defs.proofs.ExpiredTimers.{same_timer_self, same_timer-false}
 use Rattle.ert_defs.proofs.Runs.{look_stays, state-append}
 use Rattle.ert_defs.specs.declared.entry.Actor.TheVariants.{Wheel, Caller}
 use Rattle.ert_defs.specs.declared.entry.Entry.{Entry}
@@ -22,7 +22,7 @@ use Rattle.ert_defs.specs.declared.timer.TimerRef.{TimerRef}
 use Rattle.ert_table.specs.Takes.{Appends, MayStep}
 use Rattle.ert_table.specs.declared.view.View.{View}
 use Rattle.ert_table.proofs.Parts.{stepped}
-use Rattle.ert_timers.specs.Changes.{CanTakeTimer, kept, slot_for}
+use Rattle.ert_timers.specs.Changes.{MayBecomeFree, kept, slot_for}
 use Rattle.ert_laws.specs.Counts.{is_arm, is_expire, is_orphan}
 use Rattle.ert_timers.specs.Parts.{HoldsCaller, IsLive, Part, HoldsRows, PartStands, slot_at, last_timer, held_row, unused}
 use Rattle.ert_timers.specs.Starting.{Arms, HoldsTimer, IsUseFor}
@@ -178,7 +178,7 @@ gains_armed p k coming start timer named wide j seen is =
 
 -- the part stands with the new timer
 pub arms : (g : Settings) (v : View) (by : ℕ) (p q : Part) (k : ℕ) (coming : Use) (start : Start) (timer : TimerRef) (u : View) → PartStands g v.front p
-    → HoldsCaller g v by p.number → CanTakeTimer p k → IsUseFor g (state g v.front) by p.number k start coming
+    → HoldsCaller g v by p.number → MayBecomeFree p k → IsUseFor g (state g v.front) by p.number k start coming
     → q ≡ kept p k start coming → timer ≡ last_timer q.number q.slots k → Appends g v (arm_entry by timer start) u
     → Arms g v by p q k coming start timer u
 arms g v by p q k coming start timer u stands holds free can part timer_is step =
@@ -300,7 +300,7 @@ arms g v by p q k coming start timer u stands holds free can part timer_is step 
 
 -- a timer may be armed there
 pub may_arm : (g : Settings) (v : View) (by : ℕ) (p q : Part) (k : ℕ) (coming : Use) (start : Start) (timer : TimerRef) → PartStands g v.front p
-    → HoldsCaller g v by p.number → CanTakeTimer p k → is_taken ((state g v.front).status (last_timer p.number p.slots k)) ≡ false
+    → HoldsCaller g v by p.number → MayBecomeFree p k → is_taken ((state g v.front).status (last_timer p.number p.slots k)) ≡ false
     → start.dest < g.processes → IsUseFor g (state g v.front) by p.number k start coming → p.arms < 9007199254740992
     → q ≡ kept p k start coming → timer ≡ last_timer q.number q.slots k → MayStep g v (arm_entry by timer start)
 may_arm g v by p q k coming start timer stands holds free usable dest can few part timer_is =

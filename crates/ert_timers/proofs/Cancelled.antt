@@ -7,7 +7,7 @@ use Rattle.ert_defs.specs.Legal.{Can, Legal, left_by, left_of, names_timer}
 use Rattle.ert_defs.specs.Milliseconds.{left}
 use Rattle.ert_defs.specs.States.{State, next, opening, run, state}
 use Rattle.ert_defs.specs.Timers.{Row, row_of, same_timer, settled_as}
-use Rattle.ert_defs.proofs.FiredTimers.{same_timer_self}
+use Rattle.ert_defs.proofs.ExpiredTimers.{same_timer_self}
 use Rattle.ert_defs.proofs.Runs.{legal_then, state-append}
 use Rattle.ert_defs.proofs.Slots.{same_timer-true}
 use Rattle.ert_defs.specs.declared.entry.Actor.{Actor}

@@ -23,7 +23,7 @@ use Rattle.ert_timers.specs.Changes.{let_go}
 use Rattle.ert_timers.specs.Expiring.{AreDue, IsReady, timer_of}
 use Rattle.ert_timers.specs.Parts.{Part, PartStands, last_timer}
 use Rattle.ert_wheel.specs.FirstDue.{NoRowDue, IsFirstRowDue, MayBeDue}
-use Rattle.ert_wheel.specs.Rows.{key_in, key_of, times, times_due, comes_before, row_at}
+use Rattle.ert_wheel.specs.Rows.{key_in, key_of, times, due_count, comes_before, row_at}
 use Rattle.ert_wheel.specs.declared.row.Key.{Key}
 use Rattle.ert_wheel.specs.declared.row.Row.{Row as WheelRow}
 use Rattle.ert_wheel.proofs.Collect.{key_low}
@@ -80,30 +80,30 @@ slot_in k (r ∷ rows) once P all =
           slot_in k rows (omega (arith, once, times-cons r rows k)) P (All-tail P r rows all)
     ]
 
-due_some : (to : ℕ) (o : Option Key) (key : Key) → o ≡ Some key → key.deadline ≤ to → times_due to o ≡ 1
+due_some : (to : ℕ) (o : Option Key) (key : Key) → o ≡ Some key → key.deadline ≤ to → due_count to o ≡ 1
 due_some to o key is low =
-    ap (times_due to) is ∙ ap (λ b. cond b 1 0) (le-leb key.deadline to low)
+    ap (due_count to) is ∙ ap (λ b. cond b 1 0) (le-leb key.deadline to low)
 
-some_due : (to : ℕ) (o : Option Key) (key : Key) → o ≡ Some key → 1 ≤ times_due to o → key.deadline ≤ to
+some_due : (to : ℕ) (o : Option Key) (key : Key) → o ≡ Some key → 1 ≤ due_count to o → key.deadline ≤ to
 some_due to o key is due = at (nat_le key.deadline to) refl
   where
     at : (b : Bool) → nat_le key.deadline to ≡ b → key.deadline ≤ to
     at true le = leb-true key.deadline to le
     at false le =
-        let none : ◌≡◌ {A = ℕ} (times_due to o) 0 = ap (times_due to) is ∙ ap (λ b. cond b 1 0) le in
+        let none : ◌≡◌ {A = ℕ} (due_count to o) 0 = ap (due_count to) is ∙ ap (λ b. cond b 1 0) le in
         absurd (omega (arith, due, none))
 
-due_none : (to : ℕ) (o : Option Key) → times_due to o ≡ 0 → IfSome o (λ key. to < key.deadline)
+due_none : (to : ℕ) (o : Option Key) → due_count to o ≡ 0 → IfSome o (λ key. to < key.deadline)
 due_none to None is = tt
 due_none to (Some key) is =
     elim (cases_lt to key.deadline) [
       | inl low ↦ low
       | inr high ↦
-          let one : ◌≡◌ {A = ℕ} (times_due to (Some key)) 1 = due_some to (Some key) key refl high in
+          let one : ◌≡◌ {A = ℕ} (due_count to (Some key)) 1 = due_some to (Some key) key refl high in
           absurd (omega (arith, one, is))
     ]
 
-due_most : (to : ℕ) (o : Option Key) → times_due to o ≤ 1
+due_most : (to : ℕ) (o : Option Key) → due_count to o ≤ 1
 due_most to None = omega arith
 due_most to (Some key) = at (nat_le key.deadline to)
   where
@@ -167,7 +167,7 @@ module _ (g : Settings) (h : List Entry) (p : Part) (to : ℕ) (r : WheelRow) (r
   none_before n row at armed before low other =
       let key : Key = record { deadline = row.deadline; order = n } in
       let held : key_in p.keys row.timer.slot ≡ Some key = ready.stands.holds.rows.armed n row at armed in
-      let due : times_due to (key_in p.keys row.timer.slot) ≡ 1 = due_some to (key_in p.keys row.timer.slot) key held (omega (arith, low, first_due)) in
+      let due : due_count to (key_in p.keys row.timer.slot) ≡ 1 = due_some to (key_in p.keys row.timer.slot) key held (omega (arith, low, first_due)) in
       let apart : r.slot ≢ row.timer.slot =
       λ same. (let e : Some (key_of r) ≡ Some key = sym first_held ∙ (ap (key_in p.keys) same ∙ held) in
       other (sym (ap (λ (k : Key). k.order) (some_same (key_of r) key e)))) in
@@ -204,12 +204,12 @@ module _ (g : Settings) (h : List Entry) (p : Part) (to : ℕ) (r : WheelRow) (r
     each = λ k.
         elim (cases_eq k r.slot) [
           | inl same ↦ ap (λ n. times n rest) same ∙ (first_once
-              ∙ sym (ap (times_due to) (ap (key_in (set p.keys r.slot None)) same ∙ get_or-set_same p.keys r.slot None None low)))
+              ∙ sym (ap (due_count to) (ap (key_in (set p.keys r.slot None)) same ∙ get_or-set_same p.keys r.slot None None low)))
           | inr other ↦
               let apart : r.slot ≢ k = λ e. other (sym e) in
               let none : ◌≡◌ {A = ℕ} (cond (nat_eq r.slot k) 1 0) 0 = ap (λ b. cond b 1 0) (ne_eqb r.slot k apart) in
-              let before : times k rest ≡ times_due to (key_in p.keys k) = omega (arith, ready.due.each k, times-cons r rest k, none) in
-              before ∙ ap (times_due to) (sym (get_or-set_other p.keys r.slot k None None other))
+              let before : times k rest ≡ due_count to (key_in p.keys k) = omega (arith, ready.due.each k, times-cons r rest k, none) in
+              before ∙ ap (due_count to) (sym (get_or-set_other p.keys r.slot k None None other))
         ];
     held = stay rest first_once (All-tail (λ row. key_in p.keys row.slot ≡ Some (key_of row)) r rest ready.due.held);
     in_order = pairs_tail (λ x y. comes_before y x ≡ false) r rest ready.due.in_order;
@@ -257,7 +257,7 @@ pub none_due : (g : Settings) (h : List Entry) (p : Part) (to : ℕ) → IsReady
 none_due g h p to ready =
     settled_by (state g h).status (λ d. nat_le d to) ((state g h).rows p.number) (λ n row at test armed.
     let held = ready.stands.holds.rows.armed n row at armed in
-    let one : ◌≡◌ {A = ℕ} (times_due to (key_in p.keys row.timer.slot)) 1 =
+    let one : ◌≡◌ {A = ℕ} (due_count to (key_in p.keys row.timer.slot)) 1 =
     due_some to (key_in p.keys row.timer.slot) (record { deadline = row.deadline; order = n }) held (leb-true row.deadline to test) in
     omega (arith, one, ready.due.each row.timer.slot))
 
@@ -265,7 +265,7 @@ pub none_left : (p : Part) (to : ℕ) → AreDue p to [] → (k : ℕ) → IfSom
 none_left p to due k = due_none to (key_in p.keys k) (sym (due.each k))
 
 -- where no row is due there is none to try
-not_due : (to : ℕ) (o : Option Key) → ((key : Key) → o ≡ Some key → to < key.deadline) → times_due to o ≡ 0
+not_due : (to : ℕ) (o : Option Key) → ((key : Key) → o ≡ Some key → to < key.deadline) → due_count to o ≡ 0
 not_due to None none = refl
 not_due to (Some key) none =
     elim (leb_tells key.deadline to) [

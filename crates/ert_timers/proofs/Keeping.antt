@@ -7,7 +7,7 @@ use Rattle.std.specs.Bool.{OnTrue}
 use Rattle.std.specs.FinSet as sets
 use Rattle.std.specs.Ordering.{nat_cmp}
 use Rattle.ert_defs.specs.declared.timer.Start.{Start}
-use Rattle.ert_timers.specs.Changes.{CanTakeTimer, LostRow, NextOf, picked, slot_for, kept}
+use Rattle.ert_timers.specs.Changes.{MayBecomeFree, LostRow, NextOf, picked, slot_for, kept}
 use Rattle.ert_timers.specs.Owners.{Joins, Thinned, FindsRow}
 use Rattle.ert_timers.specs.Parts.{AreFieldsFit, AreOwned, Part, slot_at, unused}
 use Rattle.ert_timers.specs.Slots.{Slot}
@@ -106,7 +106,7 @@ owned_kept slots keys owners new a k slot key are low wide joins =
 
 -- a timer is put in
 pub fit_kept : (p : Part) (free : FreeSet) (owners new : Rings) (k : ℕ) (start : Start) (next : Use)
-    (fit : AreFieldsFit p.processes p.slots p.keys free owners p.arms p.expires p.orphans) → free.held ≡ p.free → CanTakeTimer p k
+    (fit : AreFieldsFit p.processes p.slots p.keys free owners p.arms p.expires p.orphans) → free.held ≡ p.free → MayBecomeFree p k
     → p.arms < 9007199254740992 → start.dest < p.processes → new.slots ≡ owners.slots → new.homes ≡ owners.homes
     → Joins new fit.chained.places k start.dest p.arms
     → let q = kept p k start next in AreFieldsFit q.processes q.slots q.keys free new q.arms q.expires q.orphans
@@ -192,7 +192,7 @@ next_found p free owners new process (Some row) fit finds =
 
 -- what a slot that was held free can be used for
 pub picked_free : (p : Part) (free : FreeSet) (owners : Rings) (k : ℕ) → AreFieldsFit p.processes p.slots p.keys free owners p.arms p.expires p.orphans
-    → free.held ≡ p.free → sets.contains free.held k ≡ true → CanTakeTimer (picked p k) k
+    → free.held ≡ p.free → sets.contains free.held k ≡ true → MayBecomeFree (picked p k) k
 picked_free p free owners k fit same held = record {
   low = fit.below k held;
   vacant = fit.vacant k held;
@@ -225,11 +225,11 @@ if_some (Some k) P some = tt
 
 pub pick_usable : (p : Part) (free new : FreeSet) (owners : Rings) (o : Option ℕ) → AreFieldsFit p.processes p.slots p.keys free owners p.arms p.expires p.orphans
     → free.held ≡ p.free → IfSome o (λ k. sets.contains free.held k ≡ true)
-    → IfSome o (λ k. new ≡ record free { held = sets.remove free.held k }) → IfSome o (CanTakeTimer (record p { free = new.held }))
+    → IfSome o (λ k. new ≡ record free { held = sets.remove free.held k }) → IfSome o (MayBecomeFree (record p { free = new.held }))
 pick_usable p free new owners None fit same held taken = tt
 pick_usable p free new owners (Some k) fit same held taken =
     let e : sets.remove p.free k ≡ new.held = ap (λ s. sets.remove s k) (sym same) ∙ ap (λ (f : FreeSet). f.held) (sym taken) in
-    subst (λ (s : sets.FinSet nat_cmp). CanTakeTimer (record p { free = s }) k) e (picked_free p free owners k fit same held)
+    subst (λ (s : sets.FinSet nat_cmp). MayBecomeFree (record p { free = s }) k) e (picked_free p free owners k fit same held)
 
 pub byte_low : (b : Bool) (n : ℕ) → n ≡ bool_byte b → n ≤ 1
 byte_low true n is = omega (arith, is)

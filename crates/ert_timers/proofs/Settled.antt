@@ -6,12 +6,12 @@ use Rattle.std.specs.FinSet as set
 use Rattle.ert_defs.specs.Actors.{has_actor, IsFree}
 use Rattle.ert_defs.specs.Entries.{is_ours, cancel_entry}
 use Rattle.ert_defs.specs.Legal.{Can, Legal, LegalFrom, left_by}
-use Rattle.ert_defs.specs.Laws.{IsFired}
+use Rattle.ert_defs.specs.Laws.{IsExpired}
 use Rattle.ert_defs.specs.Mails.{first_of}
 use Rattle.ert_defs.specs.States.{State, opening, next, run, state}
 use Rattle.ert_defs.specs.Timers.{Row, handed_as, is_taken, status_after, timer_at}
-use Rattle.ert_defs.proofs.FiredLists.{first_at, fired_timers}
-use Rattle.ert_defs.proofs.FiredTimers.{hands, row_named, same_timer_self}
+use Rattle.ert_defs.proofs.ExpiredLists.{first_at, expired_timers}
+use Rattle.ert_defs.proofs.ExpiredTimers.{hands, row_named, same_timer_self}
 use Rattle.ert_defs.proofs.Runs.{free_first, free_rest, legal_then, state-append}
 use Rattle.ert_defs.proofs.Slots.{ordered}
 use Rattle.ert_defs.proofs.Standing.{all_stand, of_row}
@@ -147,45 +147,45 @@ hit_last g v es u p timer stands wheel takes free has =
     (ap is_taken (hit_armed g v.actors timer (state g v.front) takes.later legal free (subst (HasOne (IsHit timer)) (sym takes.ours) has)))
 
 -- the first expired timer of a scheduler was let go
-pub fired_let_go : (g : Settings) (h : List Entry) (p : Part) (fired : Row) → PartStands g h p
-    → first_of ((state g h).scheds p.number).fired ≡ Some fired → IsLetGo p fired.timer
-fired_let_go g h p fired stands first =
+pub expired_let_go : (g : Settings) (h : List Entry) (p : Part) (waiting : Row) → PartStands g h p
+    → first_of ((state g h).scheds p.number).expired ≡ Some waiting → IsLetGo p waiting.timer
+expired_let_go g h p waiting stands first =
     let s : State = state g h in
-    let is : IsFired s p.number fired = first_at (IsFired s p.number) (s.scheds p.number).fired fired first (fired_timers g h p.number stands.legal).each in
-    let last : IsLast p fired.timer = taken_last g h p fired.timer stands is.wheel (ap is_taken is.expired) in
-    let expired : s.status (last_timer p.number p.slots fired.timer.slot) ≡ Some Expired = ap s.status (sym last.named) ∙ is.expired in
+    let is : IsExpired s p.number waiting = first_at (IsExpired s p.number) (s.scheds p.number).expired waiting first (expired_timers g h p.number stands.legal).each in
+    let last : IsLast p waiting.timer = taken_last g h p waiting.timer stands is.wheel (ap is_taken is.expired) in
+    let expired : s.status (last_timer p.number p.slots waiting.timer.slot) ≡ Some Expired = ap s.status (sym last.named) ∙ is.expired in
     record {
       low = last.low;
       named = last.named;
-      vacant = vacant (key_in p.keys fired.timer.slot) refl expired;
-      away = away (set.contains p.free fired.timer.slot) refl expired;
+      vacant = vacant (key_in p.keys waiting.timer.slot) refl expired;
+      away = away (set.contains p.free waiting.timer.slot) refl expired;
     }
   where
-    vacant : (o : Option Key) → key_in p.keys fired.timer.slot ≡ o → (state g h).status (last_timer p.number p.slots fired.timer.slot) ≡ Some Expired
-        → key_in p.keys fired.timer.slot ≡ None
+    vacant : (o : Option Key) → key_in p.keys waiting.timer.slot ≡ o → (state g h).status (last_timer p.number p.slots waiting.timer.slot) ≡ Some Expired
+        → key_in p.keys waiting.timer.slot ≡ None
     vacant None is expired = is
-    vacant (Some key) is expired = absurd (live_unexpired ((state g h).status (last_timer p.number p.slots fired.timer.slot)) (stands.holds.rows.live fired.timer.slot key is) expired)
+    vacant (Some key) is expired = absurd (live_unexpired ((state g h).status (last_timer p.number p.slots waiting.timer.slot)) (stands.holds.rows.live waiting.timer.slot key is) expired)
 
-    away : (b : Bool) → set.contains p.free fired.timer.slot ≡ b
-        → (state g h).status (last_timer p.number p.slots fired.timer.slot) ≡ Some Expired → set.contains p.free fired.timer.slot ≡ false
+    away : (b : Bool) → set.contains p.free waiting.timer.slot ≡ b
+        → (state g h).status (last_timer p.number p.slots waiting.timer.slot) ≡ Some Expired → set.contains p.free waiting.timer.slot ≡ false
     away false is expired = is
     away true is expired =
-        let no : true ≡ false = ap is_taken (sym expired) ∙ stands.holds.free fired.timer.slot is in
+        let no : true ≡ false = ap is_taken (sym expired) ∙ stands.holds.free waiting.timer.slot is in
         absurd cc
 
 -- and after its message was handed over it takes its slot no more
-pub handed_free : (g : Settings) (v u : View) (w : ℕ) (fired : Row) (how : Handed) → Legal g v.front
-    → first_of ((state g v.front).scheds w).fired ≡ Some fired → (made : IsMade g v (HandsOver g w fired (Ok how)) u)
-    → IsFree made.call.later (Wheel w) → is_taken ((state g u.front).status fired.timer) ≡ false
-handed_free g v u w fired how legal first made free =
+pub handed_free : (g : Settings) (v u : View) (w : ℕ) (waiting : Row) (how : Handed) → Legal g v.front
+    → first_of ((state g v.front).scheds w).expired ≡ Some waiting → (made : IsMade g v (HandsOver g w waiting (Ok how)) u)
+    → IsFree made.call.later (Wheel w) → is_taken ((state g u.front).status waiting.timer) ≡ false
+handed_free g v u w waiting how legal first made free =
     let s : State = state g v.front in
-    let r : TimerRef = fired.timer in
-    let is : IsFired s w fired = first_at (IsFired s w) (s.scheds w).fired fired first (fired_timers g v.front w legal).each in
+    let r : TimerRef = waiting.timer in
+    let is : IsExpired s w waiting = first_at (IsExpired s w) (s.scheds w).expired waiting first (expired_timers g v.front w legal).each in
     subst (λ (t : State). is_taken (t.status r) ≡ false) (sym (ap (state g) made.call.grown ∙ state-append g v.front made.call.later))
     (hands_taken g v.actors r s made.call.later (subst (λ n. IsFree made.call.later (Wheel n)) (sym is.wheel) free)
     (λ armed. let no : Some Armed ≡ Some Expired = sym armed ∙ is.expired in cc)
     (subst (HasOne (λ e. hands e.event r ≡ true)) (sym (made.call.ours ∙ made.allowed)) (at how)))
   where
-    at : (how : Handed) → HasOne (λ e. hands e.event fired.timer ≡ true) (handed_entries w fired how)
-    at Put = inr (inl (same_timer_self fired.timer))
-    at Thrown = inr (inl (same_timer_self fired.timer))
+    at : (how : Handed) → HasOne (λ e. hands e.event waiting.timer ≡ true) (handed_entries w waiting how)
+    at Put = inr (inl (same_timer_self waiting.timer))
+    at Thrown = inr (inl (same_timer_self waiting.timer))

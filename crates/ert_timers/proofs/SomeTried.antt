@@ -21,7 +21,7 @@ use Rattle.ert_timers.proofs.Trials.{looked_stands}
 use Rattle.ert_timers.proofs.Passing.{holds_less}
 use Rattle.ert_timers.proofs.Trying.{loses_come_to, stands_come_to, tries_come_to}
 use Rattle.ert_timers.specs.Changes.{gone_on}
-use Rattle.ert_timers.specs.FiredLists.{Queue}
+use Rattle.ert_timers.specs.ExpiredLists.{Queue}
 use Rattle.ert_timers.specs.Looking.{LooksDown}
 use Rattle.ert_timers.specs.Parts.{HoldsSched, Part, PartStands}
 use Rattle.ert_timers.specs.Passed.{HoldsNone}
@@ -95,7 +95,7 @@ module _ (g : Settings) (v : View) (p q : Part) (k most to : ℕ) (old mid new :
       allowed = record {
         now = looked.now;
         tries = some.done.tries;
-        fired = some.done.count;
+        expired = some.done.count;
         settled = some.done.settled;
         due = subst (λ (l : _). AllDue l to some.done.tries) same_rows some.done.due;
         once = some.done.once;
@@ -107,7 +107,7 @@ module _ (g : Settings) (v : View) (p q : Part) (k most to : ℕ) (old mid new :
     };
     held = some.done.held;
     none = some.done.none;
-    fired = some.done.fired ∙ ap (λ l. l ++ some.done.gained) rows;
+    expired = some.done.expired ∙ ap (λ l. l ++ some.done.gained) rows;
     waits = some.done.waits ∙ ap (λ l. l ++ some.done.gained) (waits_by g v look u p.number looked.step holds.sched has);
   }
 
@@ -121,7 +121,7 @@ module _ (g : Settings) (v : View) (p q : Part) (k most to : ℕ) (old mid new :
       allowed = record {
         now = looked.now;
         tries = some.done.tries;
-        fired = some.done.count;
+        expired = some.done.count;
         settled = some.done.settled;
         due = subst (λ (l : _). AllDue l to some.done.tries) same_rows some.done.due;
         once = some.done.once;
@@ -135,7 +135,7 @@ module _ (g : Settings) (v : View) (p q : Part) (k most to : ℕ) (old mid new :
     held = some.done.held;
     none = subst (λ (y : Part). HoldsNone y some.done.tries) (sym on)
         (holds_less q (gone_on q to) some.done.tries (loses_come_to q (gone_on q to).passed (omega arith)) some.done.none);
-    fired = some.done.fired ∙ ap (λ l. l ++ some.done.gained) rows;
+    expired = some.done.expired ∙ ap (λ l. l ++ some.done.gained) rows;
     waits = waits_by g w (advanced_entry p.number to) x p.number step
         (subst (λ actors. is_held actors (Sched p.number) ≡ true) (sym (some.done.call.actors ∙ looked.step.actors)) holds.sched) has
         ∙ (some.done.waits ∙ ap (λ l. l ++ some.done.gained) (waits_by g v look u p.number looked.step holds.sched has));

@@ -6,7 +6,7 @@ use Rattle.ert_defs.specs.States.{uses_at, state}
 use Rattle.ert_defs.specs.Timers.{turned, is_taken}
 use Rattle.ert_defs.specs.declared.settings.Settings.{Settings}
 use Rattle.ert_table.specs.declared.view.View.{View}
-use Rattle.ert_timers.specs.Changes.{CanTakeTimer, picked}
+use Rattle.ert_timers.specs.Changes.{MayBecomeFree, picked}
 use Rattle.ert_laws.proofs.Since.{rounds_begun}
 use Rattle.ert_timers.specs.Parts.{Part, PartStands, slot_at, last_timer}
 use Rattle.ert_timers.specs.Starting.{FindsRound, LooksAround, TakesSlot}
@@ -28,7 +28,7 @@ loses_picked p k = record { number = refl; slots = refl; left = λ j key is. is;
 
 -- a slot was held free
 pub takes_first : (g : Settings) (v : View) (by now : ℕ) (p q : Part) (k : ℕ) → PartStands g v.front p → now ≡ clock_at g (state g v.front)
-    → q ≡ picked p k → CanTakeTimer q k → sets.contains p.free k ≡ true → TakesSlot g v by now p q (Some k) v
+    → q ≡ picked p k → MayBecomeFree q k → sets.contains p.free k ≡ true → TakesSlot g v by now p q (Some k) v
 takes_first g v by now p q k stands told is free held = record {
   probes = [];
   are_probes = tt;
@@ -61,7 +61,7 @@ rested_then g v by now p q k u stands told some low held =
 pub takes_then : (g : Settings) (v : View) (by now : ℕ) (p p' q r : Part) (slot : Option ℕ) (u : View) → PartStands g v.front p
     → now ≡ clock_at g (state g v.front) → p' ≡ p → LooksAround g v by now p' q u
     → IfNone slot ((k : ℕ) → sets.contains q.free k ≡ false) → IfNone slot (r ≡ q)
-    → IfSome slot (λ k. sets.contains q.free k ≡ true) → IfSome slot (λ k. r ≡ picked q k) → IfSome slot (CanTakeTimer r)
+    → IfSome slot (λ k. sets.contains q.free k ≡ true) → IfSome slot (λ k. r ≡ picked q k) → IfSome slot (MayBecomeFree r)
     → TakesSlot g v by now p r slot u
 takes_then g v by now p p' q r None u stands told same some none left held is free =
     let here = subst (λ (x : Part). LooksAround g v by now x q u) same some in

@@ -20,7 +20,7 @@ use Rattle.ert_table.specs.declared.view.View.{View}
 use Rattle.ert_table.proofs.Calls.{step_takes_place, takes_place_then}
 use Rattle.ert_timers.specs.Changes.{gone_on}
 use Rattle.ert_timers.specs.Expiring.{Expires, ExpiresSome, HasExpired, HasNotExpired, HasTried, HasNotTried, IsTried, IsReady, AreDue}
-use Rattle.ert_timers.specs.FiredLists.{Queue}
+use Rattle.ert_timers.specs.ExpiredLists.{Queue}
 use Rattle.ert_timers.specs.Looking.{LooksDown}
 use Rattle.ert_timers.specs.Parts.{HoldsSched, Part, PartStands}
 use Rattle.ert_timers.specs.Passed.{LosesRows}
@@ -30,7 +30,7 @@ use Rattle.ert_timers.proofs.Dues.{due_left, first_due, first_held, no_row, none
 use Rattle.ert_timers.proofs.Standing.{stands_step}
 use Rattle.ert_timers.proofs.Tried.{self, waits_by}
 use Rattle.ert_timers.proofs.Trying.{tries_none, tries_more, looked_more, stands_come_to, tries_come_to}
-use Rattle.ert_wheel.specs.Rows.{key_in, key_of, times, times_due, comes_before}
+use Rattle.ert_wheel.specs.Rows.{key_in, key_of, times, due_count, comes_before}
 use Rattle.ert_wheel.specs.declared.row.Row.{Row as WheelRow}
 
 -- nothing was tried yet
@@ -133,7 +133,7 @@ has_tried g v p p' q q' k to due n old old' new u w number first last rows down 
       number = ap (λ (x : Part). x.number) last ∙ some.done.number;
       ready = subst (λ (x : Part). IsReady g w.front x to []) (sym last) (subst (IsReady g w.front q to) (no_row due n high) some.ready);
       count = some.done.count;
-      fired = some.done.fired ∙ ap (λ l. l ++ some.done.gained) rows;
+      expired = some.done.expired ∙ ap (λ l. l ++ some.done.gained) rows;
       waits = some.done.waits ∙ ap (λ l. l ++ some.done.gained) (waits_by g v look u p.number looks.step holds.sched has);
     }
 
@@ -160,7 +160,7 @@ has_expired g v p q k to old new u x number tried step holds =
         allowed = record {
           now = tried.now;
           tries = tried.tries;
-          fired = tried.count;
+          expired = tried.count;
           settled = tried.settled;
           due = tried.due;
           once = tried.once;
@@ -168,7 +168,7 @@ has_expired g v p q k to old new u x number tried step holds =
         };
         call = takes_place_then g v u x es (advanced_entry w to ∷ []) tried.call (step_takes_place g u (advanced_entry w to) x last);
       };
-      fired = tried.fired;
+      expired = tried.expired;
       waits = waits_by g u (advanced_entry w to) x w last (subst (λ actors. is_held actors (Sched w) ≡ true) (sym tried.call.actors) holds.sched) has ∙ tried.waits;
     }
 
@@ -183,7 +183,7 @@ not_expired g v w k to e old new u number looks rows =
         allowed = inr (here.now, refl);
         call = step_takes_place g v (look_entry (Sched w) here.now) u here.step;
       };
-      fired = rows;
+      expired = rows;
     }
 
 -- nothing was tried then
@@ -204,7 +204,7 @@ when_none g v p q (Ok to) old new u is f = absurd cc
 when_none g v p q (Err e) old new u is f = f e
 
 -- the due rows that the wheel tells
-pub are_due : (p : Part) (to : ℕ) (rows : List WheelRow) → ((k : ℕ) → times k rows ≡ times_due to (key_in p.keys k))
+pub are_due : (p : Part) (to : ℕ) (rows : List WheelRow) → ((k : ℕ) → times k rows ≡ due_count to (key_in p.keys k))
     → All (λ row. key_in p.keys row.slot ≡ Some (key_of row)) rows → IsSortedBy comes_before rows → AreDue p to rows
 are_due p to rows each held sorted = record {
   each = each;

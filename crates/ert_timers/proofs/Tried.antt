@@ -10,7 +10,7 @@ use Rattle.ert_defs.specs.Entries.{probe_entry, expire_entry}
 use Rattle.ert_defs.specs.Mails.{SchedState, with_row, sched_after}
 use Rattle.ert_defs.specs.States.{State, state}
 use Rattle.ert_defs.specs.Timers.{Row, row_of, same_timer}
-use Rattle.ert_defs.proofs.FiredTimers.{same_timer_self, same_timer-false}
+use Rattle.ert_defs.proofs.ExpiredTimers.{same_timer_self, same_timer-false}
 use Rattle.ert_defs.proofs.Lists.{pairs_head, pairs_tail}
 use Rattle.ert_defs.proofs.Rows.{Differ, rows_hold}
 use Rattle.ert_defs.proofs.Runs.{sched_stays, state-append}
@@ -28,14 +28,14 @@ use Rattle.ert_table.specs.declared.view.View.{View}
 use Rattle.ert_table.proofs.Parts.{stepped}
 use Rattle.ert_timers.specs.Changes.{let_go}
 use Rattle.ert_timers.specs.Expiring.{Expires, timer_of}
-use Rattle.ert_timers.specs.FiredLists.{Queue}
+use Rattle.ert_timers.specs.ExpiredLists.{Queue}
 use Rattle.ert_laws.specs.Counts.{entries_of, is_arm, is_expire, is_orphan}
 use Rattle.ert_timers.specs.Parts.{HoldsSched, Part, PartStands, last_timer, held_row}
 use Rattle.ert_timers.specs.Slots.{Slot}
 use Rattle.ert_timers.proofs.Later.{later_before, later_step, ends, live_step, count_step}
 use Rattle.ert_timers.proofs.Rows.{key_left, rows_dropped}
 use Rattle.ert_timers.proofs.Standing.{clock_stepped, holds_with, count_same}
-use Rattle.ert_timers.specs.Trying.{fired_in}
+use Rattle.ert_timers.specs.Trying.{expired_after}
 use Rattle.ert_wheel.specs.Rows.{key_in, key_of}
 use Rattle.ert_wheel.specs.declared.row.Key.{Key}
 use Rattle.ert_wheel.specs.declared.row.Row.{Row as WheelRow}
@@ -112,15 +112,15 @@ two_slots w slots k j other =
 -- what a scheduler's list becomes by its own step
 pub waits_by : (g : Settings) (v : View) (e : Entry) (u : View) (w : ℕ) (step : Appends g v e u) → is_held v.actors (Sched w) ≡ true
     → has_actor e (Sched w) ≡ true
-    → fired_in g u.front w ≡ (sched_after (state g (v.front ++ step.between)).rows ((state g v.front).scheds w) e.event).fired
+    → expired_after g u.front w ≡ (sched_after (state g (v.front ++ step.between)).rows ((state g v.front).scheds w) e.event).expired
 waits_by g v e u w step held has =
     let s : State = state g (v.front ++ step.between) in
     let same : s.scheds w ≡ (state g v.front).scheds w =
     ap (λ (t : State). t.scheds w) (state-append g v.front step.between)
     ∙ sched_stays g w (state g v.front) step.between (step.others (Sched w) held) in
-    ap (λ (t : State). (t.scheds w).fired) (stepped g v e u step)
-    ∙ (ap (λ b. (cond b (sched_after s.rows (s.scheds w) e.event) (s.scheds w)).fired) has
-    ∙ ap (λ (x : SchedState). (sched_after s.rows x e.event).fired) same)
+    ap (λ (t : State). (t.scheds w).expired) (stepped g v e u step)
+    ∙ (ap (λ b. (cond b (sched_after s.rows (s.scheds w) e.event) (s.scheds w)).expired) has
+    ∙ ap (λ (x : SchedState). (sched_after s.rows x e.event).expired) same)
 
 pub self : (n : ℕ) → nat_eq n n ≡ true
 self n = eq-eqb n n refl
@@ -136,7 +136,7 @@ pub expired : (g : Settings) (v : View) (p q : Part) (row : WheelRow) (old new :
     → (state g u.front).status (last_timer p.number p.slots row.slot) ≢ Some Armed
     → q ≡ let_go p row.slot hit → new.rows ≡ old.rows ++ cond hit (timer_of p row ∷ []) [] → old.room ≤ new.room + 1
     → Expires g v p q row old new u
-expired g v p q row old new u true stands held sched wheel settles settled part fired room =
+expired g v p q row old new u true stands held sched wheel settles settled part listed room =
     let w : ℕ = p.number in
     let timer : TimerRef = last_timer w p.slots row.slot in
     let e : Entry = expire_entry w timer in
@@ -154,12 +154,12 @@ expired g v p q row old new u true stands held sched wheel settles settled part 
           (λ j other. two_slots w p.slots row.slot j other) settled
           (ap (λ n. n + 1) counts.expires ∙ sym (count_more g v e u w is_expire step wheel (self w) refl))
           (counts.orphans ∙ sym (count_same g v e u w is_orphan step wheel refl)));
-      fired = fired;
+      expired = listed;
       waits = waits_by g v e u w step sched (ap (λ b. b || false) (self w))
-          ∙ ap (λ o. with_row (fired_in g v.front w) o) found;
+          ∙ ap (λ o. with_row (expired_after g v.front w) o) found;
       room = room;
     }
-expired g v p q row old new u false stands held sched wheel settles settled part fired room =
+expired g v p q row old new u false stands held sched wheel settles settled part listed room =
     let w : ℕ = p.number in
     let e : Entry = probe_entry (Sched w) w row.slot settles.found in
     let step : Appends g v e u = settles.step in
@@ -176,8 +176,8 @@ expired g v p q row old new u false stands held sched wheel settles settled part
           (stands_gone g v e u p row.slot (p.expires + 0) p.orphans stands (key_low p.keys row.slot (key_of row) held) step wheel refl (λ j other. refl) settled
           (same ∙ (counts.expires ∙ sym (count_same g v e u w is_expire step wheel refl)))
           (counts.orphans ∙ sym (count_same g v e u w is_orphan step wheel refl)));
-      fired = fired;
-      waits = waits_by g v e u w step sched (ap (λ b. b || false) (self w)) ∙ sym (append-nil (fired_in g v.front w));
+      expired = listed;
+      waits = waits_by g v e u w step sched (ap (λ b. b || false) (self w)) ∙ sym (append-nil (expired_after g v.front w));
       room = room;
     }
 
@@ -187,11 +187,11 @@ pub expired_from : (g : Settings) (v : View) (p q : Part) (row : WheelRow) (old 
     → HoldsSched v p.number → Settles g v (Sched n) timer.timer timer.deadline ToExpire hit u
     → (state g u.front).status timer.timer ≢ Some Armed → q ≡ let_go p row.slot hit → new.rows ≡ old.rows ++ cond b (timer ∷ []) []
     → old.room ≤ new.room + 1 → Expires g v p q row old new u
-expired_from g v p q row old new u n timer hit b number is was stands held holds settles settled part fired room =
+expired_from g v p q row old new u n timer hit b number is was stands held holds settles settled part listed room =
     expired g v p q row old new u b stands held holds.sched holds.wheel
     (subst (λ (t : Row). Settles g v (Sched p.number) t.timer t.deadline ToExpire b u) is
     (subst (λ m. Settles g v (Sched m) timer.timer timer.deadline ToExpire b u) number
     (subst (λ x. Settles g v (Sched n) timer.timer timer.deadline ToExpire x u) was settles)))
     (subst (λ (t : Row). (state g u.front).status t.timer ≢ Some Armed) is settled)
     (part ∙ ap (let_go p row.slot) was)
-    (subst (λ (t : Row). new.rows ≡ old.rows ++ cond b (t ∷ []) []) is fired) room
+    (subst (λ (t : Row). new.rows ≡ old.rows ++ cond b (t ∷ []) []) is listed) room

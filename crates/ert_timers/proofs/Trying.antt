@@ -19,11 +19,11 @@ use Rattle.ert_table.specs.Held.{is_held}
 use Rattle.ert_table.specs.Takes.{Appends, TakesPlace}
 use Rattle.ert_table.specs.declared.view.View.{View}
 use Rattle.ert_table.proofs.Calls.{step_takes_place, takes_place_then}
-use Rattle.ert_timers.specs.Expiring.{Expires, fired_as, timer_of}
-use Rattle.ert_timers.specs.FiredLists.{Queue}
+use Rattle.ert_timers.specs.Expiring.{Expires, expired_as, timer_of}
+use Rattle.ert_timers.specs.ExpiredLists.{Queue}
 use Rattle.ert_timers.specs.Parts.{Part, PartStands, last_timer}
 use Rattle.ert_timers.specs.Passed.{LosesRows}
-use Rattle.ert_timers.specs.Trying.{TriesRows, come_to, fired_in}
+use Rattle.ert_timers.specs.Trying.{TriesRows, come_to, expired_after}
 use Rattle.ert_timers.proofs.Later.{later_step}
 use Rattle.ert_timers.proofs.Passing.{due_push, held_push, holds_less, loses_none, loses_row, loses_then, none_more, once_more, was_held}
 use Rattle.ert_timers.proofs.Standing.{stands_with}
@@ -54,8 +54,8 @@ tries_none g v p to q legal = record {
   call = no_step g v legal;
   number = refl;
   count = refl;
-  fired = sym (append-nil q.rows);
-  waits = sym (append-nil (fired_in g v.front p.number));
+  expired = sym (append-nil q.rows);
+  waits = sym (append-nil (expired_after g v.front p.number));
 }
 
 -- the entry of a try is no look
@@ -67,9 +67,9 @@ by_sched : (w : ℕ) (timer : _) (missed : Option (Option Status)) → (expires_
 by_sched w timer None = refl
 by_sched w timer (Some found) = refl
 
-fired_count : (row : Row) (missed : Option (Option Status)) → length (fired_as row missed) ≡ hit_by missed
-fired_count row None = refl
-fired_count row (Some found) = refl
+expired_count : (row : Row) (missed : Option (Option Status)) → length (expired_as row missed) ≡ hit_by missed
+expired_count row None = refl
+expired_count row (Some found) = refl
 
 settled-push : (tries : List Try) (t : Try) → AllMissesSettled tries → IsSettled t.missed → AllMissesSettled (tries ++ t ∷ [])
 settled-push [] t all one = (one, tt)
@@ -106,7 +106,7 @@ tries_more g v p q r to n row old mid new u w some stands its due wheel one =
     ap (state g u.front).rows some.number ∙ some.rows in
     record {
       tries = some.tries ++ t ∷ [];
-      gained = some.gained ++ fired_as (timer_of q row) one.missed;
+      gained = some.gained ++ expired_as (timer_of q row) one.missed;
       tried = length-append some.tries (t ∷ []) ∙ ap (λ m. m + 1) some.tried;
       settled = settled-push some.tries t some.settled one.settled;
       due = due_push ((state g v.front).rows p.number) to some.tries t some.due (record {
@@ -125,13 +125,13 @@ tries_more g v p q r to n row old mid new u w some stands its due wheel one =
           (takes_place_then g v u w (expiry_entries p.number some.tries) (expires_by p.number t.timer t.missed ∷ []) some.call
           (step_takes_place g u (expires_by p.number t.timer t.missed) w step));
       number = mine ∙ some.number;
-      count = length-append some.gained (fired_as (timer_of q row) one.missed)
-          ∙ omega (arith, some.count, fired_count (timer_of q row) one.missed, hits-push some.tries t);
-      fired = one.fired ∙ (ap (λ l. l ++ fired_as (timer_of q row) one.missed) some.fired
-          ∙ append_assoc old.rows some.gained (fired_as (timer_of q row) one.missed));
-      waits = subst (λ k. fired_in g w.front k ≡ fired_in g u.front k ++ fired_as (timer_of q row) one.missed) some.number one.waits
-          ∙ (ap (λ l. l ++ fired_as (timer_of q row) one.missed) some.waits
-          ∙ append_assoc (fired_in g v.front p.number) some.gained (fired_as (timer_of q row) one.missed));
+      count = length-append some.gained (expired_as (timer_of q row) one.missed)
+          ∙ omega (arith, some.count, expired_count (timer_of q row) one.missed, hits-push some.tries t);
+      expired = one.expired ∙ (ap (λ l. l ++ expired_as (timer_of q row) one.missed) some.expired
+          ∙ append_assoc old.rows some.gained (expired_as (timer_of q row) one.missed));
+      waits = subst (λ k. expired_after g w.front k ≡ expired_after g u.front k ++ expired_as (timer_of q row) one.missed) some.number one.waits
+          ∙ (ap (λ l. l ++ expired_as (timer_of q row) one.missed) some.waits
+          ∙ append_assoc (expired_after g v.front p.number) some.gained (expired_as (timer_of q row) one.missed));
     }
 
 -- the last look of the scheduler is as before
@@ -173,6 +173,6 @@ tries_come_to g v p q to n passed old new u some up = record {
   call = some.call;
   number = some.number;
   count = some.count;
-  fired = some.fired;
+  expired = some.expired;
   waits = some.waits;
 }

@@ -33,8 +33,8 @@ next_use generation now wanted =
       deadline = max now wanted;
     })
 
--- a slot can take a timer where it doesn't rest: it has no row, and isn't held free
-pub record CanTakeTimer (p : Part) (k : ℕ) : Type 0 where
+-- a slot may become free, or take a timer if it doesn't rest: it has no row, and isn't held free
+pub record MayBecomeFree (p : Part) (k : ℕ) : Type 0 where
   pub low : k < length p.slots
   pub vacant : key_in p.keys k ≡ None
   pub away : set.contains p.free k ≡ false

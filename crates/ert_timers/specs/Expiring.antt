@@ -16,11 +16,11 @@ use Rattle.ert_table.specs.Calls.{IsMade}
 use Rattle.ert_table.specs.Takes.{Appends, TakesPlace}
 use Rattle.ert_table.specs.declared.view.View.{View}
 use Rattle.ert_timers.specs.Changes.{let_go}
-use Rattle.ert_timers.specs.FiredLists.{Queue}
+use Rattle.ert_timers.specs.ExpiredLists.{Queue}
 use Rattle.ert_timers.specs.Parts.{Part, PartStands, last_timer, held_row}
 use Rattle.ert_timers.specs.Passed.{LosesRows}
-use Rattle.ert_timers.specs.Trying.{fired_in, TriesRows}
-use Rattle.ert_wheel.specs.Rows.{key_in, key_of, times, times_due, comes_before}
+use Rattle.ert_timers.specs.Trying.{expired_after, TriesRows}
+use Rattle.ert_wheel.specs.Rows.{key_in, key_of, times, due_count, comes_before}
 use Rattle.ert_wheel.specs.declared.row.Row.{Row as WheelRow}
 
 -- the timer of a row
@@ -28,9 +28,9 @@ abbrev pub timer_of : Part → WheelRow → Row
 timer_of p row = held_row p.number p.slots row.slot (key_of row)
 
 -- what a try adds to the list of expired timers
-abbrev pub fired_as : Row → Option (Option Status) → List Row
-fired_as row None = row ∷ []
-fired_as row (Some found) = []
+abbrev pub expired_as : Row → Option (Option Status) → List Row
+expired_as row None = row ∷ []
+expired_as row (Some found) = []
 
 -- whether a try hit
 abbrev pub is_hit : Option (Option Status) → Bool
@@ -44,13 +44,13 @@ pub record Expires (g : Settings) (v : View) (p q : Part) (row : WheelRow) (old 
   pub settled : IsSettled missed
   pub part : q ≡ let_go p row.slot (is_hit missed)
   pub stands : PartStands g u.front q
-  pub fired : new.rows ≡ old.rows ++ fired_as (timer_of p row) missed
-  pub waits : fired_in g u.front p.number ≡ fired_in g v.front p.number ++ fired_as (timer_of p row) missed
+  pub expired : new.rows ≡ old.rows ++ expired_as (timer_of p row) missed
+  pub waits : expired_after g u.front p.number ≡ expired_after g v.front p.number ++ expired_as (timer_of p row) missed
   pub room : old.room ≤ new.room + 1
 
 -- these are the rows that are due, in order
 pub record AreDue (p : Part) (to : ℕ) (rows : List WheelRow) : Type 0 where
-  pub each : (k : ℕ) → times k rows ≡ times_due to (key_in p.keys k)
+  pub each : (k : ℕ) → times k rows ≡ due_count to (key_in p.keys k)
   pub held : All (λ row. key_in p.keys row.slot ≡ Some (key_of row)) rows
   pub in_order : AllPairs (λ x y. comes_before y x ≡ false) rows
 
@@ -70,13 +70,13 @@ pub record ExpiresSome (g : Settings) (v : View) (p q : Part) (to : ℕ) (due_ro
 pub record HasExpired (g : Settings) (v : View) (w to : ℕ) (old new : Queue) (u : View) : Type 0 where
   pub gained : List Row
   pub call : IsMade g v (Advances g w (Ok (to, length gained))) u
-  pub fired : new.rows ≡ old.rows ++ gained
-  pub waits : fired_in g u.front w ≡ fired_in g v.front w ++ gained
+  pub expired : new.rows ≡ old.rows ++ gained
+  pub waits : expired_after g u.front w ≡ expired_after g v.front w ++ gained
 
--- want of memory: nothing expired
+-- out of memory: nothing expired
 pub record HasNotExpired (g : Settings) (v : View) (w : ℕ) (e : NoMemory) (old new : Queue) (u : View) : Type 0 where
   pub call : IsMade g v (Advances g w (Err e)) u
-  pub fired : new.rows ≡ old.rows
+  pub expired : new.rows ≡ old.rows
 
 -- a look, and then each due row was tried
 pub record HasTried (g : Settings) (v : View) (p q : Part) (to : ℕ) (old new : Queue) (u : View) : Type 0 where
@@ -91,22 +91,22 @@ pub record HasTried (g : Settings) (v : View) (p q : Part) (to : ℕ) (old new :
   pub number : q.number ≡ p.number
   pub ready : IsReady g u.front q to []
   pub count : length gained ≡ hits tries
-  pub fired : new.rows ≡ old.rows ++ gained
-  pub waits : fired_in g u.front p.number ≡ fired_in g v.front p.number ++ gained
+  pub expired : new.rows ≡ old.rows ++ gained
+  pub waits : expired_after g u.front p.number ≡ expired_after g v.front p.number ++ gained
 
--- want of memory: nothing was tried
+-- out of memory: nothing was tried
 pub record HasNotTried (g : Settings) (v : View) (p q : Part) (e : NoMemory) (old new : Queue) (u : View) : Type 0 where
   pub call : HasNotExpired g v p.number e old new u
   pub loses : LosesRows p q
   pub number : q.number ≡ p.number
   pub stands : PartStands g u.front q
 
--- what comes of trying the due rows, by the answer: all were tried, or none for want of memory
+-- what comes of trying the due rows, by the answer: all were tried, or none because memory ran out
 abbrev pub IsTried : Settings → View → Part → Part → Result ℕ NoMemory → Queue → Queue → View → Type 0
 IsTried g v p q (Ok to) old new u = HasTried g v p q to old new u
 IsTried g v p q (Err e) old new u = HasNotTried g v p q e old new u
 
--- what comes of an advance, by the answer: it was made, or nothing expired for want of memory
+-- what comes of an advance, by the answer: it was made, or nothing expired because memory ran out
 abbrev pub IsAdvanced : Settings → View → ℕ → Result ℕ NoMemory → Queue → Queue → View → Type 0
 IsAdvanced g v w (Ok to) old new u = HasExpired g v w to old new u
 IsAdvanced g v w (Err e) old new u = HasNotExpired g v w e old new u

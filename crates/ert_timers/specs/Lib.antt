@@ -2,7 +2,7 @@ pub mod Changes
 pub mod Codes
 pub mod Dropping
 pub mod Expiring
-pub mod FiredLists
+pub mod ExpiredLists
 pub mod HeldFor
 pub mod Freeing
 pub mod Laws

@@ -17,7 +17,7 @@ use Rattle.ert_effects.specs.WheelCalls.{orphans_by, IsSettled}
 use Rattle.ert_table.specs.Settlings.{ShownWord}
 use Rattle.ert_table.specs.Takes.{Appends, TakesPlace}
 use Rattle.ert_table.specs.declared.view.View.{View}
-use Rattle.ert_timers.specs.Changes.{CanTakeTimer, is_resting, kept, given_back}
+use Rattle.ert_timers.specs.Changes.{MayBecomeFree, is_resting, kept, given_back}
 use Rattle.ert_timers.specs.Expiring.{is_hit}
 use Rattle.ert_timers.specs.Parts.{Part, PartStands, last_timer, slot_at}
 use Rattle.ert_timers.specs.Passed.{LosesRows, GainsOne}
@@ -145,7 +145,7 @@ pub record FindsNone (by now : ℕ) (p q : Part) (probes : List Entry) : Type 0 
 
 -- a slot that can take a timer is found, or none is after looks at a round
 abbrev pub FindsSlot : ℕ → ℕ → Part → Part → Option ℕ → List Entry → Type 0
-FindsSlot by now p q (Some slot) probes = CanTakeTimer q slot
+FindsSlot by now p q (Some slot) probes = MayBecomeFree q slot
 FindsSlot by now p q None probes = FindsNone by now p q probes
 
 -- slots were looked at, and one that can take a timer was found, or none

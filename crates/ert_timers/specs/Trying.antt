@@ -14,15 +14,15 @@ use Rattle.ert_effects.specs.WheelCalls.{Try, expiry_entries, hits, AllMissesSet
 use Rattle.ert_table.specs.Calls.{IsMade}
 use Rattle.ert_table.specs.Takes.{TakesPlace}
 use Rattle.ert_table.specs.declared.view.View.{View}
-use Rattle.ert_timers.specs.FiredLists.{Queue}
+use Rattle.ert_timers.specs.ExpiredLists.{Queue}
 use Rattle.ert_timers.specs.Parts.{Part, PartStands}
 use Rattle.ert_timers.specs.Passed.{HoldsEach, HoldsNone, LosesRows, HasPassed}
 use Rattle.ert_wheel.specs.Rows.{key_in}
 use Rattle.ert_wheel.specs.declared.row.Key.{Key}
 
 -- the expired timers of a scheduler after a history
-abbrev pub fired_in : Settings → List Entry → ℕ → List Row
-fired_in g h w = ((state g h).scheds w).fired
+abbrev pub expired_after : Settings → List Entry → ℕ → List Row
+expired_after g h w = ((state g h).scheds w).expired
 
 -- the part stands for a history, and this is the time of the scheduler's last look
 pub record IsLooked (g : Settings) (h : List Entry) (p : Part) (to : ℕ) : Type 0 where
@@ -45,8 +45,8 @@ pub record TriesRows (g : Settings) (v : View) (p q : Part) (to n : ℕ) (old ne
   pub call : TakesPlace g v (expiry_entries p.number tries) u
   pub number : q.number ≡ p.number
   pub count : length gained ≡ hits tries
-  pub fired : new.rows ≡ old.rows ++ gained
-  pub waits : fired_in g u.front p.number ≡ fired_in g v.front p.number ++ gained
+  pub expired : new.rows ≡ old.rows ++ gained
+  pub waits : expired_after g u.front p.number ≡ expired_after g v.front p.number ++ gained
 
 -- so many timers at most were tried, for which the part stands: just the most where more are due
 pub record IsTriedSome (g : Settings) (v : View) (p q : Part) (to most : ℕ) (more : Bool) (old new : Queue) (u : View) : Type 0 where
@@ -83,13 +83,13 @@ pub record HasExpiredSome (g : Settings) (v : View) (p q : Part) (most to : ℕ)
   pub call : IsMade g v (AdvancesSome g p.number most (Ok (to, length gained, more))) u
   pub held : HoldsEach p call.allowed.tries
   pub none : HoldsNone q call.allowed.tries
-  pub fired : new.rows ≡ old.rows ++ gained
-  pub waits : fired_in g u.front p.number ≡ fired_in g v.front p.number ++ gained
+  pub expired : new.rows ≡ old.rows ++ gained
+  pub waits : expired_after g u.front p.number ≡ expired_after g v.front p.number ++ gained
 
--- want of memory: nothing was tried
+-- out of memory: nothing was tried
 pub record HasRefusedSome (g : Settings) (v : View) (w most : ℕ) (e : NoMemory) (old new : Queue) (u : View) : Type 0 where
   pub call : IsMade g v (AdvancesSome g w most (Err e)) u
-  pub fired : new.rows ≡ old.rows
+  pub expired : new.rows ≡ old.rows
 
 -- what comes of an advance with a bound, by the answer
 abbrev pub IsAdvancedSome : Settings → View → Part → Part → ℕ → Result (ℕ × Bool) NoMemory → Queue → Queue → View → Type 0

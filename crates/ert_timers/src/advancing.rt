@@ -1,7 +1,7 @@
 //! Timers that expire.
 ghost use Rattle.std.specs.Prelude.{◌≡◌, ◌<◌, length};
 
-use crate::fired_list::FiredList;
+use crate::expired_list::ExpiredList;
 use crate::looking::look_down;
 use crate::part::WheelPart;
 use ert_defs::{Actor, NoMemory};
@@ -20,7 +20,7 @@ impl WheelPart {
     ghost use Rattle.ert_wheel.specs.Rows.{key_in, key_of};
 
     /// Lets every timer expire whose deadline has come, by the time that the call itself looks up. Their
-    /// timers are added to `fired`, in order of deadline and then of start. The answer is that time, in whole
+    /// timers are added to `expired`, in order of deadline and then of start. The answer is that time, in whole
     /// milliseconds since the start time, rounded down.
     ///
     /// A due timer that doesn't expire was settled by another. The row of each due timer goes, and then no row is held
@@ -30,7 +30,7 @@ impl WheelPart {
         &mut self,
         desk: &Desk,
         pass: &mut Pass,
-        fired: &mut FiredList,
+        expired: &mut ExpiredList,
     ) -> Result<u64, NoMemory>
         requires belongs { Belongs desk.now pass.old }
         requires holds { HoldsSched (view_of pass.old) self.old.number }
@@ -38,11 +38,11 @@ impl WheelPart {
         ensures belongs { Belongs desk.now pass.new }
         ensures number { self.new.number ≡ self.old.number }
         ensures stands { PartStands (settings_of desk.now) (front_of pass.new) self.new }
-        ensures call { IsAdvanced (settings_of desk.now) (view_of pass.old) self.old.number result fired.old fired.new (view_of pass.new) }
+        ensures call { IsAdvanced (settings_of desk.now) (view_of pass.old) self.old.number result expired.old expired.new (view_of pass.new) }
         ensures passed { IfOk result (λ to. HasPassed self.new to) }
         ensures loses { LosesRows self.old self.new }
     {
-        let to = self.try_due(desk, pass, fired)?;
+        let to = self.try_due(desk, pass, expired)?;
         pass.load_time(
             desk,
             Actor::Sched(self.number()),
@@ -56,13 +56,13 @@ impl WheelPart {
         &mut self,
         desk: &Desk,
         pass: &mut Pass,
-        fired: &mut FiredList,
+        expired: &mut ExpiredList,
     ) -> Result<u64, NoMemory>
         requires belongs { Belongs desk.now pass.old }
         requires holds { HoldsSched (view_of pass.old) self.old.number }
         requires stands { PartStands (settings_of desk.now) (front_of pass.old) self.old }
         ensures belongs { Belongs desk.now pass.new }
-        ensures call { IsTried (settings_of desk.now) (view_of pass.old) self.old self.new result fired.old fired.new (view_of pass.new) }
+        ensures call { IsTried (settings_of desk.now) (view_of pass.old) self.old self.new result expired.old expired.new (view_of pass.new) }
         ensures on { IfOk result (λ to. to < self.new.passed) }
     {
         let to = look_down(desk, pass, Actor::Sched(self.number()));
@@ -70,8 +70,8 @@ impl WheelPart {
             self.go_on(to);
             return Ok(to);
         }
-        let due = self.find_due(to, fired)?;
-        self.expire_all(desk, pass, to, &due, fired);
+        let due = self.find_due(to, expired)?;
+        self.expire_all(desk, pass, to, &due, expired);
         self.keep_list(due);
         Ok(to)
     }
@@ -83,27 +83,27 @@ impl WheelPart {
         pass: &mut Pass,
         to: u64,
         due: &[Row],
-        fired: &mut FiredList,
+        expired: &mut ExpiredList,
     )
         requires belongs { Belongs desk.now pass.old }
         requires holds { HoldsSched (view_of pass.old) self.old.number }
         requires ready { IsReady (settings_of desk.now) (front_of pass.old) self.old to due.now }
-        requires room { length due.now ≤ fired.old.room }
+        requires room { length due.now ≤ expired.old.room }
         requires few { to ≤ 8796093022207 }
         ensures belongs { Belongs desk.now pass.new }
         ensures call { ExpiresSome (settings_of desk.now) (view_of pass.old) self.old self.new to due.now (length due.now)
-            fired.old fired.new (view_of pass.new) }
+            expired.old expired.new (view_of pass.new) }
         ensures on { to < self.new.passed }
     {
         for row in due {
-            self.expire(desk, pass, *row, fired);
+            self.expire(desk, pass, *row, expired);
         }
         self.go_on(to);
     }
 
     /// Tries to let a timer expire, and drops its row.
     #[inline(always)]
-    pub(crate) fn expire(&mut self, desk: &Desk, pass: &mut Pass, row: Row, fired: &mut FiredList)
+    pub(crate) fn expire(&mut self, desk: &Desk, pass: &mut Pass, row: Row, expired: &mut ExpiredList)
         requires belongs { Belongs desk.now pass.old }
         requires holds { HoldsSched (view_of pass.old) self.old.number }
         requires stands { PartStands (settings_of desk.now) (front_of pass.old) self.old }
@@ -111,9 +111,9 @@ impl WheelPart {
         requires low { row.slot < length self.old.slots }
         requires first { IsNext (settings_of desk.now) (state (settings_of desk.now) (front_of pass.old)) (Sched self.old.number)
             (last_timer self.old.number self.old.slots row.slot) }
-        requires room { 0 < fired.old.room }
+        requires room { 0 < expired.old.room }
         ensures belongs { Belongs desk.now pass.new }
-        ensures call { Expires (settings_of desk.now) (view_of pass.old) self.old self.new row fired.old fired.new (view_of pass.new) }
+        ensures call { Expires (settings_of desk.now) (view_of pass.old) self.old self.new row expired.old expired.new (view_of pass.new) }
     {
         let timer = self.timer(row);
         let sched = Actor::Sched(self.number());
@@ -122,6 +122,6 @@ impl WheelPart {
         if !hit {
             return;
         }
-        fired.push(timer);
+        expired.push(timer);
     }
 }

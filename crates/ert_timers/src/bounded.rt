@@ -1,7 +1,7 @@
 //! Timers that expire, so many at most.
 ghost use Rattle.std.specs.Prelude.{◌≡◌};
 
-use crate::fired_list::FiredList;
+use crate::expired_list::ExpiredList;
 use crate::looking::look_down;
 use crate::part::WheelPart;
 use ert_defs::{Actor, NoMemory};
@@ -26,7 +26,7 @@ impl WheelPart {
         desk: &Desk,
         pass: &mut Pass,
         most: u32,
-        fired: &mut FiredList,
+        expired: &mut ExpiredList,
     ) -> Result<(u64, bool), NoMemory>
         requires belongs { Belongs desk.now pass.old }
         requires holds { HoldsSched (view_of pass.old) self.old.number }
@@ -34,14 +34,14 @@ impl WheelPart {
         ensures belongs { Belongs desk.now pass.new }
         ensures number { self.new.number ≡ self.old.number }
         ensures stands { PartStands (settings_of desk.now) (front_of pass.new) self.new }
-        ensures call { IsAdvancedSome (settings_of desk.now) (view_of pass.old) self.old self.new most result fired.old fired.new (view_of pass.new) }
+        ensures call { IsAdvancedSome (settings_of desk.now) (view_of pass.old) self.old self.new most result expired.old expired.new (view_of pass.new) }
         ensures left { IfOk result (λ answer. IsLeft self.new answer.0 answer.1) }
         ensures fewer { IfOk result (λ answer. LosesSome answer.1 most self.old self.new) }
         ensures loses { LosesRows self.old self.new }
     {
-        fired.reserve(self.rows_at_most(most))?;
+        expired.reserve(self.rows_at_most(most))?;
         let to = look_down(desk, pass, Actor::Sched(self.number()));
-        if self.try_some(desk, pass, to, most, fired) {
+        if self.try_some(desk, pass, to, most, expired) {
             return Ok((to, true));
         }
         self.go_on(to);
@@ -60,14 +60,14 @@ impl WheelPart {
         pass: &mut Pass,
         to: u64,
         most: u32,
-        fired: &mut FiredList,
+        expired: &mut ExpiredList,
     ) -> bool
         requires belongs { Belongs desk.now pass.old }
         requires holds { HoldsSched (view_of pass.old) self.old.number }
         requires looked { IsLooked (settings_of desk.now) (front_of pass.old) self.old to }
-        requires room { min most (count_by is_some self.old.keys) ≤ fired.old.room }
+        requires room { min most (count_by is_some self.old.keys) ≤ expired.old.room }
         ensures belongs { Belongs desk.now pass.new }
-        ensures call { IsTriedSome (settings_of desk.now) (view_of pass.old) self.old self.new to most result fired.old fired.new (view_of pass.new) }
+        ensures call { IsTriedSome (settings_of desk.now) (view_of pass.old) self.old self.new to most result expired.old expired.new (view_of pass.new) }
         ensures left { MatchBool result (HasDue self.new to) (NoRowDue self.new.keys to) }
     {
         let mut left = most;
@@ -75,7 +75,7 @@ impl WheelPart {
             if left == 0 {
                 return true;
             }
-            self.expire(desk, pass, row, fired);
+            self.expire(desk, pass, row, expired);
             left -= 1;
         }
         false

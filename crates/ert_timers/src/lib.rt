@@ -76,7 +76,7 @@
 mod advancing;
 mod bounded;
 mod dropping;
-mod fired_list;
+mod expired_list;
 mod held_for;
 mod laws;
 mod looking;
@@ -89,7 +89,7 @@ mod starting;
 mod sweeping;
 
 pub use ert_effects::{Room, StartErr};
-pub use fired_list::FiredList;
+pub use expired_list::ExpiredList;
 pub use laws::{
     calls_leave_other_parts, cancels_leave_other_timers_tidy, parts_stand_on,
     tidy_parts_hold_what_is_armed,

@@ -3,9 +3,9 @@ ghost use Rattle.ert_timers.specs.Owners.{MayThin, FindsRow};
 ghost use Rattle.ert_timers.specs.Parts.{unused};
 ghost use Rattle.ert_wheel.specs.Rings.{Place, AreChains};
 
-use crate::fired_list::FiredList;
+use crate::expired_list::ExpiredList;
 use crate::slot::Slot;
-use ert_defs::{Fired, Kind, NoMemory, Settings, TimerRef};
+use ert_defs::{TimerRow, Kind, NoMemory, Settings, TimerRef};
 use ert_wheel::{Row, Wheel};
 use ert_words::FreeSlots;
 use std::alloc::Global;
@@ -183,12 +183,12 @@ impl WheelPart {
     }
 
     /// The timer of a row.
-    pub(crate) fn timer(&self, row: Row) -> Fired
+    pub(crate) fn timer(&self, row: Row) -> TimerRow
         requires { row.slot < length self.now.slots }
         ensures { result ≡ held_row self.now.number self.now.slots row.slot (key_of row) }
     {
         let last = self.wheel.value(row.slot);
-        Fired {
+        TimerRow {
             timer: TimerRef {
                 wheel: self.number,
                 slot: row.slot,
@@ -213,17 +213,17 @@ impl WheelPart {
 
     /// The rows with a deadline up to `to`, in order of deadline and then of start, with room for their timers
     /// in the list.
-    pub(crate) fn find_due(&mut self, to: u64, fired: &mut FiredList) -> Result<Vec<Row>, NoMemory>
+    pub(crate) fn find_due(&mut self, to: u64, expired: &mut ExpiredList) -> Result<Vec<Row>, NoMemory>
         ensures part { self.new ≡ self.old }
         ensures due { IfOk result (λ due. AreDue self.old to due.items) }
-        ensures fired { fired.new.rows ≡ fired.old.rows }
-        ensures room { IfOk result (λ due. length due.items ≤ fired.new.room) }
+        ensures expired { expired.new.rows ≡ expired.old.rows }
+        ensures room { IfOk result (λ due. length due.items ≤ expired.new.room) }
     {
         let mut due = mem::replace(&mut self.due, Vec::new(self.alloc));
         due.clear();
         due.reserve(self.wheel.slots() as usize)?;
         self.wheel.due(to, &mut due);
-        fired.reserve(due.len())?;
+        expired.reserve(due.len())?;
         Ok(due)
     }
 

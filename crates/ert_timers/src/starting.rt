@@ -21,7 +21,7 @@ impl WheelPart {
     ghost use Rattle.ert_defs.specs.States.{state};
     ghost use Rattle.ert_table.specs.Desks.{settings_of, view_of, front_of, state_of, Belongs};
     ghost use Rattle.ert_table.specs.Calls.{IsMade};
-    ghost use Rattle.ert_timers.specs.Changes.{CanTakeTimer};
+    ghost use Rattle.ert_timers.specs.Changes.{MayBecomeFree};
     ghost use Rattle.ert_timers.specs.Looking.{now_in};
     ghost use Rattle.ert_timers.specs.Parts.{HoldsCaller, PartStands, slot_at, last_timer};
     ghost use Rattle.ert_timers.specs.Passed.{GainsOne};
@@ -165,7 +165,7 @@ impl WheelPart {
         requires belongs { Belongs desk.now pass.old }
         requires holds { HoldsCaller (settings_of desk.now) (view_of pass.old) by self.old.number }
         requires stands { PartStands (settings_of desk.now) (front_of pass.old) self.old }
-        requires free { CanTakeTimer self.old slot }
+        requires free { MayBecomeFree self.old slot }
         requires usable { timers.is_taken ((state (settings_of desk.now) (front_of pass.old)).status (last_timer self.old.number self.old.slots slot)) ≡ false }
         requires dest { start.now.dest < (settings_of desk.now).processes }
         requires next { IsUseFor (settings_of desk.now) (state_of desk.now pass.old) by self.old.number slot start.now next }

@@ -1,11 +1,11 @@
--- The call that an op is, by caller n, in a way: which pieces of history it allows with its reply. Want of
+-- The call that an op is, by caller n, in a way: which pieces of history it allows with its reply. Out of
 -- memory is no reply.
 
 use Rattle.std.specs.Prelude.{◌≡◌, ℕ, ℤ, FitsSigned, Bool, true, false, List, [], ◌∷◌, Option, Ok, Err}
 use Rattle.std.specs.Int.{w64}
 use Rattle.ert_effects.specs.Chains.{Serves, AdvancesWheel, Delivers, Turns, Exits}
 use Rattle.ert_effects.specs.ClockCalls.{Ticks, Finalizes, TellsTime, TellsOffset, TellsSystemTime}
-use Rattle.ert_effects.specs.MailCalls.{Takes, Monitors, Demonitors, Tells}
+use Rattle.ert_effects.specs.MailCalls.{Takes, Monitors, Demonitors, Notifies}
 use Rattle.ert_effects.specs.RequestCalls.{inbox_for, Asks}
 use Rattle.ert_effects.specs.TimerCalls.{Reads, Cancels, Starts}
 use Rattle.ert_effects.specs.Ways.{Way}
@@ -77,7 +77,7 @@ Calls g way n ls (ops.Finalize mono sys) (Finalize old now shift) h m =
     way (Keeper ∷ []) (Finalizes g n (reading_of mono sys) (Ok (old, record { now = now; shift = shift }))) h m
 Calls g way n ls (ops.Finalize mono sys) (FinalizeWide value) h m =
     way (Keeper ∷ []) (Finalizes g n (reading_of mono sys) (Err (OffsetWide value))) h m
-Calls g way n ls (ops.Notify p) (Notify put) h m = way (MailOf p ∷ []) (Tells g n p (Ok put)) h m
+Calls g way n ls (ops.Notify p) (Notify put) h m = way (MailOf p ∷ []) (Notifies g n p (Ok put)) h m
 Calls g way n ls ops.Time (Time now) h m = way [] (TellsTime g (Caller n) now) h m
 Calls g way n ls ops.System (System time) h m = way [] (TellsSystemTime g (Caller n) time) h m
 Calls g way n ls ops.Offset (Offset offset state) h m = way [] (TellsOffset g (Caller n) (offset, state)) h m
@@ -102,7 +102,7 @@ Calls g way n ls (ops.Read l) (Read left) h m = way [] (Reads g (Caller n) (ref_
 Calls g way n ls (ops.CancelAsync l p info) CancelAsync h m = AsksFor g way n (request_for_op ToCancel ls l p info) h m
 Calls g way n ls (ops.ReadAsync l p info) ReadAsync h m = AsksFor g way n (request_for_op ToRead ls l p info) h m
 Calls g way n ls (ops.Serve w) (Serve served) h m = Serves g way w (Ok served) h m
-Calls g way n ls (ops.Advance w) (Advance to fired) h m = AdvancesWheel g way w (Ok (to, fired)) h m
+Calls g way n ls (ops.Advance w) (Advance to expired) h m = AdvancesWheel g way w (Ok (to, expired)) h m
 Calls g way n ls (ops.Deliver w) (Deliver put dropped) h m = Delivers g way w (Ok (put, dropped)) h m
 Calls g way n ls (ops.Turn w) (Turn turned) h m = Turns g way w (Ok turned) h m
 Calls g way n ls (ops.Receive p) (Received mail) h m = way (MailOf p ∷ []) (Takes g n p (Taking mail)) h m

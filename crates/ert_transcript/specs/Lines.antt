@@ -17,7 +17,7 @@ left_text None = codes "false\n"
 
 -- the line of what a turn did
 abbrev pub turn_line : Turned → List ℕ
-turn_line t = codes "turn " ⋅ decimal t.served ⋅ codes " " ⋅ decimal t.to ⋅ codes " " ⋅ decimal t.fired ⋅ codes " " ⋅ decimal t.put ⋅ codes " " ⋅ decimal t.dropped ⋅ codes "\n"
+turn_line t = codes "turn " ⋅ decimal t.served ⋅ codes " " ⋅ decimal t.to ⋅ codes " " ⋅ decimal t.expired ⋅ codes " " ⋅ decimal t.put ⋅ codes " " ⋅ decimal t.dropped ⋅ codes "\n"
 
 -- the line of a message that was received; `name` gives the label of a reference
 abbrev pub mail_line : (TimerRef → ℕ) → Mail → List ℕ
@@ -54,7 +54,7 @@ line_of name CancelAsync = codes "cancel_async ok\n"
 line_of name ReadAsync = codes "read_async ok\n"
 line_of name (Serve true) = codes "serve 1\n"
 line_of name (Serve false) = codes "serve 0\n"
-line_of name (Advance to fired) = codes "advance " ⋅ decimal to ⋅ codes " " ⋅ decimal fired ⋅ codes "\n"
+line_of name (Advance to expired) = codes "advance " ⋅ decimal to ⋅ codes " " ⋅ decimal expired ⋅ codes "\n"
 line_of name (Deliver put dropped) = codes "deliver " ⋅ decimal put ⋅ codes " " ⋅ decimal dropped ⋅ codes "\n"
 line_of name (Turn turned) = turn_line turned
 line_of name (Received mail) = mail_line name mail

@@ -90,7 +90,7 @@ pub enum Reply {
     /// To how many milliseconds after the start time the wheel came, and how many timers expired.
     Advance {
         to: u64,
-        fired: u32,
+        expired: u32,
     },
     /// How many messages were put into mailboxes, and how many dropped.
     Deliver {

@@ -25,7 +25,7 @@ abbrev pub plains_of : UniquePass → ℕ
 plains_of p = p.plains
 
 -- a pass was opened with these unique integers
-pub record IsOpenedWith (u : Uniques) (p : UniquePass) : Type 0 where
+pub record BelongsToUniques (u : Uniques) (p : UniquePass) : Type 0 where
   pub table : p.seat.table_id ≡ u.table.shared.table_id
   pub opened : p.seat.me.0.passes ≡ passes_of u
 
@@ -49,7 +49,7 @@ below (suc n) = below n ++ n ∷ []
 -- these are all passes of the unique integers
 pub record AreAll (u : Uniques) (passes : List UniquePass) : Type 0 where
   pub count : length passes ≡ passes_of u
-  pub belong : All (IsOpenedWith u) passes
+  pub belong : All (BelongsToUniques u) passes
 
 -- the monotonic numbers that some passes drew
 abbrev pub draws_together : List UniquePass → List ℕ

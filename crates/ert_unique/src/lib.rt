@@ -35,7 +35,7 @@
 //! `UniquePass::plain` makes no step at all. Each pass answers from a range of 2^40 numbers of its own, by its
 //! number, so the answers of all passes are different (`plain_numbers_differ`), in no order between passes.
 //!
-//! It stands on `ert_defs`, for want of memory, and the kit's `atomic_table`.
+//! It stands on `ert_defs`, for `NoMemory`, and the kit's `atomic_table`.
 #![tactic(auto)]
 
 mod laws;

@@ -1,6 +1,6 @@
 //! Monotonic unique integers, and what passes tell each other of them.
 ghost use Rattle.std.specs.Prelude.{◌≡◌, ◌*◌, ◌^◌, ◌<◌, ◌≤◌, max, [], ◌∷◌, ◌++◌, length, IfOk, OnErr, OnOk};
-ghost use Rattle.ert_unique.specs.Passes.{passes_of, draws_of, seen_of, number_of, plains_of, IsOpenedWith, IsSamePass};
+ghost use Rattle.ert_unique.specs.Passes.{passes_of, draws_of, seen_of, number_of, plains_of, BelongsToUniques, IsSamePass};
 
 use crate::plays::{Draws, Notes, Unites};
 use crate::uniques::{MOST, Spent, UniquePass, Uniques};
@@ -11,8 +11,8 @@ impl Uniques {
     ///
     /// Spent comes exactly where the pass has drawn 2^40 numbers. Then no step is made.
     pub fn monotonic(&self, pass: &mut UniquePass) -> Result<u64, Spent>
-        requires belongs { IsOpenedWith self.now pass.old }
-        ensures belongs { IsOpenedWith self.now pass.new }
+        requires belongs { BelongsToUniques self.now pass.old }
+        ensures belongs { BelongsToUniques self.now pass.new }
         ensures draws { IfOk result (λ n. draws_of pass.new ≡ draws_of pass.old ++ n ∷ []) }
         ensures rises { IfOk result (λ n. seen_of pass.old < n) }
         ensures seen { IfOk result (λ n. seen_of pass.new ≡ n) }
@@ -32,10 +32,10 @@ impl Uniques {
 
     /// Tells a pass what another has seen: its next number is greater than that too. Nothing else changes.
     pub fn meet(&self, pass: &mut UniquePass, other: &mut UniquePass)
-        requires belongs { IsOpenedWith self.now pass.old }
-        requires other_belongs { IsOpenedWith self.now other.old }
-        ensures belongs { IsOpenedWith self.now pass.new }
-        ensures other_belongs { IsOpenedWith self.now other.new }
+        requires belongs { BelongsToUniques self.now pass.old }
+        requires other_belongs { BelongsToUniques self.now other.old }
+        ensures belongs { BelongsToUniques self.now pass.new }
+        ensures other_belongs { BelongsToUniques self.now other.new }
         ensures seen { seen_of pass.new ≡ max (seen_of pass.old) (seen_of other.old) }
         ensures still { IsSamePass pass.old pass.new }
         ensures other_still { IsSamePass other.old other.new }

@@ -1,6 +1,6 @@
 //! Plain unique integers.
 ghost use Rattle.std.specs.Prelude.{◌≡◌, ◌+◌, ◌^◌, ◌≤◌, IfOk, OnErr, OnOk};
-ghost use Rattle.ert_unique.specs.Passes.{draws_of, seen_of, number_of, plains_of, IsOpenedWith};
+ghost use Rattle.ert_unique.specs.Passes.{draws_of, seen_of, number_of, plains_of, BelongsToUniques};
 ghost use Rattle.ert_unique.specs.Plain.{plain_answer};
 ghost use Rattle.ert_unique.specs.declared.uniques.Uniques.{Uniques};
 
@@ -19,7 +19,7 @@ impl UniquePass {
         ensures number { number_of self.new ≡ number_of self.old }
         ensures draws { draws_of self.new ≡ draws_of self.old }
         ensures seen { seen_of self.new ≡ seen_of self.old }
-        ensures belongs { (u : Uniques) → IsOpenedWith u self.old → IsOpenedWith u self.new }
+        ensures belongs { (u : Uniques) → BelongsToUniques u self.old → BelongsToUniques u self.new }
         ensures spent { OnErr result ((plains_of self.old ≡ 2 ^ 40) × (self.new ≡ self.old)) }
     {
         if self.plains == MOST {

@@ -10,7 +10,7 @@ use Rattle.std.specs.Option.{is_some, IsSome}
 use Rattle.ert_wheel.proofs.Views.{AreStored, held_at, key_alone, key_apart, held_is, key_set, stored_held, stored_set, stored_less, chains_set, counts_more, counts_less, counts_same, place_is}
 use Rattle.ert_wheel.specs.Links.{next_at}
 use Rattle.ert_wheel.specs.Rings.{Rings, Place, AreChains, with_place, MayPut, Puts, MayTake, GivesUpPlace, MovesSlot}
-use Rattle.ert_wheel.specs.Rows.{Held, key_in, times, times_due, left_at}
+use Rattle.ert_wheel.specs.Rows.{Held, key_in, times, due_count, left_at}
 use Rattle.ert_wheel.specs.Walks.{MayMoveOn}
 use Rattle.ert_wheel.specs.Wheels.{no_key, held_keys, home_by, place_of, places, IsWheel, IsWheelKept}
 use Rattle.ert_wheel.specs.declared.row.Key.{Key}
@@ -256,7 +256,7 @@ pub record TakesOut {T : Type 0} (old now : Held T) (rows : List Row) : Type 0 w
   pub values : now.values ≡ old.values
   pub passed : now.passed ≡ old.passed
 
-left_of : (to : ℕ) (was : Option Key) (count : ℕ) (now : Option Key) → count ≡ times_due to was
+left_of : (to : ℕ) (was : Option Key) (count : ℕ) (now : Option Key) → count ≡ due_count to was
     → (count ≡ 0 → now ≡ was) → (0 < count → now ≡ None) → now ≡ left_at to was
 left_of to None count now e stays gone = stays e
 left_of to (Some key) count now e stays gone =
@@ -270,7 +270,7 @@ left_of to (Some key) count now e stays gone =
     ]
 
 pub taken_out : {T : Type 0} (to : ℕ) (old now : Held T) (rows : List Row) → TakesOut old now rows
-    → ((j : ℕ) → times j rows ≡ times_due to (key_in old.keys j)) → now.keys ≡ map (left_at to) old.keys
+    → ((j : ℕ) → times j rows ≡ due_count to (key_in old.keys j)) → now.keys ≡ map (left_at to) old.keys
 taken_out to old now rows t each =
     ext_get_or None now.keys (map (left_at to) old.keys) (t.len ∙ sym (length-map old.keys (left_at to))) (λ j low.
     left_of to (key_in old.keys j) (times j rows) (key_in now.keys j) (each j) (t.stays j) (t.gone j)

@@ -35,8 +35,8 @@ passing test None = 0
 passing test (Some key) = cond (test key) 1 0
 
 -- how often a slot is due: once where it has a row with a deadline at most `to`, and else not at all
-abbrev pub times_due : ℕ → Option Key → ℕ
-times_due to = passing (λ key. nat_le key.deadline to)
+abbrev pub due_count : ℕ → Option Key → ℕ
+due_count to = passing (λ key. nat_le key.deadline to)
 
 -- what a slot has left when its due row is taken out
 abbrev pub left_at : ℕ → Option Key → Option Key

@@ -1,5 +1,5 @@
 //! The timing wheel of levels: the rows of a scheduler's timers by their slots, and the due ones in order of
-//! deadline. It stands on `ert_defs` for want of memory alone.
+//! deadline. It stands on `ert_defs` for `NoMemory` alone.
 //!
 //! **Chains** (`Chains`). A slot is in the chain of one home, or in none. A chain is a ring of links through its head. A
 //! slot in no chain is alone in a ring of its own. So putting a slot in writes four links, as does taking it out, with

@@ -60,7 +60,7 @@ impl<T: Copy> Wheel<T> {
     ghost use Rattle.std.specs.Option.{is_some};
     ghost use Rattle.ert_wheel.specs.NextDue.{NoRow, IsNextDue};
     ghost use Rattle.ert_wheel.specs.Rings.{Place, AreChains, MayPut, Puts, PutsInHome, MayTake, GivesUpPlace, Finds};
-    ghost use Rattle.ert_wheel.specs.Rows.{key_in, key_of, row_at, times, times_due, left_at, comes_before};
+    ghost use Rattle.ert_wheel.specs.Rows.{key_in, key_of, row_at, times, due_count, left_at, comes_before};
     ghost use Rattle.ert_wheel.specs.declared.row.TheConstants.{NEVER, LAST};
 
     /// A wheel without rows, with room for one of each slot below `slots`, and with this value of each. The numbers of
@@ -232,7 +232,7 @@ impl<T: Copy> Wheel<T> {
     /// which is cleared first and has room for one row of each slot.
     pub fn due(&self, to: u64, out: &mut Vec<Row>)
         requires { length self.now.keys ≤ vec_capacity out.old }
-        ensures each { (slot : ℕ) → times slot out.new.items ≡ times_due to (key_in self.now.keys slot) }
+        ensures each { (slot : ℕ) → times slot out.new.items ≡ due_count to (key_in self.now.keys slot) }
         ensures rows { All (λ row. key_in self.now.keys row.slot ≡ Some (key_of row)) out.new.items }
         ensures sorted { IsSortedBy comes_before out.new.items }
         ensures capacity { vec_capacity out.new ≡ vec_capacity out.old }
@@ -294,7 +294,7 @@ impl<T: Copy> Wheel<T> {
     /// Takes the rows with a deadline at most `to` out, and writes them into `out` as `due` does.
     pub fn advance(&mut self, to: u64, out: &mut Vec<Row>)
         requires { length self.old.keys ≤ vec_capacity out.old }
-        ensures each { (slot : ℕ) → times slot out.new.items ≡ times_due to (key_in self.old.keys slot) }
+        ensures each { (slot : ℕ) → times slot out.new.items ≡ due_count to (key_in self.old.keys slot) }
         ensures rows { All (λ row. key_in self.old.keys row.slot ≡ Some (key_of row)) out.new.items }
         ensures sorted { IsSortedBy comes_before out.new.items }
         ensures capacity { vec_capacity out.new ≡ vec_capacity out.old }

@@ -17,7 +17,7 @@ use Rattle.ert_defs.specs.declared.entry.Event.{Event}
 use Rattle.ert_defs.specs.declared.entry.Event.TheVariants.{Pick, Answer}
 use Rattle.ert_defs.specs.declared.memory.NoMemory.{NoMemory}
 use Rattle.ert_defs.specs.declared.settings.Settings.{Settings}
-use Rattle.ert_laws.proofs.Few.{fired_few}
+use Rattle.ert_laws.proofs.Few.{expired_few}
 use Rattle.ert_table.proofs.Parts.{own_after, sched_own, AreByThemselves}
 use Rattle.ert_table.specs.Calls.{AreOnlyOf, IsMade}
 use Rattle.ert_table.specs.Desks.{settings_of, view_of, front_of, Belongs}
@@ -28,8 +28,8 @@ use Rattle.ert_table.specs.declared.desk.Pass.{Pass}
 use Rattle.ert_table.specs.declared.view.View.{View}
 use Rattle.ert_timers.proofs.LawsHold.{advances_only}
 use Rattle.ert_timers.specs.Expiring.{HasExpired, HasNotExpired}
-use Rattle.ert_timers.specs.Trying.{fired_in}
-use Rattle.ert_timers.specs.FiredLists.{Queue}
+use Rattle.ert_timers.specs.Trying.{expired_after}
+use Rattle.ert_timers.specs.ExpiredLists.{Queue}
 use Rattle.ert_timers.specs.Parts.{Part, PartStands as WheelStands}
 use Rattle.ert_timers.specs.Passed.{LosesRows}
 use Rattle.ert_world.proofs.Armed.{AreCalm}
@@ -44,7 +44,7 @@ use Rattle.ert_world.specs.declared.sched_part.SchedPart.{SchedPart}
 use Rattle.ert_world.specs.declared.world.World.TheInside.{Inside}
 use Rattle.ert_defs.specs.declared.settings.TheConstants.{MOST_SLOTS}
 
-pub cond_same : (b : Bool) (s : SchedState) → (cond b s s).fired ≡ s.fired
+pub cond_same : (b : Bool) (s : SchedState) → (cond b s s).expired ≡ s.expired
 cond_same true s = refl
 cond_same false s = refl
 
@@ -132,22 +132,22 @@ advance_hand g w answer v u held made =
 
 -- and without memory it leaves the list
 still_by : (g : Settings) (w : ℕ) (e : NoMemory) (s : State) (es : List Entry) → Advances g w (Err e) s es
-    → AreByThemselves g (λ (s : State). (s.scheds w).fired) es × (((run g s es).scheds w).fired ≡ (s.scheds w).fired)
+    → AreByThemselves g (λ (s : State). (s.scheds w).expired) es × (((run g s es).scheds w).expired ≡ (s.scheds w).expired)
 still_by g w e s es (inl none) =
-    (subst (AreByThemselves g (λ (s : State). (s.scheds w).fired)) (sym none) tt, ap (λ l. ((run g s l).scheds w).fired) none)
+    (subst (AreByThemselves g (λ (s : State). (s.scheds w).expired)) (sym none) tt, ap (λ l. ((run g s l).scheds w).expired) none)
 still_by g w e s es (inr look) =
     let l = look_entry (Sched w) look.0 in (
-      subst (AreByThemselves g (λ (s : State). (s.scheds w).fired)) (sym look.1)
+      subst (AreByThemselves g (λ (s : State). (s.scheds w).expired)) (sym look.1)
           ((λ s t same. cond_same (has_actor l (Sched w)) (s.scheds w) ∙ (same ∙ sym (cond_same (has_actor l (Sched w)) (t.scheds w)))), tt),
-      ap (λ m. ((run g s m).scheds w).fired) look.1 ∙ cond_same (has_actor l (Sched w)) (s.scheds w),
+      ap (λ m. ((run g s m).scheds w).expired) look.1 ∙ cond_same (has_actor l (Sched w)) (s.scheds w),
     )
 
 pub advance_still : (g : Settings) (w : ℕ) (e : NoMemory) (v u : View) → is_held v.actors (Sched w) ≡ true
-    → IsMade g v (Advances g w (Err e)) u → ((state g u.front).scheds w).fired ≡ ((state g v.front).scheds w).fired
+    → IsMade g v (Advances g w (Err e)) u → ((state g u.front).scheds w).expired ≡ ((state g v.front).scheds w).expired
 advance_still g w e v u held made =
     let still = still_by g w e (state g v.front) made.entries made.allowed in
-    own_after g v made.entries u (λ (s : State). (s.scheds w).fired)
-    (λ s e not. ap (λ (x : SchedState). x.fired) (sched_own g v.actors w held s e not)) made.call still.0 ∙ still.1
+    own_after g v made.entries u (λ (s : State). (s.scheds w).expired)
+    (λ s e not. ap (λ (x : SchedState). x.expired) (sched_own g v.actors w held s e not)) made.call still.0 ∙ still.1
 
 -- the wheel was advanced, and the scheduler has these expired timers
 pub advanced : (before : Seen) (b : Inside) (d : Desk) (q : Pass) (i : ℕ) (old new : Part) (part x : SchedPart) (allows : Settings → ℕ → State → List Entry → Type 0)
@@ -157,7 +157,7 @@ pub advanced : (before : Seen) (b : Inside) (d : Desk) (q : Pass) (i : ℕ) (old
     → ((s : State) (es : List Entry) → allows (settings_of d) i s es → AreOfAdvance i es)
     → IsMade (settings_of d) (view_of b.pass) (allows (settings_of d) old.number) (view_of q)
     → x.wheel ≡ part.wheel → x.hand ≡ part.hand
-    → (x.fired.rows ≡ ((state (settings_of d) (front_of q)).scheds old.number).fired)
+    → (x.expired.rows ≡ ((state (settings_of d) (front_of q)).scheds old.number).expired)
     → Does before d q b.next (record (parts_in b) { wheels = slice_set b.wheels.items i new; scheds = slice_set b.scheds.items i x })
     (λ w way. way (Wheel i ∷ []) (allows w.settings i))
 advanced before b d q i old new part x allows has belongs low lent lent_part named stands loses are made_w wheel hand rows =
@@ -173,7 +173,7 @@ advanced before b d q i old new part x allows has belongs low lent lent_part nam
     let kept = hand_stays g i made.entries (view_of b.pass) (view_of q) (has.fit.holds.rest (Sched i) below tt) made.call of_advance.leave in
     let now : SchedStands g (front_of q) x =
     now_stands before b d q i x ((state g (front_of q)).scheds i) has low at refl (hand ∙ (was.hand ∙ sym kept))
-    (rows ∙ ap (λ n. ((state g (front_of q)).scheds n).fired) one) in
+    (rows ∙ ap (λ n. ((state g (front_of q)).scheds n).expired) one) in
     let back : AllParts = record (parts_in b) { scheds = slice_set b.scheds.items i x } in
     finish before b d q (record back { wheels = slice_set b.wheels.items i new }) made.entries (Sched i ∷ (Wheel i ∷ []))
     (λ w way. way (Wheel i ∷ []) (allows w.settings i)) has belongs made.call of_advance.only of_advance.calm (refl, (refl, tt))
@@ -194,58 +194,58 @@ pub counted : (before : Seen) (b : Inside) (d : Desk) (q : Pass) (i n m : ℕ) (
     → LosesRows old new
     → ((s : State) (es : List Entry) → allows (length gained) (settings_of d) i s es → AreOfAdvance i es)
     → IsMade (settings_of d) (view_of b.pass) (allows (length gained) (settings_of d) old.number) (view_of q)
-    → x.fired.rows ≡ part.fired.rows ++ gained
-    → fired_in (settings_of d) (front_of q) old.number ≡ fired_in (settings_of d) (front_of b.pass) old.number ++ gained
-    → x.wheel ≡ part.wheel → x.hand ≡ part.hand → n ≡ length x.fired.rows → m ≡ length part.fired.rows
+    → x.expired.rows ≡ part.expired.rows ++ gained
+    → expired_after (settings_of d) (front_of q) old.number ≡ expired_after (settings_of d) (front_of b.pass) old.number ++ gained
+    → x.wheel ≡ part.wheel → x.hand ≡ part.hand → n ≡ length x.expired.rows → m ≡ length part.expired.rows
     → Does before d q b.next (record (parts_in b) { wheels = slice_set b.wheels.items i new; scheds = slice_set b.scheds.items i x })
     (λ w way. way (Wheel i ∷ []) (allows (n - m) w.settings i))
-counted before b d q i n m gained old new part x allows has belongs low lent lent_part named stands loses are call fired waits wheel hand now was =
+counted before b d q i n m gained old new part x allows has belongs low lent lent_part named stands loses are call expired waits wheel hand now was =
     let g : Settings = settings_of d in
     let one : old.number ≡ i = wheel_named g (front_of b.pass) [] (parts_in b) i old has.fit.stand (schedulers_at has i low) lent in
     let had_it : Had b d i part = had before b d i part has low lent_part in
-    let count : n - m ≡ length gained = difference n m part.fired.rows gained (now ∙ ap (λ (l : List Row). length l) fired) was in
+    let count : n - m ≡ length gained = difference n m part.expired.rows gained (now ∙ ap (λ (l : List Row). length l) expired) was in
     subst (λ k. Does before d q b.next
     (record (parts_in b) { wheels = slice_set b.wheels.items i new; scheds = slice_set b.scheds.items i x })
     (λ w way. way (Wheel i ∷ []) (allows k w.settings i))) (sym count)
     (advanced before b d q i old new part x (allows (length gained)) has belongs low lent lent_part named stands loses are call wheel hand
-    (fired ∙ (ap (λ l. l ++ gained) (had_it.fired ∙ ap (λ n. fired_in g (front_of b.pass) n) (sym one)) ∙ sym waits)))
+    (expired ∙ (ap (λ l. l ++ gained) (had_it.expired ∙ ap (λ n. expired_after g (front_of b.pass) n) (sym one)) ∙ sym waits)))
 
 -- an advance, with its count
 pub advance_ok : (before : Seen) (b : Inside) (d : Desk) (q : Pass) (i to n m : ℕ) (old new : Part) (part x : SchedPart)
     → Has before b d → Belongs d q → i < before.settings.schedulers → old ≡ slice_index_or b.wheels.items i old
     → part ≡ slice_index_or b.scheds.items i part → new.number ≡ old.number → WheelStands (settings_of d) (front_of q) new
     → LosesRows old new
-    → HasExpired (settings_of d) (view_of b.pass) old.number to part.fired x.fired (view_of q)
-    → x.wheel ≡ part.wheel → x.hand ≡ part.hand → n ≡ length x.fired.rows → m ≡ length part.fired.rows
+    → HasExpired (settings_of d) (view_of b.pass) old.number to part.expired x.expired (view_of q)
+    → x.wheel ≡ part.wheel → x.hand ≡ part.hand → n ≡ length x.expired.rows → m ≡ length part.expired.rows
     → Does before d q b.next (record (parts_in b) { wheels = slice_set b.wheels.items i new; scheds = slice_set b.scheds.items i x })
     (λ w way. way (Wheel i ∷ []) (Advances w.settings i (Ok (to, n - m))))
 advance_ok before b d q i to n m old new part x has belongs low lent lent_part named stands loses expired wheel hand now was =
     counted before b d q i n m expired.gained old new part x (λ k g i. Advances g i (Ok (to, k))) has belongs low lent lent_part named stands loses
-    (λ s es made. advances_are (settings_of d) i (Ok (to, length expired.gained)) s es made) expired.call expired.fired expired.waits wheel hand now was
+    (λ s es made. advances_are (settings_of d) i (Ok (to, length expired.gained)) s es made) expired.call expired.expired expired.waits wheel hand now was
 
 -- the count of the timers that expired is small, and it is more rows than before
 pub count_fits : (g : Settings) (w n m : ℕ) (gained : List Row) (old new : Queue) (v u : View) → g.slots ≤ MOST_SLOTS → Legal g u.front
-    → new.rows ≡ old.rows ++ gained → fired_in g u.front w ≡ fired_in g v.front w ++ gained
+    → new.rows ≡ old.rows ++ gained → expired_after g u.front w ≡ expired_after g v.front w ++ gained
     → n ≡ length new.rows → m ≡ length old.rows → (m ≤ n) × (n - m ≤ MOST_SLOTS)
-count_fits g w n m gained old new v u high legal fired waits now was =
-    let count : n - m ≡ length gained = difference n m old.rows gained (now ∙ ap (λ (l : List Row). length l) fired) was in
-    let low : length (fired_in g u.front w) ≤ g.slots = fired_few g u.front w legal in
-    let sum : length (fired_in g u.front w) ≡ length (fired_in g v.front w) + length gained =
-    ap (λ (l : List Row). length l) waits ∙ length-append (fired_in g v.front w) gained in
+count_fits g w n m gained old new v u high legal expired waits now was =
+    let count : n - m ≡ length gained = difference n m old.rows gained (now ∙ ap (λ (l : List Row). length l) expired) was in
+    let low : length (expired_after g u.front w) ≤ g.slots = expired_few g u.front w legal in
+    let sum : length (expired_after g u.front w) ≡ length (expired_after g v.front w) + length gained =
+    ap (λ (l : List Row). length l) waits ∙ length-append (expired_after g v.front w) gained in
     let more : length new.rows ≡ length old.rows + length gained =
-    ap (λ (l : List Row). length l) fired ∙ length-append old.rows gained in
+    ap (λ (l : List Row). length l) expired ∙ length-append old.rows gained in
     (omega (arith, now, was, more), omega (arith, count, low, sum, high))
 
 pub advance_fits : (g : Settings) (w to n m : ℕ) (old new : Queue) (v u : View) → g.slots ≤ MOST_SLOTS
     → HasExpired g v w to old new u → n ≡ length new.rows → m ≡ length old.rows → (m ≤ n) × (n - m ≤ MOST_SLOTS)
-advance_fits g w to n m old new v u high is now was = count_fits g w n m is.gained old new v u high is.call.call.legal is.fired is.waits now was
+advance_fits g w to n m old new v u high is now was = count_fits g w n m is.gained old new v u high is.call.call.legal is.expired is.waits now was
 
 -- an advance without memory
 pub advance_refused : (before : Seen) (b : Inside) (d : Desk) (q : Pass) (i : ℕ) (e : NoMemory) (old new : Part) (part x : SchedPart)
     → Has before b d → Belongs d q → i < before.settings.schedulers → old ≡ slice_index_or b.wheels.items i old
     → part ≡ slice_index_or b.scheds.items i part → new.number ≡ old.number → WheelStands (settings_of d) (front_of q) new
     → LosesRows old new
-    → HasNotExpired (settings_of d) (view_of b.pass) old.number e part.fired x.fired (view_of q)
+    → HasNotExpired (settings_of d) (view_of b.pass) old.number e part.expired x.expired (view_of q)
     → x.wheel ≡ part.wheel → x.hand ≡ part.hand
     → Does before d q b.next (record (parts_in b) { wheels = slice_set b.wheels.items i new; scheds = slice_set b.scheds.items i x })
     (λ w way. AdvancesWheel w.settings way i (Err e))
@@ -257,5 +257,5 @@ advance_refused before b d q i e old new part x has belongs low lent lent_part n
     let held = subst (λ n. is_held (view_of b.pass).actors (Sched n) ≡ true) (sym one) (has.fit.holds.rest (Sched i) below tt) in
     advanced before b d q i old new part x (λ g i. Advances g i (Err e)) has belongs low lent lent_part named stands loses
     (λ s es made. advances_are g i (Err e) s es made) refused.call wheel hand
-    (refused.fired ∙ (was.fired ∙ (ap (λ n. ((state g (front_of b.pass)).scheds n).fired) (sym one)
+    (refused.expired ∙ (was.expired ∙ (ap (λ n. ((state g (front_of b.pass)).scheds n).expired) (sym one)
     ∙ sym (advance_still g old.number e (view_of b.pass) (view_of q) held refused.call))))

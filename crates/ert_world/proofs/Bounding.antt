@@ -24,9 +24,9 @@ puts_drops (Put ∷ hows) = let more = puts_drops hows in omega (arith, more)
 puts_drops (Dropped ∷ hows) = let more = puts_drops hows in omega (arith, more)
 
 -- a list of which there is no first one is empty
-pub none_left : (most count : ℕ) (fired : List Row) → first_of fired ≡ None → AreLeft false most count fired
+pub none_left : (most count : ℕ) (expired : List Row) → first_of expired ≡ None → AreLeft false most count expired
 none_left most count [] none = refl
-none_left most count (row ∷ fired) none = absurd cc
+none_left most count (row ∷ expired) none = absurd cc
 
 -- so many as may be
 pub at_most : (hows : List Handed) (most put dropped : ℕ) → put ≡ puts hows → dropped ≡ drops hows → put + dropped ≤ most → most ≤ put + dropped
@@ -34,18 +34,18 @@ pub at_most : (hows : List Handed) (most put dropped : ℕ) → put ≡ puts how
 at_most hows most put dropped put_is dropped_is few all = let sum = puts_drops hows in omega (arith, sum, put_is, dropped_is, few, all)
 
 -- what is told of the list after the most
-pub are_left : (more : Bool) (most count : ℕ) (fired : List Row) → count ≡ most → more ≡ is_some (first_of fired) → AreLeft more most count fired
+pub are_left : (more : Bool) (most count : ℕ) (expired : List Row) → count ≡ most → more ≡ is_some (first_of expired) → AreLeft more most count expired
 are_left true most count [] all is = absurd cc
-are_left true most count (row ∷ fired) all is = (all, λ none. absurd cc)
+are_left true most count (row ∷ expired) all is = (all, λ none. absurd cc)
 are_left false most count [] all is = refl
-are_left false most count (row ∷ fired) all is = absurd cc
+are_left false most count (row ∷ expired) all is = absurd cc
 
 -- and where the list is told to have more, all that may be were handed over
 pub delivered_most : (g : Settings) (way : Way) (w most : ℕ) (answer : ℕ × ℕ × Bool) (h m : List Entry) → DeliversSome g way w most (Ok answer) h m
     → answer.2 ≡ true → answer.0 + answer.1 ≡ most
 delivered_most g way w most answer h m done more =
-    let rest : AreLeft true most (length done.hows) ((state g (h ++ m)).scheds w).fired =
-    subst (λ b. AreLeft b most (length done.hows) ((state g (h ++ m)).scheds w).fired) more done.rest in
+    let rest : AreLeft true most (length done.hows) ((state g (h ++ m)).scheds w).expired =
+    subst (λ b. AreLeft b most (length done.hows) ((state g (h ++ m)).scheds w).expired) more done.rest in
     omega (arith, rest.0, puts_drops done.hows, done.put_is, done.dropped_is)
 
 -- over what tells settings, history and mark of whatever makes the steps, and how these come about for one actor
@@ -59,7 +59,7 @@ module _ {S : Type 0} (settings : S → Settings) (history : S → List Entry) (
   -- so many were handed over, and this is told of the rest
   pub delivered_some : (most put dropped : ℕ) (more : Bool) (hows : List Handed) (a b : S) → Alike a b → Does (λ g way. HandsMany g way w hows) a b
       → put ≡ puts hows → dropped ≡ drops hows → put + dropped ≤ most
-      → AreLeft more most (length hows) ((state (settings b) (history b)).scheds w).fired
+      → AreLeft more most (length hows) ((state (settings b) (history b)).scheds w).expired
       → Does (λ g way. DeliversSome g way w most (Ok (put, dropped, more))) a b
   delivered_some most put dropped more hows a b same runs put_is dropped_is few rest = record {
     piece = runs.piece;
@@ -70,8 +70,8 @@ module _ {S : Type 0} (settings : S → Settings) (history : S → List Entry) (
       few = (let all = puts_drops hows in omega (arith, all, put_is, dropped_is, few));
       put_is = put_is;
       dropped_is = dropped_is;
-      rest = subst (λ (h : List Entry). AreLeft more most (length hows) ((state (settings a) h).scheds w).fired) runs.grown
-          (subst (λ (g : Settings). AreLeft more most (length hows) ((state g (history b)).scheds w).fired) same.0 rest);
+      rest = subst (λ (h : List Entry). AreLeft more most (length hows) ((state (settings a) h).scheds w).expired) runs.grown
+          (subst (λ (g : Settings). AreLeft more most (length hows) ((state g (history b)).scheds w).expired) same.0 rest);
     };
   }
 
@@ -88,13 +88,13 @@ module _ {S : Type 0} (settings : S → Settings) (history : S → List Entry) (
       }
 
   pub turned_some : (most : ℕ) (a b c d : S) (t : Turned) (due waits : Bool) → Alike a b → Alike b c → Does (λ g way. ServesAll g way w (Ok t.served)) a b
-      → Does (λ g way. AdvancesWheelSome g way w most (Ok (t.to, t.fired, due))) b c
+      → Does (λ g way. AdvancesWheelSome g way w most (Ok (t.to, t.expired, due))) b c
       → Does (λ g way. DeliversSome g way w most (Ok (t.put, t.dropped, waits))) c d
       → Does (λ g way. TurnsSome g way w most (Ok (t, (due || waits)))) a d
   turned_some most a b c d t due waits on_b on_c one two three =
       let all = made_then settings history mark way w (λ g way. ServesAll g way w (Ok t.served))
-      (λ g way. Then (AdvancesWheelSome g way w most (Ok (t.to, t.fired, due))) (DeliversSome g way w most (Ok (t.put, t.dropped, waits)))) a b d on_b one
-      (made_then settings history mark way w (λ g way. AdvancesWheelSome g way w most (Ok (t.to, t.fired, due)))
+      (λ g way. Then (AdvancesWheelSome g way w most (Ok (t.to, t.expired, due))) (DeliversSome g way w most (Ok (t.put, t.dropped, waits)))) a b d on_b one
+      (made_then settings history mark way w (λ g way. AdvancesWheelSome g way w most (Ok (t.to, t.expired, due)))
       (λ g way. DeliversSome g way w most (Ok (t.put, t.dropped, waits))) b c d on_c two three) in
       record { piece = all.piece; grown = all.grown; made = record { due = due; waits = waits; more_is = refl; runs = all.made } }
 

@@ -20,7 +20,7 @@ use Rattle.ert_defs.specs.declared.settings.OffsetState.{OffsetState}
 use Rattle.ert_defs.specs.declared.settings.OffsetState.TheVariants.{Preliminary, Final, Volatile}
 use Rattle.ert_defs.specs.declared.settings.Settings.{Settings}
 use Rattle.ert_mail.specs.Inboxes.{Waiting, InboxStands}
-use Rattle.ert_calls.specs.Published.{ReadsOffsetBy}
+use Rattle.ert_calls.specs.Published.{ReadsByLeastCaller}
 use Rattle.ert_calls.specs.declared.keeper.KeeperPart.{KeeperPart}
 use Rattle.ert_mail.specs.Mailboxes.{Mailbox, IsMonitor, MailboxStands as MailStands}
 use Rattle.ert_table.proofs.Calls.{whole_exact}
@@ -300,7 +300,7 @@ least_held : (actors : List Actor) (n : ℕ) → 0 < n → is_held actors (Calle
 least_held actors zero some held = absurd (omega (arith, some))
 least_held actors (suc n) some held = least_from actors n held
 
-pub reads_by : (s : OffsetState) (g : Settings) (p : Pass) (next : ℕ) → 0 < g.callers → HoldsRest g (actors_of p) next → ReadsOffsetBy s g (view_of p) 0
+pub reads_by : (s : OffsetState) (g : Settings) (p : Pass) (next : ℕ) → 0 < g.callers → HoldsRest g (actors_of p) next → ReadsByLeastCaller s g (view_of p) 0
 reads_by Preliminary g p next some holds = tt
 reads_by Final g p next some holds = least_held (actors_of p) g.callers some (holds.rest (Caller 0) some (inl refl))
 reads_by Volatile g p next some holds = least_held (actors_of p) g.callers some (holds.rest (Caller 0) some (inl refl))

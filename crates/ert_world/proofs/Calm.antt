@@ -5,8 +5,8 @@ use Rattle.ert_clock.specs.Ticks.{tick_entries}
 use Rattle.ert_clock.specs.declared.clock.ClockErr.{ClockErr}
 use Rattle.ert_clock.specs.declared.clock.ClockErr.TheVariants.{BadReading, OffsetWide}
 use Rattle.ert_clock.specs.declared.clock.Moved.{Moved}
-use Rattle.ert_effects.specs.ClockCalls.{RefusesTick, TakesReading, Finalizes, FinalizesFrom, TellsTime, TellsOffset, TellsSystemTime}
-use Rattle.ert_effects.specs.MailCalls.{HandsOver, Takes, Monitors, Demonitors, Tells}
+use Rattle.ert_effects.specs.ClockCalls.{RefusesTick, ActsOnReading, Finalizes, FinalizesFrom, TellsTime, TellsOffset, TellsSystemTime}
+use Rattle.ert_effects.specs.MailCalls.{HandsOver, Takes, Monitors, Demonitors, Notifies}
 use Rattle.ert_effects.specs.RequestCalls.{Asks, Picks}
 use Rattle.ert_effects.specs.TimerCalls.{Reads, read_entries}
 use Rattle.ert_effects.specs.WheelCalls.{TellsAlive, MarksExit}
@@ -25,7 +25,7 @@ use Rattle.ert_defs.specs.declared.entry.Actor.{Actor}
 use Rattle.ert_defs.specs.declared.entry.Actor.TheVariants.{Keeper, Caller}
 use Rattle.ert_defs.specs.declared.entry.Entry.{Entry}
 use Rattle.ert_defs.specs.declared.mail.Request.{Request}
-use Rattle.ert_defs.specs.declared.memory.NoMemory.{NoMemory as WantOfMemory}
+use Rattle.ert_defs.specs.declared.memory.NoMemory.{NoMemory as OutOfMemory}
 use Rattle.ert_defs.specs.declared.settings.OffsetState.{OffsetState}
 use Rattle.ert_defs.specs.declared.settings.OffsetState.TheVariants.{Preliminary, Final, Volatile}
 use Rattle.ert_defs.specs.declared.settings.Reading.{Reading}
@@ -53,17 +53,17 @@ pub demonitors_calm : (g : Settings) (by process monitor : ℕ) (answer : Bool) 
     → AreCalm es
 demonitors_calm g by process monitor answer s es demonitors = calm_as es _ demonitors (refl, tt)
 
-pub tells_calm : (g : Settings) (by process : ℕ) (answer : Result ℕ WantOfMemory) (s : State) (es : List Entry) → Tells g by process answer s es → AreCalm es
-tells_calm g by process (Ok put) s es tells = calm_as es _ tells.entries (refl, tt)
-tells_calm g by process (Err e) s es tells = calm_as es _ tells tt
+pub notifies_calm : (g : Settings) (by process : ℕ) (answer : Result ℕ OutOfMemory) (s : State) (es : List Entry) → Notifies g by process answer s es → AreCalm es
+notifies_calm g by process (Ok put) s es tells = calm_as es _ tells.entries (refl, tt)
+notifies_calm g by process (Err e) s es tells = calm_as es _ tells tt
 
-pub hands_calm : (g : Settings) (w : ℕ) (fired : Row) (answer : Result Handed WantOfMemory) (s : State) (es : List Entry) → HandsOver g w fired answer s es
+pub hands_calm : (g : Settings) (w : ℕ) (expired : Row) (answer : Result Handed OutOfMemory) (s : State) (es : List Entry) → HandsOver g w expired answer s es
     → AreCalm es
-hands_calm g w fired (Ok Put) s es hands = calm_as es _ hands (refl, (refl, tt))
-hands_calm g w fired (Ok Dropped) s es hands = calm_as es _ hands (refl, (refl, tt))
-hands_calm g w fired (Err e) s es hands = calm_as es _ hands tt
+hands_calm g w expired (Ok Put) s es hands = calm_as es _ hands (refl, (refl, tt))
+hands_calm g w expired (Ok Dropped) s es hands = calm_as es _ hands (refl, (refl, tt))
+hands_calm g w expired (Err e) s es hands = calm_as es _ hands tt
 
-pub asks_calm : (g : Settings) (by w : ℕ) (request : Request) (answer : Result (Unit {0}) WantOfMemory) (s : State) (es : List Entry)
+pub asks_calm : (g : Settings) (by w : ℕ) (request : Request) (answer : Result (Unit {0}) OutOfMemory) (s : State) (es : List Entry)
     → Asks g by w request answer s es → AreCalm es
 asks_calm g by w request (Ok _) s es asks = calm_as es _ asks (refl, tt)
 asks_calm g by w request (Err e) s es asks = calm_as es _ asks tt
@@ -121,7 +121,7 @@ refused_quiet g by r act BadReading s es refused = quiet_as (ticking by) es [] r
 refused_quiet g by r act (OffsetWide value) s es refused = quiet_as (ticking by) es [] refused.none (record { only = tt; calm = tt })
 
 pub acts_quiet : (g : Settings) (by : ℕ) (r : Reading) (act : Act) (answer : Result Moved ClockErr) (s : State) (es : List Entry)
-    → TakesReading g by r act answer s es → IsQuiet (Keeper ∷ (Caller by ∷ [])) es
+    → ActsOnReading g by r act answer s es → IsQuiet (Keeper ∷ (Caller by ∷ [])) es
 acts_quiet g by r act (Ok m) s es acts = quiet_as (ticking by) es _ acts.entries (moves_quiet by r act m.now m.shift)
 acts_quiet g by r act (Err e) s es acts = refused_quiet g by r act e s es acts
 

@@ -8,7 +8,7 @@ use Rattle.ert_defs.specs.Actors.{same_actor, has_actor}
 use Rattle.ert_defs.specs.Legal.{names_timer, left_of, left_by as left_by_look, LegalFrom}
 use Rattle.ert_defs.specs.States.{State, next, run}
 use Rattle.ert_defs.specs.Timers.{Row, row_of}
-use Rattle.ert_defs.proofs.FiredTimers.{same_timer-false}
+use Rattle.ert_defs.proofs.ExpiredTimers.{same_timer-false}
 use Rattle.ert_defs.proofs.Runs.{run-append, legal_first}
 use Rattle.ert_defs.specs.declared.entry.Actor.{Actor}
 use Rattle.ert_defs.specs.declared.entry.Actor.TheVariants.{Wheel, Sched}

@@ -2,7 +2,7 @@
 
 use Rattle.std.proofs.Common.{◌≡◌, ◌⊎◌, ℕ, zero, suc, ◌+◌, ◌≤◌, true, List, [], ◌∷◌, ◌++◌, length, Some, Ok, Err, inl, inr, refl, sym, ap, subst, ◌∙◌, arith, append-nil, append_assoc, add-zero}
 use Rattle.ert_effects.proofs.Growing.{grows_then, grows_more}
-use Rattle.ert_effects.specs.Chains.{Serves, ServesMany, ServesAll, so_many_steps, AdvancesWheel, Hands, HandsMany, Delivers, puts, put_by, drops, dropped_by, Turns, SweepsWheel, SweepsWheels, Exits}
+use Rattle.ert_effects.specs.Chains.{Serves, ServesMany, ServesAll, units, AdvancesWheel, Hands, HandsMany, Delivers, puts, put_by, drops, dropped_by, Turns, SweepsWheel, SweepsWheels, Exits}
 use Rattle.ert_effects.specs.WheelCalls.{MarksExit}
 use Rattle.ert_effects.specs.Ways.{Growth, Way, Grows, Then, Many}
 use Rattle.ert_effects.specs.declared.answers.Handed.{Handed}
@@ -15,7 +15,7 @@ use Rattle.ert_defs.specs.declared.memory.NoMemory.{NoMemory}
 use Rattle.ert_defs.specs.declared.settings.Settings.{Settings}
 use Rattle.ert_defs.specs.declared.settings.TheConstants.{MOST_SLOTS}
 
-times_more : (n : ℕ) → so_many_steps n ++ tt ∷ [] ≡ so_many_steps (suc n)
+times_more : (n : ℕ) → units n ++ tt ∷ [] ≡ units (suc n)
 times_more zero = refl
 times_more (suc n) = ap (λ l. tt ∷ l) (times_more n)
 
@@ -108,7 +108,7 @@ module _ {S : Type 0} (settings : S → Settings) (history : S → List Entry) (
   served_more a b c n same one other =
       subst (λ k. Made (λ g way. ServesMany g way w k) a c) (suc_is n)
       (subst (λ l. Made (λ g way. Many (λ (one : Unit {0}). Serves g way w (Ok true)) l) a c) (times_more n)
-      (made_more (λ g way (one : Unit {0}). Serves g way w (Ok true)) (so_many_steps n) tt a b c same one other))
+      (made_more (λ g way (one : Unit {0}). Serves g way w (Ok true)) (units n) tt a b c same one other))
 
   -- timers are handed over: so many are put, and so many thrown away
   pub record HasHanded (put dropped : ℕ) (a b : S) : Type 0 where
@@ -139,13 +139,13 @@ module _ {S : Type 0} (settings : S → Settings) (history : S → List Entry) (
       subst (λ n. HasHanded n (dropped + 1) a c) (add-zero put)
       (handed_more put dropped Dropped a b c same one (subst (λ x. Made (λ g way. Hands g way w (Ok x)) b c) is other))
 
-  -- a turn is done, or stops for want of memory
+  -- a turn is done, or stops because memory ran out
   pub turned : (a b c d : S) (t : Turned) → Same a b → Same b c → Made (λ g way. ServesAll g way w (Ok t.served)) a b
-      → Made (λ g way. AdvancesWheel g way w (Ok (t.to, t.fired))) b c → Made (λ g way. Delivers g way w (Ok (t.put, t.dropped))) c d
+      → Made (λ g way. AdvancesWheel g way w (Ok (t.to, t.expired))) b c → Made (λ g way. Delivers g way w (Ok (t.put, t.dropped))) c d
       → Made (λ g way. Turns g way w (Ok t)) a d
   turned a b c d t on_b on_c one two three =
-      made_then (λ g way. ServesAll g way w (Ok t.served)) (λ g way. Then (AdvancesWheel g way w (Ok (t.to, t.fired))) (Delivers g way w (Ok (t.put, t.dropped)))) a b d on_b one
-      (made_then (λ g way. AdvancesWheel g way w (Ok (t.to, t.fired))) (λ g way. Delivers g way w (Ok (t.put, t.dropped))) b c d on_c two three)
+      made_then (λ g way. ServesAll g way w (Ok t.served)) (λ g way. Then (AdvancesWheel g way w (Ok (t.to, t.expired))) (Delivers g way w (Ok (t.put, t.dropped)))) a b d on_b one
+      (made_then (λ g way. AdvancesWheel g way w (Ok (t.to, t.expired))) (λ g way. Delivers g way w (Ok (t.put, t.dropped))) b c d on_c two three)
 
   pub turn_unadvanced : (a b c : S) (served : ℕ) (e : NoMemory) → Same a b
       → Made (λ g way. ServesAll g way w (Ok served)) a b → Made (λ g way. AdvancesWheel g way w (Err e)) b c

@@ -7,7 +7,7 @@ use Rattle.std.proofs.lemmas.Bool.{le-leb, lt-ltb}
 use Rattle.std.proofs.lemmas.List.{set-get_or}
 use Rattle.std.proofs.lemmas.List.Elements.{filter-append}
 use Rattle.std.proofs.lemmas.List.Sums.{count_by-le-length}
-use Rattle.ert_calls.specs.Left.{AtLastStep, IsLeftByLook, CallTells, TellsLeft}
+use Rattle.ert_calls.specs.Left.{AtLastStep, IsLeftByLook, IsMadeTellingLeft, TellsLeft}
 use Rattle.ert_defs.proofs.Slots.{ordered}
 use Rattle.ert_defs.specs.Actors.{IsFree, has_actor, of}
 use Rattle.ert_defs.specs.Entries.{is_ours, look_entry}
@@ -120,7 +120,7 @@ none_behind [] ys none = none
 none_behind (x ∷ xs) ys none = absurd cc
 
 -- a cancel that found nothing left leaves its timer unarmed
-missed_over : (g : Settings) (v : View) (by : Actor) (timer : TimerRef) (w : View) (told : CallTells g v by timer None (Cancels g by timer None) w) → names_timer g timer ≡ true
+missed_over : (g : Settings) (v : View) (by : Actor) (timer : TimerRef) (w : View) (told : IsMadeTellingLeft g v by timer None (Cancels g by timer None) w) → names_timer g timer ≡ true
     → IsFree told.call.call.later (Wheel timer.wheel) → (state g w.front).status timer ≢ Some Armed
 missed_over g v by timer w told names free =
     let left : AtLastStep g w.front (IsLeftByLook g by timer None) = subst (λ (b : Bool). TellsLeft b g by timer None w) names told.left in
@@ -147,7 +147,7 @@ missed_over g v by timer w told names free =
 pub ended_over : (before : Seen) (b : Inside) (d : Desk) (q : Pass) (old : Part) (timer : TimerRef) (left : Option ℕ) → Has before b d
     → timer.wheel < before.settings.schedulers → old ≡ slice_index_or b.wheels.items timer.wheel old → IsHeld old timer
     → DoesBut timer left before d q b.next (parts_in b) (λ w. By w (λ g. Cancels g (Caller 0) timer left))
-    → CallTells (settings_of d) (view_of b.pass) (Caller 0) timer left (Cancels (settings_of d) (Caller 0) timer left) (view_of q)
+    → IsMadeTellingLeft (settings_of d) (view_of b.pass) (Caller 0) timer left (Cancels (settings_of d) (Caller 0) timer left) (view_of q)
     → (state (settings_of d) (front_of q)).status timer ≢ Some Armed
 ended_over before b d q old timer (Some left) has low lent held done told = done.goes.gone.1
 ended_over before b d q old timer None has low lent held done told =

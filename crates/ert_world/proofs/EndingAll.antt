@@ -23,7 +23,7 @@ use Rattle.ert_wheel.specs.Rows.{key_in}
 use Rattle.ert_wheel.specs.declared.row.Key.{Key}
 use Rattle.ert_world.proofs.Alone.{went}
 use Rattle.ert_world.proofs.Composed.{goes_more, goes_nothing}
-use Rattle.ert_world.specs.Cancelling.{Ended, cancelled_of, IsOther, AreEndedOnce, CancelsOne, CancelsOn, numbered, IsHeldAt}
+use Rattle.ert_world.specs.Cancelling.{Ended, cancelled_of, IsOther, AreTriedOnce, CancelsOne, CancelsOn, numbered, IsHeldAt}
 use Rattle.ert_world.specs.Held.{HoldsFewer}
 use Rattle.ert_world.specs.Stepping.{Stays}
 use Rattle.ert_world.specs.Worlds.{Seen, Goes, By, HasForgotten, LoseRows}
@@ -66,8 +66,8 @@ other_push timer [] e all one = (one, tt)
 other_push timer (x ∷ es) e all one = (all.0, other_push timer es e all.1 one)
 
 -- a timer that is held is none of those that are gone
-once_push : (w : Seen) (es : List Ended) (e : Ended) → AllGone w es → AreEndedOnce es → ((d : Part) → IsHeld (slice_index_or w.wheels e.timer.wheel d) e.timer)
-    → AreEndedOnce (es ++ e ∷ [])
+once_push : (w : Seen) (es : List Ended) (e : Ended) → AllGone w es → AreTriedOnce es → ((d : Part) → IsHeld (slice_index_or w.wheels e.timer.wheel d) e.timer)
+    → AreTriedOnce (es ++ e ∷ [])
 once_push w [] e gone once held = (tt, tt)
 once_push w (x ∷ es) e gone once held =
     let apart : e.timer ≢ x.timer = λ is.
@@ -89,7 +89,7 @@ one_ended a b w process e held goes =
 -- timers of a wheel were ended so far
 pub record EndsSome (a b : Seen) (w process count : ℕ) : Type 0 where
   pub es : List Ended
-  pub once : AreEndedOnce es
+  pub once : AreTriedOnce es
   pub gone : AllGone b es
   pub count_is : count ≡ cancelled_of es
   pub runs : Goes a (λ way. Many (CancelsOne a.settings way w process) es) b

@@ -8,7 +8,7 @@ use Rattle.std.proofs.lemmas.Bool.{ltb-true}
 use Rattle.ert_effects.specs.RequestCalls.{DoesAsked, Answers}
 use Rattle.ert_effects.specs.TimerCalls.{Cancels, cancel_entries}
 use Rattle.ert_effects.specs.WheelCalls.{MarksExit}
-use Rattle.ert_defs.proofs.FiredTimers.{same_timer_self}
+use Rattle.ert_defs.proofs.ExpiredTimers.{same_timer_self}
 use Rattle.ert_defs.proofs.Runs.{state-append, exit_stays, free_rest}
 use Rattle.ert_defs.specs.Actors.{IsFree}
 use Rattle.ert_defs.specs.Entries.{is_ours, look_entry, mark_entry, answer_entry}

@@ -15,12 +15,12 @@ use Rattle.ert_defs.specs.declared.entry.Actor.TheVariants.{Wheel, Inbox, Sched,
 use Rattle.ert_defs.specs.declared.entry.Entry.{Entry}
 use Rattle.ert_defs.specs.declared.mail.Request.{Request}
 use Rattle.ert_defs.specs.declared.settings.Settings.{Settings}
-use Rattle.ert_mail.specs.Inboxes.{Waiting, after_pick, InboxStands}
+use Rattle.ert_mail.specs.Inboxes.{Waiting, sched_after_pick, InboxStands}
 use Rattle.ert_laws.proofs.Requests.{held_have_askers}
 use Rattle.ert_laws.proofs.RowRanges.{first_placed}
 use Rattle.ert_laws.specs.Ranges.{IsPlaced}
 use Rattle.ert_mail.proofs.LawsHold.{handing_only, answers_only, picks_only}
-use Rattle.ert_mail.specs.Mailboxes.{Mailbox, HoldsMailbox, handed, after_answer, MailboxStands as MailStands}
+use Rattle.ert_mail.specs.Mailboxes.{Mailbox, HoldsMailboxAndSched, handed, sched_after_answer, MailboxStands as MailStands}
 use Rattle.ert_world.proofs.Calm.{picks_calm, hands_calm}
 use Rattle.ert_world.proofs.Returned.{inbox_back, mail_back, sched_back}
 use Rattle.ert_world.specs.Parts.{AllParts, Stand, SchedStands}
@@ -30,8 +30,8 @@ use Rattle.ert_table.specs.Desks.{settings_of, view_of, front_of, Belongs}
 use Rattle.ert_table.specs.Takes.{TakesPlace}
 use Rattle.ert_table.specs.declared.desk.Desk.{Desk}
 use Rattle.ert_table.specs.declared.desk.Pass.{Pass}
-use Rattle.ert_timers.proofs.Settled.{fired_let_go, handed_free}
-use Rattle.ert_timers.specs.FiredLists.{Queue}
+use Rattle.ert_timers.proofs.Settled.{expired_let_go, handed_free}
+use Rattle.ert_timers.specs.ExpiredLists.{Queue}
 use Rattle.ert_world.proofs.Calls.{Has, Does, Makes, ComeBack, parts_in, exact, added, calm_called, called_with, inbox_named, mail_named, schedulers_at}
 use Rattle.ert_world.proofs.CancelCalls.{DoesBut, finish_but}
 use Rattle.ert_world.proofs.Cancelled.{answer_settles}
@@ -43,11 +43,11 @@ use Rattle.ert_world.specs.declared.world.World.TheInside.{Inside}
 
 -- a scheduler's part stands that has what the state has
 pub sched_stands : (g : Settings) (h : List Entry) (x : SchedPart) (t : SchedState) → x.wheel < g.schedulers → (state g h).scheds x.wheel ≡ t → x.hand ≡ t.hand
-    → x.fired.rows ≡ t.fired → SchedStands g h x
-sched_stands g h x t low is hand fired = record {
+    → x.expired.rows ≡ t.expired → SchedStands g h x
+sched_stands g h x t low is hand expired = record {
   in_range = low;
   hand = hand ∙ ap (λ (s : SchedState). s.hand) (sym is);
-  fired = fired ∙ ap (λ (s : SchedState). s.fired) (sym is);
+  expired = expired ∙ ap (λ (s : SchedState). s.expired) (sym is);
 }
 
 -- the scheduler's part at a place
@@ -63,7 +63,7 @@ sched_has g h parts i x stand low is = subst (SchedStands g h) (sym is) (stand.s
 pub record Had (b : Inside) (d : Desk) (n : ℕ) (part : SchedPart) : Type 0 where
   pub wheel : part.wheel ≡ n
   pub hand : part.hand ≡ ((state (settings_of d) (front_of b.pass)).scheds n).hand
-  pub fired : part.fired.rows ≡ ((state (settings_of d) (front_of b.pass)).scheds n).fired
+  pub expired : part.expired.rows ≡ ((state (settings_of d) (front_of b.pass)).scheds n).expired
 
 pub had : (before : Seen) (b : Inside) (d : Desk) (n : ℕ) (part : SchedPart) → Has before b d → n < before.settings.schedulers
     → part ≡ slice_index_or b.scheds.items n part → Had b d n part
@@ -75,15 +75,15 @@ had before b d n part has low lent =
     record {
       wheel = wheel;
       hand = stands.hand ∙ ap (λ m. ((state g (front_of b.pass)).scheds m).hand) wheel;
-      fired = stands.fired ∙ ap (λ m. ((state g (front_of b.pass)).scheds m).fired) wheel;
+      expired = stands.expired ∙ ap (λ m. ((state g (front_of b.pass)).scheds m).expired) wheel;
     }
 
 -- a scheduler's part stands after a step that made this of what it has
 pub now_stands : (before : Seen) (b : Inside) (d : Desk) (q : Pass) (n : ℕ) (x : SchedPart) (t : SchedState) → Has before b d → n < before.settings.schedulers
-    → x.wheel ≡ n → (state (settings_of d) (front_of q)).scheds n ≡ t → x.hand ≡ t.hand → x.fired.rows ≡ t.fired → SchedStands (settings_of d) (front_of q) x
-now_stands before b d q n x t has low at made hand fired =
+    → x.wheel ≡ n → (state (settings_of d) (front_of q)).scheds n ≡ t → x.hand ≡ t.hand → x.expired.rows ≡ t.expired → SchedStands (settings_of d) (front_of q) x
+now_stands before b d q n x t has low at made hand expired =
     let g : Settings = settings_of d in
-    sched_stands g (front_of q) x t (rw at (schedulers_at has n low)) (subst (λ m. (state g (front_of q)).scheds m ≡ t) (sym at) made) hand fired
+    sched_stands g (front_of q) x t (rw at (schedulers_at has n low)) (subst (λ m. (state g (front_of q)).scheds m ≡ t) (sym at) made) hand expired
 
 -- the process that is to get the answer to a request in a hand is in range
 pub asker_low : (before : Seen) (b : Inside) (d : Desk) (n : ℕ) (request : Request) → Has before b d → (world_sched before n).hand ≡ Some request
@@ -93,15 +93,15 @@ asker_low before b d n request has hand =
     (subst (λ (w : Seen). (world_sched w n).hand ≡ Some request) (sym has.is) hand)
 
 -- the first expired timer is in range
-pub fired_placed : (before : Seen) (b : Inside) (d : Desk) (n : ℕ) (fired : Row) → Has before b d → first_of (world_sched before n).fired ≡ Some fired
-    → IsPlaced (settings_of d) n fired
-fired_placed before b d n fired has first =
-    first_placed (settings_of d) (front_of b.pass) n fired has.fit.stand.legal
-    (subst (λ (w : Seen). first_of (world_sched w n).fired ≡ Some fired) (sym has.is) first)
+pub expired_placed : (before : Seen) (b : Inside) (d : Desk) (n : ℕ) (expired : Row) → Has before b d → first_of (world_sched before n).expired ≡ Some expired
+    → IsPlaced (settings_of d) n expired
+expired_placed before b d n expired has first =
+    first_placed (settings_of d) (front_of b.pass) n expired has.fit.stand.legal
+    (subst (λ (w : Seen). first_of (world_sched w n).expired ≡ Some expired) (sym has.is) first)
 
 -- a world holds a scheduler and a mailbox in range
 pub sched_holds : (before : Seen) (b : Inside) (d : Desk) (n i p : ℕ) → Has before b d → n < (settings_of d).schedulers → i < (settings_of d).processes → p ≡ i
-    → HoldsMailbox (settings_of d) (view_of b.pass) n p
+    → HoldsMailboxAndSched (settings_of d) (view_of b.pass) n p
 sched_holds before b d n i p has low ranged named = record {
   sched = has.fit.holds.rest (Sched n) low tt;
   below = low;
@@ -113,19 +113,19 @@ pub pick_called : (before : Seen) (b : Inside) (d : Desk) (q : Pass) (i : ℕ) (
     → Has before b d → Belongs d q → i < before.settings.schedulers → old ≡ slice_index_or b.inboxes.items i old
     → part ≡ slice_index_or b.scheds.items i part → new.wheel ≡ old.wheel → InboxStands (settings_of d) (front_of q) new
     → IsMade (settings_of d) (view_of b.pass) (Picks (settings_of d) old.wheel got) (view_of q)
-    → (state (settings_of d) (front_of q)).scheds old.wheel ≡ after_pick got ((state (settings_of d) (front_of b.pass)).scheds old.wheel)
-    → x.wheel ≡ part.wheel → x.hand ≡ got → x.fired ≡ part.fired
+    → (state (settings_of d) (front_of q)).scheds old.wheel ≡ sched_after_pick got ((state (settings_of d) (front_of b.pass)).scheds old.wheel)
+    → x.wheel ≡ part.wheel → x.hand ≡ got → x.expired ≡ part.expired
     → Does before d q b.next (record (parts_in b) { inboxes = slice_set b.inboxes.items i new; scheds = slice_set b.scheds.items i x }) (λ w. By w (λ g. Picks g i got))
-pick_called before b d q i old new part x got has belongs low lent lent_part named stands made sched wheel hand fired =
+pick_called before b d q i old new part x got has belongs low lent lent_part named stands made sched wheel hand expired =
     let g : Settings = settings_of d in
     let s : State = state g (front_of b.pass) in
     let below : i < g.schedulers = schedulers_at has i low in
     let one : old.wheel ≡ i = inbox_named g (front_of b.pass) [] (parts_in b) i old has.fit.stand below lent in
     let was : Had b d i part = had before b d i part has low lent_part in
     let made_i : IsMade g (view_of b.pass) (Picks g i got) (view_of q) = subst (λ n. IsMade g (view_of b.pass) (Picks g n got) (view_of q)) one made in
-    let sched_i : (state g (front_of q)).scheds i ≡ after_pick got (s.scheds i) = subst (λ n. (state g (front_of q)).scheds n ≡ after_pick got (s.scheds n)) one sched in
+    let sched_i : (state g (front_of q)).scheds i ≡ sched_after_pick got (s.scheds i) = subst (λ n. (state g (front_of q)).scheds n ≡ sched_after_pick got (s.scheds n)) one sched in
     let at : x.wheel ≡ i = wheel ∙ was.wheel in
-    let now : SchedStands g (front_of q) x = now_stands before b d q i x (after_pick got (s.scheds i)) has low at sched_i hand (ap (λ (f : Queue). f.rows) fired ∙ was.fired) in
+    let now : SchedStands g (front_of q) x = now_stands before b d q i x (sched_after_pick got (s.scheds i)) has low at sched_i hand (ap (λ (f : Queue). f.rows) expired ∙ was.expired) in
     let after : AllParts = record (parts_in b) { scheds = slice_set b.scheds.items i x } in
     called_with before b d q (record after { inboxes = slice_set b.inboxes.items i new }) (Sched i ∷ (Inbox i ∷ [])) (λ g. Picks g i got) has belongs made_i
     (picks_only g i got s made_i.entries made_i.allowed) (picks_calm g i got s made_i.entries made_i.allowed) (refl, (refl, tt)) refl refl
@@ -147,18 +147,18 @@ pub answered_now : (before : Seen) (b : Inside) (d : Desk) (q : Pass) (n : ℕ) 
     → Has before b d → Belongs d q → n < before.settings.schedulers → (world_sched before n).hand ≡ Some request
     → old ≡ slice_index_or b.mails.items request.reply_to old → new.process ≡ old.process → MailStands (settings_of d) (front_of q) new
     → IsMade (settings_of d) (view_of b.pass) (Answers (settings_of d) n request (Ok left)) (view_of q)
-    → (state (settings_of d) (front_of q)).scheds n ≡ after_answer (Ok left) ((state (settings_of d) (front_of b.pass)).scheds n)
-    → part ≡ slice_index_or b.scheds.items n part → x.wheel ≡ part.wheel → x.hand ≡ None → x.fired ≡ part.fired
+    → (state (settings_of d) (front_of q)).scheds n ≡ sched_after_answer (Ok left) ((state (settings_of d) (front_of b.pass)).scheds n)
+    → part ≡ slice_index_or b.scheds.items n part → x.wheel ≡ part.wheel → x.hand ≡ None → x.expired ≡ part.expired
     → DoesBut request.timer (cancelled_by request (Ok left)) before d q b.next
     (record (parts_in b) { mails = slice_set b.mails.items request.reply_to new; scheds = slice_set b.scheds.items n x })
     (λ w. By w (λ g. Answers g n request (Ok left)))
-answered_now before b d q n old new request left part x has belongs low hand lent named stands made sched lent_part wheel empty fired =
+answered_now before b d q n old new request left part x has belongs low hand lent named stands made sched lent_part wheel empty expired =
     let g : Settings = settings_of d in
     let s : State = state g (front_of b.pass) in
     let i : ℕ = request.reply_to in
     let was : Had b d n part = had before b d n part has low lent_part in
     let at : x.wheel ≡ n = wheel ∙ was.wheel in
-    let now = now_stands before b d q n x (after_answer (Ok left) (s.scheds n)) has low at sched empty (ap (λ (f : Queue). f.rows) fired ∙ was.fired) in
+    let now = now_stands before b d q n x (sched_after_answer (Ok left) (s.scheds n)) has low at sched empty (ap (λ (f : Queue). f.rows) expired ∙ was.expired) in
     finish_but before b d q (record (parts_in b) { mails = slice_set b.mails.items i new; scheds = slice_set b.scheds.items n x }) made.entries (Sched n ∷ (MailOf i ∷ []))
     request.timer (cancelled_by request (Ok left)) (λ w. By w (λ g. Answers g n request (Ok left))) has belongs made.call
     (answers_only g n request (Ok left) s made.entries made.allowed) (refl, (refl, tt)) (λ j. refl)
@@ -168,66 +168,66 @@ answered_now before b d q n old new request left part x has belongs low hand len
     (λ k is. answers_hit g n request left k s made.entries made.allowed is) refl (answer_cancels g n request left s made.entries made.allowed)
 
 -- the first expired timer was handed over, and is out of the list
-pub handed_now : (before : Seen) (b : Inside) (d : Desk) (q : Pass) (n : ℕ) (old new : Mailbox) (fired : Row) (how : Handed) (part x : SchedPart)
-    → Has before b d → Belongs d q → n < before.settings.schedulers → first_of (world_sched before n).fired ≡ Some fired
-    → old ≡ slice_index_or b.mails.items fired.dest old → new.process ≡ old.process → MailStands (settings_of d) (front_of q) new
-    → IsMade (settings_of d) (view_of b.pass) (HandsOver (settings_of d) fired.timer.wheel fired (Ok how)) (view_of q)
-    → (state (settings_of d) (front_of q)).scheds fired.timer.wheel ≡ handed (Ok how) ((state (settings_of d) (front_of b.pass)).scheds fired.timer.wheel)
-    → part ≡ slice_index_or b.scheds.items n part → x.wheel ≡ part.wheel → x.hand ≡ part.hand → x.fired.rows ≡ others_of part.fired.rows
-    → Does before d q b.next (record (parts_in b) { mails = slice_set b.mails.items fired.dest new; scheds = slice_set b.scheds.items n x })
+pub handed_now : (before : Seen) (b : Inside) (d : Desk) (q : Pass) (n : ℕ) (old new : Mailbox) (expired : Row) (how : Handed) (part x : SchedPart)
+    → Has before b d → Belongs d q → n < before.settings.schedulers → first_of (world_sched before n).expired ≡ Some expired
+    → old ≡ slice_index_or b.mails.items expired.dest old → new.process ≡ old.process → MailStands (settings_of d) (front_of q) new
+    → IsMade (settings_of d) (view_of b.pass) (HandsOver (settings_of d) expired.timer.wheel expired (Ok how)) (view_of q)
+    → (state (settings_of d) (front_of q)).scheds expired.timer.wheel ≡ handed (Ok how) ((state (settings_of d) (front_of b.pass)).scheds expired.timer.wheel)
+    → part ≡ slice_index_or b.scheds.items n part → x.wheel ≡ part.wheel → x.hand ≡ part.hand → x.expired.rows ≡ others_of part.expired.rows
+    → Does before d q b.next (record (parts_in b) { mails = slice_set b.mails.items expired.dest new; scheds = slice_set b.scheds.items n x })
     (λ w way. Hands w.settings way n (Ok how))
-handed_now before b d q n old new fired how part x has belongs low first lent named stands made_w sched lent_part wheel hand rows =
+handed_now before b d q n old new expired how part x has belongs low first lent named stands made_w sched lent_part wheel hand rows =
     let g : Settings = settings_of d in
     let s : State = state g (front_of b.pass) in
-    let placed : IsPlaced g n fired = fired_placed before b d n fired has first in
+    let placed : IsPlaced g n expired = expired_placed before b d n expired has first in
     let was : Had b d n part = had before b d n part has low lent_part in
     let at : x.wheel ≡ n = wheel ∙ was.wheel in
-    let made : IsMade g (view_of b.pass) (HandsOver g n fired (Ok how)) (view_of q) =
-    subst (λ m. IsMade g (view_of b.pass) (HandsOver g m fired (Ok how)) (view_of q)) placed.wheel made_w in
+    let made : IsMade g (view_of b.pass) (HandsOver g n expired (Ok how)) (view_of q) =
+    subst (λ m. IsMade g (view_of b.pass) (HandsOver g m expired (Ok how)) (view_of q)) placed.wheel made_w in
     let sched_n : (state g (front_of q)).scheds n ≡ handed (Ok how) (s.scheds n) =
     subst (λ m. (state g (front_of q)).scheds m ≡ handed (Ok how) (s.scheds m)) placed.wheel sched in
-    let now = now_stands before b d q n x (handed (Ok how) (s.scheds n)) has low at sched_n (hand ∙ was.hand) (rows ∙ ap (λ (l : List Row). others_of l) was.fired) in
-    calm_called before b d q (record (parts_in b) { mails = slice_set b.mails.items fired.dest new; scheds = slice_set b.scheds.items n x }) made.entries
-    (Sched n ∷ (MailOf fired.dest ∷ [])) (λ w way. Hands w.settings way n (Ok how)) has belongs made.call
-    (handing_only g n fired (Ok how) s made.entries made.allowed) (hands_calm g n fired (Ok how) s made.entries made.allowed) (refl, (refl, tt)) refl refl
-    (mail_and_sched before b d q fired.dest n old new x has low placed.dest lent named stands at now)
+    let now = now_stands before b d q n x (handed (Ok how) (s.scheds n)) has low at sched_n (hand ∙ was.hand) (rows ∙ ap (λ (l : List Row). others_of l) was.expired) in
+    calm_called before b d q (record (parts_in b) { mails = slice_set b.mails.items expired.dest new; scheds = slice_set b.scheds.items n x }) made.entries
+    (Sched n ∷ (MailOf expired.dest ∷ [])) (λ w way. Hands w.settings way n (Ok how)) has belongs made.call
+    (handing_only g n expired (Ok how) s made.entries made.allowed) (hands_calm g n expired (Ok how) s made.entries made.allowed) (refl, (refl, tt)) refl refl
+    (mail_and_sched before b d q expired.dest n old new x has low placed.dest lent named stands at now)
     (λ m grown own. record {
-      fired = fired;
-      first = subst (λ (w : Seen). first_of (world_sched w n).fired ≡ Some fired) (sym has.is) first;
-      step = subst (HandsOver g n fired (Ok how) s) (sym own) made.allowed;
+      expired = expired;
+      first = subst (λ (w : Seen). first_of (world_sched w n).expired ≡ Some expired) (sym has.is) first;
+      step = subst (HandsOver g n expired (Ok how) s) (sym own) made.allowed;
     })
 
 -- what a scheduler has after its first expired timer was handed over
-pub hands_on : (before : Seen) (b : Inside) (d : Desk) (q : Pass) (n : ℕ) (fired : Row) (how : Handed) → Has before b d
-    → first_of (world_sched before n).fired ≡ Some fired
-    → (state (settings_of d) (front_of q)).scheds fired.timer.wheel ≡ handed (Ok how) ((state (settings_of d) (front_of b.pass)).scheds fired.timer.wheel)
-    → ((state (settings_of d) (front_of q)).scheds n).fired ≡ others_of (world_sched before n).fired
-hands_on before b d q n fired how has first sched =
+pub hands_on : (before : Seen) (b : Inside) (d : Desk) (q : Pass) (n : ℕ) (expired : Row) (how : Handed) → Has before b d
+    → first_of (world_sched before n).expired ≡ Some expired
+    → (state (settings_of d) (front_of q)).scheds expired.timer.wheel ≡ handed (Ok how) ((state (settings_of d) (front_of b.pass)).scheds expired.timer.wheel)
+    → ((state (settings_of d) (front_of q)).scheds n).expired ≡ others_of (world_sched before n).expired
+hands_on before b d q n expired how has first sched =
     let g : Settings = settings_of d in
-    let placed : IsPlaced g n fired = fired_placed before b d n fired has first in
+    let placed : IsPlaced g n expired = expired_placed before b d n expired has first in
     let mine = subst (λ m. (state g (front_of q)).scheds m ≡ handed (Ok how) ((state g (front_of b.pass)).scheds m)) placed.wheel sched in
-    ap (λ (s : SchedState). s.fired) mine ∙ ap (λ (w : Seen). others_of (world_sched w n).fired) has.is
+    ap (λ (s : SchedState). s.expired) mine ∙ ap (λ (w : Seen). others_of (world_sched w n).expired) has.is
 
 -- its slot can be used again
-pub handed_in : (before : Seen) (b : Inside) (d : Desk) (q : Pass) (n : ℕ) (fired : Row) (how : Handed) → Has before b d → n < before.settings.schedulers
-    → first_of (world_sched before n).fired ≡ Some fired
-    → IsMade (settings_of d) (view_of b.pass) (HandsOver (settings_of d) fired.timer.wheel fired (Ok how)) (view_of q)
-    → IsHandedIn (seen d q b.next b.keeper b.wheels.items) fired.timer
-handed_in before b d q n fired how has low first made =
+pub handed_in : (before : Seen) (b : Inside) (d : Desk) (q : Pass) (n : ℕ) (expired : Row) (how : Handed) → Has before b d → n < before.settings.schedulers
+    → first_of (world_sched before n).expired ≡ Some expired
+    → IsMade (settings_of d) (view_of b.pass) (HandsOver (settings_of d) expired.timer.wheel expired (Ok how)) (view_of q)
+    → IsHandedIn (seen d q b.next b.keeper b.wheels.items) expired.timer
+handed_in before b d q n expired how has low first made =
     let g : Settings = settings_of d in
     let h : List Entry = front_of b.pass in
-    let w : ℕ = fired.timer.wheel in
-    let placed : IsPlaced g n fired = fired_placed before b d n fired has first in
+    let w : ℕ = expired.timer.wheel in
+    let placed : IsPlaced g n expired = expired_placed before b d n expired has first in
     let below : w < g.schedulers = subst (λ m. m < g.schedulers) (sym placed.wheel) (schedulers_at has n low) in
-    let first_w : first_of ((state g h).scheds w).fired ≡ Some fired =
-    subst (λ m. first_of ((state g h).scheds m).fired ≡ Some fired) (sym placed.wheel)
-    (subst (λ (w : Seen). first_of (world_sched w n).fired ≡ Some fired) (sym has.is) first) in
-    let free = free_kept g (view_of b.pass) made.entries (view_of q) (Sched w ∷ (MailOf fired.dest ∷ [])) (Wheel w) made.call
-    (handing_only g w fired (Ok how) (state g h) made.entries made.allowed) (has.fit.holds.rest (Wheel w) below tt) refl in (
+    let first_w : first_of ((state g h).scheds w).expired ≡ Some expired =
+    subst (λ m. first_of ((state g h).scheds m).expired ≡ Some expired) (sym placed.wheel)
+    (subst (λ (w : Seen). first_of (world_sched w n).expired ≡ Some expired) (sym has.is) first) in
+    let free = free_kept g (view_of b.pass) made.entries (view_of q) (Sched w ∷ (MailOf expired.dest ∷ [])) (Wheel w) made.call
+    (handing_only g w expired (Ok how) (state g h) made.entries made.allowed) (has.fit.holds.rest (Wheel w) below tt) refl in (
       below,
-      (λ x. fired_let_go g h (slice_index_or b.wheels.items w x) fired (has.fit.stand.wheels.stand w x below refl)
-          (subst (λ m. first_of ((state g h).scheds m).fired ≡ Some fired) (sym (has.fit.stand.wheels.named w x below)) first_w)),
-      handed_free g (view_of b.pass) (view_of q) w fired how has.fit.stand.legal first_w made free,
+      (λ x. expired_let_go g h (slice_index_or b.wheels.items w x) expired (has.fit.stand.wheels.stand w x below refl)
+          (subst (λ m. first_of ((state g h).scheds m).expired ≡ Some expired) (sym (has.fit.stand.wheels.named w x below)) first_w)),
+      handed_free g (view_of b.pass) (view_of q) w expired how has.fit.stand.legal first_w made free,
     )
 
 -- a scheduler's step that found no memory changed nothing but the room of a mailbox

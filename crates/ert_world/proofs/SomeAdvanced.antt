@@ -34,18 +34,18 @@ use Rattle.ert_world.specs.declared.sched_part.SchedPart.{SchedPart}
 use Rattle.ert_world.specs.declared.world.World.TheInside.{Inside}
 
 -- its entries are the first of an advance: of all, or but for the record
-record IsFront (g : Settings) (w to fired : ℕ) (s : State) (es : List Entry) : Type 0 where
+record IsFront (g : Settings) (w to expired : ℕ) (s : State) (es : List Entry) : Type 0 where
   rest : List Entry
-  whole : Advances g w (Ok (to, fired)) s (es ++ rest)
+  whole : Advances g w (Ok (to, expired)) s (es ++ rest)
 
-is_front : (g : Settings) (w most to fired : ℕ) (more : Bool) (s : State) (es : List Entry) → HasAdvancedSome w most (to, fired, more) s es
-    → IsFront g w to fired s es
-is_front g w most to fired true s es some = record {
+is_front : (g : Settings) (w most to expired : ℕ) (more : Bool) (s : State) (es : List Entry) → HasAdvancedSome w most (to, expired, more) s es
+    → IsFront g w to expired s es
+is_front g w most to expired true s es some = record {
   rest = advanced_entry w to ∷ [];
   whole = record {
     now = some.now;
     tries = some.tries;
-    fired = some.fired;
+    expired = some.expired;
     settled = some.settled;
     due = some.due;
     once = some.once;
@@ -53,12 +53,12 @@ is_front g w most to fired true s es some = record {
         ∙ ap (λ l. look_entry (Sched w) some.now ∷ (l ++ advanced_entry w to ∷ [])) (append-nil (expiry_entries w some.tries));
   };
 }
-is_front g w most to fired false s es some = record {
+is_front g w most to expired false s es some = record {
   rest = [];
   whole = record {
     now = some.now;
     tries = some.tries;
-    fired = some.fired;
+    expired = some.expired;
     settled = some.settled;
     due = some.due;
     once = some.once;
@@ -80,9 +80,9 @@ front_leaves (e ∷ es) fs all = (all.0, front_leaves es fs all.1)
 
 some_are : (g : Settings) (w most : ℕ) (answer : Result (ℕ × ℕ × Bool) NoMemory) (s : State) (es : List Entry) → AdvancesSome g w most answer s es
     → AreOfAdvance w es
-some_are g w most (Ok (to, fired, more)) s es some =
-    let front : IsFront g w to fired s es = is_front g w most to fired more s es some in
-    let all = advances_are g w (Ok (to, fired)) s (es ++ front.rest) front.whole in
+some_are g w most (Ok (to, expired, more)) s es some =
+    let front : IsFront g w to expired s es = is_front g w most to expired more s es some in
+    let all = advances_are g w (Ok (to, expired)) s (es ++ front.rest) front.whole in
     record {
       only = front_only (Sched w ∷ (Wheel w ∷ [])) es front.rest all.only;
       calm = front_calm es front.rest all.calm;
@@ -95,20 +95,20 @@ pub some_ok : (before : Seen) (b : Inside) (d : Desk) (q : Pass) (i most to n m 
     → Has before b d → Belongs d q → i < before.settings.schedulers → old ≡ slice_index_or b.wheels.items i old
     → part ≡ slice_index_or b.scheds.items i part → new.number ≡ old.number → WheelStands (settings_of d) (front_of q) new
     → LosesRows old new
-    → HasExpiredSome (settings_of d) (view_of b.pass) old new most to more part.fired x.fired (view_of q)
-    → x.wheel ≡ part.wheel → x.hand ≡ part.hand → n ≡ length x.fired.rows → m ≡ length part.fired.rows
+    → HasExpiredSome (settings_of d) (view_of b.pass) old new most to more part.expired x.expired (view_of q)
+    → x.wheel ≡ part.wheel → x.hand ≡ part.hand → n ≡ length x.expired.rows → m ≡ length part.expired.rows
     → Does before d q b.next (record (parts_in b) { wheels = slice_set b.wheels.items i new; scheds = slice_set b.scheds.items i x })
     (λ w way. way (Wheel i ∷ []) (AdvancesSome w.settings i most (Ok (to, n - m, more))))
 some_ok before b d q i most to n m more old new part x has belongs low lent lent_part named stands loses expired wheel hand now was =
     counted before b d q i n m expired.gained old new part x (λ k g i. AdvancesSome g i most (Ok (to, k, more))) has belongs low lent lent_part named stands loses
-    (λ s es made. some_are (settings_of d) i most (Ok (to, length expired.gained, more)) s es made) expired.call expired.fired expired.waits wheel hand now was
+    (λ s es made. some_are (settings_of d) i most (Ok (to, length expired.gained, more)) s es made) expired.call expired.expired expired.waits wheel hand now was
 
 -- one without memory
 pub some_refused : (before : Seen) (b : Inside) (d : Desk) (q : Pass) (i most : ℕ) (e : NoMemory) (old new : Part) (part x : SchedPart)
     → Has before b d → Belongs d q → i < before.settings.schedulers → old ≡ slice_index_or b.wheels.items i old
     → part ≡ slice_index_or b.scheds.items i part → new.number ≡ old.number → WheelStands (settings_of d) (front_of q) new
     → LosesRows old new
-    → HasRefusedSome (settings_of d) (view_of b.pass) old.number most e part.fired x.fired (view_of q)
+    → HasRefusedSome (settings_of d) (view_of b.pass) old.number most e part.expired x.expired (view_of q)
     → x.wheel ≡ part.wheel → x.hand ≡ part.hand
     → Does before d q b.next (record (parts_in b) { wheels = slice_set b.wheels.items i new; scheds = slice_set b.scheds.items i x })
     (λ w way. way (Wheel i ∷ []) (AdvancesSome w.settings i most (Err e)))
@@ -120,7 +120,7 @@ some_refused before b d q i most e old new part x has belongs low lent lent_part
     let held : is_held (view_of b.pass).actors (Sched old.number) ≡ true = rw one (has.fit.holds.rest (Sched i) below tt) in
     advanced before b d q i old new part x (λ g i. AdvancesSome g i most (Err e)) has belongs low lent lent_part named stands loses
     (λ s es made. some_are g i most (Err e) s es made) refused.call wheel hand
-    (refused.fired ∙ (was.fired ∙ (ap (λ n. ((state g (front_of b.pass)).scheds n).fired) (sym one)
+    (refused.expired ∙ (was.expired ∙ (ap (λ n. ((state g (front_of b.pass)).scheds n).expired) (sym one)
     ∙ sym (advance_still g old.number e (view_of b.pass) (view_of q) held
     (record { entries = refused.call.entries; allowed = refused.call.allowed; call = refused.call.call })))))
 

@@ -60,7 +60,7 @@ sched_on g f h p more same stands =
     record {
       in_range = stands.in_range;
       hand = stands.hand ∙ ap (λ (s : SchedState). s.hand) (sym still);
-      fired = stands.fired ∙ ap (λ (s : SchedState). s.fired) (sym still);
+      expired = stands.expired ∙ ap (λ (s : SchedState). s.expired) (sym still);
     }
 
 -- parts in order stand on, but for those that are lent

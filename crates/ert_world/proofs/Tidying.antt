@@ -5,7 +5,7 @@ use Rattle.std.specs.Prelude.{slice_set, nat_eq}
 use Rattle.std.proofs.lemmas.List.{get_or_default}
 use Rattle.ert_effects.specs.TimerCalls.{Starts}
 use Rattle.ert_effects.specs.declared.answers.StartErr.{StartErr}
-use Rattle.ert_defs.proofs.FiredTimers.{same_timer_self}
+use Rattle.ert_defs.proofs.ExpiredTimers.{same_timer_self}
 use Rattle.ert_defs.proofs.Runs.{run-append}
 use Rattle.ert_defs.specs.Actors.{has_actor}
 use Rattle.ert_defs.specs.Entries.{look_entry, arm_entry, mark_entry}

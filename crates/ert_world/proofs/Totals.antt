@@ -11,7 +11,7 @@ use Rattle.ert_defs.specs.declared.settings.Settings.{Settings}
 use Rattle.ert_defs.specs.declared.timer.Status.TheVariants.{Armed, Delivered}
 use Rattle.ert_laws.proofs.Counting.{arms_counted, expiries_counted, orphans_counted, six_statuses}
 use Rattle.ert_laws.proofs.CountTotals.{deliveries_counted, counts_agree}
-use Rattle.ert_laws.proofs.FiredCounts.{expired_wait}
+use Rattle.ert_laws.proofs.ExpiredCounts.{expired_wait}
 use Rattle.ert_laws.proofs.SlotUses.{all_few}
 use Rattle.ert_laws.proofs.Totals.{total_grows}
 use Rattle.ert_laws.specs.Counts.{Counts as Numbers, Agrees, counts_of, count_at, count_in, entries_of, is_arm, is_expire, is_orphan, deliveries, total}
@@ -72,9 +72,9 @@ armed_few g h checked legal =
     sum_few g h (count_at (state g h) Armed) checked legal (λ w. (let six = six_statuses g h w legal in omega (arith, six)))
 
 pub waiting_few : (g : Settings) (h : List Entry) → IsChecked g → Legal g h → (n : ℕ) → n ≤ g.schedulers
-    → total (λ w. length ((state g h).scheds w).fired) n ≤ most
+    → total (λ w. length ((state g h).scheds w).expired) n ≤ most
 waiting_few g h checked legal =
-    sum_few g h (λ w. length ((state g h).scheds w).fired) checked legal
+    sum_few g h (λ w. length ((state g h).scheds w).expired) checked legal
     (λ w. (let is = expired_wait g h w legal in let six = six_statuses g h w legal in omega (arith, is, six)))
 
 pub delivered_few : (g : Settings) (h : List Entry) → IsChecked g → Legal g h → (n : ℕ) → n ≤ g.processes → total (λ p. deliveries p h) n ≤ most
@@ -116,13 +116,13 @@ wheel_rows before b i p is fit low lent alone =
     (subst (λ n. count_by is_some p.keys ≡ count_at s Armed n) named (tidy_counts g (front_of b.pass) p stands mine))
 
 pub sched_waits : (before : Seen) (b : Inside) (i : ℕ) (p : SchedPart) → the_view b ≡ before → AreSound (arc_value b.desk) b.pass b.next (parts_in b) → i < before.settings.schedulers
-    → p ≡ slice_index_or b.scheds.items i p → length p.fired.rows ≡ length (world_sched before i).fired
+    → p ≡ slice_index_or b.scheds.items i p → length p.expired.rows ≡ length (world_sched before i).expired
 sched_waits before b i p is fit low lent =
     let g : Settings = settings_of (arc_value b.desk) in
     let below : i < g.schedulers = subst (λ (w : Seen). i < w.settings.schedulers) (sym is) low in
-    let stands = subst (λ (x : SchedPart). x.fired.rows ≡ ((state g (front_of b.pass)).scheds x.wheel).fired) (sym lent) (fit.fit.stand.scheds.stand i p below refl).fired in
+    let stands = subst (λ (x : SchedPart). x.expired.rows ≡ ((state g (front_of b.pass)).scheds x.wheel).expired) (sym lent) (fit.fit.stand.scheds.stand i p below refl).expired in
     let named : p.wheel ≡ i = ap (λ (x : SchedPart). x.wheel) lent ∙ fit.fit.stand.scheds.named i p below in
-    ap (λ (l : List _). length l) (stands ∙ (ap (λ n. ((state g (front_of b.pass)).scheds n).fired) named ∙ ap (λ (w : Seen). (world_sched w i).fired) is))
+    ap (λ (l : List _). length l) (stands ∙ (ap (λ n. ((state g (front_of b.pass)).scheds n).expired) named ∙ ap (λ (w : Seen). (world_sched w i).expired) is))
 
 pub mail_delivered : (before : Seen) (b : Inside) (i : ℕ) (m : Mailbox) → the_view b ≡ before → AreSound (arc_value b.desk) b.pass b.next (parts_in b) → i < before.settings.processes
     → m ≡ slice_index_or b.mails.items i m → m.delivered ≡ deliveries i before.history
@@ -194,7 +194,7 @@ pub counted : (w : Seen) {arms expires orphans rows expired delivered : ℕ} →
     → expires ≡ total (λ i. entries_of is_expire i w.history) w.settings.schedulers
     → orphans ≡ total (λ i. entries_of is_orphan i w.history) w.settings.schedulers
     → rows ≡ count_in (state w.settings w.history) Armed w.settings.schedulers
-    → expired ≡ total (λ i. length (world_sched w i).fired) w.settings.schedulers
+    → expired ≡ total (λ i. length (world_sched w i).expired) w.settings.schedulers
     → delivered ≡ total (λ p. deliveries p w.history) w.settings.processes
     → AreCounted (counts_of w.settings (state w.settings w.history)) arms expires orphans rows expired delivered
 counted w {arms} {expires} {orphans} {rows} {expired} {delivered} legal arms_is expires_is orphans_is rows_is expired_is delivered_is =

@@ -15,7 +15,7 @@ use Rattle.ert_defs.specs.States.{State, state}
 use Rattle.ert_defs.specs.declared.entry.Actor.{Actor}
 use Rattle.ert_defs.specs.declared.entry.Actor.TheVariants.{Wheel, Caller}
 use Rattle.ert_defs.specs.declared.entry.Entry.{Entry}
-use Rattle.ert_defs.specs.declared.memory.NoMemory.{NoMemory as WantOfMemory}
+use Rattle.ert_defs.specs.declared.memory.NoMemory.{NoMemory as OutOfMemory}
 use Rattle.ert_defs.specs.declared.settings.Settings.{Settings}
 use Rattle.ert_defs.specs.declared.timer.Start.{Start}
 use Rattle.ert_defs.specs.declared.timer.Status.{Status}
@@ -84,7 +84,7 @@ pub advance_calm : (w : ℕ) (answer : ℕ × ℕ) (es : List Entry) → IsAdvan
 advance_calm w answer es advance =
     calm_as es _ advance.entries (refl, calm_append (expiry_entries w advance.tries) _ (tries_calm w advance.tries) (refl, tt))
 
-pub advances_calm : (g : Settings) (w : ℕ) (answer : Result (ℕ × ℕ) WantOfMemory) (s : State) (es : List Entry) → Advances g w answer s es → AreCalm es
+pub advances_calm : (g : Settings) (w : ℕ) (answer : Result (ℕ × ℕ) OutOfMemory) (s : State) (es : List Entry) → Advances g w answer s es → AreCalm es
 advances_calm g w (Ok answer) s es advances = advance_calm w answer es (advance_is w answer es advances)
 advances_calm g w (Err e) s es (inl none) = calm_as es [] none tt
 advances_calm g w (Err e) s es (inr looked) = calm_as es _ looked.1 (refl, tt)

@@ -18,8 +18,8 @@ use Rattle.ert_world.specs.Worlds.{Seen}
 
 -- whether expired timers are left, of which so many were handed over: they are left only after the most
 abbrev pub AreLeft : Bool → ℕ → ℕ → List Row → Type 0
-AreLeft true most count fired = (count ≡ most) × (fired ≢ [])
-AreLeft false most count fired = fired ≡ []
+AreLeft true most count expired = (count ≡ most) × (expired ≢ [])
+AreLeft false most count expired = expired ≡ []
 
 -- expired timers are handed over, so many at most: so many are put, and so many thrown away, and whether more are left
 pub record HasDeliveredSome (g : Settings) (way : Way) (w most : ℕ) (answer : ℕ × ℕ × Bool) (h m : List Entry) : Type 0 where
@@ -28,7 +28,7 @@ pub record HasDeliveredSome (g : Settings) (way : Way) (w most : ℕ) (answer : 
   pub few : length hows ≤ most
   pub put_is : answer.0 ≡ puts hows
   pub dropped_is : answer.1 ≡ drops hows
-  pub rest : AreLeft answer.2 most (length hows) ((state g (h ++ m)).scheds w).fired
+  pub rest : AreLeft answer.2 most (length hows) ((state g (h ++ m)).scheds w).expired
 
 -- fewer than that are handed over, and there is no memory for the next: it stays in the list
 pub record CannotDeliverSome (g : Settings) (way : Way) (w most : ℕ) (e : NoMemory) (h m : List Entry) : Type 0 where
@@ -48,7 +48,7 @@ pub record HasTurnedSome (g : Settings) (way : Way) (w most : ℕ) (t : Turned) 
   pub waits : Bool
   pub more_is : more ≡ (due || waits)
   pub runs : Then (ServesAll g way w (Ok t.served))
-      (Then (AdvancesWheelSome g way w most (Ok (t.to, t.fired, due))) (DeliversSome g way w most (Ok (t.put, t.dropped, waits)))) h m
+      (Then (AdvancesWheelSome g way w most (Ok (t.to, t.expired, due))) (DeliversSome g way w most (Ok (t.put, t.dropped, waits)))) h m
 
 -- there is no memory to serve, to advance or to deliver; what was done before stays
 abbrev pub CannotTurnSome : Settings → Way → ℕ → ℕ → NoMemory → Growth

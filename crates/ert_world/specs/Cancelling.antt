@@ -30,9 +30,9 @@ IsOther timer [] = Unit {0}
 IsOther timer (e ∷ es) = (e.timer ≢ timer) × IsOther timer es
 
 -- no timer was tried twice
-abbrev pub AreEndedOnce : List Ended → Type 0
-AreEndedOnce [] = Unit {0}
-AreEndedOnce (e ∷ es) = IsOther e.timer es × AreEndedOnce es
+abbrev pub AreTriedOnce : List Ended → Type 0
+AreTriedOnce [] = Unit {0}
+AreTriedOnce (e ∷ es) = IsOther e.timer es × AreTriedOnce es
 
 -- a timer of a wheel for a process is cancelled, or had been settled before
 pub record CancelsOne (g : Settings) (way : Way) (w process : ℕ) (one : Ended) (h m : List Entry) : Type 0 where
@@ -42,7 +42,7 @@ pub record CancelsOne (g : Settings) (way : Way) (w process : ℕ) (one : Ended)
 -- timers of a wheel for a process are cancelled, so many, one after the other. Then none that is for it is armed
 pub record CancelsOn (g : Settings) (way : Way) (process : ℕ) (at : ℕ × ℕ) (h m : List Entry) : Type 0 where
   pub ended : List Ended
-  pub once : AreEndedOnce ended
+  pub once : AreTriedOnce ended
   pub runs : Many (CancelsOne g way at.0 process) ended h m
   pub count : at.1 ≡ cancelled_of ended
   pub swept : IsSwept (state g (h ++ m)) at.0 process

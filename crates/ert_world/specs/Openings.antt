@@ -30,4 +30,4 @@ IsNewInbox number q = q ≡ record { wheel = number; requests = [] }
 pub record IsNewSched (number : ℕ) (p : SchedPart) : Type 0 where
   pub named : p.wheel ≡ number
   pub hand : p.hand ≡ None
-  pub fired : p.fired.rows ≡ []
+  pub expired : p.expired.rows ≡ []

@@ -31,7 +31,7 @@ parts_of keeper wheels inboxes mails scheds =
 pub record SchedStands (g : Settings) (h : List Entry) (p : SchedPart) : Type 0 where
   pub in_range : p.wheel < g.schedulers
   pub hand : p.hand ≡ ((state g h).scheds p.wheel).hand
-  pub fired : p.fired.rows ≡ ((state g h).scheds p.wheel).fired
+  pub expired : p.expired.rows ≡ ((state g h).scheds p.wheel).expired
 
 -- parts of one kind stand in order of number, so many of them; each stands for its history but those that
 -- are lent to a call

@@ -7,7 +7,7 @@ use Rattle.ert_clock.specs.Shown.{Shown, ClockStands}
 use Rattle.ert_defs.specs.Legal.{Legal}
 use Rattle.ert_defs.specs.Mails.{SchedState}
 use Rattle.ert_defs.specs.Settings.{IsChecked}
-use Rattle.ert_defs.specs.States.{State, state, HasExited as HasExitedIn, sched_of as sched_after}
+use Rattle.ert_defs.specs.States.{State, state, HasExited as HasExitedIn, sched_of}
 use Rattle.ert_defs.specs.Timers.{is_taken}
 use Rattle.ert_defs.specs.declared.entry.Actor.{Actor}
 use Rattle.ert_defs.specs.declared.entry.Actor.TheVariants.{Caller}
@@ -177,14 +177,14 @@ HasProcessExited w process = HasExitedIn w.settings w.history process
 
 -- what a scheduler has in the history of a world
 abbrev pub world_sched : Seen → ℕ → SchedState
-world_sched w n = sched_after w.settings w.history n
+world_sched w n = sched_of w.settings w.history n
 
 -- what was left of a timer that was cancelled for a request; None where the request was to read it
 abbrev pub left_for : RequestKind → Option ℕ → Option ℕ
 left_for ToCancel left = left
 left_for ToRead left = None
 
--- the same, by what the answer to a request gave; None for want of memory
+-- the same, by what the answer to a request gave; None when out of memory
 abbrev pub cancelled_by : Request → Result (Option ℕ) NoMemory → Option ℕ
 cancelled_by request (Ok left) = left_for request.kind left
 cancelled_by request (Err e) = None

@@ -12,7 +12,7 @@ use ert_mail::Handed;
 /// Hands over the scheduler's expired timers until there is none, but so many at most. It answers how many messages
 /// were put into mailboxes, how many were thrown away, since their process has exited, and whether more timers wait.
 ///
-/// After want of memory those that weren't handed over stay in the list.
+/// If memory runs out, those that weren't handed over stay in the list.
 pub fn deliver_some<S: SchedSteps>(
     steps: &mut S,
     sched: u32,
@@ -26,15 +26,15 @@ pub fn deliver_some<S: SchedSteps>(
     let mut put = 0;
     let mut dropped = 0;
     'hands: while put + dropped < most {
-        let Some(fired) = steps.first_of_fired(sched) else {
+        let Some(expired) = steps.first_of_expired(sched) else {
             return Ok((put, dropped, false));
         };
-        match steps.hand_first(sched, &fired)? {
+        match steps.hand_first(sched, &expired)? {
             Handed::Put => put += 1,
             Handed::Dropped => dropped += 1,
         }
     }
-    let more = steps.first_of_fired(sched).is_some();
+    let more = steps.first_of_expired(sched).is_some();
     Ok((put, dropped, more))
 }
 
@@ -48,7 +48,7 @@ impl World {
     /// Lets so many timers at most of the scheduler's wheel expire that are due, and answers the time, in whole
     /// milliseconds since the start time, how many expired, and whether more are due.
     ///
-    /// Where more are due so many were tried: a timer that another thread cancelled counts too. After want of memory none
+    /// Where more are due so many were tried: a timer that another thread cancelled counts too. If memory runs out, none
     /// has expired.
     pub fn advance_some(&mut self, sched: u32, most: u32) -> Result<(u64, u32, bool), NoMemory>
         requires { sched < self.old.settings.schedulers }
@@ -58,21 +58,21 @@ impl World {
         ensures stays { Stays self.old self.new }
     {
         let part = &mut self.scheds[sched as usize];
-        let before = part.fired.len();
+        let before = part.expired.len();
         let (to, due) = self.wheels[sched as usize].advance_some(
             &self.desk,
             &mut self.pass,
             most,
-            &mut part.fired,
+            &mut part.expired,
         )?;
-        Ok((to, (part.fired.len() - before) as u32, due))
+        Ok((to, (part.expired.len() - before) as u32, due))
     }
 
     /// A turn of a scheduler (`turn`) in which so many timers at most expire, and so many messages at most are handed over.
     /// It tells whether more timers are due, or expired ones wait: the next turn goes on with them, in their order.
     ///
     /// Where it tells that there are none, the wheel holds no row that is due by the time of the advance. With 0 at most it
-    /// serves requests and tells what there is. After want of memory what was done stays done.
+    /// serves requests and tells what there is. If memory runs out, what was done stays done.
     pub fn turn_some(&mut self, sched: u32, most: u32) -> Result<(Turned, bool), NoMemory>
         requires { sched < self.old.settings.schedulers }
         ensures call { Goes self.old (λ way. TurnsSome self.old.settings way sched most result) self.new }
@@ -81,12 +81,12 @@ impl World {
         ensures stays { Stays self.old self.new }
     {
         let served = serve_all(self, sched)?;
-        let (to, fired, due) = self.advance_some(sched, most)?;
+        let (to, expired, due) = self.advance_some(sched, most)?;
         let (put, dropped, waits) = deliver_some(self, sched, most)?;
         let turned = Turned {
             served,
             to,
-            fired,
+            expired,
             put,
             dropped,
         };

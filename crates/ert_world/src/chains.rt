@@ -11,7 +11,7 @@ use ert_mail::Handed;
 
 /// Serves one request: that in the scheduler's hand, or the first of its inbox. False comes where there is none.
 ///
-/// After want of memory the request stays in the hand.
+/// If memory runs out, the request stays in the hand.
 #[inline(always)]
 pub fn serve<S: SchedSteps>(steps: &mut S, sched: u32) -> Result<bool, NoMemory>
     requires { S.acts steps.old sched }
@@ -44,7 +44,7 @@ pub fn serve_all<S: SchedSteps>(steps: &mut S, sched: u32) -> Result<u32, NoMemo
 /// Hands over the scheduler's expired timers until there is none, and answers how many messages were put into
 /// mailboxes and how many were thrown away, since their process has exited.
 ///
-/// After want of memory those that weren't handed over stay in the list.
+/// If memory runs out, those that weren't handed over stay in the list.
 #[inline(always)]
 pub fn deliver<S: SchedSteps>(steps: &mut S, sched: u32) -> Result<(u32, u32), NoMemory>
     requires { S.acts steps.old sched }
@@ -54,8 +54,8 @@ pub fn deliver<S: SchedSteps>(steps: &mut S, sched: u32) -> Result<(u32, u32), N
 {
     let mut put = 0;
     let mut dropped = 0;
-    while let Some(fired) = steps.first_of_fired(sched) {
-        match steps.hand_first(sched, &fired)? {
+    while let Some(expired) = steps.first_of_expired(sched) {
+        match steps.hand_first(sched, &expired)? {
             Handed::Put => put += 1,
             Handed::Dropped => dropped += 1,
         }
@@ -66,7 +66,7 @@ pub fn deliver<S: SchedSteps>(steps: &mut S, sched: u32) -> Result<(u32, u32), N
 /// A turn of a scheduler: it serves requests until there is none, 64 at most, lets due timers expire, and hands
 /// over all expired timers.
 ///
-/// After want of memory what was done stays done.
+/// If memory runs out, what was done stays done.
 pub fn turn<S: SchedSteps>(steps: &mut S, sched: u32) -> Result<Turned, NoMemory>
     requires { S.acts steps.old sched }
     ensures call { Grows (Turns (S.settings steps.old) (S.way (S.settings steps.old) (S.mark steps.old) sched) sched result) (S.history steps.old) (S.history steps.new) }
@@ -75,12 +75,12 @@ pub fn turn<S: SchedSteps>(steps: &mut S, sched: u32) -> Result<Turned, NoMemory
     ensures stays { S.stays steps.old steps.new }
 {
     let served = serve_all(steps, sched)?;
-    let (to, fired) = steps.advance_wheel(sched)?;
+    let (to, expired) = steps.advance_wheel(sched)?;
     let (put, dropped) = deliver(steps, sched)?;
     Ok(Turned {
         served,
         to,
-        fired,
+        expired,
         put,
         dropped,
     })

@@ -71,11 +71,11 @@ impl World {
 
     /// How many expired timers wait at all schedulers.
     fn waiting(&self) -> u64
-        ensures { result ≡ total (λ w. length (world_sched self.now w).fired) self.now.settings.schedulers }
+        ensures { result ≡ total (λ w. length (world_sched self.now w).expired) self.now.settings.schedulers }
     {
         let mut all = 0;
         for sched in 0..self.desk.settings().schedulers {
-            all += self.scheds[sched as usize].fired.len() as u64;
+            all += self.scheds[sched as usize].expired.len() as u64;
         }
         all
     }

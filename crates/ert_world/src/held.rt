@@ -22,9 +22,9 @@ impl World {
     /// How many expired timers of a scheduler wait to be handed over. No entry is made.
     pub fn expired(&self, sched: u32) -> u64
         requires { sched < self.now.settings.schedulers }
-        ensures { result ≡ length (world_sched self.now sched).fired }
+        ensures { result ≡ length (world_sched self.now sched).expired }
     {
-        self.scheds[sched as usize].fired.len() as u64
+        self.scheds[sched as usize].expired.len() as u64
     }
 
     /// How many messages wait in the mailbox of a process, also of one that has exited. No entry is made.

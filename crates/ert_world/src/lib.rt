@@ -27,7 +27,7 @@
 //! | `take` | caller 0 | takes the first message of a process | constant |
 //! | `take_some` | caller 0 | takes so many messages of a process at most | those messages |
 //! | `next_mail` | caller 0 | finds a process that hasn't exited and has mail | constant, amortized; the first one each process |
-//! | `monitor`, `demonitor`, `tell` | caller 0 | makes, removes and informs monitors of the time offset | the monitors of the process, 64 at most |
+//! | `monitor`, `demonitor`, `notify` | caller 0 | makes, removes and informs monitors of the time offset | the monitors of the process, 64 at most |
 //! | `serve` | a scheduler | answers the request in its hand, or else the first of its inbox | constant |
 //! | `advance` | a scheduler | lets the timers of its wheel expire that are due | those timers and the buckets that are visited |
 //! | `next_due` | | no entry: how early a timer of a wheel may be due | 64 timers at most, and where one was started late those that the next advance takes |
@@ -68,7 +68,7 @@
 //! of parts with locks of their own (`ert_service`).
 //!
 //! **Memory.** `start`, `room`, `cancel_timer`, `cancel_all`, `read_timer`, `take`, `take_some`, `exit`, `meet`, the
-//! calls on the clock and all calls of a seat take none. Where there is none, `seat`, `ask`, `monitor`, `tell` and
+//! calls on the clock and all calls of a seat take none. Where there is none, `seat`, `ask`, `monitor`, `notify` and
 //! the first `next_mail` change nothing, `advance` lets
 //! no timer expire, `serve` keeps the request in the hand, `deliver` keeps what wasn't handed over, and of a turn
 //! what was done stays done. So each of them can be made again. No call copies a part.

@@ -6,14 +6,14 @@ use ert_mail::{MonitorErr, Taken};
 
 impl World {
     ghost use Rattle.std.specs.Prelude.{◌≡◌, ◌<◌};
-    ghost use Rattle.ert_effects.specs.MailCalls.{Takes, Monitors, Demonitors, Tells};
+    ghost use Rattle.ert_effects.specs.MailCalls.{Takes, Monitors, Demonitors, Notifies};
     ghost use Rattle.ert_effects.specs.RequestCalls.{Asks, inbox_for};
     ghost use Rattle.ert_world.specs.Worlds.{Goes, By};
 
     /// Asks the scheduler of a timer to cancel or to read it (`erlang` module reference, `cancel_timer` and
     /// `read_timer`, option `async`). A reference of no wheel goes to the first scheduler.
     ///
-    /// After want of memory nothing has changed.
+    /// If memory runs out, nothing has changed.
     pub fn ask(&mut self, request: Request) -> Result<(), NoMemory>
         requires { request.reply_to < self.old.settings.processes }
         ensures call { Goes self.old (By self.old (λ g. Asks g 0 (inbox_for g request) request result)) self.new }
@@ -59,15 +59,15 @@ impl World {
         self.mails[process as usize].demonitor(&self.desk, &mut self.pass, CALLER, monitor)
     }
 
-    /// Tells a process the time offset by one message for each monitor to which it is news, and answers how
+    /// Notifies a process of the time offset by one message for each monitor to which it is news, and answers how
     /// many there were (ERTS User's Guide, "Time Warp Modes": `CHANGE` messages).
     ///
-    /// After want of memory nothing has changed.
-    pub fn tell(&mut self, process: u32) -> Result<u32, NoMemory>
+    /// If memory runs out, nothing has changed.
+    pub fn notify(&mut self, process: u32) -> Result<u32, NoMemory>
         requires { process < self.old.settings.processes }
-        ensures call { Goes self.old (By self.old (λ g. Tells g 0 process result)) self.new }
+        ensures call { Goes self.old (By self.old (λ g. Notifies g 0 process result)) self.new }
     {
         may_get_mail(&mut self.list, process);
-        self.mails[process as usize].tell(&self.desk, &mut self.pass, CALLER)
+        self.mails[process as usize].notify(&self.desk, &mut self.pass, CALLER)
     }
 }

@@ -1,5 +1,5 @@
 use ert_defs::Request;
-use ert_timers::FiredList;
+use ert_timers::ExpiredList;
 use std::alloc::Global;
 
 /// What a scheduler has: the request that it is about to answer, and its expired timers whose messages it
@@ -9,7 +9,7 @@ pub struct SchedPart {
     /// The number of the scheduler and of its wheel.
     pub wheel: u32,
     pub hand: Option<Request>,
-    pub fired: FiredList,
+    pub expired: ExpiredList,
 }
 
 impl SchedPart {
@@ -19,12 +19,12 @@ impl SchedPart {
     pub fn open(alloc: Global, wheel: u32) -> SchedPart
         ensures number { result.wheel ≡ wheel }
         ensures hand { result.hand ≡ None }
-        ensures fired { result.fired.rows ≡ [] }
+        ensures expired { result.expired.rows ≡ [] }
     {
         SchedPart {
             wheel,
             hand: None,
-            fired: FiredList::new(alloc),
+            expired: ExpiredList::new(alloc),
         }
     }
 
@@ -34,7 +34,7 @@ impl SchedPart {
         requires { self.old.hand ≡ None }
         ensures wheel { self.new.wheel ≡ self.old.wheel }
         ensures hand { self.new.hand ≡ got }
-        ensures fired { self.new.fired ≡ self.old.fired }
+        ensures expired { self.new.expired ≡ self.old.expired }
     {
         if got.is_some() {
             self.hand = got;

@@ -3,7 +3,7 @@ use crate::mailing::may_get_mail;
 use crate::steps::{CallerSteps, SchedSteps};
 use crate::turns::cancelled_left;
 use crate::world::{CALLER, World};
-use ert_defs::{Fired, NoMemory, Request};
+use ert_defs::{TimerRow, NoMemory, Request};
 use ert_mail::Handed;
 
 impl SchedSteps for World {
@@ -56,14 +56,14 @@ impl SchedSteps for World {
         self.advance(sched)
     }
 
-    fn first_of_fired(&self, sched: u32) -> Option<Fired> {
-        self.scheds[sched as usize].fired.first()
+    fn first_of_expired(&self, sched: u32) -> Option<TimerRow> {
+        self.scheds[sched as usize].expired.first()
     }
 
     #[inline(always)]
-    fn hand_first(&mut self, sched: u32, fired: &Fired) -> Result<Handed, NoMemory> {
-        let handed = self.hand_over(sched, fired)?;
-        self.reuse(fired.timer);
+    fn hand_first(&mut self, sched: u32, expired: &TimerRow) -> Result<Handed, NoMemory> {
+        let handed = self.hand_over(sched, expired)?;
+        self.reuse(expired.timer);
         Ok(handed)
     }
 

@@ -11,7 +11,7 @@ ghost use Rattle.ert_defs.specs.declared.entry.Entry.{Entry};
 ghost use Rattle.ert_defs.specs.declared.settings.Settings.{Settings};
 ghost use Rattle.ert_defs.specs.declared.settings.TheConstants.{MOST_SLOTS};
 
-use ert_defs::{Fired, NoMemory, Request};
+use ert_defs::{TimerRow, NoMemory, Request};
 use ert_mail::Handed;
 
 /// What makes the single steps of schedulers: a world, or a service with the seat of a scheduler.
@@ -65,19 +65,19 @@ pub trait SchedSteps {
         ensures stays { stays self.old self.new };
 
     /// The scheduler's first expired timer.
-    fn first_of_fired(&self, sched: u32) -> Option<Fired>
+    fn first_of_expired(&self, sched: u32) -> Option<TimerRow>
         requires { acts self.now sched }
-        ensures first { result ≡ first_of ((state (settings self.now) (history self.now)).scheds sched).fired }
+        ensures first { result ≡ first_of ((state (settings self.now) (history self.now)).scheds sched).expired }
         ensures legal { is_legal self.now }
-        ensures few { length ((state (settings self.now) (history self.now)).scheds sched).fired ≤ MOST_SLOTS };
+        ensures few { length ((state (settings self.now) (history self.now)).scheds sched).expired ≤ MOST_SLOTS };
 
     /// Hands over the scheduler's first expired timer.
-    fn hand_first(&mut self, sched: u32, fired: &Fired) -> Result<Handed, NoMemory>
+    fn hand_first(&mut self, sched: u32, expired: &TimerRow) -> Result<Handed, NoMemory>
         requires acts { acts self.old sched }
-        requires first { first_of ((state (settings self.old) (history self.old)).scheds sched).fired ≡ Some fired.now }
+        requires first { first_of ((state (settings self.old) (history self.old)).scheds sched).expired ≡ Some expired.now }
         ensures call { Grows (Hands (settings self.old) (way (settings self.old) (mark self.old) sched) sched result) (history self.old) (history self.new) }
         ensures legal { is_legal self.new }
-        ensures fired { OnOk result (((state (settings self.new) (history self.new)).scheds sched).fired ≡ others_of ((state (settings self.old) (history self.old)).scheds sched).fired) }
+        ensures expired { OnOk result (((state (settings self.new) (history self.new)).scheds sched).expired ≡ others_of ((state (settings self.old) (history self.old)).scheds sched).expired) }
         ensures stays { stays self.old self.new };
 
     ghost same_settings: { (a b : Self) → stays a b → settings b ≡ settings a };

@@ -5,7 +5,7 @@ ghost use Rattle.ert_world.specs.Worlds.{left_for};
 use crate::chains;
 use crate::mailing::may_get_mail;
 use crate::world::World;
-use ert_defs::{Fired, NoMemory, Request, RequestKind};
+use ert_defs::{TimerRow, NoMemory, Request, RequestKind};
 use ert_effects::Turned;
 use ert_mail::Handed;
 
@@ -23,7 +23,7 @@ impl World {
     /// Serves one request: that in the scheduler's hand, or the first of its inbox. False comes where there is
     /// none. Where it cancelled a timer, the wheel of that holds no row of it.
     ///
-    /// After want of memory the request stays in the hand.
+    /// If memory runs out, the request stays in the hand.
     pub fn serve(&mut self, sched: u32) -> Result<bool, NoMemory>
         requires { sched < self.old.settings.schedulers }
         ensures call { Goes self.old (λ way. Serves self.old.settings way sched result) self.new }
@@ -57,7 +57,7 @@ impl World {
     /// Lets every timer of the scheduler's wheel expire that is due, and answers the time, in whole
     /// milliseconds since the start time, and how many expired.
     ///
-    /// After want of memory none has expired. Else the wheel holds no row then that is due by that time.
+    /// If memory runs out, none has expired. Else the wheel holds no row then that is due by that time.
     pub fn advance(&mut self, sched: u32) -> Result<(u64, u32), NoMemory>
         requires { sched < self.old.settings.schedulers }
         ensures call { Goes self.old (λ way. AdvancesWheel self.old.settings way sched result) self.new }
@@ -65,9 +65,9 @@ impl World {
         ensures stays { Stays self.old self.new }
     {
         let part = &mut self.scheds[sched as usize];
-        let before = part.fired.len();
-        let to = self.wheels[sched as usize].advance(&self.desk, &mut self.pass, &mut part.fired)?;
-        Ok((to, (part.fired.len() - before) as u32))
+        let before = part.expired.len();
+        let to = self.wheels[sched as usize].advance(&self.desk, &mut self.pass, &mut part.expired)?;
+        Ok((to, (part.expired.len() - before) as u32))
     }
 
     /// How early a timer of the scheduler's wheel may be due, in whole milliseconds since the start time, as
@@ -88,7 +88,7 @@ impl World {
     /// Hands over the scheduler's expired timers until there is none, and answers how many messages were put
     /// into mailboxes and how many were thrown away, since their process has exited.
     ///
-    /// After want of memory those that weren't handed over stay in the list.
+    /// If memory runs out, those that weren't handed over stay in the list.
     pub fn deliver(&mut self, sched: u32) -> Result<(u32, u32), NoMemory>
         requires { sched < self.old.settings.schedulers }
         ensures call { Goes self.old (λ way. Delivers self.old.settings way sched result) self.new }
@@ -99,24 +99,24 @@ impl World {
 
     /// Hands over the scheduler's first expired timer.
     #[inline(always)]
-    pub(crate) fn hand_over(&mut self, sched: u32, fired: &Fired) -> Result<Handed, NoMemory>
+    pub(crate) fn hand_over(&mut self, sched: u32, expired: &TimerRow) -> Result<Handed, NoMemory>
         requires sched { sched < self.old.settings.schedulers }
-        requires first { first_of (world_sched self.old sched).fired ≡ Some fired.now }
+        requires first { first_of (world_sched self.old sched).expired ≡ Some expired.now }
         ensures call { Goes self.old (λ way. Hands self.old.settings way sched result) self.new }
         ensures stays { Stays self.old self.new }
-        ensures fired { OnOk result ((world_sched self.new sched).fired ≡ others_of (world_sched self.old sched).fired) }
-        ensures handed { OnOk result (IsHandedIn self.new fired.now.timer) }
+        ensures expired { OnOk result ((world_sched self.new sched).expired ≡ others_of (world_sched self.old sched).expired) }
+        ensures handed { OnOk result (IsHandedIn self.new expired.now.timer) }
     {
-        may_get_mail(&mut self.list, fired.dest);
-        let handed = self.mails[fired.dest as usize].deliver(&self.desk, &mut self.pass, fired)?;
-        self.scheds[sched as usize].fired.pop();
+        may_get_mail(&mut self.list, expired.dest);
+        let handed = self.mails[expired.dest as usize].deliver(&self.desk, &mut self.pass, expired)?;
+        self.scheds[sched as usize].expired.pop();
         Ok(handed)
     }
 
     /// A turn of a scheduler: it serves requests until there is none, 64 at most, lets due timers expire, and
     /// hands over all expired timers. Then the wheel holds no row that is due by the time of the advance.
     ///
-    /// After want of memory what was done stays done.
+    /// If memory runs out, what was done stays done.
     pub fn turn(&mut self, sched: u32) -> Result<Turned, NoMemory>
         requires { sched < self.old.settings.schedulers }
         ensures call { Goes self.old (λ way. Turns self.old.settings way sched result) self.new }

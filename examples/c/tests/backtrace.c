@@ -96,7 +96,7 @@ __attribute__((noinline, section("callers"))) static void calls(void) {
     STEPPED(ert_seat_read(&seat, &other, &number));
     STEPPED(ert_seat_cancel(&seat, &other, &number));
     STEPPED(ert_world_tick(&world, &later, 1, &moved));
-    STEPPED(ert_world_tell(&world, 0, &count));
+    STEPPED(ert_world_notify(&world, 0, &count));
     STEPPED(ert_world_turn(&world, 0, &turned));
     STEPPED(ert_world_take(&world, 0, &mail));
     STEPPED(ert_seat_system_time(&seat, &time));

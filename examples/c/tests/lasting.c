@@ -81,7 +81,7 @@ static void turn(void) {
     }
     IS(ert_world_turn(&world, 0, &turned), ERT_OK);
     IS(turned.to, now);
-    IS(turned.fired, due);
+    IS(turned.expired, due);
     IS(turned.put, due);
     for (; due > 0; due--) {
         IS(ert_world_take(&world, 0, &mail), ERT_OK);

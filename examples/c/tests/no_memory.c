@@ -1,5 +1,5 @@
 /*
- * Want of memory: each allocation fails in turn. Linked with --wrap=malloc and --wrap=realloc; the address
+ * Out of memory: each allocation fails in turn. Linked with --wrap=malloc and --wrap=realloc; the address
  * sanitizer tells at the end whether anything was lost.
  */
 #include <inttypes.h>
@@ -73,7 +73,7 @@ static int32_t turn(ert_world *world) {
     return ert_world_turn(world, 0, &turned);
 }
 
-/* A hub gives a shard, and a seat, after each want of memory: nothing of it is lost. */
+/* A hub gives a shard, and a seat, each time memory runs out: nothing of it is lost. */
 static void divide(void) {
     ert_settings divided = settings;
     ert_hub hub = ERT_INIT;

@@ -119,7 +119,7 @@ static void restarts(void) {
     IS(held(&world), 1);
     tick(&world, 79);
     IS(ert_world_turn(&world, 0, &turned), ERT_OK);
-    IS(turned.fired, 0);
+    IS(turned.expired, 0);
     tick(&world, 80);
     IS(ert_world_turn(&world, 0, &turned), ERT_OK);
     IS(turned.put, 1);
@@ -152,7 +152,7 @@ static void bounded_turns(void) {
     tick(&world, 5);
     IS(ert_world_turn_some(&world, 0, 0, &some), ERT_OK);
     IS(some.to, 5);
-    IS(some.fired, 0);
+    IS(some.expired, 0);
     IS(some.put, 0);
     IS(some.more, 1);
     for (uint32_t done = 0; done < TIMERS - 1; done += 3) {
@@ -160,7 +160,7 @@ static void bounded_turns(void) {
         IS(in_mailbox(&world, 0), done);
         IS(ert_world_turn_some(&world, 0, 3, &some), ERT_OK);
         IS(expired(&world), 0);
-        IS(some.fired, 3);
+        IS(some.expired, 3);
         IS(some.put, 3);
         IS(some.dropped, 0);
         IS(some.more, done + 3 < TIMERS - 1);
@@ -198,7 +198,7 @@ static void many_at_once(void) {
     for (uint32_t done = 0; done < MANY; done += PIECE) {
         IS(ert_world_turn_some(&world, 0, PIECE, &some), ERT_OK);
         IS(some.to, 5000);
-        IS(some.fired, PIECE);
+        IS(some.expired, PIECE);
         IS(some.put, PIECE);
         IS(some.more, done + PIECE < MANY);
         IS(held(&world), MANY - PIECE - done);
@@ -210,7 +210,7 @@ static void many_at_once(void) {
     }
     IS(ert_world_next_due(&world, 0, &due), ERT_EMPTY);
     IS(ert_world_turn_some(&world, 0, PIECE, &some), ERT_OK);
-    IS(some.fired, 0);
+    IS(some.expired, 0);
     IS(some.more, 0);
     IS(ert_world_close(&world), ERT_OK);
 }
@@ -236,7 +236,7 @@ static void late_ones_in_order(void) {
     tick(&world, 300000);
     for (uint32_t done = 0; done < COUNT; done += 1) {
         IS(ert_world_turn_some(&world, 0, 1, &some), ERT_OK);
-        IS(some.fired, 1);
+        IS(some.expired, 1);
         IS(some.put, 1);
         IS(some.more, done + 1 < COUNT);
         IS(ert_world_take(&world, 0, &mail), ERT_OK);
@@ -384,7 +384,7 @@ static void beside_a_seat(void) {
     IS(ert_world_restart(&world, &timer, &start), ERT_NO_TIMER);
     tick(&world, 5);
     IS(ert_world_turn(&world, 0, &turned), ERT_OK);
-    IS(turned.fired, 0);
+    IS(turned.expired, 0);
     IS(held(&world), 0);
     IS(ert_seat_close(&seat), ERT_OK);
     IS(ert_world_close(&world), ERT_OK);

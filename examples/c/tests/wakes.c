@@ -71,7 +71,7 @@ static uint32_t wake(void) {
     for (uint32_t left = turned.put; left > 0; left--) {
         IS(ert_world_take(&world, 0, &mail), ERT_OK);
     }
-    return turned.fired;
+    return turned.expired;
 }
 
 /* So many timers with one deadline, at the end of a wait that begins at a time: each comes then, and so soon. */
@@ -82,10 +82,10 @@ static void sleeps(int64_t begin, int64_t wait, uint32_t timers, int most) {
     for (uint32_t k = 0; k < timers; k++) {
         start(begin + wait);
     }
-    for (uint32_t fired = 0; fired < timers;) {
+    for (uint32_t expired = 0; expired < timers;) {
         uint32_t more = wake();
         IS(more == 0 || now == begin + wait, true);
-        fired += more;
+        expired += more;
         wakes += 1;
     }
     IS(now, begin + wait);
@@ -129,7 +129,7 @@ static void late_timers(void) {
     IS(ert_world_next_due(&world, 0, &due), ERT_OK);
     IS(due, 990);
     IS(ert_world_turn(&world, 0, &turned), ERT_OK);
-    IS(turned.fired, FEW + 2);
+    IS(turned.expired, FEW + 2);
     IS(ert_world_next_due(&world, 0, &due), ERT_OK);
     IS(due, 1001);
     IS(ert_world_close(&world), ERT_OK);

@@ -5,10 +5,10 @@ ghost use Rattle.ert_locks.specs.Hands.{hand_left, rows_left};
 use crate::locked::{Locked, meet};
 use crate::names::DeskName;
 use crate::seats::SchedSeat;
-use ert_defs::{Actor, Fired, NoMemory, Request};
+use ert_defs::{Actor, TimerRow, NoMemory, Request};
 use ert_mail::{Handed, MailPart};
 use ert_table::Desk;
-use ert_timers::FiredList;
+use ert_timers::ExpiredList;
 
 impl<L: DeskName> Locked<MailPart, L> {
     ghost use Rattle.std.specs.Prelude.{◌≡◌, Some, OnOk};
@@ -23,7 +23,7 @@ impl<L: DeskName> Locked<MailPart, L> {
     /// Answers the request in the hand of a scheduler, of which this mailbox's process is to get the answer,
     /// and empties the hand. It tells the whole milliseconds that were left of the timer.
     ///
-    /// After want of memory nothing has changed.
+    /// If memory runs out, nothing has changed.
     pub fn answer(
         &mut self,
         desk: &Desk,
@@ -48,31 +48,31 @@ impl<L: DeskName> Locked<MailPart, L> {
 
     /// Hands over the first expired timer of a scheduler, whose destination is this mailbox's process.
     ///
-    /// After want of memory nothing has changed.
+    /// If memory runs out, nothing has changed.
     pub fn hand_over(
         &mut self,
         desk: &Desk,
         seat: &mut SchedSeat<L>,
-        fired: &Fired,
+        expired: &TimerRow,
     ) -> Result<Handed, NoMemory>
         requires desk { IsDesk L.table L.settings desk.now }
-        requires own { self.old ≡ fired.now.dest }
-        requires first { first_of seat.old.part.fired.rows ≡ Some fired.now }
+        requires own { self.old ≡ expired.now.dest }
+        requires first { first_of seat.old.part.expired.rows ≡ Some expired.now }
         ensures same { self.new ≡ self.old }
         ensures number { seat.new.part.wheel ≡ seat.old.part.wheel }
-        ensures fired { OnOk result (seat.new.part.fired.rows ≡ others_of seat.old.part.fired.rows) }
+        ensures expired { OnOk result (seat.new.part.expired.rows ≡ others_of seat.old.part.expired.rows) }
         ensures call { FrontGrows (Hands L.settings (beside L.settings (Sched seat.old.part.wheel)) seat.old.part.wheel result) seat.old.pass seat.new.pass }
     {
         let wheel = seat.part.wheel;
         meet::<MailPart, L>(desk, &self.part, &mut self.pass, &mut seat.pass);
-        let handed = self.part.deliver(desk, &mut self.pass, fired);
-        drop_handed(&mut seat.part.fired, &handed);
+        let handed = self.part.deliver(desk, &mut self.pass, expired);
+        drop_handed(&mut seat.part.expired, &handed);
         seat.pass = self.pass.split(desk, Actor::Sched(wheel));
         handed
     }
 }
 
-/// What is in a scheduler's hand after its request was answered, or wasn't for want of memory.
+/// What is in a scheduler's hand after its request was answered, or wasn't because memory ran out.
 fn hand_after(hand: Option<Request>, left: &Result<Option<u64>, NoMemory>) -> Option<Request>
     ensures { result ≡ hand_left left.now hand }
 {
@@ -83,12 +83,12 @@ fn hand_after(hand: Option<Request>, left: &Result<Option<u64>, NoMemory>) -> Op
 }
 
 /// Drops the first expired timer, if it was handed over.
-fn drop_handed(fired: &mut FiredList, handed: &Result<Handed, NoMemory>)
-    ensures { fired.new.rows ≡ rows_left handed.now fired.old.rows }
+fn drop_handed(expired: &mut ExpiredList, handed: &Result<Handed, NoMemory>)
+    ensures { expired.new.rows ≡ rows_left handed.now expired.old.rows }
 {
     match handed {
         Ok(_) => {
-            fired.pop();
+            expired.pop();
         }
         Err(_) => {}
     }

@@ -71,7 +71,7 @@ impl WheelPart {
     ghost use Rattle.std.specs.FinSet as set;
     ghost use Rattle.std.specs.Prelude.{◌≡◌, ◌↔◌, ◌<◌, ◌≤◌, IfSome, IfNone, IsSome, IsTrue, ℕ, false, true, length, None};
     ghost use Rattle.ert_timers.specs.Parts.{slot_at, last_timer};
-    ghost use Rattle.ert_timers.specs.Changes.{CanTakeTimer, freed, picked, kept, dropped, let_go, given_back, reused, LostRow};
+    ghost use Rattle.ert_timers.specs.Changes.{MayBecomeFree, freed, picked, kept, dropped, let_go, given_back, reused, LostRow};
     ghost use Rattle.ert_timers.specs.Freeing.{IsHeld, IsLetGo};
     ghost use Rattle.ert_wheel.specs.Rows.{key_in};
 
@@ -87,7 +87,7 @@ impl WheelPart {
         ensures unchanged { IfNone result (self.new ≡ self.old) }
         ensures held { IfSome result (λ slot. set.contains self.old.free slot ≡ true) }
         ensures picked { IfSome result (λ slot. self.new ≡ picked self.old slot) }
-        ensures usable { IfSome result (CanTakeTimer self.new) }
+        ensures usable { IfSome result (MayBecomeFree self.new) }
     {
         let slot = self.free.pick()?;
         let above = self.wheel.value(slot).above();
@@ -200,7 +200,7 @@ impl WheelPart {
     /// the slot stays in the chain of that, and no chain of a process is read or written but for one link.
     #[inline(always)]
     pub(crate) fn keep(&mut self, slot: u32, start: &Start, next: Use) -> TimerRef
-        requires free { CanTakeTimer self.old slot }
+        requires free { MayBecomeFree self.old slot }
         requires dest { start.now.dest < self.old.processes }
         requires deadline { next.deadline ≤ 8796093022207 }
         requires few { self.old.arms < 9007199254740992 }

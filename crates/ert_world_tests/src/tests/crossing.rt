@@ -161,7 +161,7 @@ fn fit(rt: &impl Abort, counts: &Counts, answers: &Answers, totals: &Totals) {
         (cancelled, answers.cancelled.len() as u64),
         (delivered, totals.put),
         (dropped, totals.dropped),
-        (totals.fired, totals.put.saturating_add(totals.dropped)),
+        (totals.expired, totals.put.saturating_add(totals.dropped)),
         (expired, 0),
         (totals.served, answers.asked),
         (answers.answered, answers.asked),

@@ -11,7 +11,7 @@ const fn turn(to: u64, put: u32) -> Turn {
     Turn {
         served: 0,
         to,
-        fired: put,
+        expired: put,
         put,
         dropped: 0,
     }

@@ -48,10 +48,10 @@ fn go_on(rt: &impl Abort, service: &mut IntervalWorld, at: usize, step: &Step)
             let moved = service.tick(reading, false);
             same(rt, at, &moved.is_ok(), &true);
         }
-        Step::Turn(fired, armed) => {
+        Step::Turn(expired, armed) => {
             is_scheduler(rt, service.world(), 0);
             let turn = service.turn(0).map(counts);
-            same(rt, at, &turn, &Ok((fired, armed)));
+            same(rt, at, &turn, &Ok((expired, armed)));
         }
         Step::Firings(interval, timers) => {
             same(rt, at, &service.firings(interval).len(), &timers);
@@ -66,7 +66,7 @@ fn go_on(rt: &impl Abort, service: &mut IntervalWorld, at: usize, step: &Step)
 }
 
 fn counts(turn: IntervalTurn) -> (u32, u32) {
-    (turn.turned.fired, turn.armed)
+    (turn.turned.expired, turn.armed)
 }
 
 const CATCHES_UP: [Step; 11] = [

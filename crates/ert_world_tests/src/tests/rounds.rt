@@ -101,7 +101,7 @@ fn a_service_lasts(rt: HostRuntime) -> Result<(), NoMemory> {
     let (mut world, told) = try_out(&rt, rt.alloc(), &FOUR_SLOTS, Trial::Rounds)?;
     let mut totals = Totals::new();
     turn_all(&rt, &mut world, &mut totals)?;
-    same(&rt, 0, &totals.fired, &0);
+    same(&rt, 0, &totals.expired, &0);
     let cancelled = world.counts().cancelled;
     assert!(rt; matches!(told, Told::Started(started) if started == cancelled));
     Ok(())

@@ -99,7 +99,7 @@ fn call_one<L: DeskName, R: Wait + Abort>(
         Call::Demonitor(number, stood) => {
             same(rt, at, &service.demonitor(rt, seat, 0, number), &stood);
         }
-        Call::Tell(told) => same(rt, at, &service.tell(rt, seat, 0), &Ok(told)),
+        Call::Tell(told) => same(rt, at, &service.notify(rt, seat, 0), &Ok(told)),
         Call::Tick(sys, force, now, shift) => {
             let got = service.tick(rt, seat, Reading { mono: 0, sys }, force);
             same(rt, at, &got, &Ok(Moved { now, shift }));
@@ -134,7 +134,7 @@ fn work_one<L: DeskName, R: Wait + Abort>(
 ) {
     match *work {
         Work::Serve(served) => same(rt, at, &service.serve(rt, seat), &Ok(served)),
-        Work::Advance(to, fired) => same(rt, at, &service.advance(rt, seat), &Ok((to, fired))),
+        Work::Advance(to, expired) => same(rt, at, &service.advance(rt, seat), &Ok((to, expired))),
         Work::Deliver(put, dropped) => same(
             rt,
             at,
@@ -155,7 +155,7 @@ const FIRST_CALLS: [Call; 4] = [
 const IDLE: Turned = Turned {
     served: 0,
     to: 5,
-    fired: 0,
+    expired: 0,
     put: 0,
     dropped: 0,
 };

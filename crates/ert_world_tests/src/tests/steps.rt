@@ -91,9 +91,9 @@ pub(crate) fn make(rt: &impl Abort, world: &mut World, at: usize, one: Step) {
             is_process(rt, world, process);
             same(rt, at, &world.exit(process), &want);
         }
-        Step::Advance(to, fired) => {
+        Step::Advance(to, expired) => {
             is_scheduler(rt, world, 0);
-            same(rt, at, &world.advance(0), &Ok((to, fired)));
+            same(rt, at, &world.advance(0), &Ok((to, expired)));
         }
         Step::Deliver(put, dropped) => {
             is_scheduler(rt, world, 0);

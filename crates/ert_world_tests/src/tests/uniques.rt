@@ -1,6 +1,6 @@
 //! Unique integers of two passes, which draw in turn and at once.
 ghost use Rattle.std.specs.Prelude.{◌≡◌, IfOk};
-ghost use Rattle.ert_unique.specs.Passes.{passes_of, IsOpenedWith, AreAll};
+ghost use Rattle.ert_unique.specs.Passes.{passes_of, BelongsToUniques, AreAll};
 
 use ert_defs::NoMemory;
 use ert_unique::{UniquePass, Uniques};
@@ -20,10 +20,10 @@ enum Draw {
 
 /// Whether a call answers as wanted.
 fn answers(uniques: &Uniques, one: &mut UniquePass, two: &mut UniquePass, draw: Draw) -> bool
-    requires one { IsOpenedWith uniques.now one.old }
-    requires two { IsOpenedWith uniques.now two.old }
-    ensures one { IsOpenedWith uniques.now one.new }
-    ensures two { IsOpenedWith uniques.now two.new }
+    requires one { BelongsToUniques uniques.now one.old }
+    requires two { BelongsToUniques uniques.now two.old }
+    ensures one { BelongsToUniques uniques.now one.new }
+    ensures two { BelongsToUniques uniques.now two.new }
 {
     match draw {
         Draw::One(want) => uniques.monotonic(one) == Ok(want),
@@ -45,8 +45,8 @@ fn together(
     two: UniquePass,
 ) -> Result<Vec<UniquePass>, AllocError>
     requires two_passes { passes_of uniques.now ≡ 2 }
-    requires one { IsOpenedWith uniques.now one }
-    requires two { IsOpenedWith uniques.now two }
+    requires one { BelongsToUniques uniques.now one }
+    requires two { BelongsToUniques uniques.now two }
     ensures { IfOk result (λ passes. AreAll uniques.now passes.items) }
 {
     let mut passes = Vec::with_capacity(alloc, 2)?;
@@ -86,8 +86,8 @@ fn draw_many(
     uniques: &Uniques,
     mut pass: UniquePass,
 ) -> Result<(UniquePass, Vec<u64>), AllocError>
-    requires { IsOpenedWith uniques.now pass }
-    ensures { IfOk result (λ r. IsOpenedWith uniques.now r.0) }
+    requires { BelongsToUniques uniques.now pass }
+    ensures { IfOk result (λ r. BelongsToUniques uniques.now r.0) }
 {
     let mut numbers = Vec::with_capacity(alloc, 1_000)?;
     for _ in 0..1_000 {

@@ -74,7 +74,7 @@ impl Answers {
 #[derive(Drop)]
 pub(crate) struct Totals {
     pub(crate) served: u64,
-    pub(crate) fired: u64,
+    pub(crate) expired: u64,
     pub(crate) put: u64,
     pub(crate) dropped: u64,
 }
@@ -83,7 +83,7 @@ impl Totals {
     pub(crate) fn new() -> Totals {
         Totals {
             served: 0,
-            fired: 0,
+            expired: 0,
             put: 0,
             dropped: 0,
         }
@@ -92,7 +92,7 @@ impl Totals {
     /// Adds what another did.
     pub(crate) fn join(&mut self, other: &Totals) {
         self.served = self.served.saturating_add(other.served);
-        self.fired = self.fired.saturating_add(other.fired);
+        self.expired = self.expired.saturating_add(other.expired);
         self.put = self.put.saturating_add(other.put);
         self.dropped = self.dropped.saturating_add(other.dropped);
     }
@@ -100,7 +100,7 @@ impl Totals {
     /// Adds what a turn did.
     pub(crate) fn add(&mut self, turned: &Turned) {
         self.served = self.served.saturating_add(turned.served as u64);
-        self.fired = self.fired.saturating_add(turned.fired as u64);
+        self.expired = self.expired.saturating_add(turned.expired as u64);
         self.put = self.put.saturating_add(turned.put as u64);
         self.dropped = self.dropped.saturating_add(turned.dropped as u64);
     }

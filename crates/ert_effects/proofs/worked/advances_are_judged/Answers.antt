@@ -5,7 +5,7 @@ use Rattle.ert_effects.specs.Worked.{one, asked_at_once, missing}
 use Rattle.ert_defs.specs.Entries.{probe_entry, expire_entry, advanced_entry}
 use Rattle.ert_defs.specs.States.{state}
 use Rattle.ert_defs.specs.Timers.{Row, same_timer}
-use Rattle.ert_defs.proofs.FiredTimers.{row_named}
+use Rattle.ert_defs.proofs.ExpiredTimers.{row_named}
 use Rattle.ert_defs.specs.declared.timer.Kind.TheVariants.{Wrapped}
 use Rattle.ert_defs.specs.Worked.{timer}
 use Rattle.ert_defs.specs.declared.entry.Actor.TheVariants.{Sched}
@@ -29,7 +29,7 @@ returns-clause-expired c =
     record {
       now = pos 1000000;
       tries = (record { timer = timer; missed = None }) ∷ [];
-      fired = refl;
+      expired = refl;
       settled = (tt, tt);
       due = (due, tt);
       once = (tt, tt);
@@ -41,7 +41,7 @@ missed : HasAdvanced 0 (1, 0) (state one asked_at_once) (missing Cancelled)
 missed = record {
   now = pos 1000000;
   tries = (record { timer = timer; missed = Some (Some Cancelled) }) ∷ [];
-  fired = refl;
+  expired = refl;
   settled = (λ is. cc, tt);
   due = (due, tt);
   once = (tt, tt);

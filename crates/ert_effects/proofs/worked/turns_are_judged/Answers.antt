@@ -57,7 +57,7 @@ advanced : AdvancesWheel one (alone one) 0 (Ok (1, 1)) (asked_at_once ++ (servin
 advanced = record {
   now = pos 1000000;
   tries = (record { timer = timer; missed = None }) ∷ [];
-  fired = refl;
+  expired = refl;
   settled = (tt, tt);
   due = (record { row = row; stands = refl; due = lit≤ tt }, tt);
   once = (tt, tt);
@@ -72,7 +72,7 @@ delivered = record {
     before = delivering;
     after = [];
     joined = refl;
-    one = record { fired = row; first = refl; step = refl };
+    one = record { expired = row; first = refl; step = refl };
     other = refl;
   };
   put_is = refl;
@@ -97,7 +97,7 @@ returns-clause-undelivered c turns =
     let whole : ((asked_at_once ++ turns.before) ++ rest.before) ++ rest.after ≡ asked_at_once ++ turning =
     append_assoc (asked_at_once ++ turns.before) rest.before rest.after
     ∙ (append_assoc asked_at_once turns.before (rest.before ++ rest.after) ∙ ap (λ x. asked_at_once ++ x) (sym parts)) in
-    let waits : ((state one (asked_at_once ++ turning)).scheds 0).fired ≡ row ∷ [] = refl in
-    let none : ((state one (asked_at_once ++ turning)).scheds 0).fired ≡ [] =
-    subst (λ h. ((state one h).scheds 0).fired ≡ []) whole rest.other.done in
+    let waits : ((state one (asked_at_once ++ turning)).scheds 0).expired ≡ row ∷ [] = refl in
+    let none : ((state one (asked_at_once ++ turning)).scheds 0).expired ≡ [] =
+    subst (λ h. ((state one h).scheds 0).expired ≡ []) whole rest.other.done in
     absurd (cc (sym waits ∙ none))

@@ -24,7 +24,7 @@ returns-clause-ended c =
     record {
       now = pos 1000000;
       tries = (record { timer = timer; missed = None }) ∷ [];
-      fired = refl;
+      expired = refl;
       settled = (tt, tt);
       due = (due, tt);
       once = (tt, tt);
@@ -46,4 +46,4 @@ no_hit [] hit few = absurd (omega (arith, hit))
 no_hit (t ∷ tries) hit few = absurd (omega (arith, few))
 
 pub returns-clause-too_many : goal.returns-clause-too_many
-returns-clause-too_many c = λ is. no_hit is.tries is.fired is.tried
+returns-clause-too_many c = λ is. no_hit is.tries is.expired is.tried

@@ -1,9 +1,9 @@
-use Rattle.ert_defs.proofs.FiredLists.{fired_timers, delivery_hits, drop_hits}
+use Rattle.ert_defs.proofs.ExpiredLists.{expired_timers, delivery_hits, drop_hits}
 use Rattle.ert_laws.proofs.Waiting.{expired_timers_wait}
 use Rattle.ert_laws.proofs.lives.expired_timers_wait_once.Goals as goal
 
 pub returns-clause-lists : goal.returns-clause-lists
-returns-clause-lists c = fired_timers
+returns-clause-lists c = expired_timers
 
 pub returns-clause-waiting : goal.returns-clause-waiting
 returns-clause-waiting c = expired_timers_wait

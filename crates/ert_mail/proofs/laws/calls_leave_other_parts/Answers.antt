@@ -1,4 +1,4 @@
-use Rattle.ert_mail.proofs.LawsHold.{takes_only, monitors_only, demonitors_only, tells_only, handing_only, answers_only, asks_only, picks_only}
+use Rattle.ert_mail.proofs.LawsHold.{takes_only, monitors_only, demonitors_only, notifies_only, handing_only, answers_only, asks_only, picks_only}
 use Rattle.ert_mail.proofs.laws.calls_leave_other_parts.Goals as goal
 
 pub returns-clause-takes : goal.returns-clause-takes
@@ -10,8 +10,8 @@ returns-clause-monitors c = monitors_only
 pub returns-clause-demonitors : goal.returns-clause-demonitors
 returns-clause-demonitors c = demonitors_only
 
-pub returns-clause-tells : goal.returns-clause-tells
-returns-clause-tells c = tells_only
+pub returns-clause-notifies : goal.returns-clause-notifies
+returns-clause-notifies c = notifies_only
 
 pub returns-clause-hands_over : goal.returns-clause-hands_over
 returns-clause-hands_over c = handing_only

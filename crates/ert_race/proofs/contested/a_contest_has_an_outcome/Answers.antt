@@ -85,10 +85,10 @@ at_once = record {
 }
 
 abbrev turned : Turned
-turned = record { served = 0; to = 0; fired = 0; put = 0; dropped = 0 }
+turned = record { served = 0; to = 0; expired = 0; put = 0; dropped = 0 }
 
 advances : HasAdvanced 0 (0, 0) (state two_callers ((contest_start ++ contested) ++ pick_entry 0 None ∷ [])) (look_entry (Sched 0) (pos 0) ∷ advanced_entry 0 0 ∷ [])
-advances = record { now = pos 0; tries = []; fired = refl; settled = tt; due = tt; once = tt; entries = refl }
+advances = record { now = pos 0; tries = []; expired = refl; settled = tt; due = tt; once = tt; entries = refl }
 
 turns : Turns two_callers (alone two_callers) 0 (Ok turned) (contest_start ++ contested) closing_turn
 turns = record {

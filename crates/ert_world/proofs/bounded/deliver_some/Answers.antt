@@ -38,7 +38,7 @@ returns-in_default-clause-call g c =
     let i = c.hands.invariant in
     delivered_some s.settings s.history s.mark s.way c.args.sched c.args.most c.hands.put c.hands.dropped false i.handed.hows a b
     (g.met.S.SchedSteps.same_settings a b i.stays, g.met.S.SchedSteps.same_mark a b i.stays) i.handed.made i.handed.put_is i.handed.dropped_is i.few
-    (none_left c.args.most (length i.handed.hows) _ (sym c.first_of_fired.ensures.first ∙ c.in_default.is))
+    (none_left c.args.most (length i.handed.hows) _ (sym c.first_of_expired.ensures.first ∙ c.in_default.is))
 
 pub returns-in_err-hand_first-clause-call : goal.returns-in_err-hand_first-clause-call
 returns-in_err-hand_first-clause-call g c =
@@ -59,4 +59,4 @@ returns-clause-call g c =
     delivered_some s.settings s.history s.mark s.way c.args.sched c.args.most c.hands.put c.hands.dropped c.is_some-more.result i.handed.hows a b
     (g.met.S.SchedSteps.same_settings a b i.stays, g.met.S.SchedSteps.same_mark a b i.stays) i.handed.made i.handed.put_is i.handed.dropped_is i.few
     (are_left c.is_some-more.result c.args.most (length i.handed.hows) _ (at_most i.handed.hows c.args.most c.hands.put c.hands.dropped i.handed.put_is i.handed.dropped_is i.few c.hands-test.false)
-    (c.is_some-more.ensures ∙ ap is_some c.first_of_fired-2.ensures.first))
+    (c.is_some-more.ensures ∙ ap is_some c.first_of_expired-2.ensures.first))

@@ -4,14 +4,14 @@ use Rattle.ert_world.proofs.Chained.{HasHanded}
 use Rattle.ert_world.proofs.chains.deliver.Given as goal
 use Rattle.ert_defs.specs.declared.settings.TheConstants.{MOST_SLOTS}
 
-abbrev pub invariant-loop-fired : goal.invariant-loop-fired
-invariant-loop-fired g l =
+abbrev pub invariant-loop-expired : goal.invariant-loop-expired
+invariant-loop-expired g l =
     let s = g.S.SchedSteps in
     record {
       handed : HasHanded s.settings s.history s.mark s.way l.fn.sched l.put l.dropped l.fn.steps l.steps;
-      few : (l.put + l.dropped ≡ 0) ⊎ ((l.put + l.dropped) + length ((state (s.settings l.steps) (s.history l.steps)).scheds l.fn.sched).fired ≤ MOST_SLOTS);
+      few : (l.put + l.dropped ≡ 0) ⊎ ((l.put + l.dropped) + length ((state (s.settings l.steps) (s.history l.steps)).scheds l.fn.sched).expired ≤ MOST_SLOTS);
       stays : s.stays l.fn.steps l.steps;
     }
 
-abbrev pub decreases-loop-fired : goal.decreases-loop-fired
-decreases-loop-fired g l = length ((state (g.S.SchedSteps.settings l.steps) (g.S.SchedSteps.history l.steps)).scheds l.fn.sched).fired
+abbrev pub decreases-loop-expired : goal.decreases-loop-expired
+decreases-loop-expired g l = length ((state (g.S.SchedSteps.settings l.steps) (g.S.SchedSteps.history l.steps)).scheds l.fn.sched).expired

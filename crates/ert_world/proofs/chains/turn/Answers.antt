@@ -21,7 +21,7 @@ returns-in_err-put-clause-call g c =
     let d = c.advance_wheel.new.self in
     let result : c.from_residual-in_err-put.result ≡ Err c.in_err-put.field-0.0 = search rules in
     rw result (turn_undelivered s.settings s.history s.mark s.way c.args.sched a b d c.deliver.new.steps
-    c.in_ok-served.served (c.in_ok-to.to, c.in_ok-to.fired) c.in_err-put.field-0.0
+    c.in_ok-served.served (c.in_ok-to.to, c.in_ok-to.expired) c.in_err-put.field-0.0
     (g.met.S.SchedSteps.same_settings a b c.serve_all.ensures.stays, g.met.S.SchedSteps.same_mark a b c.serve_all.ensures.stays)
     (g.met.S.SchedSteps.same_settings b d c.advance_wheel.ensures.stays, g.met.S.SchedSteps.same_mark b d c.advance_wheel.ensures.stays)
     c.in_ok-served.ensures.call c.in_ok-to.ensures.call c.in_err-put.ensures.call)
@@ -33,7 +33,7 @@ returns-clause-call g c =
     let b = c.serve_all.new.steps in
     let d = c.advance_wheel.new.self in
     turned s.settings s.history s.mark s.way c.args.sched a b d c.deliver.new.steps
-    (record { served = c.in_ok-served.served; to = c.in_ok-to.to; fired = c.in_ok-to.fired; put = c.in_ok-put.put; dropped = c.in_ok-put.dropped })
+    (record { served = c.in_ok-served.served; to = c.in_ok-to.to; expired = c.in_ok-to.expired; put = c.in_ok-put.put; dropped = c.in_ok-put.dropped })
     (g.met.S.SchedSteps.same_settings a b c.serve_all.ensures.stays, g.met.S.SchedSteps.same_mark a b c.serve_all.ensures.stays)
     (g.met.S.SchedSteps.same_settings b d c.advance_wheel.ensures.stays, g.met.S.SchedSteps.same_mark b d c.advance_wheel.ensures.stays)
     c.in_ok-served.ensures.call c.in_ok-to.ensures.call c.in_ok-put.ensures.call

@@ -7,5 +7,5 @@ use Rattle.ert_judge.proofs.judge.Judge.can_deliver.Goals as goal
 
 pub returns-in-Some : goal.returns-in-Some
 returns-in-Some c =
-    first_so (sched_at c.args.self.now.schedulers c.args.timer.wheel).fired c.args.timer c.in-Some.row c.eq-in-Some.result
+    first_so (sched_at c.args.self.now.schedulers c.args.timer.wheel).expired c.args.timer c.in-Some.row c.eq-in-Some.result
     (λ (row : Row). c.args.with ≡ Some (MailOf row.dest)) c.in-Some.ensures (search rules) (search rules)

@@ -6,5 +6,5 @@ use Rattle.ert_judge.proofs.judge.Judge.can_drop.Goals as goal
 
 pub returns-in-Some : goal.returns-in-Some
 returns-in-Some c =
-    first_so (sched_at c.args.self.now.schedulers c.args.timer.wheel).fired c.args.timer c.in-Some.row c.has_exited.result
+    first_so (sched_at c.args.self.now.schedulers c.args.timer.wheel).expired c.args.timer c.in-Some.row c.has_exited.result
     (λ (row : Row). exited_at c.args.self.now.exits row.dest ≡ true) c.in-Some.ensures (search rules) (search rules)

@@ -2,7 +2,7 @@ use Rattle.std.proofs.Common.{◌≡◌, refl, subst, ◌∙◌}
 use Rattle.ert_effects.specs.RequestCalls.{Picks}
 use Rattle.ert_defs.specs.States.{state}
 use Rattle.ert_defs.specs.declared.entry.Actor.TheVariants.{Inbox, Sched}
-use Rattle.ert_mail.specs.Inboxes.{after_pick}
+use Rattle.ert_mail.specs.Inboxes.{sched_after_pick}
 use Rattle.ert_locks.proofs.Lent.{lent_out}
 use Rattle.ert_locks.proofs.Own.{picks_have}
 use Rattle.ert_locks.proofs.Scheds.{seat_after}
@@ -15,11 +15,11 @@ invariant_of-seat g c =
     let t = settings_of c.args.desk.now in
     let n = c.args.seat.now.part.wheel in
     let has = c.meet.ensures.sched c.args.seat.now.part c.args.seat.now.fits in
-    let made = subst (λ m. (state t (front_of c.pick-got.new.pass)).scheds m ≡ after_pick c.pick-got.result ((state t (front_of c.meet.new.pass)).scheds m))
+    let made = subst (λ m. (state t (front_of c.pick-got.new.pass)).scheds m ≡ sched_after_pick c.pick-got.result ((state t (front_of c.meet.new.pass)).scheds m))
     (c.self.view_is ∙ c.requires.own) c.pick-got.ensures.sched in
     record {
-      fits = seat_after c.args.desk.now (after_pick c.pick-got.result ((state t (front_of c.meet.new.pass)).scheds n)) c.requires.desk c.split.ensures.new_belongs
-          c.split.ensures.actor c.split.ensures.new_front c.args.seat.now.fits.stands.in_range made refl has.fired;
+      fits = seat_after c.args.desk.now (sched_after_pick c.pick-got.result ((state t (front_of c.meet.new.pass)).scheds n)) c.requires.desk c.split.ensures.new_belongs
+          c.split.ensures.actor c.split.ensures.new_front c.args.seat.now.fits.stands.in_range made refl has.expired;
     }
 
 pub returns-clause-call : goal.returns-clause-call

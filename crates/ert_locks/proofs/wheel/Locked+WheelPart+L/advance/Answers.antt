@@ -13,13 +13,13 @@ use Rattle.ert_locks.proofs.wheel.Locked+WheelPart+L.advance.Goals.{After-len-af
 use Rattle.ert_locks.proofs.wheel.Locked+WheelPart+L.advance.Goals as goal
 
 done : (g : Over) (c : After-len-after g) → Advanced (settings_of c.args.desk.now) c.len-after.result c.len-before.result c.advance-to.result c.args.seat.now.part
-    (record c.args.seat.now.part { fired = c.advance-to.new.fired }) (view_of c.meet.new.pass) (view_of c.advance-to.new.pass)
+    (record c.args.seat.now.part { expired = c.advance-to.new.expired }) (view_of c.meet.new.pass) (view_of c.advance-to.new.pass)
 done g c =
     let t = settings_of c.args.desk.now in
     let p = c.args.seat.now.part in
-    let told = subst (λ m. IsAdvanced t (view_of c.meet.new.pass) m c.advance-to.result p.fired c.advance-to.new.fired (view_of c.advance-to.new.pass))
+    let told = subst (λ m. IsAdvanced t (view_of c.meet.new.pass) m c.advance-to.result p.expired c.advance-to.new.expired (view_of c.advance-to.new.pass))
     (c.self.view_is ∙ c.requires.own) c.advance-to.ensures.call in
-    advanced t c.len-after.result c.len-before.result c.advance-to.result p (record p { fired = c.advance-to.new.fired }) (view_of c.meet.new.pass) (view_of c.advance-to.new.pass)
+    advanced t c.len-after.result c.len-before.result c.advance-to.result p (record p { expired = c.advance-to.new.expired }) (view_of c.meet.new.pass) (view_of c.advance-to.new.pass)
     c.args.desk.now.checked.counts.slots_high (has_user (c.meet.ensures.meets (Sched p.wheel) c.args.seat.now.fits.sits)) (c.meet.ensures.sched p c.args.seat.now.fits)
     told c.len-after.ensures c.len-before.ensures
 
@@ -31,7 +31,7 @@ invariant_of-seat g c =
     let done = done g (goal.at.invariant_of-seat g c).After-len-after in
     record {
       fits = seat_after c.args.desk.now ((state (settings_of c.args.desk.now) (front_of c.advance-to.new.pass)).scheds c.args.seat.now.part.wheel) c.requires.desk
-          c.split.ensures.new_belongs c.split.ensures.actor c.split.ensures.new_front c.args.seat.now.fits.stands.in_range refl done.hand done.fired;
+          c.split.ensures.new_belongs c.split.ensures.actor c.split.ensures.new_front c.args.seat.now.fits.stands.in_range refl done.hand done.expired;
     }
 
 pub returns-clause-call : goal.returns-clause-call

@@ -12,7 +12,7 @@ invariant_of-self c =
     let b = c.self.inside in
     let s = share_of b.number b.from b.to in
     let parts = shard_parts_of b.wheel b.inbox b.sched b.mails.items b.list in
-    let x : SchedPart = record { wheel = b.sched.wheel; hand = b.sched.hand; fired = c.advance.new.fired } in
+    let x : SchedPart = record { wheel = b.sched.wheel; hand = b.sched.hand; expired = c.advance.new.expired } in
     (did_at c.deref.ensures (advance_refused c.args.self.now c.deref.result.now b.pass c.advance.new.pass s c.in_err-to.field-0.0 parts c.advance.new.self x
     (has_at c.deref.ensures c.self.view_is c.self.invariant) c.advance.ensures.belongs c.advance.ensures.number c.advance.ensures.stands c.advance.ensures.loses c.in_err-to.ensures.call refl refl)).fit
 
@@ -21,7 +21,7 @@ returns-in_err-to c =
     let b = c.self.inside in
     let s = share_of b.number b.from b.to in
     let parts = shard_parts_of b.wheel b.inbox b.sched b.mails.items b.list in
-    let x : SchedPart = record { wheel = b.sched.wheel; hand = b.sched.hand; fired = c.advance.new.fired } in
+    let x : SchedPart = record { wheel = b.sched.wheel; hand = b.sched.hand; expired = c.advance.new.expired } in
     let result : c.from_residual.result ≡ Err c.in_err-to.field-0.0 = search rules in
     rw result (record {
       call = (did_at c.deref.ensures (advance_refused c.args.self.now c.deref.result.now b.pass c.advance.new.pass s c.in_err-to.field-0.0 parts c.advance.new.self x
@@ -33,7 +33,7 @@ pub overflow_cast-result : goal.overflow_cast-result
 overflow_cast-result c =
     let g = settings_of c.deref.result.now in
     let few = advance_fits g c.self.inside.wheel.number c.in_ok-to.to c.len.result c.len-before.result
-    c.self.inside.sched.fired c.advance.new.fired (view_of c.self.inside.pass) (view_of c.advance.new.pass)
+    c.self.inside.sched.expired c.advance.new.expired (view_of c.self.inside.pass) (view_of c.advance.new.pass)
     c.deref.result.now.checked.counts.slots_high c.in_ok-to.ensures.call c.len.ensures c.len-before.ensures in
     omega (arith, few.1)
 
@@ -42,7 +42,7 @@ invariant_of-self-2 c =
     let b = c.self.inside in
     let s = share_of b.number b.from b.to in
     let parts = shard_parts_of b.wheel b.inbox b.sched b.mails.items b.list in
-    let x : SchedPart = record { wheel = b.sched.wheel; hand = b.sched.hand; fired = c.advance.new.fired } in
+    let x : SchedPart = record { wheel = b.sched.wheel; hand = b.sched.hand; expired = c.advance.new.expired } in
     (did_at c.deref.ensures (advance_ok c.args.self.now c.deref.result.now b.pass c.advance.new.pass s c.in_ok-to.to c.len.result c.len-before.result parts c.advance.new.self x
     (has_at c.deref.ensures c.self.view_is c.self.invariant) c.advance.ensures.belongs c.advance.ensures.number c.advance.ensures.stands c.advance.ensures.loses c.in_ok-to.ensures.call refl refl c.len.ensures c.len-before.ensures)).fit
 
@@ -51,7 +51,7 @@ returns c =
     let b = c.self.inside in
     let s = share_of b.number b.from b.to in
     let parts = shard_parts_of b.wheel b.inbox b.sched b.mails.items b.list in
-    let x : SchedPart = record { wheel = b.sched.wheel; hand = b.sched.hand; fired = c.advance.new.fired } in
+    let x : SchedPart = record { wheel = b.sched.wheel; hand = b.sched.hand; expired = c.advance.new.expired } in
     record {
       call = (did_at c.deref.ensures (advance_ok c.args.self.now c.deref.result.now b.pass c.advance.new.pass s c.in_ok-to.to c.len.result c.len-before.result parts c.advance.new.self x
           (has_at c.deref.ensures c.self.view_is c.self.invariant) c.advance.ensures.belongs c.advance.ensures.number c.advance.ensures.stands c.advance.ensures.loses c.in_ok-to.ensures.call refl refl c.len.ensures c.len-before.ensures)).steps;

@@ -12,7 +12,7 @@ invariant_of-self c =
     let b = c.self.inside in
     let s = share_of b.number b.from b.to in
     let parts = shard_parts_of b.wheel b.inbox b.sched b.mails.items b.list in
-    let x : SchedPart = record { wheel = b.sched.wheel; hand = b.sched.hand; fired = c.advance_some.new.fired } in
+    let x : SchedPart = record { wheel = b.sched.wheel; hand = b.sched.hand; expired = c.advance_some.new.expired } in
     (did_at c.deref.ensures (some_refused c.args.self.now c.deref.result.now b.pass c.advance_some.new.pass s c.args.most c.in_err-to.field-0.0 parts c.advance_some.new.self x
     (has_at c.deref.ensures c.self.view_is c.self.invariant) c.advance_some.ensures.belongs c.advance_some.ensures.number c.advance_some.ensures.stands
     c.advance_some.ensures.loses c.in_err-to.ensures.call refl refl)).fit
@@ -22,7 +22,7 @@ returns-in_err-to-clause-call c =
     let b = c.self.inside in
     let s = share_of b.number b.from b.to in
     let parts = shard_parts_of b.wheel b.inbox b.sched b.mails.items b.list in
-    let x : SchedPart = record { wheel = b.sched.wheel; hand = b.sched.hand; fired = c.advance_some.new.fired } in
+    let x : SchedPart = record { wheel = b.sched.wheel; hand = b.sched.hand; expired = c.advance_some.new.expired } in
     let result : c.from_residual.result ≡ Err c.in_err-to.field-0.0 = search rules in
     rw result (did_at c.deref.ensures (some_refused c.args.self.now c.deref.result.now b.pass c.advance_some.new.pass s c.args.most c.in_err-to.field-0.0 parts c.advance_some.new.self x
     (has_at c.deref.ensures c.self.view_is c.self.invariant) c.advance_some.ensures.belongs c.advance_some.ensures.number c.advance_some.ensures.stands
@@ -33,8 +33,8 @@ overflow_cast-result c =
     let g = settings_of c.deref.result.now in
     let is = c.in_ok-to.ensures.call in
     let few = count_fits g c.self.inside.wheel.number c.len.result c.len-before.result is.gained
-    c.self.inside.sched.fired c.advance_some.new.fired (view_of c.self.inside.pass) (view_of c.advance_some.new.pass)
-    c.deref.result.now.checked.counts.slots_high is.call.call.legal is.fired is.waits c.len.ensures c.len-before.ensures in
+    c.self.inside.sched.expired c.advance_some.new.expired (view_of c.self.inside.pass) (view_of c.advance_some.new.pass)
+    c.deref.result.now.checked.counts.slots_high is.call.call.legal is.expired is.waits c.len.ensures c.len-before.ensures in
     omega (arith, few.1)
 
 pub invariant_of-self-2 : goal.invariant_of-self-2
@@ -42,7 +42,7 @@ invariant_of-self-2 c =
     let b = c.self.inside in
     let s = share_of b.number b.from b.to in
     let parts = shard_parts_of b.wheel b.inbox b.sched b.mails.items b.list in
-    let x : SchedPart = record { wheel = b.sched.wheel; hand = b.sched.hand; fired = c.advance_some.new.fired } in
+    let x : SchedPart = record { wheel = b.sched.wheel; hand = b.sched.hand; expired = c.advance_some.new.expired } in
     (did_at c.deref.ensures (some_ok c.args.self.now c.deref.result.now b.pass c.advance_some.new.pass s c.args.most c.in_ok-to.to c.len.result c.len-before.result c.in_ok-to.due parts
     c.advance_some.new.self x (has_at c.deref.ensures c.self.view_is c.self.invariant) c.advance_some.ensures.belongs c.advance_some.ensures.number c.advance_some.ensures.stands
     c.advance_some.ensures.loses c.in_ok-to.ensures.call refl refl c.len.ensures c.len-before.ensures)).fit
@@ -52,7 +52,7 @@ returns-clause-call c =
     let b = c.self.inside in
     let s = share_of b.number b.from b.to in
     let parts = shard_parts_of b.wheel b.inbox b.sched b.mails.items b.list in
-    let x : SchedPart = record { wheel = b.sched.wheel; hand = b.sched.hand; fired = c.advance_some.new.fired } in
+    let x : SchedPart = record { wheel = b.sched.wheel; hand = b.sched.hand; expired = c.advance_some.new.expired } in
     (did_at c.deref.ensures (some_ok c.args.self.now c.deref.result.now b.pass c.advance_some.new.pass s c.args.most c.in_ok-to.to c.len.result c.len-before.result c.in_ok-to.due parts
     c.advance_some.new.self x (has_at c.deref.ensures c.self.view_is c.self.invariant) c.advance_some.ensures.belongs c.advance_some.ensures.number c.advance_some.ensures.stands
     c.advance_some.ensures.loses c.in_ok-to.ensures.call refl refl c.len.ensures c.len-before.ensures)).steps

@@ -120,7 +120,7 @@ forget-requires-clause-stands c =
     let request = c.args.request.now in
     let home : IsHome s request.reply_to = subst (λ (o : Owned). IsHome o.share request.reply_to) (sym c.self.view_is) c.requires.home in
     let has : Has c.args.self.now c.deref.result.now b.pass s parts = has_at c.deref.ensures c.self.view_is c.self.invariant in
-    let x : SchedPart = record { wheel = b.sched.wheel; hand = None; fired = b.sched.fired } in
+    let x : SchedPart = record { wheel = b.sched.wheel; hand = None; expired = b.sched.expired } in
     let now = shard_parts_of b.wheel b.inbox x (slice_set b.mails.items (request.reply_to - b.from) c.answer.new.self) c.may_get_mail.new.list in
     let done = answered_now c.args.self.now c.deref.result.now b.pass c.answer.new.pass s parts c.may_get_mail.new.list c.index_mut-mail.result.now c.answer.new.self request
     c.in_ok-left.left x has c.answer.ensures.belongs home c.index_mut-mail.ensures.value c.answer.ensures.process c.answer.ensures.stands c.in_ok-left.ensures.call
@@ -159,7 +159,7 @@ invariant_of-self-then-has_cancelled c =
     let request = c.args.request.now in
     let home : IsHome s request.reply_to = subst (λ (o : Owned). IsHome o.share request.reply_to) (sym c.self.view_is) c.requires.home in
     let has : Has c.args.self.now c.deref.result.now b.pass s parts = has_at c.deref.ensures c.self.view_is c.self.invariant in
-    let x : SchedPart = record { wheel = b.sched.wheel; hand = None; fired = b.sched.fired } in
+    let x : SchedPart = record { wheel = b.sched.wheel; hand = None; expired = b.sched.expired } in
     let now = shard_parts_of b.wheel b.inbox x (slice_set b.mails.items (request.reply_to - b.from) c.answer.new.self) c.may_get_mail.new.list in
     let done = answered_now c.args.self.now c.deref.result.now b.pass c.answer.new.pass s parts c.may_get_mail.new.list c.index_mut-mail.result.now c.answer.new.self request
     c.in_ok-left.left x has c.answer.ensures.belongs home c.index_mut-mail.ensures.value c.answer.ensures.process c.answer.ensures.stands c.in_ok-left.ensures.call
@@ -175,7 +175,7 @@ invariant_of-self-else-has_cancelled c =
     let request = c.args.request.now in
     let home : IsHome s request.reply_to = subst (λ (o : Owned). IsHome o.share request.reply_to) (sym c.self.view_is) c.requires.home in
     let has : Has c.args.self.now c.deref.result.now b.pass s parts = has_at c.deref.ensures c.self.view_is c.self.invariant in
-    let x : SchedPart = record { wheel = b.sched.wheel; hand = None; fired = b.sched.fired } in
+    let x : SchedPart = record { wheel = b.sched.wheel; hand = None; expired = b.sched.expired } in
     let now = shard_parts_of b.wheel b.inbox x (slice_set b.mails.items (request.reply_to - b.from) c.answer.new.self) c.may_get_mail.new.list in
     let done = answered_now c.args.self.now c.deref.result.now b.pass c.answer.new.pass s parts c.may_get_mail.new.list c.index_mut-mail.result.now c.answer.new.self request
     c.in_ok-left.left x has c.answer.ensures.belongs home c.index_mut-mail.ensures.value c.answer.ensures.process c.answer.ensures.stands c.in_ok-left.ensures.call
@@ -190,7 +190,7 @@ returns-then-has_cancelled-clause-call c =
     let request = c.args.request.now in
     let home : IsHome s request.reply_to = subst (λ (o : Owned). IsHome o.share request.reply_to) (sym c.self.view_is) c.requires.home in
     let has : Has c.args.self.now c.deref.result.now b.pass s parts = has_at c.deref.ensures c.self.view_is c.self.invariant in
-    let x : SchedPart = record { wheel = b.sched.wheel; hand = None; fired = b.sched.fired } in
+    let x : SchedPart = record { wheel = b.sched.wheel; hand = None; expired = b.sched.expired } in
     let now = shard_parts_of b.wheel b.inbox x (slice_set b.mails.items (request.reply_to - b.from) c.answer.new.self) c.may_get_mail.new.list in
     let done = answered_now c.args.self.now c.deref.result.now b.pass c.answer.new.pass s parts c.may_get_mail.new.list c.index_mut-mail.result.now c.answer.new.self request
     c.in_ok-left.left x has c.answer.ensures.belongs home c.index_mut-mail.ensures.value c.answer.ensures.process c.answer.ensures.stands c.in_ok-left.ensures.call
@@ -206,7 +206,7 @@ returns-else-has_cancelled-clause-call c =
     let request = c.args.request.now in
     let home : IsHome s request.reply_to = subst (λ (o : Owned). IsHome o.share request.reply_to) (sym c.self.view_is) c.requires.home in
     let has : Has c.args.self.now c.deref.result.now b.pass s parts = has_at c.deref.ensures c.self.view_is c.self.invariant in
-    let x : SchedPart = record { wheel = b.sched.wheel; hand = None; fired = b.sched.fired } in
+    let x : SchedPart = record { wheel = b.sched.wheel; hand = None; expired = b.sched.expired } in
     let now = shard_parts_of b.wheel b.inbox x (slice_set b.mails.items (request.reply_to - b.from) c.answer.new.self) c.may_get_mail.new.list in
     let done = answered_now c.args.self.now c.deref.result.now b.pass c.answer.new.pass s parts c.may_get_mail.new.list c.index_mut-mail.result.now c.answer.new.self request
     c.in_ok-left.left x has c.answer.ensures.belongs home c.index_mut-mail.ensures.value c.answer.ensures.process c.answer.ensures.stands c.in_ok-left.ensures.call

@@ -2,19 +2,19 @@ use Rattle.std.proofs.Common.{◌≡◌, ◌⊎◌, ◌≤◌, ◌+◌, List, le
 use Rattle.ert_effects.specs.Chains.{puts, drops}
 use Rattle.ert_effects.specs.declared.answers.Handed.{Handed}
 use Rattle.ert_shard.proofs.Deliveries.{Handing}
-use Rattle.ert_shard.specs.Turning.{fired_of}
+use Rattle.ert_shard.specs.Turning.{shard_expired}
 use Rattle.ert_shard.proofs.shard.Shard.deliver.Given as goal
 use Rattle.ert_defs.specs.declared.settings.TheConstants.{MOST_SLOTS}
 
-abbrev pub invariant-loop-fired : goal.invariant-loop-fired
-invariant-loop-fired l =
+abbrev pub invariant-loop-expired : goal.invariant-loop-expired
+invariant-loop-expired l =
     record {
       hows : List Handed;
       handing : Handing l.fn.self hows l.self;
       put_is : l.put ≡ puts hows;
       dropped_is : l.dropped ≡ drops hows;
-      few : (l.put + l.dropped ≡ 0) ⊎ ((l.put + l.dropped) + length (fired_of l.self) ≤ MOST_SLOTS);
+      few : (l.put + l.dropped ≡ 0) ⊎ ((l.put + l.dropped) + length (shard_expired l.self) ≤ MOST_SLOTS);
     }
 
-abbrev pub decreases-loop-fired : goal.decreases-loop-fired
-decreases-loop-fired l = length (fired_of l.self)
+abbrev pub decreases-loop-expired : goal.decreases-loop-expired
+decreases-loop-expired l = length (shard_expired l.self)

@@ -4,7 +4,7 @@ use Rattle.ert_effects.specs.Chains.{Hands, puts, drops}
 use Rattle.ert_effects.specs.declared.answers.Handed.TheVariants.{Put, Dropped}
 use Rattle.ert_shard.proofs.Deliveries.{one_handed, some_handed, some_unhanded}
 use Rattle.ert_shard.specs.Shards.{ShardSteps}
-use Rattle.ert_shard.specs.Turning.{fired_of}
+use Rattle.ert_shard.specs.Turning.{shard_expired}
 use Rattle.ert_world.proofs.Bounding.{at_most, are_left, none_left}
 use Rattle.ert_world.proofs.Chained.{puts_more, drops_more}
 use Rattle.ert_shard.proofs.shard.Shard.deliver_some.Goals as goal
@@ -39,8 +39,8 @@ pub returns-in_default : goal.returns-in_default
 returns-in_default c =
     let b = c.hands.self in
     let i = c.hands.invariant in
-    some_handed c.args.self.now b c.args.most c.hands.put c.hands.dropped false i.hows i.handing c.first_of_fired.ensures.legal i.put_is i.dropped_is i.few
-    (none_left c.args.most (length i.hows) (fired_of b) (sym c.first_of_fired.ensures.first ∙ c.in_default.is))
+    some_handed c.args.self.now b c.args.most c.hands.put c.hands.dropped false i.hows i.handing c.first_of_expired.ensures.legal i.put_is i.dropped_is i.few
+    (none_left c.args.most (length i.hows) (shard_expired b) (sym c.first_of_expired.ensures.first ∙ c.in_default.is))
 
 pub returns-in_err-hand_first : goal.returns-in_err-hand_first
 returns-in_err-hand_first c =
@@ -53,6 +53,6 @@ pub returns : goal.returns
 returns c =
     let b = c.hands.self in
     let i = c.hands.invariant in
-    some_handed c.args.self.now b c.args.most c.hands.put c.hands.dropped c.is_some-more.result i.hows i.handing c.first_of_fired-2.ensures.legal i.put_is i.dropped_is i.few
-    (are_left c.is_some-more.result c.args.most (length i.hows) (fired_of b) (at_most i.hows c.args.most c.hands.put c.hands.dropped i.put_is i.dropped_is i.few c.hands-test.false)
-    (c.is_some-more.ensures ∙ ap is_some c.first_of_fired-2.ensures.first))
+    some_handed c.args.self.now b c.args.most c.hands.put c.hands.dropped c.is_some-more.result i.hows i.handing c.first_of_expired-2.ensures.legal i.put_is i.dropped_is i.few
+    (are_left c.is_some-more.result c.args.most (length i.hows) (shard_expired b) (at_most i.hows c.args.most c.hands.put c.hands.dropped i.put_is i.dropped_is i.few c.hands-test.false)
+    (c.is_some-more.ensures ∙ ap is_some c.first_of_expired-2.ensures.first))

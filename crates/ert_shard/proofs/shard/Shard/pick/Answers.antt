@@ -12,7 +12,7 @@ pub invariant_of-self : goal.invariant_of-self
 invariant_of-self c =
     let b = c.self.inside in
     let s = share_of b.number b.from b.to in
-    let x : SchedPart = record { wheel = b.sched.wheel; hand = c.pick-got.result; fired = b.sched.fired } in
+    let x : SchedPart = record { wheel = b.sched.wheel; hand = c.pick-got.result; expired = b.sched.expired } in
     (picked c.args.self.now c.deref.result.now _ b.pass c.pick-got.new.pass s (shard_parts_of b.wheel b.inbox b.sched b.mails.items b.list) c.pick-got.new.self c.pick-got.result x
     c.deref.ensures c.self.view_is c.self.invariant c.pick-got.ensures.belongs c.pick-got.ensures.wheel c.pick-got.ensures.stands c.pick-got.ensures.call c.pick-got.ensures.sched refl refl refl).fit
 
@@ -20,7 +20,7 @@ pub returns-clause-call : goal.returns-clause-call
 returns-clause-call c =
     let b = c.self.inside in
     let s = share_of b.number b.from b.to in
-    let x : SchedPart = record { wheel = b.sched.wheel; hand = c.pick-got.result; fired = b.sched.fired } in
+    let x : SchedPart = record { wheel = b.sched.wheel; hand = c.pick-got.result; expired = b.sched.expired } in
     (picked c.args.self.now c.deref.result.now _ b.pass c.pick-got.new.pass s (shard_parts_of b.wheel b.inbox b.sched b.mails.items b.list) c.pick-got.new.self c.pick-got.result x
     c.deref.ensures c.self.view_is c.self.invariant c.pick-got.ensures.belongs c.pick-got.ensures.wheel c.pick-got.ensures.stands c.pick-got.ensures.call c.pick-got.ensures.sched refl refl refl).steps
 

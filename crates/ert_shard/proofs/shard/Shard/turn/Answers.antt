@@ -19,7 +19,7 @@ pub returns-in_err-put : goal.returns-in_err-put
 returns-in_err-put c =
     let result : c.from_residual-in_err-put.result ≡ Err c.in_err-put.field-0.0 = search rules in
     rw result (record {
-      call = turn_undelivered c.args.self.now c.serve_all.new.self c.advance.new.self c.deliver.new.self c.in_ok-served.served (c.in_ok-to.to, c.in_ok-to.fired) c.in_err-put.field-0.0
+      call = turn_undelivered c.args.self.now c.serve_all.new.self c.advance.new.self c.deliver.new.self c.in_ok-served.served (c.in_ok-to.to, c.in_ok-to.expired) c.in_err-put.field-0.0
           c.in_ok-served.ensures c.in_ok-to.ensures.call c.in_err-put.ensures;
       passed = tt;
     })
@@ -27,7 +27,7 @@ returns-in_err-put c =
 pub returns : goal.returns
 returns c = record {
   call = turned c.args.self.now c.serve_all.new.self c.advance.new.self c.deliver.new.self
-      (record { served = c.in_ok-served.served; to = c.in_ok-to.to; fired = c.in_ok-to.fired; put = c.in_ok-put.put; dropped = c.in_ok-put.dropped })
+      (record { served = c.in_ok-served.served; to = c.in_ok-to.to; expired = c.in_ok-to.expired; put = c.in_ok-put.put; dropped = c.in_ok-put.dropped })
       c.in_ok-served.ensures c.in_ok-to.ensures.call c.in_ok-put.ensures;
   passed = passed_on c.advance.new.self.wheel c.deliver.new.self.wheel c.in_ok-to.to c.in_ok-put.ensures.rows c.in_ok-to.ensures.passed;
 }

@@ -20,14 +20,14 @@ returns-in_err-to-clause-call c =
 pub returns-in_err-put-clause-call : goal.returns-in_err-put-clause-call
 returns-in_err-put-clause-call c =
     let result : c.from_residual-in_err-put.result ≡ Err c.in_err-put.field-0.0 = search rules in
-    rw result (some_undelivered c.args.most c.args.self.now c.serve_all.new.self c.advance_some.new.self c.deliver_some.new.self c.in_ok-served.served (c.in_ok-to.to, c.in_ok-to.fired, c.in_ok-to.due) c.in_err-put.field-0.0
+    rw result (some_undelivered c.args.most c.args.self.now c.serve_all.new.self c.advance_some.new.self c.deliver_some.new.self c.in_ok-served.served (c.in_ok-to.to, c.in_ok-to.expired, c.in_ok-to.due) c.in_err-put.field-0.0
     c.in_ok-served.ensures c.in_ok-to.ensures.call c.in_err-put.ensures)
 
 pub returns-then-due-clause-call : goal.returns-then-due-clause-call
 returns-then-due-clause-call c =
     let a = c.args.self.now in
     let e = c.deliver_some.new.self in
-    let t : Turn = record { served = c.in_ok-served.served; to = c.in_ok-to.to; fired = c.in_ok-to.fired; put = c.in_ok-put.put; dropped = c.in_ok-put.dropped } in
+    let t : Turn = record { served = c.in_ok-served.served; to = c.in_ok-to.to; expired = c.in_ok-to.expired; put = c.in_ok-put.put; dropped = c.in_ok-put.dropped } in
     subst (λ (more : Bool). ShardSteps a (λ way. TurnsUpTo a.settings way a.share c.args.most (Ok (t, more))) e)
     (ap (λ (due : Bool). due || c.in_ok-put.waits) c.if-due.true ∙ sym c.if-due.true)
     (turned_up_to c.args.most a c.serve_all.new.self c.advance_some.new.self e t c.in_ok-to.due c.in_ok-put.waits c.in_ok-served.ensures c.in_ok-to.ensures.call c.in_ok-put.ensures)
@@ -36,7 +36,7 @@ pub returns-else-due-clause-call : goal.returns-else-due-clause-call
 returns-else-due-clause-call c =
     let a = c.args.self.now in
     let e = c.deliver_some.new.self in
-    let t : Turn = record { served = c.in_ok-served.served; to = c.in_ok-to.to; fired = c.in_ok-to.fired; put = c.in_ok-put.put; dropped = c.in_ok-put.dropped } in
+    let t : Turn = record { served = c.in_ok-served.served; to = c.in_ok-to.to; expired = c.in_ok-to.expired; put = c.in_ok-put.put; dropped = c.in_ok-put.dropped } in
     subst (λ (more : Bool). ShardSteps a (λ way. TurnsUpTo a.settings way a.share c.args.most (Ok (t, more))) e)
     (ap (λ (due : Bool). due || c.in_ok-put.waits) c.if-due.false)
     (turned_up_to c.args.most a c.serve_all.new.self c.advance_some.new.self e t c.in_ok-to.due c.in_ok-put.waits c.in_ok-served.ensures c.in_ok-to.ensures.call c.in_ok-put.ensures)

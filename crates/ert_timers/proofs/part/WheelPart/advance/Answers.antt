@@ -27,7 +27,7 @@ pub returns-clause-call : goal.returns-clause-call
 returns-clause-call c =
     let tried = c.in_ok-to.ensures.call in
     has_expired (settings_of c.args.desk.now) (view_of c.args.pass.now) c.args.self.now c.try_due.new.self c.number.result c.in_ok-to.to
-    c.args.fired.now c.try_due.new.fired (view_of c.try_due.new.pass) (view_of c.load_time.new.self) (c.number.ensures ∙ tried.number) tried
+    c.args.expired.now c.try_due.new.expired (view_of c.try_due.new.pass) (view_of c.load_time.new.self) (c.number.ensures ∙ tried.number) tried
     c.load_time.ensures.step c.requires.holds
 
 pub returns-clause-passed : goal.returns-clause-passed

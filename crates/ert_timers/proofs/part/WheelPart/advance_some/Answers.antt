@@ -22,7 +22,7 @@ try_some-requires-clause-looked c =
 pub returns-then-try_some-clause-call : goal.returns-then-try_some-clause-call
 returns-then-try_some-clause-call c =
     stopped_some (settings_of c.args.desk.now) (view_of c.args.pass.now) c.args.self.now c.try_some.new.self c.number.result c.args.most c.look_down-to.result
-    c.args.fired.now c.reserve.new.self c.try_some.new.fired (view_of c.look_down-to.new.pass) (view_of c.try_some.new.pass) c.number.ensures
+    c.args.expired.now c.reserve.new.self c.try_some.new.expired (view_of c.look_down-to.new.pass) (view_of c.try_some.new.pass) c.number.ensures
     c.reserve.ensures.rows c.look_down-to.ensures.looks c.requires.holds c.if-try_some.ensures.call
 
 pub load_time-requires-clause-may : goal.load_time-requires-clause-may
@@ -58,16 +58,16 @@ returns-clause-call c =
     let number : c.number-2.result ≡ c.args.self.now.number =
     c.number-2.ensures ∙ (ap (λ (p : Part). p.number) c.go_on.ensures ∙ some.done.number) in
     ended_some g (view_of c.args.pass.now) c.args.self.now c.try_some.new.self c.number.result c.args.most to
-    c.args.fired.now c.reserve.new.self c.try_some.new.fired (view_of c.look_down-to.new.pass) w c.number.ensures
+    c.args.expired.now c.reserve.new.self c.try_some.new.expired (view_of c.look_down-to.new.pass) w c.number.ensures
     c.reserve.ensures.rows c.look_down-to.ensures.looks c.requires.holds c.go_on.new.self x c.go_on.ensures some
     (subst (λ n. Appends g w (advanced_entry n to) x) number c.load_time.ensures.step)
 
 pub returns-then-try_some-clause-fewer : goal.returns-then-try_some-clause-fewer
 returns-then-try_some-clause-fewer c =
     loses_some (settings_of c.args.desk.now) (view_of c.look_down-to.new.pass) c.args.self.now c.try_some.new.self c.try_some.new.self c.look_down-to.result c.args.most true
-    c.reserve.new.self c.try_some.new.fired (view_of c.try_some.new.pass) c.if-try_some.ensures.call refl
+    c.reserve.new.self c.try_some.new.expired (view_of c.try_some.new.pass) c.if-try_some.ensures.call refl
 
 pub returns-clause-fewer : goal.returns-clause-fewer
 returns-clause-fewer c =
     loses_some (settings_of c.args.desk.now) (view_of c.look_down-to.new.pass) c.args.self.now c.try_some.new.self c.go_on.new.self c.look_down-to.result c.args.most false
-    c.reserve.new.self c.try_some.new.fired (view_of c.try_some.new.pass) c.if-try_some.ensures.call (ap (λ (p : Part). p.keys) c.go_on.ensures)
+    c.reserve.new.self c.try_some.new.expired (view_of c.try_some.new.pass) c.if-try_some.ensures.call (ap (λ (p : Part). p.keys) c.go_on.ensures)

@@ -16,14 +16,14 @@ settle-hit-requires-clause-row c =
 
 pub returns-then-not-hit-clause-call : goal.returns-then-not-hit-clause-call
 returns-then-not-hit-clause-call c =
-    expired_from (settings_of c.args.desk.now) (view_of c.args.pass.now) c.args.self.now c.let_go.new.self c.args.row c.args.fired.now
-    c.args.fired.now (view_of c.settle-hit.new.self) c.number.result c.timer-timer.result c.settle-hit.result false c.number.ensures c.timer-timer.ensures
+    expired_from (settings_of c.args.desk.now) (view_of c.args.pass.now) c.args.self.now c.let_go.new.self c.args.row c.args.expired.now
+    c.args.expired.now (view_of c.settle-hit.new.self) c.number.result c.timer-timer.result c.settle-hit.result false c.number.ensures c.timer-timer.ensures
     c.if-not-hit.true c.requires.stands c.requires.held c.requires.holds c.settle-hit.ensures.step c.settle-hit.ensures.settled c.let_go.ensures
-    (sym (append-nil c.args.fired.now.rows)) (omega arith)
+    (sym (append-nil c.args.expired.now.rows)) (omega arith)
 
 pub returns-clause-call : goal.returns-clause-call
 returns-clause-call c =
-    expired_from (settings_of c.args.desk.now) (view_of c.args.pass.now) c.args.self.now c.let_go.new.self c.args.row c.args.fired.now
+    expired_from (settings_of c.args.desk.now) (view_of c.args.pass.now) c.args.self.now c.let_go.new.self c.args.row c.args.expired.now
     c.push.new.self (view_of c.settle-hit.new.self) c.number.result c.timer-timer.result c.settle-hit.result true c.number.ensures c.timer-timer.ensures
     c.if-not-hit.false c.requires.stands c.requires.held c.requires.holds c.settle-hit.ensures.step c.settle-hit.ensures.settled c.let_go.ensures
     c.push.ensures.rows c.push.ensures.room

@@ -15,7 +15,7 @@ pub loop-row-init : goal.loop-row-init
 loop-row-init c = record {
   belongs = c.requires.belongs;
   holds = c.requires.holds;
-  call = expires_none (settings_of c.args.desk.now) (view_of c.args.pass.now) c.args.self.now c.args.to c.args.due.now c.args.fired.now
+  call = expires_none (settings_of c.args.desk.now) (view_of c.args.pass.now) c.args.self.now c.args.to c.args.due.now c.args.expired.now
       c.requires.ready;
 }
 
@@ -64,7 +64,7 @@ loop-row-preserved c =
       holds = still_held (view_of c.loop-row.pass) (view_of c.expire.new.pass) c.loop-row.self.number c.expire.new.self.number
           c.loop-row.invariant.holds one.step.actors (ap (λ (p : Part). p.number) one.part);
       call = expires_more g (view_of c.args.pass.now) c.args.self.now c.loop-row.self c.expire.new.self c.args.to due n (get_or due n none)
-          c.args.fired.now c.loop-row.fired c.expire.new.fired (view_of c.loop-row.pass) (view_of c.expire.new.pass)
+          c.args.expired.now c.loop-row.expired c.expire.new.expired (view_of c.loop-row.pass) (view_of c.expire.new.pass)
           c.loop-row.invariant.call c.loop-row.invariant.holds.sched (next_row due n none c.loop-row-test.true)
           c.loop-row.invariant.holds.wheel one;
     }
@@ -82,9 +82,9 @@ returns-clause-call c =
     let u = view_of c.loop-row.pass in
     let due = c.args.due.now in
     let all : c.loop-row.row-index ≡ length due = omega (arith, c.loop-row-test.false, c.loop-row.invariant.call) in
-    subst (λ (q : Part). ExpiresSome g v c.args.self.now q c.args.to due (length due) c.args.fired.now c.loop-row.fired u) (sym c.go_on.ensures)
-    (expires_gone_on g v c.args.self.now c.loop-row.self c.args.to due (length due) c.args.fired.now c.loop-row.fired u
-    (subst (λ n. ExpiresSome g v c.args.self.now c.loop-row.self c.args.to due n c.args.fired.now c.loop-row.fired u) all c.loop-row.invariant.call))
+    subst (λ (q : Part). ExpiresSome g v c.args.self.now q c.args.to due (length due) c.args.expired.now c.loop-row.expired u) (sym c.go_on.ensures)
+    (expires_gone_on g v c.args.self.now c.loop-row.self c.args.to due (length due) c.args.expired.now c.loop-row.expired u
+    (subst (λ n. ExpiresSome g v c.args.self.now c.loop-row.self c.args.to due n c.args.expired.now c.loop-row.expired u) all c.loop-row.invariant.call))
 
 pub returns-clause-on : goal.returns-clause-on
 returns-clause-on c = omega (arith, ap (λ (q : Part). q.passed) c.go_on.ensures, c.requires.few)

@@ -7,5 +7,5 @@ abbrev pub invariant-loop-row : goal.invariant-loop-row
 invariant-loop-row l = record {
   belongs : Belongs l.desk l.pass;
   holds : HoldsSched (view_of l.pass) l.self.number;
-  call : ExpiresSome (settings_of l.desk) (view_of l.initial.pass) l.initial.self l.self l.to l.due l.row-index l.initial.fired l.fired (view_of l.pass);
+  call : ExpiresSome (settings_of l.desk) (view_of l.initial.pass) l.initial.self l.self l.to l.due l.row-index l.initial.expired l.expired (view_of l.pass);
 }

@@ -1,5 +1,5 @@
 use Rattle.std.proofs.Common.{◌≡◌, ◌+◌, ◌<◌, List, length, Option, refl, sym, ap, subst, ◌∙◌, set, arith}
-use Rattle.ert_timers.specs.Changes.{CanTakeTimer, slot_for}
+use Rattle.ert_timers.specs.Changes.{MayBecomeFree, slot_for}
 use Rattle.ert_timers.specs.Owners.{MayJoin, Joins}
 use Rattle.ert_timers.specs.Parts.{Part, AreFieldsFit, slot_at, unused}
 use Rattle.ert_timers.specs.contracts.part.WheelPart.{the_view}
@@ -41,7 +41,7 @@ invariant_of-self c =
     let p = c.self.inside in
     let seen : Part = the_view p in
     let k = c.args.slot in
-    let free = subst (λ (q : Part). CanTakeTimer q k) (sym c.self.view_is) c.requires.free in
+    let free = subst (λ (q : Part). MayBecomeFree q k) (sym c.self.view_is) c.requires.free in
     let dest = subst (λ (q : Part). c.args.start.now.dest < q.processes) (sym c.self.view_is) c.requires.dest in
     let read : slot_at p.wheel.values k ≡ c.value-last.result = get_or_from_slice_get p.wheel.values k c.value-last.result unused c.value-last.ensures in
     let start = c.args.start.now in

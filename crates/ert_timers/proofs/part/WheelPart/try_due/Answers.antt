@@ -15,7 +15,7 @@ go_on-requires c = none_left c.args.self.now c.look_down-to.result c.if-is_idle.
 pub returns-then-is_idle-clause-call : goal.returns-then-is_idle-clause-call
 returns-then-is_idle-clause-call c =
     has_idled (settings_of c.args.desk.now) (view_of c.args.pass.now) c.args.self.now c.go_on.new.self c.number.result c.look_down-to.result
-    c.args.fired.now (view_of c.look_down-to.new.pass) c.number.ensures c.go_on.ensures c.look_down-to.ensures.looks c.if-is_idle.ensures
+    c.args.expired.now (view_of c.look_down-to.new.pass) c.number.ensures c.go_on.ensures c.look_down-to.ensures.looks c.if-is_idle.ensures
     c.requires.stands c.requires.holds
 
 pub returns-then-is_idle-clause-on : goal.returns-then-is_idle-clause-on
@@ -41,15 +41,15 @@ pub returns-clause-call : goal.returns-clause-call
 returns-clause-call c =
     let due = c.deref.result.now in
     has_tried (settings_of c.args.desk.now) (view_of c.args.pass.now) c.args.self.now c.find_due.new.self c.expire_all.new.self
-    c.keep_list.new.self c.number.result c.look_down-to.result due (length due) c.args.fired.now c.find_due.new.fired c.expire_all.new.fired
+    c.keep_list.new.self c.number.result c.look_down-to.result due (length due) c.args.expired.now c.find_due.new.expired c.expire_all.new.expired
     (view_of c.look_down-to.new.pass) (view_of c.expire_all.new.pass) c.number.ensures c.find_due.ensures.part c.keep_list.ensures
-    c.find_due.ensures.fired c.look_down-to.ensures.looks c.expire_all.ensures.call (omega arith) c.requires.holds
+    c.find_due.ensures.expired c.look_down-to.ensures.looks c.expire_all.ensures.call (omega arith) c.requires.holds
 
 pub returns-in_err-due-clause-call : goal.returns-in_err-due-clause-call
 returns-in_err-due-clause-call c =
     let g = settings_of c.args.desk.now in
     let v = view_of c.args.pass.now in
     let u = view_of c.look_down-to.new.pass in
-    when_none g v c.args.self.now c.find_due.new.self c.from_residual.result c.args.fired.now c.find_due.new.fired u c.from_residual.ensures.0
-    (λ e. has_not_tried g v c.args.self.now c.find_due.new.self c.number.result c.look_down-to.result e c.args.fired.now c.find_due.new.fired u
-    c.requires.stands c.requires.holds c.number.ensures c.find_due.ensures.part c.look_down-to.ensures.looks c.find_due.ensures.fired)
+    when_none g v c.args.self.now c.find_due.new.self c.from_residual.result c.args.expired.now c.find_due.new.expired u c.from_residual.ensures.0
+    (λ e. has_not_tried g v c.args.self.now c.find_due.new.self c.number.result c.look_down-to.result e c.args.expired.now c.find_due.new.expired u
+    c.requires.stands c.requires.holds c.number.ensures c.find_due.ensures.part c.look_down-to.ensures.looks c.find_due.ensures.expired)

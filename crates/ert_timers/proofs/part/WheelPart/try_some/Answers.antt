@@ -18,8 +18,8 @@ loop-row-init c =
     record {
       belongs = c.requires.belongs;
       holds = c.requires.holds;
-      call = subst (λ n. TriesRows g v c.args.self.now c.args.self.now c.args.to n c.args.fired.now c.args.fired.now v) (sym none)
-          (tries_none g v c.args.self.now c.args.to c.args.fired.now c.requires.looked.stands.legal);
+      call = subst (λ n. TriesRows g v c.args.self.now c.args.self.now c.args.to n c.args.expired.now c.args.expired.now v) (sym none)
+          (tries_none g v c.args.self.now c.args.to c.args.expired.now c.requires.looked.stands.legal);
       looked = c.requires.looked;
       few = omega arith;
       room = c.requires.room;
@@ -33,7 +33,7 @@ returns-then-left-eq0-clause-call c =
     record {
       count = c.args.most - c.loop-row.left;
       tried = omega (arith, c.if-left-eq0.true);
-      done = tried_come_to g v c.args.self.now c.loop-row.self c.first_row_due.new.self c.args.to (c.args.most - c.loop-row.left) c.args.fired.now c.loop-row.fired u
+      done = tried_come_to g v c.args.self.now c.loop-row.self c.first_row_due.new.self c.args.to (c.args.most - c.loop-row.left) c.args.expired.now c.loop-row.expired u
           c.first_row_due.ensures.part c.first_row_due.ensures.time c.loop-row.invariant.call;
       looked = looked_come_to g u.front c.loop-row.self c.first_row_due.new.self c.args.to c.first_row_due.new.self.passed c.first_row_due.ensures.part c.loop-row.invariant.looked;
     }
@@ -74,14 +74,14 @@ loop-row-preserved c =
     record {
       belongs = c.expire.ensures.belongs;
       holds = still_held u w q.number c.expire.new.self.number holds one.step.actors (ap (λ (p : Part). p.number) one.part);
-      call = subst (λ n. TriesRows g v c.args.self.now c.expire.new.self c.args.to n c.args.fired.now c.expire.new.fired w) count
-          (tries_more g v c.args.self.now q c.expire.new.self c.args.to (c.args.most - c.loop-row.left) c.in-Some.row c.args.fired.now c.loop-row.fired c.expire.new.fired u w
-          (tried_come_to g v c.args.self.now c.loop-row.self q c.args.to (c.args.most - c.loop-row.left) c.args.fired.now c.loop-row.fired u
+      call = subst (λ n. TriesRows g v c.args.self.now c.expire.new.self c.args.to n c.args.expired.now c.expire.new.expired w) count
+          (tries_more g v c.args.self.now q c.expire.new.self c.args.to (c.args.most - c.loop-row.left) c.in-Some.row c.args.expired.now c.loop-row.expired c.expire.new.expired u w
+          (tried_come_to g v c.args.self.now c.loop-row.self q c.args.to (c.args.most - c.loop-row.left) c.args.expired.now c.loop-row.expired u
           part c.first_row_due.ensures.time c.loop-row.invariant.call)
           looked.stands first.held first.due holds.wheel one);
       looked = record {
         stands = one.stands;
-        told = looked_more g q c.expire.new.self c.args.to c.in-Some.row c.loop-row.fired c.expire.new.fired u w looked.told holds.sched one;
+        told = looked_more g q c.expire.new.self c.args.to c.in-Some.row c.loop-row.expired c.expire.new.expired u w looked.told holds.sched one;
       };
       few = omega (arith, c.loop-row.invariant.few);
       room = omega (
@@ -102,7 +102,7 @@ returns-clause-call c =
     record {
       count = c.args.most - c.loop-row.left;
       tried = omega arith;
-      done = tried_come_to g v c.args.self.now c.loop-row.self c.first_row_due.new.self c.args.to (c.args.most - c.loop-row.left) c.args.fired.now c.loop-row.fired u
+      done = tried_come_to g v c.args.self.now c.loop-row.self c.first_row_due.new.self c.args.to (c.args.most - c.loop-row.left) c.args.expired.now c.loop-row.expired u
           c.first_row_due.ensures.part c.first_row_due.ensures.time c.loop-row.invariant.call;
       looked = looked_come_to g u.front c.loop-row.self c.first_row_due.new.self c.args.to c.first_row_due.new.self.passed c.first_row_due.ensures.part c.loop-row.invariant.looked;
     }

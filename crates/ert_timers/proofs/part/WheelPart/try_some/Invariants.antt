@@ -9,10 +9,10 @@ abbrev pub invariant-loop-row : goal.invariant-loop-row
 invariant-loop-row l = record {
   belongs : Belongs l.desk l.pass;
   holds : HoldsSched (view_of l.pass) l.self.number;
-  call : TriesRows (settings_of l.desk) (view_of l.initial.pass) l.initial.self l.self l.to (l.most - l.left) l.initial.fired l.fired (view_of l.pass);
+  call : TriesRows (settings_of l.desk) (view_of l.initial.pass) l.initial.self l.self l.to (l.most - l.left) l.initial.expired l.expired (view_of l.pass);
   looked : IsLooked (settings_of l.desk) (view_of l.pass).front l.self l.to;
   few : l.left ≤ l.most;
-  room : min l.left (count_by is_some l.self.keys) ≤ l.fired.room;
+  room : min l.left (count_by is_some l.self.keys) ≤ l.expired.room;
 }
 
 abbrev pub decreases-loop-row : goal.decreases-loop-row

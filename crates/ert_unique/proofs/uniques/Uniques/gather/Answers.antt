@@ -1,7 +1,7 @@
 use Rattle.std.proofs.Common.{◌∙◌, arith, ap}
 use Rattle.std.proofs.lemmas.List.Elements.{All-pop}
 use Rattle.std.specs.Prelude.{Some}
-use Rattle.ert_unique.specs.Passes.{IsOpenedWith, draws_together}
+use Rattle.ert_unique.specs.Passes.{BelongsToUniques, draws_together}
 use Rattle.ert_unique.specs.Steps.{UniqueSitter}
 use Rattle.ert_unique.proofs.Dividing.{unites}
 use Rattle.ert_unique.proofs.Gathering.{gathers_first, gathers_one}
@@ -11,7 +11,7 @@ pub loop-pass-init : goal.loop-pass-init
 loop-pass-init c =
     let first = c.in-Some.first in
     let left = c.pop.new.self.items in
-    let parts = All-pop (IsOpenedWith c.args.self.now) c.args.passes.items left (Some first) c.in-Some.ensures.items c.requires.all.belong in
+    let parts = All-pop (BelongsToUniques c.args.self.now) c.args.passes.items left (Some first) c.in-Some.ensures.items c.requires.all.belong in
     record {
       table = parts.1.table;
       bare = first.bare;
@@ -27,7 +27,7 @@ join_seat-requires c =
     let kept = c.loop-pass.invariant in
     let seat = c.loop-pass.seat in
     let pass = c.in-Some-pop.pass in
-    let parts = All-pop (IsOpenedWith c.args.self.now) c.loop-pass.passes.items c.pop-in-loop-pass.new.self.items (Some pass)
+    let parts = All-pop (BelongsToUniques c.args.self.now) c.loop-pass.passes.items c.pop-in-loop-pass.new.self.items (Some pass)
     c.in-Some-pop.ensures.items kept.belong in (
       kept.table,
       parts.1.table,
@@ -42,7 +42,7 @@ loop-pass-preserved c =
     let seat = c.loop-pass.seat in
     let pass = c.in-Some-pop.pass in
     let left = c.pop-in-loop-pass.new.self.items in
-    let parts = All-pop (IsOpenedWith c.args.self.now) c.loop-pass.passes.items left (Some pass) c.in-Some-pop.ensures.items kept.belong in
+    let parts = All-pop (BelongsToUniques c.args.self.now) c.loop-pass.passes.items left (Some pass) c.in-Some-pop.ensures.items kept.belong in
     let now = c.join_seat.new.seat in
     let me = c.join_seat.ensures.2 in
     record {

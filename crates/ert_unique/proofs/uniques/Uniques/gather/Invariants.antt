@@ -1,6 +1,6 @@
 use Rattle.std.proofs.Common.{◌≡◌, ◌+◌, ◌++◌, All, [], vec_len}
 use Rattle.ert_unique.specs.Numbers.{IsRearranged}
-use Rattle.ert_unique.specs.Passes.{passes_of, IsOpenedWith, draws_together}
+use Rattle.ert_unique.specs.Passes.{passes_of, BelongsToUniques, draws_together}
 use Rattle.ert_unique.proofs.uniques.Uniques.gather.Given as goal
 
 abbrev pub invariant-loop-pass : goal.invariant-loop-pass
@@ -9,7 +9,7 @@ invariant-loop-pass l = record {
   bare : l.seat.me.1 ≡ [];
   opened : l.seat.me.0.passes ≡ passes_of l.self;
   share : l.seat.me.0.share + vec_len l.passes ≡ passes_of l.self;
-  belong : All (IsOpenedWith l.self) l.passes.items;
+  belong : All (BelongsToUniques l.self) l.passes.items;
   draws : IsRearranged (draws_together l.fn.passes.items) (draws_together l.passes.items ++ l.seat.me.0.draws);
 }
 

@@ -10,8 +10,8 @@ returns-clause-call c =
     let a = c.args.self.now in
     subst (λ h. Grows (Hands a.settings (way_of a) c.args.sched (Ok c.in_ok-handed.handed)) a.history h) (sym c.reuse.ensures.history) c.in_ok-handed.ensures.call.grows
 
-pub returns-clause-fired : goal.returns-clause-fired
-returns-clause-fired c = rw (c.reuse.ensures.stays.settings, c.reuse.ensures.history) c.in_ok-handed.ensures.fired
+pub returns-clause-expired : goal.returns-clause-expired
+returns-clause-expired c = rw (c.reuse.ensures.stays.settings, c.reuse.ensures.history) c.in_ok-handed.ensures.expired
 
 pub returns-clause-legal : goal.returns-clause-legal
 returns-clause-legal c =

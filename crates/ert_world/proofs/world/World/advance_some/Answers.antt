@@ -12,7 +12,7 @@ pub invariant_of-self : goal.invariant_of-self
 invariant_of-self c =
     let all =
     (does_at c.deref.ensures (some_refused c.args.self.now c.self.inside c.deref.result.now c.advance_some.new.pass c.args.sched c.args.most c.in_err-to.field-0.0 c.index_mut.result.now c.advance_some.new.self
-    c.index_mut-part.result.now (record { wheel = c.index_mut-part.result.now.wheel; hand = c.index_mut-part.result.now.hand; fired = c.advance_some.new.fired })
+    c.index_mut-part.result.now (record { wheel = c.index_mut-part.result.now.wheel; hand = c.index_mut-part.result.now.hand; expired = c.advance_some.new.expired })
     (has_at c.deref.ensures c.self.view_is c.self.invariant.sound) c.advance_some.ensures.belongs c.requires c.index_mut.ensures.value c.index_mut-part.ensures.value c.advance_some.ensures.number
     c.advance_some.ensures.stands c.advance_some.ensures.loses c.in_err-to.ensures.call refl refl)) in
     kept_by c.self.inside c.self.inside.list c.self.view_is all.fit all.goes.grows c.self.invariant.listed
@@ -21,7 +21,7 @@ pub returns-in_err-to-clause-call : goal.returns-in_err-to-clause-call
 returns-in_err-to-clause-call c =
     let result : c.from_residual.result ≡ Err c.in_err-to.field-0.0 = search rules in
     rw result (does_at c.deref.ensures (some_refused c.args.self.now c.self.inside c.deref.result.now c.advance_some.new.pass c.args.sched c.args.most c.in_err-to.field-0.0 c.index_mut.result.now c.advance_some.new.self
-    c.index_mut-part.result.now (record { wheel = c.index_mut-part.result.now.wheel; hand = c.index_mut-part.result.now.hand; fired = c.advance_some.new.fired })
+    c.index_mut-part.result.now (record { wheel = c.index_mut-part.result.now.wheel; hand = c.index_mut-part.result.now.hand; expired = c.advance_some.new.expired })
     (has_at c.deref.ensures c.self.view_is c.self.invariant.sound) c.advance_some.ensures.belongs c.requires c.index_mut.ensures.value c.index_mut-part.ensures.value c.advance_some.ensures.number
     c.advance_some.ensures.stands c.advance_some.ensures.loses c.in_err-to.ensures.call refl refl)).goes
 
@@ -30,15 +30,15 @@ overflow_cast-result c =
     let g = settings_of c.deref.result.now in
     let is = c.in_ok-to.ensures.call in
     let few = count_fits g c.index_mut.result.now.number c.len.result c.len-before.result is.gained
-    c.index_mut-part.result.now.fired c.advance_some.new.fired (view_of c.self.inside.pass) (view_of c.advance_some.new.pass)
-    c.deref.result.now.checked.counts.slots_high is.call.call.legal is.fired is.waits c.len.ensures c.len-before.ensures in
+    c.index_mut-part.result.now.expired c.advance_some.new.expired (view_of c.self.inside.pass) (view_of c.advance_some.new.pass)
+    c.deref.result.now.checked.counts.slots_high is.call.call.legal is.expired is.waits c.len.ensures c.len-before.ensures in
     omega (arith, few.1)
 
 pub invariant_of-self-2 : goal.invariant_of-self-2
 invariant_of-self-2 c =
     let all =
     (does_at c.deref.ensures (some_ok c.args.self.now c.self.inside c.deref.result.now c.advance_some.new.pass c.args.sched c.args.most c.in_ok-to.to c.len.result c.len-before.result c.in_ok-to.due c.index_mut.result.now
-    c.advance_some.new.self c.index_mut-part.result.now (record { wheel = c.index_mut-part.result.now.wheel; hand = c.index_mut-part.result.now.hand; fired = c.advance_some.new.fired })
+    c.advance_some.new.self c.index_mut-part.result.now (record { wheel = c.index_mut-part.result.now.wheel; hand = c.index_mut-part.result.now.hand; expired = c.advance_some.new.expired })
     (has_at c.deref.ensures c.self.view_is c.self.invariant.sound) c.advance_some.ensures.belongs c.requires c.index_mut.ensures.value c.index_mut-part.ensures.value c.advance_some.ensures.number
     c.advance_some.ensures.stands c.advance_some.ensures.loses c.in_ok-to.ensures.call refl refl c.len.ensures c.len-before.ensures)) in
     kept_by c.self.inside c.self.inside.list c.self.view_is all.fit all.goes.grows c.self.invariant.listed
@@ -46,7 +46,7 @@ invariant_of-self-2 c =
 pub returns-clause-call : goal.returns-clause-call
 returns-clause-call c =
     (does_at c.deref.ensures (some_ok c.args.self.now c.self.inside c.deref.result.now c.advance_some.new.pass c.args.sched c.args.most c.in_ok-to.to c.len.result c.len-before.result c.in_ok-to.due c.index_mut.result.now
-    c.advance_some.new.self c.index_mut-part.result.now (record { wheel = c.index_mut-part.result.now.wheel; hand = c.index_mut-part.result.now.hand; fired = c.advance_some.new.fired })
+    c.advance_some.new.self c.index_mut-part.result.now (record { wheel = c.index_mut-part.result.now.wheel; hand = c.index_mut-part.result.now.hand; expired = c.advance_some.new.expired })
     (has_at c.deref.ensures c.self.view_is c.self.invariant.sound) c.advance_some.ensures.belongs c.requires c.index_mut.ensures.value c.index_mut-part.ensures.value c.advance_some.ensures.number
     c.advance_some.ensures.stands c.advance_some.ensures.loses c.in_ok-to.ensures.call refl refl c.len.ensures c.len-before.ensures)).goes
 
@@ -54,7 +54,7 @@ pub returns-clause-stays : goal.returns-clause-stays
 returns-clause-stays c =
     let done =
     (does_at c.deref.ensures (some_ok c.args.self.now c.self.inside c.deref.result.now c.advance_some.new.pass c.args.sched c.args.most c.in_ok-to.to c.len.result c.len-before.result c.in_ok-to.due c.index_mut.result.now
-    c.advance_some.new.self c.index_mut-part.result.now (record { wheel = c.index_mut-part.result.now.wheel; hand = c.index_mut-part.result.now.hand; fired = c.advance_some.new.fired })
+    c.advance_some.new.self c.index_mut-part.result.now (record { wheel = c.index_mut-part.result.now.wheel; hand = c.index_mut-part.result.now.hand; expired = c.advance_some.new.expired })
     (has_at c.deref.ensures c.self.view_is c.self.invariant.sound) c.advance_some.ensures.belongs c.requires c.index_mut.ensures.value c.index_mut-part.ensures.value c.advance_some.ensures.number
     c.advance_some.ensures.stands c.advance_some.ensures.loses c.in_ok-to.ensures.call refl refl c.len.ensures c.len-before.ensures)) in
     stays_by done.goes
@@ -65,7 +65,7 @@ pub returns-in_err-to-clause-stays : goal.returns-in_err-to-clause-stays
 returns-in_err-to-clause-stays c =
     let done =
     does_at c.deref.ensures (some_refused c.args.self.now c.self.inside c.deref.result.now c.advance_some.new.pass c.args.sched c.args.most c.in_err-to.field-0.0 c.index_mut.result.now c.advance_some.new.self
-    c.index_mut-part.result.now (record { wheel = c.index_mut-part.result.now.wheel; hand = c.index_mut-part.result.now.hand; fired = c.advance_some.new.fired })
+    c.index_mut-part.result.now (record { wheel = c.index_mut-part.result.now.wheel; hand = c.index_mut-part.result.now.hand; expired = c.advance_some.new.expired })
     (has_at c.deref.ensures c.self.view_is c.self.invariant.sound) c.advance_some.ensures.belongs c.requires c.index_mut.ensures.value c.index_mut-part.ensures.value c.advance_some.ensures.number
     c.advance_some.ensures.stands c.advance_some.ensures.loses c.in_err-to.ensures.call refl refl) in
     stays_by done.goes

@@ -50,7 +50,7 @@ returns-in_err-put-clause-call c =
     let result : c.from_residual-in_err-put.result ≡ Err e = search rules in
     rw result (goes_on a f (λ (way : Way). TurnsSome a.settings way c.args.sched c.args.most (Err e))
     (turn_some_undelivered (λ (w : Seen). w.settings) (λ (w : Seen). w.history) (λ (w : Seen). w.next) the_way c.args.sched c.args.most a b d f c.in_ok-served.served
-    (c.in_ok-to.to, c.in_ok-to.fired, c.in_ok-to.due) e (kept.settings, kept.next) (moved.settings, moved.next)
+    (c.in_ok-to.to, c.in_ok-to.expired, c.in_ok-to.due) e (kept.settings, kept.next) (moved.settings, moved.next)
     c.in_ok-served.ensures.call c.in_ok-to.ensures.call.grows c.in_err-put.ensures.call)
     c.deliver_some.ensures.legal (stay a d f (stay a b d kept moved) c.deliver_some.ensures.stays))
 
@@ -62,7 +62,7 @@ returns-then-due-clause-call c =
     let f = c.deliver_some.new.steps in
     let kept = c.serve_all.ensures.stays in
     let moved = c.advance_some.ensures.stays in
-    let t : Turned = record { served = c.in_ok-served.served; to = c.in_ok-to.to; fired = c.in_ok-to.fired; put = c.in_ok-put.put; dropped = c.in_ok-put.dropped } in
+    let t : Turned = record { served = c.in_ok-served.served; to = c.in_ok-to.to; expired = c.in_ok-to.expired; put = c.in_ok-put.put; dropped = c.in_ok-put.dropped } in
     subst (λ (more : Bool). Goes a (λ (way : Way). TurnsSome a.settings way c.args.sched c.args.most (Ok (t, more))) f)
     (ap (λ (due : Bool). due || c.in_ok-put.waits) c.if-due.true ∙ sym c.if-due.true)
     (goes_on a f (λ (way : Way). TurnsSome a.settings way c.args.sched c.args.most (Ok (t, (c.in_ok-to.due || c.in_ok-put.waits))))
@@ -79,7 +79,7 @@ returns-else-due-clause-call c =
     let f = c.deliver_some.new.steps in
     let kept = c.serve_all.ensures.stays in
     let moved = c.advance_some.ensures.stays in
-    let t : Turned = record { served = c.in_ok-served.served; to = c.in_ok-to.to; fired = c.in_ok-to.fired; put = c.in_ok-put.put; dropped = c.in_ok-put.dropped } in
+    let t : Turned = record { served = c.in_ok-served.served; to = c.in_ok-to.to; expired = c.in_ok-to.expired; put = c.in_ok-put.put; dropped = c.in_ok-put.dropped } in
     subst (λ (more : Bool). Goes a (λ (way : Way). TurnsSome a.settings way c.args.sched c.args.most (Ok (t, more))) f)
     (ap (λ (due : Bool). due || c.in_ok-put.waits) c.if-due.false)
     (goes_on a f (λ (way : Way). TurnsSome a.settings way c.args.sched c.args.most (Ok (t, (c.in_ok-to.due || c.in_ok-put.waits))))

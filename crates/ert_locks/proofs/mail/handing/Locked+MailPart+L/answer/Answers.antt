@@ -4,8 +4,8 @@ use Rattle.ert_defs.specs.States.{state}
 use Rattle.ert_defs.specs.declared.entry.Actor.TheVariants.{MailOf, Sched}
 use Rattle.ert_locks.proofs.Lent.{lent_out}
 use Rattle.ert_locks.proofs.Own.{answers_have}
-use Rattle.ert_locks.proofs.Scheds.{seat_after, answered_hand, answered_fired}
-use Rattle.ert_mail.specs.Mailboxes.{after_answer}
+use Rattle.ert_locks.proofs.Scheds.{seat_after, answered_hand, answered_expired}
+use Rattle.ert_mail.specs.Mailboxes.{sched_after_answer}
 use Rattle.ert_world.proofs.Calls.{if_ok_made}
 use Rattle.ert_table.specs.Desks.{settings_of, front_of, view_of}
 use Rattle.ert_locks.proofs.mail.handing.Locked+MailPart+L.answer.Goals as goal
@@ -16,9 +16,9 @@ invariant_of-seat g c =
     let has = c.meet.ensures.sched c.args.seat.now.part c.args.seat.now.fits in
     let was = (state (settings_of c.args.desk.now) (front_of c.meet.new.pass)).scheds c.args.seat.now.part.wheel in
     record {
-      fits = seat_after c.args.desk.now (after_answer left was) c.requires.desk c.split.ensures.new_belongs
+      fits = seat_after c.args.desk.now (sched_after_answer left was) c.requires.desk c.split.ensures.new_belongs
           c.split.ensures.actor c.split.ensures.new_front c.args.seat.now.fits.stands.in_range c.answer-left.ensures.sched
-          (c.hand_after-seat.ensures ∙ answered_hand left was c.args.seat.now.part.hand has.hand) (answered_fired left was c.args.seat.now.part.fired.rows has.fired);
+          (c.hand_after-seat.ensures ∙ answered_hand left was c.args.seat.now.part.hand has.hand) (answered_expired left was c.args.seat.now.part.expired.rows has.expired);
     }
 
 pub returns-clause-call : goal.returns-clause-call

@@ -4,7 +4,7 @@ use Rattle.std.proofs.Common.{◌≡◌, ◌≢◌, ℕ, ℤ, Bool, true, false,
 use Rattle.std.proofs.lemmas.Bool.{and_left, and_right}
 use Rattle.std.proofs.lemmas.List.Elements.{All-tail}
 use Rattle.ert_defs.specs.Actors.{has_actor}
-use Rattle.ert_defs.specs.Laws.{IsFired, AreFired}
+use Rattle.ert_defs.specs.Laws.{IsExpired, AreExpired}
 use Rattle.ert_defs.specs.Legal.{Can, CanArm, Known}
 use Rattle.ert_defs.specs.Mails.{others_of}
 use Rattle.ert_defs.specs.Milliseconds.{deadline_of}
@@ -80,41 +80,41 @@ expired_stays_at r b _ none not = refl
 
 -- the slot of a waiting timer is not the one that is armed
 kept_at : (g : Settings) (s : State) (by : Actor) (timer : TimerRef) (deadline : Option ℕ) (w : ℕ) (row : Row) (b : Bool) → CanArm g s by timer deadline
-    → IsFired s w row → (nat_eq timer.wheel w && nat_eq timer.slot row.timer.slot) ≡ b
+    → IsExpired s w row → (nat_eq timer.wheel w && nat_eq timer.slot row.timer.slot) ≡ b
     → (nat_eq timer.wheel w && nat_eq timer.slot row.timer.slot) ≡ false
-kept_at g s by timer deadline w row true can fired is =
+kept_at g s by timer deadline w row true can waits is =
     let free : is_taken (s.status (timer_at w row.timer.slot (s.last w row.timer.slot))) ≡ false = (can_use g s by timer deadline w row.timer.slot can is).free in
     let last : is_taken (s.status (timer_at w row.timer.slot row.timer.generation)) ≡ false =
-    carry (λ n. is_taken (s.status (timer_at w row.timer.slot n)) ≡ false) fired.last free in
+    carry (λ n. is_taken (s.status (timer_at w row.timer.slot n)) ≡ false) waits.last free in
     let own : is_taken (s.status row.timer) ≡ false =
-    carry (λ n. is_taken (s.status (timer_at n row.timer.slot row.timer.generation)) ≡ false) fired.wheel last in
-    let no : true ≡ false = rw fired.expired at own in
+    carry (λ n. is_taken (s.status (timer_at n row.timer.slot row.timer.generation)) ≡ false) waits.wheel last in
+    let no : true ≡ false = rw waits.expired at own in
     absurd cc
-kept_at g s by timer deadline w row false can fired is = is
+kept_at g s by timer deadline w row false can waits is = is
 
 slot_kept : (g : Settings) (s : State) (by : Actor) (timer : TimerRef) (deadline : Option ℕ) (w : ℕ) (row : Row) → CanArm g s by timer deadline
-    → IsFired s w row → (nat_eq timer.wheel w && nat_eq timer.slot row.timer.slot) ≡ false
-slot_kept g s by timer deadline w row can fired =
-    kept_at g s by timer deadline w row (nat_eq timer.wheel w && nat_eq timer.slot row.timer.slot) can fired refl
+    → IsExpired s w row → (nat_eq timer.wheel w && nat_eq timer.slot row.timer.slot) ≡ false
+slot_kept g s by timer deadline w row can waits =
+    kept_at g s by timer deadline w row (nat_eq timer.wheel w && nat_eq timer.slot row.timer.slot) can waits refl
 
 -- a waiting timer is not armed
 none_arms : (g : Settings) (s : State) (by : Actor) (with : Option Actor) (event : Event) (w : ℕ) (row : Row) (b : Bool) → Known g s by with event
-    → IsFired s w row → (b && arms event row.timer) ≡ false
-none_arms g s by with (Arm timer start) w row b known fired =
-    let place = slot_kept g s by timer _ w row known fired in
+    → IsExpired s w row → (b && arms event row.timer) ≡ false
+none_arms g s by with (Arm timer start) w row b known waits =
+    let place = slot_kept g s by timer _ w row known waits in
     let own : (nat_eq timer.wheel row.timer.wheel && nat_eq timer.slot row.timer.slot) ≡ false =
-    carry (λ n. (nat_eq timer.wheel n && nat_eq timer.slot row.timer.slot) ≡ false) fired.wheel place in
+    carry (λ n. (nat_eq timer.wheel n && nat_eq timer.slot row.timer.slot) ≡ false) waits.wheel place in
     and_right b (same_timer timer row.timer)
     (and_left (nat_eq timer.wheel row.timer.wheel && nat_eq timer.slot row.timer.slot) (nat_eq timer.generation row.timer.generation) own)
-none_arms g s by with _ w row b known fired = and_right b false refl
+none_arms g s by with _ w row b known waits = and_right b false refl
 
 -- its slot has no later timer
 last_kept : (g : Settings) (s : State) (by : Actor) (with : Option Actor) (event : Event) (w : ℕ) (row : Row) (b : Bool) → Known g s by with event
-    → IsFired s w row
+    → IsExpired s w row
     → cond b (last_after w row.timer.slot (s.last w row.timer.slot) event) (s.last w row.timer.slot) ≡ s.last w row.timer.slot
-last_kept g s by with event w row false known fired = refl
-last_kept g s by with (Arm timer start) w row true known fired = rw (slot_kept g s by timer _ w row known fired) refl
-last_kept g s by with _ w row true known fired = refl
+last_kept g s by with event w row false known waits = refl
+last_kept g s by with (Arm timer start) w row true known waits = rw (slot_kept g s by timer _ w row known waits) refl
+last_kept g s by with _ w row true known waits = refl
 
 row_cond : (b : Bool) (rows more : List Row) (row : Row) (timer : TimerRef) → row_of rows timer ≡ Some row → row_of more timer ≡ Some row
     → row_of (cond b more rows) timer ≡ Some row
@@ -131,28 +131,28 @@ row_kept g look w rows row timer true (Arm t start) h =
 row_kept g look w rows row timer true _ h = h
 
 -- a waiting timer waits on until it is handed over
-pub fired_stays : (g : Settings) (s : State) (e : Entry) (w : ℕ) (row : Row) → Can g s e → hands e.event row.timer ≡ false → IsFired s w row
-    → IsFired (next g s e) w row
-fired_stays g s e w row can not fired = record {
-  expired = carry (λ x. status_after row.timer (has_actor e (Wheel row.timer.wheel)) x e.event ≡ Some Expired) fired.expired
+pub expired_stays : (g : Settings) (s : State) (e : Entry) (w : ℕ) (row : Row) → Can g s e → hands e.event row.timer ≡ false → IsExpired s w row
+    → IsExpired (next g s e) w row
+expired_stays g s e w row can not waits = record {
+  expired = carry (λ x. status_after row.timer (has_actor e (Wheel row.timer.wheel)) x e.event ≡ Some Expired) waits.expired
       (expired_stays_at row.timer (has_actor e (Wheel row.timer.wheel)) e.event
-      (none_arms g s e.by e.with e.event w row (has_actor e (Wheel row.timer.wheel)) can.known fired) not);
-  wheel = fired.wheel;
-  stands = row_kept g (s.looked e.by) w (s.rows w) row row.timer (has_actor e (Wheel w)) e.event fired.stands;
-  last = fired.last ∙ sym (last_kept g s e.by e.with e.event w row (has_actor e (Wheel w)) can.known fired);
+      (none_arms g s e.by e.with e.event w row (has_actor e (Wheel row.timer.wheel)) can.known waits) not);
+  wheel = waits.wheel;
+  stands = row_kept g (s.looked e.by) w (s.rows w) row row.timer (has_actor e (Wheel w)) e.event waits.stands;
+  last = waits.last ∙ sym (last_kept g s e.by e.with e.event w row (has_actor e (Wheel w)) can.known waits);
 }
 
 -- so do all of them, where none is handed over
 pub all_stay : (g : Settings) (s : State) (e : Entry) (w : ℕ) (rows : List Row) → Can g s e
-    → All (λ row. hands e.event row.timer ≡ false) rows → AreFired s w rows → AreFired (next g s e) w rows
+    → All (λ row. hands e.event row.timer ≡ false) rows → AreExpired s w rows → AreExpired (next g s e) w rows
 all_stay g s e w rows can not h = record {
-  each = λ k d lt. fired_stays g s e w (get_or rows k d) can (not k d lt) (h.each k d lt);
+  each = λ k d lt. expired_stays g s e w (get_or rows k d) can (not k d lt) (h.each k d lt);
   once = h.once;
 }
 
-pub fired_others : (s : State) (w : ℕ) (rows : List Row) → AreFired s w rows → AreFired s w (others_of rows)
-fired_others s w [] h = h
-fired_others s w (r ∷ rows) h = record {
-  each = All-tail (IsFired s w) r rows h.each;
+pub expired_others : (s : State) (w : ℕ) (rows : List Row) → AreExpired s w rows → AreExpired s w (others_of rows)
+expired_others s w [] h = h
+expired_others s w (r ∷ rows) h = record {
+  each = All-tail (IsExpired s w) r rows h.each;
   once = pairs_tail Differ r rows h.once;
 }

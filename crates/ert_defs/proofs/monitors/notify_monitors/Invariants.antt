@@ -1,7 +1,7 @@
 use Rattle.std.proofs.Common.{◌≡◌, ◌≤◌, ◌+◌, ◌-◌, ◌++◌, length, take, drop}
 use Rattle.std.specs.VecDeque.{deque_len, deque_capacity}
 use Rattle.ert_defs.specs.Mails.{changes_of, told_of}
-use Rattle.ert_defs.proofs.monitors.tell_monitors.Given as goal
+use Rattle.ert_defs.proofs.monitors.notify_monitors.Given as goal
 
 -- those so far have been told, and there is room for a message to each that is left
 abbrev pub invariant-loop-i : goal.invariant-loop-i

@@ -1,5 +1,5 @@
 use Rattle.std.proofs.Common.{◌≡◌, ℤ, arith, rules, Ok, List, length, FitsSigned, ◌++◌, ◌-◌, sym, ap, subst, refl, ◌∙◌, to_z, of_z, w64, to_z-of_z}
-use Rattle.ert_effects.specs.MailCalls.{Tells}
+use Rattle.ert_effects.specs.MailCalls.{Notifies}
 use Rattle.ert_table.specs.Calls.{IsMade}
 use Rattle.ert_table.specs.Desks.{settings_of, view_of}
 use Rattle.ert_mail.specs.Mailboxes.{Mailbox, MailboxStands, IsCallers}
@@ -14,7 +14,7 @@ use Rattle.std.proofs.lemmas.List.{with_items_is}
 use Rattle.std.specs.Vec.{with_items}
 use Rattle.std.specs.VecDeque.{deque_len, deque_capacity}
 use Rattle.ert_mail.proofs.Watchings.{tell_made, stands_told}
-use Rattle.ert_mail.proofs.part.MailPart.tell.Goals as goal
+use Rattle.ert_mail.proofs.part.MailPart.notify.Goals as goal
 
 pub returns-clause-call : goal.returns-clause-call
 returns-clause-call c =
@@ -26,9 +26,9 @@ returns-clause-call c =
     let fits : FitsSigned w64 c.load_offset-offset.result.0 = search rules in
     let offset : ℤ = to_z w64 (of_z w64 c.load_offset-offset.result.0) in
     let step = subst (λ x. Appends g v (tell_entry c.args.by m.process x) w) (sym (to_z-of_z fits)) c.load_offset-offset.ensures.step in
-    let put = c.tell_monitors.ensures.put ∙ ap (λ (ms : List Monitor). length (changes_of offset ms)) c.deref_mut.ensures.value in
-    subst (λ (m : Mailbox). IsMade g v (Tells g c.args.by m.process (Ok c.tell_monitors.result)) w) c.self.view_is
-    (tell_made g v w c.args.by c.tell_monitors.result m offset stands put step)
+    let put = c.notify_monitors.ensures.put ∙ ap (λ (ms : List Monitor). length (changes_of offset ms)) c.deref_mut.ensures.value in
+    subst (λ (m : Mailbox). IsMade g v (Notifies g c.args.by m.process (Ok c.notify_monitors.result)) w) c.self.view_is
+    (tell_made g v w c.args.by c.notify_monitors.result m offset stands put step)
 
 pub returns-clause-stands : goal.returns-clause-stands
 returns-clause-stands c =
@@ -41,12 +41,12 @@ returns-clause-stands c =
     let fits : FitsSigned w64 c.load_offset-offset.result.0 = search rules in
     let offset : ℤ = to_z w64 (of_z w64 c.load_offset-offset.result.0) in
     let step = subst (λ x. Appends g v (tell_entry c.args.by m.process x) w) (sym (to_z-of_z fits)) c.load_offset-offset.ensures.step in
-    let queue = c.tell_monitors.ensures.queue
+    let queue = c.notify_monitors.ensures.queue
     ∙ (ap (λ (q : List Mail). q ++ changes_of offset c.deref_mut.result.now) c.in_ok-reserve.ensures.items
     ∙ ap (λ (ms : List Monitor). c.self.inside.queue.items ++ changes_of offset ms) c.deref_mut.ensures.value) in
-    let kept : (with_items c.self.inside.monitors c.tell_monitors.new.monitors).items ≡ c.tell_monitors.new.monitors =
-    with_items_is c.self.inside.monitors c.tell_monitors.new.monitors (omega arith) in
-    let monitors = kept ∙ c.tell_monitors.ensures.monitors ∙ ap (λ (ms : List Monitor). told_of offset ms) c.deref_mut.ensures.value in
-    let n : Mailbox = mailbox_seen c.self.inside.process c.tell_monitors.new.queue.items (with_items c.self.inside.monitors c.tell_monitors.new.monitors).items c.self.inside.next c.self.inside.delivered
-    (deque_capacity c.tell_monitors.new.queue - deque_len c.tell_monitors.new.queue) in
+    let kept : (with_items c.self.inside.monitors c.notify_monitors.new.monitors).items ≡ c.notify_monitors.new.monitors =
+    with_items_is c.self.inside.monitors c.notify_monitors.new.monitors (omega arith) in
+    let monitors = kept ∙ c.notify_monitors.ensures.monitors ∙ ap (λ (ms : List Monitor). told_of offset ms) c.deref_mut.ensures.value in
+    let n : Mailbox = mailbox_seen c.self.inside.process c.notify_monitors.new.queue.items (with_items c.self.inside.monitors c.notify_monitors.new.monitors).items c.self.inside.next c.self.inside.delivered
+    (deque_capacity c.notify_monitors.new.queue - deque_len c.notify_monitors.new.queue) in
     stands_told g v w c.args.by offset m n holds.mail stands step refl queue monitors refl refl

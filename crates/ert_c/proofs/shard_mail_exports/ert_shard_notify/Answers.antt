@@ -1,8 +1,8 @@
 use Rattle.std.proofs.Common.{refl, ap, ◌∙◌, rules}
 use Rattle.ert_c.proofs.Sharing.{made_through, below_home, above_home, at_home}
-use Rattle.ert_c.proofs.shard_mail_exports.ert_shard_tell.Goals.{then-process-from-via-then-process-from, then-process-from-via-else-process-from+then-process-to}
+use Rattle.ert_c.proofs.shard_mail_exports.ert_shard_notify.Goals.{then-process-from-via-then-process-from, then-process-from-via-else-process-from+then-process-to}
 use Rattle.ert_c.specs.declared.shard_handle.ErtShard.{ErtShard}
-use Rattle.ert_c.proofs.shard_mail_exports.ert_shard_tell.Goals as goal
+use Rattle.ert_c.proofs.shard_mail_exports.ert_shard_notify.Goals as goal
 
 pub returns-then-process-from : goal.returns-then-process-from
 returns-then-process-from c = elim c.then-process-from.branch [
@@ -15,6 +15,6 @@ returns-then-process-from c = elim c.then-process-from.branch [
 ]
 
 pub returns : goal.returns
-returns c = made_through _ _ _ _ _ c.lend-own.result.now c.tell-answer.new.self (c.as_place.ensures.value ∙ c.lend-own.ensures.value) refl
+returns c = made_through _ _ _ _ _ c.lend-own.result.now c.notify-answer.new.self (c.as_place.ensures.value ∙ c.lend-own.ensures.value) refl
     (at_home _ _ c.lend-own.result.now.share c.args.process c.from.result c.to.result c.if-process-from.false c.from.ensures
-    c.if-process-to.false c.to.ensures (record { answer = c.tell-answer.result; made = c.tell-answer.ensures; told = search rules }))
+    c.if-process-to.false c.to.ensures (record { answer = c.notify-answer.result; made = c.notify-answer.ensures; told = search rules }))

@@ -3,7 +3,7 @@ use Rattle.ert_defs.specs.Mails.{changes_of}
 use Rattle.ert_defs.specs.declared.mail.Mail.{Mail}
 use Rattle.ert_defs.specs.declared.mail.Monitor.{Monitor}
 use Rattle.ert_defs.proofs.MonitorLaws.{changes_more, told_more, told_whole, untold}
-use Rattle.ert_defs.proofs.monitors.tell_monitors.Goals as goal
+use Rattle.ert_defs.proofs.monitors.notify_monitors.Goals as goal
 
 pub loop-i-preserved : goal.loop-i-preserved
 loop-i-preserved c =

@@ -1,35 +1,35 @@
 ghost use Rattle.std.specs.Prelude.{◌≡◌};
 
-use ert_defs::{Fired, NoMemory};
+use ert_defs::{TimerRow, NoMemory};
 use std::alloc::Global;
 use std::collections::VecDeque;
 use std::marker::Model;
 
 /// The expired timers of a scheduler whose messages were not handed over, in order of expiry.
 #[derive(Drop)]
-pub struct FiredList {
-    timers: VecDeque<Fired>,
+pub struct ExpiredList {
+    timers: VecDeque<TimerRow>,
 }
 
-impl Model for FiredList {
+impl Model for ExpiredList {
     ghost use Rattle.std.specs.Prelude.{◌-◌};
     ghost use Rattle.std.specs.VecDeque.{deque_len, deque_capacity};
-    ghost use Rattle.ert_timers.specs.FiredLists.{Queue};
+    ghost use Rattle.ert_timers.specs.ExpiredLists.{Queue};
 
     ghost Value = { Queue };
 
     ghost view = { λ l. record { rows = l.timers.items; room = deque_capacity l.timers - deque_len l.timers } };
 }
 
-impl FiredList {
+impl ExpiredList {
     ghost use Rattle.std.specs.Prelude.{◌≡◌, ◌↔◌, ◌+◌, ◌<◌, ◌≤◌, ◌++◌, [], ◌∷◌, length, IsTrue, OnOk, OnErr};
     ghost use Rattle.ert_defs.specs.Mails.{first_of, others_of};
 
     /// An empty list.
-    pub fn new(alloc: Global) -> FiredList
+    pub fn new(alloc: Global) -> ExpiredList
         ensures { result.rows ≡ [] }
     {
-        FiredList {
+        ExpiredList {
             timers: VecDeque::new(alloc),
         }
     }
@@ -49,14 +49,14 @@ impl FiredList {
     }
 
     /// The first one; None exactly where there is none.
-    pub fn first(&self) -> Option<Fired>
+    pub fn first(&self) -> Option<TimerRow>
         ensures { result ≡ first_of self.now.rows }
     {
         self.timers.front().copied()
     }
 
     /// Takes the first one out; None exactly where there is none.
-    pub fn pop(&mut self) -> Option<Fired>
+    pub fn pop(&mut self) -> Option<TimerRow>
         ensures first { result ≡ first_of self.old.rows }
         ensures others { self.new.rows ≡ others_of self.old.rows }
     {
@@ -73,7 +73,7 @@ impl FiredList {
     }
 
     /// Adds a timer as the last one.
-    pub(crate) fn push(&mut self, timer: Fired)
+    pub(crate) fn push(&mut self, timer: TimerRow)
         requires { 0 < self.old.room }
         ensures rows { self.new.rows ≡ self.old.rows ++ timer ∷ [] }
         ensures room { self.old.room ≤ self.new.room + 1 }
