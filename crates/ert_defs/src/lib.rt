@@ -21,11 +21,11 @@ pub use entry::{Act, Actor, Entry, Event};
 pub use laws::{entries_are_local, prefixes_are_legal, timers_settle_once};
 pub use mail::{Mail, Monitor, Request, RequestKind};
 pub use memory::NoMemory;
-pub use monitors::{has_monitor, remove_monitor, notify_monitors};
+pub use monitors::{has_monitor, notify_monitors, remove_monitor};
 pub use settings::{
     MOST_CALLERS, MOST_CHAINS, MOST_PROCESSES, MOST_SCHEDULERS, MOST_SLOTS, MOST_SLOTS_IN_ALL,
     Mode, OffsetState, Reading, Settings, SettingsFault,
 };
 pub use timer::{
-    FIRST_LATER_GENERATION, TimerRow, Kind, Start, Status, TimerRef, USES_OF_ROUND, When, use_of,
+    FIRST_LATER_GENERATION, Kind, Start, Status, TimerRef, TimerRow, USES_OF_ROUND, When, use_of,
 };

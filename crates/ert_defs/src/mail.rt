@@ -2,7 +2,7 @@ ghost use Rattle.std.specs.Prelude.{◌≡◌, ◌<◌, ◌≤◌, Option};
 ghost use Rattle.ert_defs.specs.Mails as mails;
 
 use crate::settings::Settings;
-use crate::timer::{TimerRow, Kind, TimerRef};
+use crate::timer::{Kind, TimerRef, TimerRow};
 
 /// A message in the mailbox of a process.
 #[derive(Clone, Copy, Debug, PartialEq, Eq)]

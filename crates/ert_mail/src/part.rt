@@ -2,7 +2,7 @@ ghost use Rattle.std.specs.Prelude.{◌≡◌};
 
 use crate::handing::hand_over;
 use crate::replies::{put_answer, reply};
-use ert_defs::{Actor, TimerRow, Mail, Monitor, NoMemory, Request};
+use ert_defs::{Actor, Mail, Monitor, NoMemory, Request, TimerRow};
 use ert_effects::{Handed, Taken};
 use ert_table::{Desk, Pass, TimeCarry};
 use std::alloc::Global;

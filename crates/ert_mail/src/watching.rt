@@ -2,7 +2,7 @@
 ghost use Rattle.std.specs.Prelude.{◌≡◌};
 
 use crate::part::MailPart;
-use ert_defs::{Actor, Monitor, NoMemory, has_monitor, remove_monitor, notify_monitors};
+use ert_defs::{Actor, Monitor, NoMemory, has_monitor, notify_monitors, remove_monitor};
 use ert_effects::MonitorErr;
 use ert_table::{Desk, OffsetCarry, Pass, TimeCarry};
 

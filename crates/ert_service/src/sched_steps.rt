@@ -5,7 +5,7 @@ ghost use Rattle.std.specs.Prelude.{◌≡◌, ◌<◌, Some};
 ghost use Rattle.ert_defs.specs.Mails.{first_of};
 
 use crate::service::Service;
-use ert_defs::{TimerRow, NoMemory, Request};
+use ert_defs::{NoMemory, Request, TimerRow};
 use ert_locks::{DeskName, SchedSeat};
 use ert_mail::Handed;
 use std::sync::Wait;

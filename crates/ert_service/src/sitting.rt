@@ -2,7 +2,7 @@
 #![tactic(auto, using(crate::proofs::LegalFronts::legal_front))]
 
 use crate::service::Service;
-use ert_defs::{TimerRow, NoMemory, Request};
+use ert_defs::{NoMemory, Request, TimerRow};
 use ert_locks::{CallerSeat, DeskName, SchedSeat};
 use ert_mail::Handed;
 use ert_world::{CallerSteps, SchedSteps};

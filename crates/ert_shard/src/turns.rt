@@ -1,7 +1,7 @@
 //! The turns of a shard.
 use crate::mailing::may_get_mail;
 use crate::shard::Shard;
-use ert_defs::{TimerRow, NoMemory};
+use ert_defs::{NoMemory, TimerRow};
 use ert_mail::Handed;
 
 /// What a turn of a shard did.

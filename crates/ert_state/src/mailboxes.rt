@@ -5,8 +5,8 @@ ghost use Rattle.ert_state.specs.Parts.{scheds_in, with_message, with_answer_in,
 use crate::lists::{drop_first, first, push, put};
 use crate::schedulers::Schedulers;
 use ert_defs::{
-    Actor, Event, TimerRow, Mail, Monitor, NoMemory, Request, has_monitor, remove_monitor,
-    notify_monitors,
+    Actor, Event, Mail, Monitor, NoMemory, Request, TimerRow, has_monitor, notify_monitors,
+    remove_monitor,
 };
 use std::alloc::Global;
 use std::collections::{BTreeMap, VecDeque};

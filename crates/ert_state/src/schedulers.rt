@@ -4,7 +4,7 @@ ghost use Rattle.ert_state.specs.Parts.{rows_in, noted, after_expiry, with_hand}
 
 use crate::lists::{drop_first, first, put};
 use crate::timers::Timers;
-use ert_defs::{Actor, Event, TimerRow, NoMemory, Request, TimerRef};
+use ert_defs::{Actor, Event, NoMemory, Request, TimerRef, TimerRow};
 use std::alloc::Global;
 use std::collections::VecDeque;
 use std::marker::Model;

@@ -1,6 +1,6 @@
 use crate::uses::{Uses, deadline_told};
 use crate::wheels::{Timer, Wheel};
-use ert_defs::{Event, TimerRow, NoMemory, Start, Status, TimerRef};
+use ert_defs::{Event, NoMemory, Start, Status, TimerRef, TimerRow};
 use std::alloc::Global;
 use std::marker::Model;
 

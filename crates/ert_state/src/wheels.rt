@@ -5,7 +5,7 @@ ghost use Rattle.ert_state.specs.Indexes.{PutsPlace, Sets, kept_at};
 
 use crate::lists::push;
 use crate::uses::Uses;
-use ert_defs::{TimerRow, NoMemory, Status, TimerRef};
+use ert_defs::{NoMemory, Status, TimerRef, TimerRow};
 use std::alloc::Global;
 use std::collections::{BTreeMap, BTreeSet};
 use std::marker::Model;

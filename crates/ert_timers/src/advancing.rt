@@ -103,7 +103,13 @@ impl WheelPart {
 
     /// Tries to let a timer expire, and drops its row.
     #[inline(always)]
-    pub(crate) fn expire(&mut self, desk: &Desk, pass: &mut Pass, row: Row, expired: &mut ExpiredList)
+    pub(crate) fn expire(
+        &mut self,
+        desk: &Desk,
+        pass: &mut Pass,
+        row: Row,
+        expired: &mut ExpiredList,
+    )
         requires belongs { Belongs desk.now pass.old }
         requires holds { HoldsSched (view_of pass.old) self.old.number }
         requires stands { PartStands (settings_of desk.now) (front_of pass.old) self.old }

@@ -1,6 +1,6 @@
 ghost use Rattle.std.specs.Prelude.{◌≡◌};
 
-use ert_defs::{TimerRow, NoMemory};
+use ert_defs::{NoMemory, TimerRow};
 use std::alloc::Global;
 use std::collections::VecDeque;
 use std::marker::Model;

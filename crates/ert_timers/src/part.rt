@@ -5,7 +5,7 @@ ghost use Rattle.ert_wheel.specs.Rings.{Place, AreChains};
 
 use crate::expired_list::ExpiredList;
 use crate::slot::Slot;
-use ert_defs::{TimerRow, Kind, NoMemory, Settings, TimerRef};
+use ert_defs::{Kind, NoMemory, Settings, TimerRef, TimerRow};
 use ert_wheel::{Row, Wheel};
 use ert_words::FreeSlots;
 use std::alloc::Global;
@@ -213,7 +213,11 @@ impl WheelPart {
 
     /// The rows with a deadline up to `to`, in order of deadline and then of start, with room for their timers
     /// in the list.
-    pub(crate) fn find_due(&mut self, to: u64, expired: &mut ExpiredList) -> Result<Vec<Row>, NoMemory>
+    pub(crate) fn find_due(
+        &mut self,
+        to: u64,
+        expired: &mut ExpiredList,
+    ) -> Result<Vec<Row>, NoMemory>
         ensures part { self.new ≡ self.old }
         ensures due { IfOk result (λ due. AreDue self.old to due.items) }
         ensures expired { expired.new.rows ≡ expired.old.rows }

@@ -3,7 +3,7 @@ use crate::mailing::may_get_mail;
 use crate::steps::{CallerSteps, SchedSteps};
 use crate::turns::cancelled_left;
 use crate::world::{CALLER, World};
-use ert_defs::{TimerRow, NoMemory, Request};
+use ert_defs::{NoMemory, Request, TimerRow};
 use ert_mail::Handed;
 
 impl SchedSteps for World {

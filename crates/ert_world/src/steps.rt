@@ -11,7 +11,7 @@ ghost use Rattle.ert_defs.specs.declared.entry.Entry.{Entry};
 ghost use Rattle.ert_defs.specs.declared.settings.Settings.{Settings};
 ghost use Rattle.ert_defs.specs.declared.settings.TheConstants.{MOST_SLOTS};
 
-use ert_defs::{TimerRow, NoMemory, Request};
+use ert_defs::{NoMemory, Request, TimerRow};
 use ert_mail::Handed;
 
 /// What makes the single steps of schedulers: a world, or a service with the seat of a scheduler.

@@ -5,7 +5,7 @@ ghost use Rattle.ert_world.specs.Worlds.{left_for};
 use crate::chains;
 use crate::mailing::may_get_mail;
 use crate::world::World;
-use ert_defs::{TimerRow, NoMemory, Request, RequestKind};
+use ert_defs::{NoMemory, Request, RequestKind, TimerRow};
 use ert_effects::Turned;
 use ert_mail::Handed;
 
@@ -66,7 +66,11 @@ impl World {
     {
         let part = &mut self.scheds[sched as usize];
         let before = part.expired.len();
-        let to = self.wheels[sched as usize].advance(&self.desk, &mut self.pass, &mut part.expired)?;
+        let to = self.wheels[sched as usize].advance(
+            &self.desk,
+            &mut self.pass,
+            &mut part.expired,
+        )?;
         Ok((to, (part.expired.len() - before) as u32))
     }
 
@@ -108,7 +112,11 @@ impl World {
         ensures handed { OnOk result (IsHandedIn self.new expired.now.timer) }
     {
         may_get_mail(&mut self.list, expired.dest);
-        let handed = self.mails[expired.dest as usize].deliver(&self.desk, &mut self.pass, expired)?;
+        let handed = self.mails[expired.dest as usize].deliver(
+            &self.desk,
+            &mut self.pass,
+            expired,
+        )?;
         self.scheds[sched as usize].expired.pop();
         Ok(handed)
     }

@@ -5,7 +5,7 @@ ghost use Rattle.ert_locks.specs.Hands.{hand_left, rows_left};
 use crate::locked::{Locked, meet};
 use crate::names::DeskName;
 use crate::seats::SchedSeat;
-use ert_defs::{Actor, TimerRow, NoMemory, Request};
+use ert_defs::{Actor, NoMemory, Request, TimerRow};
 use ert_mail::{Handed, MailPart};
 use ert_table::Desk;
 use ert_timers::ExpiredList;
