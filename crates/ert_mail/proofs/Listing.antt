@@ -12,7 +12,7 @@ use Rattle.ert_defs.specs.declared.mail.Mail.{Mail}
 use Rattle.ert_mail.specs.Lists.{IsRow, AreListed, IsNextIn}
 use Rattle.ert_mail.specs.Mailboxes.{Mailbox}
 use Rattle.ert_words.specs.Free.{FreeSet}
-use Rattle.ert_words.specs.Turns.{Row, row_set}
+use Rattle.ert_words.specs.Turns.{TurnRow, row_set}
 
 no_length : (queue : List Mail) → length queue ≡ 0 → queue ≡ []
 no_length [] none = refl
@@ -57,7 +57,7 @@ row_taken row new listed p is low taken = record {
     at q false apart = ap (λ b. not b && sets.contains row.held q) apart ∙ (is.each q ∙ sym ((flag_at listed p q false low).1 apart))
 
 -- an empty row lists none
-pub row_empty : (row : Row) (listed : List Bool) → IsRow (row_set row) listed → row.held ≡ [] → (p : ℕ) → slice_index_or listed p false ≡ false
+pub row_empty : (row : TurnRow) (listed : List Bool) → IsRow (row_set row) listed → row.held ≡ [] → (p : ℕ) → slice_index_or listed p false ≡ false
 row_empty row listed is none p =
     sym (is.each p) ∙ (ap (λ (xs : List ℕ). sets.contains {R = nat_cmp} (sets.from_list {R = nat_cmp} xs) p) none ∙ sets.contains-empty nat_cmp p)
 

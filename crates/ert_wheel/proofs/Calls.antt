@@ -127,19 +127,7 @@ is_placed r slot lone_link places are low tells = at lone_link (places slot) ref
     at true None none tells = (λ t. absurd (false≢true t), λ s. absurd (false≢true s))
     at true (Some place) has tells = absurd (placed_apart r places slot place are low has (tells.0 refl))
 
--- what comes before a slot is a node
-pub before_in_range : (r : Rings) (places : ℕ → Option Place) (slot : ℕ) → AreChains r places → slot < r.slots
-    → prev_at r.links slot < r.slots + r.homes
-before_in_range r places slot are low = at (places slot) refl
-  where
-    at : (o : Option Place) → places slot ≡ o → prev_at r.links slot < r.slots + r.homes
-    at None none = omega (arith, (are.alone slot low none).back)
-    at (Some place) has =
-        let s : IsSlot r.slots r.homes places slot place = slot_is r.slots r.homes places slot place low has in
-        elim (node_is r.slots r.homes places (prev_at r.links slot) (are.chained.before_on slot s.on))
-        [ inl (p, t) ↦ omega (arith, t.low) | inr t ↦ t.few ]
-
--- and so is what comes after it
+-- what comes after a slot is a node
 pub after_in_range : (r : Rings) (places : ℕ → Option Place) (slot : ℕ) → AreChains r places → slot < r.slots
     → next_at r.links slot < r.slots + r.homes
 after_in_range r places slot are low = at (places slot) refl

@@ -10,7 +10,7 @@ use Rattle.std.specs.FinSet as set
 use Rattle.std.specs.List.{IsDistinct, AllByRecursion, list_any, range_with_len}
 use Rattle.std.specs.Ordering.{nat_cmp}
 use Rattle.ert_words.specs.Free.{FreeSet, HasRoom}
-use Rattle.ert_words.specs.Turns.{Row, row_set}
+use Rattle.ert_words.specs.Turns.{TurnRow, row_set}
 
 -- a slot is in the set exactly where it is in the list
 pub contains-from_list : (xs : List ℕ) (q : ℕ)
@@ -188,8 +188,8 @@ picks slots capacity xs ys picked e h =
 
 -- where a pop gives nothing all is as it was
 pub unchanged_by : (slots : ℕ) (xs ys : List ℕ) (picked : Option ℕ) → IfNone picked (ys ≡ xs)
-    → IfNone picked ((let r : Row = record { bound = slots; held = ys } in r) ≡ record { bound = slots; held = xs })
-unchanged_by slots xs ys None same = ap (λ zs. let r : Row = record { bound = slots; held = zs } in r) same
+    → IfNone picked ((let r : TurnRow = record { bound = slots; held = ys } in r) ≡ record { bound = slots; held = xs })
+unchanged_by slots xs ys None same = ap (λ zs. let r : TurnRow = record { bound = slots; held = zs } in r) same
 unchanged_by slots xs ys (Some x) same = tt
 
 -- a slot that may be put back, by the list
@@ -198,12 +198,12 @@ pub record CanPut (slots slot : ℕ) (xs : List ℕ) : Type 0 where
   pub away : list_any (nat_eq slot) xs ≡ false
 
 -- by the set
-pub can_put : (now : Row) (slots slot : ℕ) (xs : List ℕ) → (let r : Row = record { bound = slots; held = xs } in r) ≡ now → slot < now.bound
+pub can_put : (now : TurnRow) (slots slot : ℕ) (xs : List ℕ) → (let r : TurnRow = record { bound = slots; held = xs } in r) ≡ now → slot < now.bound
     → set.contains (row_set now).held slot ≡ false → CanPut slots slot xs
 can_put now slots slot xs e low away = record {
-  in_range = subst (λ (r : Row). slot < r.bound) (sym e) low;
+  in_range = subst (λ (r : TurnRow). slot < r.bound) (sym e) low;
   away = sym (contains-from_list xs slot)
-      ∙ subst (λ (r : Row). set.contains (row_set r).held slot ≡ false) (sym e) away;
+      ∙ subst (λ (r : TurnRow). set.contains (row_set r).held slot ≡ false) (sym e) away;
 }
 
 -- the free slots after a push

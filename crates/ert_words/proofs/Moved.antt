@@ -30,18 +30,6 @@ same_free slots xs ys moves =
 behind : (x : ℕ) (xs : List ℕ) → IsPermutation (x ∷ xs) (xs ++ x ∷ [])
 behind x xs = IsPermutation-sym (xs ++ x ∷ []) (x ∷ xs) (IsPermutation-to_front xs x)
 
--- the list after a slot was put in front
-pub put_in_front : (slots capacity larger x : ℕ) (xs : List ℕ) → HasRoom slots xs capacity → capacity ≤ larger
-    → x < slots → list_any (nat_eq x) xs ≡ false → HasRoom slots (x ∷ xs) larger
-put_in_front slots capacity larger x xs h grown low away =
-    moved slots larger (xs ++ x ∷ []) (x ∷ xs) (IsPermutation-to_front xs x) (pushed slots capacity larger x xs h grown low away)
-
--- the free slots after it
-pub free_of-front : (slots slot : ℕ) (xs ys : List ℕ) → ys ≡ slot ∷ xs
-    → free_of slots ys ≡ record { slots = slots; held = set.insert (set.from_list xs) slot }
-free_of-front slots slot xs ys put =
-    ap (free_of slots) put ∙ (same_free slots (slot ∷ xs) (xs ++ slot ∷ []) (behind slot xs) ∙ free_of-push slots slot xs (xs ++ slot ∷ []) refl)
-
 -- what is left where the first was taken, if there was one
 pub room_behind : (slots capacity : ℕ) (xs ys : List ℕ) (picked : Option ℕ) → xs ≡ option_to_list picked ++ ys
     → HasRoom slots xs capacity → HasRoom slots ys capacity

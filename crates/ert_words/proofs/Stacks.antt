@@ -8,7 +8,7 @@ use Rattle.std.specs.Cmp.{nat_cmp_total, unsigned_tied}
 use Rattle.std.specs.FinSet as set
 use Rattle.std.specs.List.{list_any, range_with_len}
 use Rattle.std.specs.Ordering.{nat_cmp}
-use Rattle.ert_words.specs.Free.{Free, FreeSet, free_at, free_list, free_set, with_short, with_long, stacks_changed, TakesFresh, TakesLong, TakesNext, FindsNone, IsStacked}
+use Rattle.ert_words.specs.Free.{Free, FreeSet, free_at, free_list, free_set, with_short, with_long, stacks_changed, TakesFresh, TakesLong, TakesNextSlot, HasNoneFree, IsStacked}
 use Rattle.ert_words.proofs.Held.{IsPopped, Picks, below_more, contains-from_list, distinct_range, list_any-last, list_any-push, list_any-range, nothing, or-true, or_swap, popped, pushed, room_left}
 
 -- whether a slot is free, where these are the stacks, in whichever order
@@ -278,7 +278,7 @@ pub record IsPicked (old new : Free) (xcap ycap : ℕ) (picked : Option ℕ) : T
   pub picks : Picks (free_set old) (free_set new) picked
   pub none : IsNone picked ↔ (free_list old ≡ [])
   pub unchanged : IfNone picked (new ≡ old)
-  pub next : IfSome picked (TakesNext old new)
+  pub next : IfSome picked (TakesNextSlot old new)
 
 -- none is free
 empty_list : (f : Free) → f.short ≡ [] → f.slots ≤ f.fresh → f.long ≡ [] → free_list f ≡ []
@@ -292,7 +292,7 @@ some_listed : (f : Free) (x : ℕ) → set.contains (free_set f).held x ≡ true
 some_listed f x held none =
     true≢false (sym held ∙ (ap (λ (xs : List ℕ). set.contains {R = nat_cmp} (set.from_list {R = nat_cmp} xs) x) none ∙ set.contains-empty nat_cmp x))
 
-picks_some : (old new : Free) (x xcap ycap : ℕ) → TakesNext old new x → IsTaken old new xcap ycap (Some x) → IsPicked old new xcap ycap (Some x)
+picks_some : (old new : Free) (x xcap ycap : ℕ) → TakesNextSlot old new x → IsTaken old new xcap ycap (Some x) → IsPicked old new xcap ycap (Some x)
 picks_some old new x xcap ycap next t = record {
   left = t.left;
   picks = t.picks;
@@ -302,7 +302,7 @@ picks_some old new x xcap ycap next t = record {
 }
 
 pub next_picked : (old new : Free) (xcap ycap : ℕ) (picked : Option ℕ) → IsStacked old.slots old.fresh old.short old.long xcap ycap
-    → MatchOption picked (FindsNone old new) (TakesNext old new) → IsPicked old new xcap ycap picked
+    → MatchOption picked (HasNoneFree old new) (TakesNextSlot old new) → IsPicked old new xcap ycap picked
 next_picked old new xcap ycap None s found = record {
   left = subst (λ (n : Free). IsStacked n.slots n.fresh n.short n.long xcap ycap) (sym found.same) s;
   picks = record { held = tt; taken = tt; in_range = tt };
@@ -331,7 +331,7 @@ pub record IsPickedLong (old new : Free) (xcap ycap : ℕ) (picked : Option ℕ)
   pub next : IfSome picked (TakesLong old new)
 
 pub long_picked : (old new : Free) (xcap ycap : ℕ) (picked : Option ℕ) → IsStacked old.slots old.fresh old.short old.long xcap ycap
-    → MatchOption picked (FindsNone (stacks_changed old) (stacks_changed new)) (TakesNext (stacks_changed old) (stacks_changed new))
+    → MatchOption picked (HasNoneFree (stacks_changed old) (stacks_changed new)) (TakesNextSlot (stacks_changed old) (stacks_changed new))
     → IsPickedLong old new xcap ycap picked
 long_picked old new xcap ycap None s found =
     let same : new ≡ old = ap stacks_changed found.same in
@@ -416,14 +416,14 @@ all_free slots q = contains_free slots 0 [] [] q (omega arith) ∙ grind (arith,
 
 -- where the stack of short waits was found empty, the least slot that was never taken comes next
 pub next_fresh : (slots fresh : ℕ) (xs xs' ys : List ℕ) → fresh < slots → (xs ≡ []) × (xs' ≡ xs)
-    → TakesNext (free_at slots fresh xs ys) (free_at slots (fresh + 1) xs' ys) fresh
+    → TakesNextSlot (free_at slots fresh xs ys) (free_at slots (fresh + 1) xs' ys) fresh
 next_fresh slots fresh xs xs' ys low none =
     inr (inl (record { none = none.0; low = low; is = refl; left = ap (λ (l : List ℕ). free_at slots (fresh + 1) l ys) none.1 }))
 
 -- and where there is none, the top of the other stack
 pub next_found : (slots fresh : ℕ) (xs xs' ys zs : List ℕ) (n : ℕ) (picked : Option ℕ) → slots ≤ fresh → (xs ≡ []) × (xs' ≡ xs)
     → n ≡ length ys → ys ≡ zs ++ option_to_list picked → IsSome picked ↔ (0 < n)
-    → MatchOption picked (FindsNone (free_at slots fresh xs ys) (free_at slots fresh xs' zs)) (TakesNext (free_at slots fresh xs ys) (free_at slots fresh xs' zs))
+    → MatchOption picked (HasNoneFree (free_at slots fresh xs ys) (free_at slots fresh xs' zs)) (TakesNextSlot (free_at slots fresh xs ys) (free_at slots fresh xs' zs))
 next_found slots fresh xs xs' ys zs n None all none len items some =
     let left = nothing_left n ys zs None refl len items some in
     record { short = none.0; all = all; long = left.0; same = λ i. free_at slots fresh (none.1 i) (left.1 i) }

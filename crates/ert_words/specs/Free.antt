@@ -59,8 +59,8 @@ pub record TakesLast (old new : Free) (slot : ℕ) : Type 0 where
 
 -- what is taken next for a short wait: the top of the stack of short waits, else the least slot that was never taken, and else the top of
 -- the stack of long waits
-abbrev pub TakesNext : Free → Free → ℕ → Type 0
-TakesNext old new slot = (old ≡ with_short new slot) ⊎ (TakesFresh old new slot ⊎ TakesLast old new slot)
+abbrev pub TakesNextSlot : Free → Free → ℕ → Type 0
+TakesNextSlot old new slot = (old ≡ with_short new slot) ⊎ (TakesFresh old new slot ⊎ TakesLast old new slot)
 
 -- the stacks change places
 abbrev pub stacks_changed : Free → Free
@@ -68,10 +68,10 @@ stacks_changed f = record f { short = f.long; long = f.short }
 
 -- and what is taken next for a long wait
 abbrev pub TakesLong : Free → Free → ℕ → Type 0
-TakesLong old new slot = TakesNext (stacks_changed old) (stacks_changed new) slot
+TakesLong old new slot = TakesNextSlot (stacks_changed old) (stacks_changed new) slot
 
 -- none is free, and nothing changes
-pub record FindsNone (old new : Free) : Type 0 where
+pub record HasNoneFree (old new : Free) : Type 0 where
   pub short : old.short ≡ []
   pub all : old.slots ≤ old.fresh
   pub long : old.long ≡ []

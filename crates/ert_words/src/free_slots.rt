@@ -1,5 +1,5 @@
 ghost use Rattle.std.specs.Prelude.{◌≡◌, ◌≤◌, MatchOption, vec_capacity};
-ghost use Rattle.ert_words.specs.Free.{free_at, TakesNext, FindsNone};
+ghost use Rattle.ert_words.specs.Free.{free_at, TakesNextSlot, HasNoneFree};
 
 use ert_defs::NoMemory;
 use std::alloc::Global;
@@ -36,7 +36,7 @@ impl Model for FreeSlots {
 impl FreeSlots {
     ghost use Rattle.std.specs.Prelude.{◌≡◌, ◌↔◌, ◌<◌, ℕ, true, false, [], IfOk, IfSome, IfNone, IsNone, nat_lt};
     ghost use Rattle.std.specs.FinSet as set;
-    ghost use Rattle.ert_words.specs.Free.{free_at, free_list, free_set, with_short, with_long, TakesLong, TakesNext};
+    ghost use Rattle.ert_words.specs.Free.{free_at, free_list, free_set, with_short, with_long, TakesLong, TakesNextSlot};
 
     /// Holds every slot below `slots`. None was ever taken.
     pub fn new(alloc: Global, slots: u32) -> Result<FreeSlots, NoMemory>
@@ -61,7 +61,7 @@ impl FreeSlots {
     pub fn pick(&mut self) -> Option<u32>
         ensures none { IsNone result ↔ (free_list self.old ≡ []) }
         ensures unchanged { IfNone result (self.new ≡ self.old) }
-        ensures next { IfSome result (TakesNext self.old self.new) }
+        ensures next { IfSome result (TakesNextSlot self.old self.new) }
         ensures held { IfSome result (λ slot. set.contains (free_set self.old).held slot ≡ true) }
         ensures taken { IfSome result (λ slot.
             free_set self.new ≡ record (free_set self.old) { held = set.remove (free_set self.old).held slot }) }
@@ -113,8 +113,8 @@ impl FreeSlots {
 #[inline]
 fn next(first: &mut Vec<u32>, fresh: &mut u32, slots: u32, second: &mut Vec<u32>) -> Option<u32>
     ensures found { MatchOption result
-        (FindsNone (free_at slots fresh.old first.old.items second.old.items) (free_at slots fresh.new first.new.items second.new.items))
-        (TakesNext (free_at slots fresh.old first.old.items second.old.items) (free_at slots fresh.new first.new.items second.new.items)) }
+        (HasNoneFree (free_at slots fresh.old first.old.items second.old.items) (free_at slots fresh.new first.new.items second.new.items))
+        (TakesNextSlot (free_at slots fresh.old first.old.items second.old.items) (free_at slots fresh.new first.new.items second.new.items)) }
     ensures first_room { vec_capacity first.new ≡ vec_capacity first.old }
     ensures second_room { vec_capacity second.new ≡ vec_capacity second.old }
 {

@@ -18,10 +18,10 @@ pub struct Turns {
 
 impl Model for Turns {
     ghost use Rattle.ert_words.specs.Free.{HasRoom};
-    ghost use Rattle.ert_words.specs.Turns.{Row, row_code};
+    ghost use Rattle.ert_words.specs.Turns.{TurnRow, row_code};
     ghost use Rattle.std.specs.VecDeque.{deque_capacity};
 
-    ghost Value = { Row };
+    ghost Value = { TurnRow };
 
     ghost coded = { row_code };
 

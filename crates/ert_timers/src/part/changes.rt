@@ -5,7 +5,7 @@ ghost use Rattle.ert_defs.specs.Timers as timers;
 ghost use Rattle.ert_timers.specs.Changes as changes;
 ghost use Rattle.ert_timers.specs.Owners.{MayJoin, Joins};
 ghost use Rattle.ert_wheel.specs.Rings.{Place, AreChains, MayTake, GivesUpPlace, StandsIn};
-ghost use Rattle.ert_words.specs.Free.{free_set, with_short, with_long, TakesLong, TakesNext};
+ghost use Rattle.ert_words.specs.Free.{free_set, with_short, with_long, TakesLong, TakesNextSlot};
 
 use super::{Use, WheelPart, is_long};
 use crate::slot::Slot;
@@ -290,7 +290,7 @@ fn exchange(free: &mut FreeSlots, slot: u32, long: bool) -> Option<u32>
     ensures taken { IfSome result (λ other.
         free_set free.new ≡ record (free_set free.old) { held = set.remove (set.insert (free_set free.old).held slot) other }) }
     ensures which { IfSome result (λ other. MatchBool long
-        (TakesLong (with_short free.old slot) free.new other) (TakesNext (with_long free.old slot) free.new other)) }
+        (TakesLong (with_short free.old slot) free.new other) (TakesNextSlot (with_long free.old slot) free.new other)) }
 {
     put(free, slot, !long);
     if long { free.pick_long() } else { free.pick() }

@@ -2,7 +2,7 @@ use Rattle.std.proofs.Common.{◌≡◌, ℕ, Bool, true, false, not, Option, So
 use Rattle.std.specs.FinSet as sets
 use Rattle.ert_timers.proofs.Fit.{some_left}
 use Rattle.ert_timers.proofs.part.changes.exchange.Goals as goal
-use Rattle.ert_words.specs.Free.{Free, FreeSet, free_set, with_short, with_long, TakesLong, TakesNext}
+use Rattle.ert_words.specs.Free.{Free, FreeSet, free_set, with_short, with_long, TakesLong, TakesNextSlot}
 
 -- one of two facts of an answer, as a test says
 of_short : (long : Bool) (o : Option ℕ) (P Q : ℕ → Type 0) → long ≡ false → IfSome o Q → IfSome o (λ k. MatchBool long (P k) (Q k))
@@ -32,7 +32,7 @@ returns-then-long-clause-some c =
 pub returns-then-long-clause-which : goal.returns-then-long-clause-which
 returns-then-long-clause-which c =
     of_long c.args.long c.pick_long.result (TakesLong (with_short c.args.free.now c.args.slot) c.pick_long.new.self)
-    (TakesNext (with_long c.args.free.now c.args.slot) c.pick_long.new.self) c.if-long.true
+    (TakesNextSlot (with_long c.args.free.now c.args.slot) c.pick_long.new.self) c.if-long.true
     (subst (λ (f : Free). IfSome c.pick_long.result (TakesLong f c.pick_long.new.self))
     (put_on c.args.long (c.put.new.free ≡ with_long c.args.free.now c.args.slot) (c.put.new.free ≡ with_short c.args.free.now c.args.slot) c.if-long.true c.put.ensures.stack)
     c.pick_long.ensures.next)
@@ -45,7 +45,7 @@ returns-else-long-clause-some c =
 pub returns-else-long-clause-which : goal.returns-else-long-clause-which
 returns-else-long-clause-which c =
     of_short c.args.long c.pick.result (TakesLong (with_short c.args.free.now c.args.slot) c.pick.new.self)
-    (TakesNext (with_long c.args.free.now c.args.slot) c.pick.new.self) c.if-long.false
-    (subst (λ (f : Free). IfSome c.pick.result (TakesNext f c.pick.new.self))
+    (TakesNextSlot (with_long c.args.free.now c.args.slot) c.pick.new.self) c.if-long.false
+    (subst (λ (f : Free). IfSome c.pick.result (TakesNextSlot f c.pick.new.self))
     (put_off c.args.long (c.put.new.free ≡ with_long c.args.free.now c.args.slot) (c.put.new.free ≡ with_short c.args.free.now c.args.slot) c.if-long.false c.put.ensures.stack)
     c.pick.ensures.next)

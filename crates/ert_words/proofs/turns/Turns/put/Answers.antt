@@ -1,7 +1,7 @@
 use Rattle.std.proofs.Common.{◌≡◌, ◌<◌, ◌++◌, [], ◌∷◌, length, ap, subst, arith}
 use Rattle.std.specs.FinSet as set
 use Rattle.ert_words.proofs.Held.{can_put, pushed, room_left, free_of, free_of-push}
-use Rattle.ert_words.specs.Turns.{Row, row_set}
+use Rattle.ert_words.specs.Turns.{TurnRow, row_set}
 use Rattle.ert_words.proofs.turns.Turns.put.Goals as goal
 
 pub push_back_reserved-requires : goal.push_back_reserved-requires
@@ -19,11 +19,11 @@ invariant_of-self c =
 
 pub returns-clause-last : goal.returns-clause-last
 returns-clause-last c =
-    subst (λ (old : Row). (let r : Row = record { bound = c.self.inside.bound; held = c.push_back_reserved.new.self.items } in r) ≡ record { bound = old.bound; held = old.held ++ c.args.number ∷ [] })
-    c.self.view_is (ap (λ xs. let r : Row = record { bound = c.self.inside.bound; held = xs } in r) c.push_back_reserved.ensures.items)
+    subst (λ (old : TurnRow). (let r : TurnRow = record { bound = c.self.inside.bound; held = c.push_back_reserved.new.self.items } in r) ≡ record { bound = old.bound; held = old.held ++ c.args.number ∷ [] })
+    c.self.view_is (ap (λ xs. let r : TurnRow = record { bound = c.self.inside.bound; held = xs } in r) c.push_back_reserved.ensures.items)
 
 pub returns-clause-held : goal.returns-clause-held
 returns-clause-held c =
-    subst (λ (old : Row). free_of c.self.inside.bound c.push_back_reserved.new.self.items
+    subst (λ (old : TurnRow). free_of c.self.inside.bound c.push_back_reserved.new.self.items
     ≡ record { slots = old.bound; held = set.insert (row_set old).held c.args.number })
     c.self.view_is (free_of-push c.self.inside.bound c.args.number _ _ c.push_back_reserved.ensures.items)
