@@ -70,6 +70,7 @@ impl Hub {
         self.left = number;
         self.first = from;
         Ok(Shard {
+            before: [0; 8],
             desk,
             pass,
             number,
@@ -80,6 +81,7 @@ impl Hub {
             sched,
             mails,
             list: None,
+            after: [0; 8],
         })
     }
 

@@ -33,9 +33,11 @@ impl Home {
 ///
 /// Shards are cut from its end: the last scheduler and the last processes go to the next shard, and the last shard that
 /// was given comes back first (`join_all` takes them in this order). There is room for all of them. One thread at a time
-/// has the hub and ticks, beside all shards.
+/// has the hub and ticks, beside all shards. There are 64 unused bytes at each end, as in a shard: a tick writes no cache
+/// line that a shard reads, but for the words of the desk.
 #[derive(Drop)]
 pub struct Hub {
+    pub(crate) before: [u64; 8],
     pub(crate) desk: Arc<Desk>,
     pub(crate) pass: Pass,
     pub(crate) keeper: KeeperPart,
@@ -50,6 +52,7 @@ pub struct Hub {
     pub(crate) next: u32,
     /// Which processes the shards had that came back: for the last of the schedulers that are left.
     pub(crate) homes: Vec<Home>,
+    pub(crate) after: [u64; 8],
 }
 
 impl Model for Hub {
@@ -91,6 +94,7 @@ impl Hub {
         } = world.into_parts();
         let homes = Vec::new(*wheels.allocator());
         Hub {
+            before: [0; 8],
             desk,
             pass,
             keeper,
@@ -102,6 +106,7 @@ impl Hub {
             first: settings.processes,
             next: settings.schedulers + 1,
             homes,
+            after: [0; 8],
         }
     }
 

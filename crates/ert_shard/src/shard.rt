@@ -12,9 +12,11 @@ use std::sync::Arc;
 ///
 /// A thread that has it starts timers for its processes, lets them expire and takes their messages. It reads and
 /// cancels the timers of all shards. Its calls take no lock and wait for nobody, beside the calls of all other shards and
-/// of the hub.
+/// of the hub. There are 64 unused bytes at each end, so wherever a shard lies, nothing that another thread writes is on a
+/// cache line with it.
 #[derive(Drop)]
 pub struct Shard {
+    pub(crate) before: [u64; 8],
     pub(crate) desk: Arc<Desk>,
     pub(crate) pass: Pass,
     /// The number of the scheduler. Its caller is the one after that number.
@@ -28,6 +30,7 @@ pub struct Shard {
     pub(crate) mails: Vec<MailPart>,
     /// The processes whose mailboxes may have mail, counted from the first, from the first `next_mail` on.
     pub(crate) list: Option<MailList>,
+    pub(crate) after: [u64; 8],
 }
 
 impl Model for Shard {

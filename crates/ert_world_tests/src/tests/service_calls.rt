@@ -4,7 +4,7 @@ ghost use Rattle.ert_service.specs.Joining.{AreNumbered};
 
 use crate::tests::workers::Totals;
 use ert_calls::{cancel_timer, monotonic_time, system_time};
-use ert_defs::{Actor, NoMemory, Request, RequestKind, Start, TimerRef};
+use ert_defs::{Actor, NoMemory, Request, RequestKind, Settings, Start, TimerRef};
 use ert_effects::StartErr;
 use ert_locks::{CallerSeat, DeskName, SchedSeat};
 use ert_service::Service;
@@ -12,16 +12,23 @@ use ert_world::World;
 use std::process::Abort;
 use std::sync::Wait;
 
+/// What the service was opened with.
+fn settings_of<L: DeskName>(service: &Service<L>) -> &Settings
+    ensures { result.now ≡ L.settings }
+{
+    service.desk().settings()
+}
+
 fn is_scheduler<L: DeskName>(rt: &impl Abort, service: &Service<L>, wheel: u32)
     ensures { wheel < L.settings.schedulers }
 {
-    assert!(rt; wheel < service.desk().settings().schedulers);
+    assert!(rt; wheel < settings_of(service).schedulers);
 }
 
 pub(crate) fn is_process<L: DeskName>(rt: &impl Abort, service: &Service<L>, process: u32)
     ensures { process < L.settings.processes }
 {
-    assert!(rt; process < service.desk().settings().processes);
+    assert!(rt; process < settings_of(service).processes);
 }
 
 /// Starts a timer.
@@ -82,7 +89,7 @@ pub(crate) fn are_callers<L: DeskName>(
 )
     ensures { AreNumbered (λ s. s.number) L.settings.callers seats.now.items }
 {
-    assert!(rt; seats.len() == service.desk().settings().callers as usize);
+    assert!(rt; seats.len() == settings_of(service).callers as usize);
     for (at, seat) in seats.iter().enumerate() {
         assert!(rt; seat.number as usize == at);
     }
@@ -96,7 +103,7 @@ pub(crate) fn are_scheds<L: DeskName>(
 )
     ensures { AreNumbered (λ s. s.part.wheel) L.settings.schedulers seats.now.items }
 {
-    assert!(rt; seats.len() == service.desk().settings().schedulers as usize);
+    assert!(rt; seats.len() == settings_of(service).schedulers as usize);
     for (at, seat) in seats.iter().enumerate() {
         assert!(rt; seat.part.wheel as usize == at);
     }
