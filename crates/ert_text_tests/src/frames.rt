@@ -25,23 +25,14 @@ pub(crate) fn framed(
     format!(in alloc; "{before}{part}{after}")
 }
 
-/// The texts of all ops, with commas between them.
-fn joined(alloc: Global, rows: &[(&str, Op)]) -> Result<String, AllocError> {
-    let mut text = String::new(alloc);
-    for (i, (op, _)) in rows.iter().enumerate() {
-        text.push_str(if i == 0 { "" } else { "," })?;
-        text.push_str(op)?;
-    }
-    Ok(text)
+/// These are the ops that are wanted of a text or a list.
+pub(crate) fn are(rt: &impl Abort, of: &str, ops: &[Op], want: &[Op]) {
+    assert!(rt; ops == want, "{ops:?} of {of}");
 }
 
-/// A scenario of all these ops gives each as it should.
-pub(crate) fn gives(rt: &impl Abort, alloc: Global, frame: Frame, rows: &[(&str, Op)]) {
-    let ops = joined(alloc, rows).expect(rt, "there is memory");
-    let text = framed(alloc, frame, ops.as_str()).expect(rt, "there is memory");
-    let scenario = read_scenario(alloc, text.as_bytes(), frame.2).expect(rt, "it is a scenario");
-    assert!(rt; scenario.ops.len() == rows.len());
-    for (got, (op, want)) in scenario.ops.iter().zip(rows.iter()) {
-        assert!(rt; got == want, "{got:?} at {op}");
-    }
+/// The text of ops, in their frame, gives these ops.
+pub(crate) fn gives(rt: &impl Abort, alloc: Global, frame: Frame, text: &str, want: &[Op]) {
+    let whole = framed(alloc, frame, text).expect(rt, "there is memory");
+    let scenario = read_scenario(alloc, whole.as_bytes(), frame.2).expect(rt, "it is a scenario");
+    are(rt, text, scenario.ops.as_slice(), want);
 }

@@ -7,8 +7,6 @@ mod formats;
 #[cfg(test)]
 mod frames;
 #[cfg(test)]
-mod lists;
-#[cfg(test)]
 mod made;
 #[cfg(test)]
 mod ops;

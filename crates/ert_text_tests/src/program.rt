@@ -54,9 +54,15 @@ pub(crate) fn sound<'a>(words: &'a [&'a str], text: &'a [u8]) -> Given<'a>
 fn strings(alloc: Global, words: &[&str]) -> Result<Vec<String>, AllocError> {
     let mut all = Vec::new(alloc);
     for word in words {
-        all.push(String::from_str(alloc, word)?)?;
+        push_word(alloc, &mut all, word)?;
     }
     Ok(all)
+}
+
+fn push_word(alloc: Global, words: &mut Vec<String>, word: &str) -> Result<(), AllocError> {
+    let word = String::from_str(alloc, word)?;
+    words.push(word)?;
+    Ok(())
 }
 
 fn clock_of(alloc: Global, readings: &[(i64, i64)], fails: u32) -> Result<MemClock, AllocError> {
@@ -149,14 +155,16 @@ fn stops_at_a_failed_write(rt: HostRuntime) -> Result<(), Fail> {
     Ok(())
 }
 
+/// The first call gives the whole text, and the second its end.
+const READS: [(u32, EndStatus, &str); 3] = [
+    (1, EndStatus::ReadFault, ""),
+    (2, EndStatus::ReadFault, ""),
+    (3, EndStatus::Done, LEAP_TEXT),
+];
+
 #[test]
 fn stops_at_a_failed_read(rt: HostRuntime) -> Result<(), Fail> {
-    // The first call gives the whole text, and the second its end.
-    for (read, status, lines) in [
-        (1, EndStatus::ReadFault, ""),
-        (2, EndStatus::ReadFault, ""),
-        (3, EndStatus::Done, LEAP_TEXT),
-    ] {
+    for (read, status, lines) in READS {
         let mut given = sound(&["run"], LEAP.as_bytes());
         given.read = read;
         assert!(rt; ends(&rt, given, status, lines)?, "at {read}");

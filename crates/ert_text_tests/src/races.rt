@@ -1,14 +1,9 @@
 //! A scenario with a race.
 
+use crate::frames::are;
 use ert_defs::When;
 use ert_scenario::{Op, read_scenario};
-use std::process::Abort;
 use std::test::Fail;
-
-/// A list has these ops.
-fn has(rt: &impl Abort, list: &str, ops: &[Op], want: &[Op]) {
-    assert!(rt; ops == want, "{list}: {ops:?}");
-}
 
 #[test]
 fn accepts_races(rt: HostRuntime) -> Result<(), Fail> {
@@ -29,11 +24,11 @@ fn accepts_races(rt: HostRuntime) -> Result<(), Fail> {
     };
     let keeper = [Op::Tick { mono: 1, sys: 2 }, Op::Notify { process: 1 }];
     let first = [start, Op::Cancel { label: 7 }];
-    has(&rt, "ops", &scenario.ops, &[Op::Turn { sched: 0 }]);
-    has(&rt, "keeper", &lists.keeper, &keeper);
-    has(&rt, "caller 1", &lists.callers[0], &first);
-    has(&rt, "caller 2", &lists.callers[1], &[]);
-    has(
+    are(&rt, "ops", &scenario.ops, &[Op::Turn { sched: 0 }]);
+    are(&rt, "keeper", &lists.keeper, &keeper);
+    are(&rt, "caller 1", &lists.callers[0], &first);
+    are(&rt, "caller 2", &lists.callers[1], &[]);
+    are(
         &rt,
         "caller 3",
         &lists.callers[2],

@@ -6,7 +6,11 @@
 use crate::program::{end_of, sound};
 use ert_program::EndStatus;
 use ert_race::LedgerGate;
+use std::alloc::AllocError;
+use std::process::Abort;
+use std::sync::Wait;
 use std::test::Fail;
+use std::thread::Threads;
 
 /// How often a gate tries before it lets go.
 const TRIES: u64 = 20_000_000;
@@ -62,31 +66,43 @@ const AT_12: &str =
     "keeper\ntick 2000000000\ncheck 2000000000 offset 9000000000\ncaller 1\nsystem 12000000000\n\
     settled armed 0 expired 0 delivered 0 dropped 0 cancelled 0 orphaned 0\nend 2000000000\n";
 
+/// A race, the worker whose first step is held, the step of another that it waits for, and the reports that may come.
+type Row = (&'static str, u32, (u32, u64), &'static [&'static str]);
+
+const ROWS: [Row; 6] = [
+    (TWO_CANCELS, 2, (3, 1), &EITHER_CANCELS),
+    (TWO_CANCELS, 3, (2, 1), &EITHER_CANCELS),
+    // The first turn waits until the caller has cancelled.
+    (CANCEL_OR_EXPIRY, 1, (2, 2), &[CANCELLED]),
+    // The cancel waits until the first turn was made.
+    (CANCEL_OR_EXPIRY, 2, (1, 2), &[RECEIVED]),
+    // The exit waits until the timer was started.
+    (EXIT_AND_START, 2, (3, 2), &READ_OR_NOT),
+    // The caller waits until the time has passed.
+    (WARP, 2, (0, 2), &[AT_11, AT_12]),
+];
+
+/// Runs a race over its gate.
+fn hold<R: AllocGlobal + Threads + Wait + Abort + Sync>(
+    rt: &R,
+    (race, held, awaited, reports): Row,
+) -> Result<(), AllocError> {
+    let gate = LedgerGate::new((held, 1), awaited, TRIES);
+    let (status, report) = end_of(rt, sound(&["race"], race.as_bytes()), &gate)?;
+    let is_one = reports.iter().any(|one| *one == report.as_str());
+    assert!(rt; status == EndStatus::Done && is_one, "{report} of {race}");
+    assert!(rt; gate.has_held(), "no turn came to the gate in {race}");
+    assert!(rt; !gate.has_let_go(), "the gate let go in {race}");
+    Ok(())
+}
+
 // Each row holds the first step of a worker until a step of another has begun. No gate lets go, so the workers
 // run at once: the first two rows hold either of two workers until the other has begun, and were these run one
 // after the other, in whatever order, one of the two gates would let go.
 #[test]
 fn over_gates_that_hold_a_step(rt: HostRuntime) -> Result<(), Fail> {
-    let rows: [(&str, u32, (u32, u64), &[&str]); 6] = [
-        (TWO_CANCELS, 2, (3, 1), &EITHER_CANCELS),
-        (TWO_CANCELS, 3, (2, 1), &EITHER_CANCELS),
-        // The first turn waits until the caller has cancelled.
-        (CANCEL_OR_EXPIRY, 1, (2, 2), &[CANCELLED]),
-        // The cancel waits until the first turn was made.
-        (CANCEL_OR_EXPIRY, 2, (1, 2), &[RECEIVED]),
-        // The exit waits until the timer was started.
-        (EXIT_AND_START, 2, (3, 2), &READ_OR_NOT),
-        // The caller waits until the time has passed.
-        (WARP, 2, (0, 2), &[AT_11, AT_12]),
-    ];
-    for (race, held, awaited, reports) in rows {
-        let gate = LedgerGate::new((held, 1), awaited, TRIES);
-        let given = sound(&["race"], race.as_bytes());
-        let (status, report) = end_of(&rt, given, &gate)?;
-        let is_one = reports.iter().any(|one| *one == report.as_str());
-        assert!(rt; status == EndStatus::Done && is_one, "{report} of {race}");
-        assert!(rt; gate.has_held(), "no turn came to the gate in {race}");
-        assert!(rt; !gate.has_let_go(), "the gate let go in {race}");
+    for row in ROWS {
+        hold(&rt, row)?;
     }
     Ok(())
 }

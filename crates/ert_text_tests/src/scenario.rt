@@ -4,13 +4,12 @@ use ert_ops::Unit;
 use ert_scenario::{Op, read_scenario};
 use std::alloc::Global;
 use std::process::Abort;
-use std::test::Fail;
 
 /// The latest start time: the greatest multiple of 1,000,000 up to 2^58.
 const LATEST: i64 = 288_230_376_151_000_000;
 
 /// What a scenario without these fields opens with.
-pub(crate) const PLAIN: Settings = Settings {
+const PLAIN: Settings = Settings {
     mode: Mode::No,
     correction: true,
     start: 0,
@@ -32,20 +31,21 @@ fn has(rt: &impl Abort, alloc: Global, fields: &str, want: &Settings) {
     );
 }
 
+const COUNTS: [(&str, u32, u32, u32); 4] = [
+    (r#""format":1"#, 1, 1, 1024),
+    (r#""schedulers":4,"slots":65536"#, 4, 1, 65_536),
+    (
+        r#""schedulers":64,"processes":1024,"slots":4096"#,
+        64,
+        1024,
+        4096,
+    ),
+    (r#""format":2,"processes":2,"slots":1"#, 1, 2, 1),
+];
+
 #[test]
 fn accepts_counts(rt: HostRuntime) {
-    let rows = [
-        (r#""format":1"#, 1, 1, 1024),
-        (r#""schedulers":4,"slots":65536"#, 4, 1, 65_536),
-        (
-            r#""schedulers":64,"processes":1024,"slots":4096"#,
-            64,
-            1024,
-            4096,
-        ),
-        (r#""format":2,"processes":2,"slots":1"#, 1, 2, 1),
-    ];
-    for (fields, schedulers, processes, slots) in rows {
+    for (fields, schedulers, processes, slots) in COUNTS {
         let want = Settings {
             schedulers,
             processes,
@@ -56,24 +56,25 @@ fn accepts_counts(rt: HostRuntime) {
     }
 }
 
+const OF_THE_CLOCK: [(&str, Mode, bool, i64); 8] = [
+    (r#""format":1"#, Mode::No, true, 0),
+    (r#""mode":"no","correction":true"#, Mode::No, true, 0),
+    (r#""mode":"single""#, Mode::Single, true, 0),
+    (
+        r#""mode":"multi","correction":false"#,
+        Mode::Multi,
+        false,
+        0,
+    ),
+    (r#""start":-1000000000"#, Mode::No, true, -1_000_000_000),
+    (r#""start":288230376151000000"#, Mode::No, true, LATEST),
+    (r#""start":-288230376151000000"#, Mode::No, true, -LATEST),
+    (r#""start":1,"start":2000000"#, Mode::No, true, 2_000_000),
+];
+
 #[test]
 fn accepts_fields(rt: HostRuntime) {
-    let rows = [
-        (r#""format":1"#, Mode::No, true, 0),
-        (r#""mode":"no","correction":true"#, Mode::No, true, 0),
-        (r#""mode":"single""#, Mode::Single, true, 0),
-        (
-            r#""mode":"multi","correction":false"#,
-            Mode::Multi,
-            false,
-            0,
-        ),
-        (r#""start":-1000000000"#, Mode::No, true, -1_000_000_000),
-        (r#""start":288230376151000000"#, Mode::No, true, LATEST),
-        (r#""start":-288230376151000000"#, Mode::No, true, -LATEST),
-        (r#""start":1,"start":2000000"#, Mode::No, true, 2_000_000),
-    ];
-    for (fields, mode, correction, start) in rows {
+    for (fields, mode, correction, start) in OF_THE_CLOCK {
         let want = Settings {
             mode,
             correction,
@@ -91,71 +92,63 @@ fn accepts_fields(rt: HostRuntime) {
     );
 }
 
+const OPS_OF_THE_CLOCK_TEXT: &str = r#"["tick",4611686018427387903,-2305843009213693951],
+    ["check",0,2305843009213693951],
+    ["finalize",1,-1],
+    ["time"],
+    ["system"],
+    ["offset"],
+    ["info"]"#;
+
+const OPS_OF_THE_CLOCK: [Op; 7] = [
+    Op::Tick {
+        mono: 4611686018427387903,
+        sys: -2305843009213693951,
+    },
+    Op::Check {
+        mono: 0,
+        sys: 2305843009213693951,
+    },
+    Op::Finalize { mono: 1, sys: -1 },
+    Op::Time,
+    Op::System,
+    Op::Offset,
+    Op::Info,
+];
+
 #[test]
 fn accepts_ops_of_the_clock(rt: HostRuntime) {
-    let rows = [
-        (
-            r#"["tick",4611686018427387903,-2305843009213693951]"#,
-            Op::Tick {
-                mono: 4611686018427387903,
-                sys: -2305843009213693951,
-            },
-        ),
-        (
-            r#"["check",0,2305843009213693951]"#,
-            Op::Check {
-                mono: 0,
-                sys: 2305843009213693951,
-            },
-        ),
-        (r#"["finalize",1,-1]"#, Op::Finalize { mono: 1, sys: -1 }),
-        (r#"["time"]"#, Op::Time),
-        (r#"["system"]"#, Op::System),
-        (r#"["offset"]"#, Op::Offset),
-        (r#"["info"]"#, Op::Info),
-    ];
-    gives(&rt, rt.alloc(), OPS_1, &rows);
+    gives(
+        &rt,
+        rt.alloc(),
+        OPS_1,
+        OPS_OF_THE_CLOCK_TEXT,
+        &OPS_OF_THE_CLOCK,
+    );
+}
+
+const CONVERSIONS: &str = r#"["convert",-9223372036854775808,"second",9223372036854775807],
+    ["convert",9223372036854775807,"millisecond","microsecond"],
+    ["convert",0,"native",1],
+    ["convert",-1,"nanosecond",3]"#;
+
+/// A conversion between these units.
+fn convert(time: i64, from: Unit, to: Unit) -> Op {
+    Op::Convert { time, from, to }
+}
+
+/// The unit of which a second has so many.
+fn parts(rt: &impl Abort, parts: u64) -> Unit {
+    Unit::parts(parts).expect(rt, "a unit")
 }
 
 #[test]
-fn accepts_conversions(rt: HostRuntime) -> Result<(), Fail> {
-    let one = Unit::parts(1).ok_or("no unit")?;
-    let three = Unit::parts(3).ok_or("no unit")?;
-    let most = Unit::parts(i64::MAX as u64).ok_or("no unit")?;
-    let rows = [
-        (
-            r#"["convert",-9223372036854775808,"second",9223372036854775807]"#,
-            Op::Convert {
-                time: i64::MIN,
-                from: Unit::second(),
-                to: most,
-            },
-        ),
-        (
-            r#"["convert",9223372036854775807,"millisecond","microsecond"]"#,
-            Op::Convert {
-                time: i64::MAX,
-                from: Unit::millisecond(),
-                to: Unit::microsecond(),
-            },
-        ),
-        (
-            r#"["convert",0,"native",1]"#,
-            Op::Convert {
-                time: 0,
-                from: Unit::native(),
-                to: one,
-            },
-        ),
-        (
-            r#"["convert",-1,"nanosecond",3]"#,
-            Op::Convert {
-                time: -1,
-                from: Unit::nanosecond(),
-                to: three,
-            },
-        ),
+fn accepts_conversions(rt: HostRuntime) {
+    let want = [
+        convert(i64::MIN, Unit::second(), parts(&rt, i64::MAX as u64)),
+        convert(i64::MAX, Unit::millisecond(), Unit::microsecond()),
+        convert(0, Unit::native(), parts(&rt, 1)),
+        convert(-1, Unit::nanosecond(), parts(&rt, 3)),
     ];
-    gives(&rt, rt.alloc(), OPS_1, &rows);
-    Ok(())
+    gives(&rt, rt.alloc(), OPS_1, CONVERSIONS, &want);
 }
