@@ -2,15 +2,14 @@
 
 use Rattle.std.proofs.Common.{map, ◌≡◌, ◌↔◌, ℕ, ◌+◌, ◌<◌, ◌≤◌, ◌^◌, Bool, true, false, not, cond, List, Option, Some, None, length, get_or, sym, subst, ◌∙◌, ap, inl, inr, refl, arith}
 use Rattle.std.proofs.lemmas.Bool.{cases_lt, lt-ltb, le-ltb, false≢true}
-use Rattle.std.proofs.lemmas.List.FromFn.{get_or-map-range_with_len}
+use Rattle.std.proofs.lemmas.List.FromFn.{get_or-map-range_with_len, length-map-range_with_len}
 use Rattle.std.specs.Bool.{IsTrue}
 use Rattle.std.specs.List.{range_with_len}
 use Rattle.std.specs.Option.{IsSome}
 use Rattle.ert_wheel.proofs.Parts.{IsSlot, IsHead, slot_is, head_is, node_is, placed_apart, put_chains, take_chains}
 use Rattle.ert_wheel.specs.Chained.{Shape, Spliced, Unspliced}
-use Rattle.ert_wheel.proofs.Stored.{IsGrown, seen_grown, spliced_seen, unspliced_none, unspliced_seen, written_grown, written_spliced, written_unspliced}
-use Rattle.ert_wheel.specs.Links.{next_at, prev_at, lone_link, no_link, seen_links, AreWritten}
-use Rattle.ert_wheel.specs.Rings.{Rings, Place, order_of, shape, AreChains, MayPut, Puts, PutsInHome, GivesUpPlace, node_slot, Finds, FindsOldest}
+use Rattle.ert_wheel.specs.Links.{next_at, prev_at, lone_link, no_link}
+use Rattle.ert_wheel.specs.Rings.{Rings, HasLinks, Place, order_of, shape, AreChains, MayTake, Puts, PutsInHome, GivesUpPlace, node_slot, Finds, FindsOldest}
 use Rattle.ert_wheel.specs.declared.links.Link.{Link}
 
 -- a slot is put in: `lent` is what the links are while they are written
@@ -54,68 +53,6 @@ takes old slots homes before after slot is low unspliced =
     subst (λ (r : Rings). GivesUpPlace old r slot) (sym (ap (λ (r : Rings). let n : Rings = record r { links = after } in n) is))
     (λ places are. take_chains old places slot after are low unspliced)
 
--- a slot is put in where it is stored
-pub record IsPutIn (now : Rings) (slots homes cap : ℕ) (after : List Link) (slot home : ℕ) : Type 0 where
-  pub written : AreWritten slots homes after cap
-  pub spliced : Spliced (next_at now.links) (prev_at now.links) (next_at (seen_links slots homes after)) (prev_at (seen_links slots homes after)) (now.slots + home) slot
-  pub in_home : PutsInHome now (record { slots = slots; homes = homes; links = seen_links slots homes after }) slot home
-
-pub put_stored : (now : Rings) (slots homes cap : ℕ) (before grown lent after : List Link) (slot home : ℕ)
-    → record { slots = slots; homes = homes; links = seen_links slots homes before } ≡ now → MayPut now slot home
-    → AreWritten slots homes before cap → IsGrown before grown (homes + slot + 1) → lent ≡ grown → length after ≡ length lent
-    → Spliced (next_at lent) (prev_at lent) (next_at after) (prev_at after) home (homes + slot) → IsPutIn now slots homes cap after slot home
-put_stored now slots homes cap before grown lent after slot home is may w g e long s =
-    let seen : Rings = record { slots = slots; homes = homes; links = seen_links slots homes before } in
-    let put : MayPut seen slot home = subst (λ (r : Rings). MayPut r slot home) (sym is) may in
-    let w' = written_grown slots homes cap (homes + slot + 1) before grown w (omega (arith, put.low)) g in
-    let s' = subst (λ (l : List Link). Spliced (next_at l) (prev_at l) (next_at after) (prev_at after) home (homes + slot)) e s in
-    let long' : length after ≡ length grown = long ∙ ap length e in
-    let here : homes + slot < length grown = omega (arith, g.long) in
-    let spliced = splices now slots homes (seen_links slots homes before) (seen_links slots homes grown) (seen_links slots homes after) slot home is
-    (seen_grown slots homes (homes + slot + 1) before grown g)
-    (spliced_seen slots homes cap grown after home slot w' put.low put.in_range long' here s') in
-    record {
-      written = written_spliced slots homes cap grown after home (homes + slot) w' (omega (arith, w'.heads, put.in_range)) here long' s';
-      spliced = spliced;
-      in_home = puts now slots homes (seen_links slots homes before) (seen_links slots homes after) slot home is may.low may.in_range spliced;
-    }
-
--- a slot is taken out where it is stored
-pub record IsTakenOut (now : Rings) (slots homes cap : ℕ) (after : List Link) (slot : ℕ) : Type 0 where
-  pub written : AreWritten slots homes after cap
-  pub unspliced : Unspliced (next_at now.links) (prev_at now.links) (next_at (seen_links slots homes after)) (prev_at (seen_links slots homes after)) slot
-  pub gives_up : GivesUpPlace now (record { slots = slots; homes = homes; links = seen_links slots homes after }) slot
-
-pub take_stored : (now : Rings) (slots homes cap : ℕ) (before lent after : List Link) (slot : ℕ)
-    → record { slots = slots; homes = homes; links = seen_links slots homes before } ≡ now → slot < now.slots
-    → AreWritten slots homes before cap → homes + slot < length before → lent ≡ before → length after ≡ length lent
-    → Unspliced (next_at lent) (prev_at lent) (next_at after) (prev_at after) (homes + slot) → IsTakenOut now slots homes cap after slot
-take_stored now slots homes cap before lent after slot is low w here e long s =
-    let low' : slot < slots = subst (λ (r : Rings). slot < r.slots) (sym is) low in
-    let s' = subst (λ (l : List Link). Unspliced (next_at l) (prev_at l) (next_at after) (prev_at after) (homes + slot)) e s in
-    let long' : length after ≡ length before = long ∙ ap length e in
-    let unspliced = unsplices now slots homes (seen_links slots homes before) (seen_links slots homes before) (seen_links slots homes after) slot is refl
-    (unspliced_seen slots homes cap before after slot w low' long' here s') in
-    record {
-      written = written_unspliced slots homes cap before after (homes + slot) w here long' s';
-      unspliced = unspliced;
-      gives_up = takes now slots homes (seen_links slots homes before) (seen_links slots homes after) slot is low unspliced;
-    }
-
--- and where it isn't stored nothing is written
-pub take_none : (now : Rings) (slots homes cap : ℕ) (before : List Link) (slot : ℕ)
-    → record { slots = slots; homes = homes; links = seen_links slots homes before } ≡ now → slot < now.slots
-    → AreWritten slots homes before cap → length before ≤ homes + slot → IsTakenOut now slots homes cap before slot
-take_none now slots homes cap before slot is low w past =
-    let low' : slot < slots = subst (λ (r : Rings). slot < r.slots) (sym is) low in
-    let unspliced = unsplices now slots homes (seen_links slots homes before) (seen_links slots homes before) (seen_links slots homes before) slot is refl
-    (unspliced_none slots homes before slot low' past) in
-    record {
-      written = w;
-      unspliced = unspliced;
-      gives_up = takes now slots homes (seen_links slots homes before) (seen_links slots homes before) slot is low unspliced;
-    }
-
 -- a slot isn't alone just where it has a place
 pub is_placed : (r : Rings) (slot : ℕ) (lone_link : Bool) (places : ℕ → Option Place) → AreChains r places → slot < r.slots
     → IsTrue lone_link ↔ (next_at r.links slot ≡ slot) → IsTrue (not lone_link) ↔ IsSome (places slot)
@@ -127,7 +64,28 @@ is_placed r slot lone_link places are low tells = at lone_link (places slot) ref
     at true None none tells = (λ t. absurd (false≢true t), λ s. absurd (false≢true s))
     at true (Some place) has tells = absurd (placed_apart r places slot place are low has (tells.0 refl))
 
--- what comes after a slot is a node
+-- what comes before a slot is a node
+pub before_in_range : (r : Rings) (places : ℕ → Option Place) (slot : ℕ) → AreChains r places → slot < r.slots
+    → prev_at r.links slot < r.slots + r.homes
+before_in_range r places slot are low = at (places slot) refl
+  where
+    at : (o : Option Place) → places slot ≡ o → prev_at r.links slot < r.slots + r.homes
+    at None none = omega (arith, (are.alone slot low none).back)
+    at (Some place) has =
+        let s : IsSlot r.slots r.homes places slot place = slot_is r.slots r.homes places slot place low has in
+        elim (node_is r.slots r.homes places (prev_at r.links slot) (are.chained.before_on slot s.on))
+        [ inl (p, t) ↦ omega (arith, t.low) | inr t ↦ t.few ]
+
+pub before_low : (old : Rings) (slots homes : ℕ) (before lent : List Link) (slot : ℕ)
+    → record { slots = slots; homes = homes; links = before } ≡ old → lent ≡ before → MayTake old slot
+    → HasLinks (record { slots = slots; homes = homes; links = before }) → prev_at lent slot < length lent
+before_low old slots homes before lent slot is e may has =
+    let P : Rings → Type 0 = λ r. prev_at r.links slot < r.slots + r.homes in
+    let known : prev_at before slot < slots + homes =
+    subst P (sym is) (before_in_range old may.places slot may.are may.low) in
+    subst (λ (l : List Link). prev_at l slot < length l) (sym e) (omega (arith, has.len))
+
+-- and so is what comes after it
 pub after_in_range : (r : Rings) (places : ℕ → Option Place) (slot : ℕ) → AreChains r places → slot < r.slots
     → next_at r.links slot < r.slots + r.homes
 after_in_range r places slot are low = at (places slot) refl
@@ -138,6 +96,15 @@ after_in_range r places slot are low = at (places slot) refl
         let s : IsSlot r.slots r.homes places slot place = slot_is r.slots r.homes places slot place low has in
         elim (node_is r.slots r.homes places (next_at r.links slot) (are.chained.after_on slot s.on))
         [ inl (p, t) ↦ omega (arith, t.low) | inr t ↦ t.few ]
+
+pub after_low : (old : Rings) (slots homes : ℕ) (before lent : List Link) (slot : ℕ)
+    → record { slots = slots; homes = homes; links = before } ≡ old → lent ≡ before → MayTake old slot
+    → HasLinks (record { slots = slots; homes = homes; links = before }) → next_at lent slot < length lent
+after_low old slots homes before lent slot is e may has =
+    let P : Rings → Type 0 = λ r. next_at r.links slot < r.slots + r.homes in
+    let known : next_at before slot < slots + homes =
+    subst P (sym is) (after_in_range old may.places slot may.are may.low) in
+    subst (λ (l : List Link). next_at l slot < length l) (sym e) (omega (arith, has.len))
 
 -- no slot of the chain is between a node and the next
 greatest_of : (r : Rings) (places : ℕ → Option Place) (x home bound : ℕ) → AreChains r places
@@ -362,3 +329,12 @@ empty_chains slots homes =
         back = ap (λ (l : Link). l.prev) (is j (omega arith));
       };
     }
+
+-- there is a link for each
+pub has_links : (slots homes : ℕ) → slots ≤ 2 ^ 30 → homes ≤ 2 ^ 30
+    → HasLinks (record { slots = slots; homes = homes; links = map lone_link (range_with_len 0 (slots + homes)) })
+has_links slots homes few few_homes = record {
+  len = length-map-range_with_len lone_link 0 (slots + homes);
+  few = few;
+  few_homes = few_homes;
+}

@@ -4,7 +4,6 @@ mod Opening
 mod Reached
 mod Replacing
 mod Splice
-mod Stored
 mod Unsplice
 mod Writes
 pub mod Calls

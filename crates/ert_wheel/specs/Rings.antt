@@ -1,6 +1,6 @@
 -- Chains of slots, for whoever knows where each slot belongs.
 
-use Rattle.std.specs.Prelude.{◌≡◌, ◌≢◌, ◌⊎◌, ℕ, ◌+◌, ◌-◌, ◌<◌, ◌≤◌, ◌^◌, List, Option, Some, None, nat_lt, nat_eq, if◌then◌else◌, IfSome}
+use Rattle.std.specs.Prelude.{◌≡◌, ◌≢◌, ◌⊎◌, ℕ, ◌+◌, ◌-◌, ◌<◌, ◌≤◌, ◌^◌, List, Option, Some, None, nat_lt, nat_eq, length, if◌then◌else◌, IfSome}
 use Rattle.std.specs.Option.{is_some}
 use Rattle.ert_wheel.specs.Chained.{Shape, Chained, Alone}
 use Rattle.ert_wheel.specs.Links.{next_at, prev_at}
@@ -11,6 +11,12 @@ pub record Rings : Type 0 where
   pub slots : ℕ
   pub homes : ℕ
   pub links : List Link
+
+-- there is a link for each, and their numbers fit
+pub record HasLinks (r : Rings) : Type 0 where
+  pub len : length r.links ≡ r.slots + r.homes
+  pub few : r.slots ≤ 2 ^ 30
+  pub few_homes : r.homes ≤ 2 ^ 30
 
 -- the head of a home is on both sides of a slot: no other is in its chain
 pub record IsOnlyOf (r : Rings) (slot home : ℕ) : Type 0 where

@@ -1,6 +1,6 @@
 ghost use Rattle.std.specs.Prelude.{◌≡◌, ◌↔◌, ◌≤◌, IfOk, IsTrue};
 
-use crate::links::{Link, after, before, link_in, next_of, prev_of, unlink, write_up_to};
+use crate::links::{Link, alone, link_in, next_of, prev_of, unlink};
 use ert_defs::NoMemory;
 use std::alloc::Global;
 use std::marker::Model;
@@ -9,35 +9,30 @@ use std::marker::Model;
 ///
 /// A slot is in the chain of one home, or in none. A chain has its slots in the order in which they were put in, the
 /// newest first. Why a slot belongs to a home is the wheel's or its user's to know.
-///
-/// The link of a slot is written when the slot is first put in. There is room for all from the beginning.
 #[derive(Drop)]
 pub struct Chains {
     slots: u32,
     homes: u32,
-    // Those of the homes' heads, and then those of the slots, as far as they were written. A link names the places of
-    // two others.
+    // Those of the slots, and then those of the homes' heads.
     links: Vec<Link>,
 }
 
 impl Model for Chains {
-    ghost use Rattle.std.specs.Prelude.{vec_capacity};
-    ghost use Rattle.ert_wheel.specs.Links.{seen_links, AreWritten};
-    ghost use Rattle.ert_wheel.specs.Rings.{Rings};
+    ghost use Rattle.ert_wheel.specs.Rings.{Rings, HasLinks};
 
     ghost Value = { Rings };
 
-    ghost view = { λ c. record { slots = c.slots; homes = c.homes; links = seen_links c.slots c.homes c.links.items } };
+    ghost view = { λ c. record { slots = c.slots; homes = c.homes; links = c.links.items } };
 
-    ghost invariant = { λ c. AreWritten c.slots c.homes c.links.items (vec_capacity c.links) };
+    ghost invariant = { λ c. HasLinks (record { slots = c.slots; homes = c.homes; links = c.links.items }) };
 }
 
 impl Chains {
     ghost use Rattle.std.specs.Prelude.{◌≡◌, ◌↔◌, ◌+◌, ◌<◌, ◌≤◌, ◌^◌, ℕ, Option, Some, None, IfOk, IsTrue, MatchOption};
     ghost use Rattle.ert_wheel.specs.Chained.{Spliced, Unspliced};
-    ghost use Rattle.ert_wheel.specs.Links.{next_at, prev_at, place_slot};
+    ghost use Rattle.ert_wheel.specs.Links.{next_at, prev_at};
     ghost use Rattle.ert_wheel.specs.Rings.{Place, AreChains, MayPut, Puts, PutsInHome, MayTake, GivesUpPlace, Finds, FindsOldest};
-    ghost use Rattle.ert_wheel.specs.Rings.{IsOnlyOf, HasOthers};
+    ghost use Rattle.ert_wheel.specs.Rings.{node_slot, IsOnlyOf, HasOthers};
 
     /// All chains empty. No call takes memory after this.
     pub fn new(alloc: Global, slots: u32, homes: u32) -> Result<Chains, NoMemory>
@@ -48,8 +43,7 @@ impl Chains {
         ensures empty { IfOk result (λ chains. AreChains chains (λ _. None)) }
         ensures heads { IfOk result (λ chains. (home : ℕ) → home < homes → next_at chains.links (slots + home) ≡ slots + home) }
     {
-        let mut links = Vec::with_capacity(alloc, (slots + homes) as usize)?;
-        write_up_to(&mut links, homes);
+        let links = alone(alloc, slots + homes)?;
         Ok(Chains {
             slots,
             homes,
@@ -76,9 +70,8 @@ impl Chains {
         ensures spliced { Spliced (next_at self.old.links) (prev_at self.old.links)
             (next_at self.new.links) (prev_at self.new.links) (self.old.slots + home) slot }
     {
-        let node = self.homes + slot;
-        write_up_to(&mut self.links, node + 1);
-        link_in(&mut self.links, home, node);
+        let head = self.slots + home;
+        link_in(&mut self.links, head, slot);
     }
 
     /// Takes a slot out of its chain, where it is in one.
@@ -91,11 +84,7 @@ impl Chains {
         ensures unspliced { Unspliced (next_at self.old.links) (prev_at self.old.links)
             (next_at self.new.links) (prev_at self.new.links) slot }
     {
-        let node = self.homes + slot;
-        if self.links.len() <= node as usize {
-            return;
-        }
-        unlink(&mut self.links, node);
+        unlink(&mut self.links, slot);
     }
 
     /// Whether a slot is alone in its ring: it is in no chain.
@@ -104,8 +93,7 @@ impl Chains {
         requires { slot < self.now.slots }
         ensures { IsTrue result ↔ (next_at self.now.links slot ≡ slot) }
     {
-        let node = self.homes + slot;
-        after(&self.links, node) == node
+        next_of(&self.links, slot) == slot
     }
 
     /// The home whose only slot this is; None where its home has others, or it is in no chain.
@@ -114,15 +102,11 @@ impl Chains {
         requires { slot < self.now.slots }
         ensures { MatchOption result (HasOthers self.now slot) (IsOnlyOf self.now slot) }
     {
-        let node = self.homes + slot;
-        let next = after(&self.links, node);
-        if next >= self.homes {
-            return None;
+        let next = next_of(&self.links, slot);
+        if next == prev_of(&self.links, slot) && next >= self.slots {
+            return Some(next - self.slots);
         }
-        if next != before(&self.links, node) {
-            return None;
-        }
-        Some(next)
+        None
     }
 
     /// The newest slot of a home; None where it has none.
@@ -132,7 +116,8 @@ impl Chains {
         ensures { (places : ℕ → Option Place) → AreChains self.now places
             → Finds self.now places home (2 ^ 64) result }
     {
-        self.slot_at(next_of(&self.links, home))
+        let head = self.slots + home;
+        self.slot_at(next_of(&self.links, head))
     }
 
     /// Whether a slot is the newest of a home.
@@ -155,7 +140,8 @@ impl Chains {
         ensures { (places : ℕ → Option Place) → AreChains self.now places
             → FindsOldest self.now places home 0 result }
     {
-        self.slot_at(prev_of(&self.links, home))
+        let head = self.slots + home;
+        self.slot_at(prev_of(&self.links, head))
     }
 
     /// The slot that is next older than this one in its chain; None where there is none.
@@ -165,7 +151,7 @@ impl Chains {
         ensures { (places : ℕ → Option Place) (place : Place) → AreChains self.now places
             → places slot ≡ Some place → Finds self.now places place.home place.order result }
     {
-        self.slot_at(after(&self.links, self.homes + slot))
+        self.slot_at(next_of(&self.links, slot))
     }
 
     /// The slot that is next newer than this one in its chain; None where there is none.
@@ -175,18 +161,14 @@ impl Chains {
         ensures { (places : ℕ → Option Place) (place : Place) → AreChains self.now places
             → places slot ≡ Some place → FindsOldest self.now places place.home (place.order + 1) result }
     {
-        self.slot_at(before(&self.links, self.homes + slot))
+        self.slot_at(prev_of(&self.links, slot))
     }
 
-    // The slot that is stored at a place, and none of a head.
+    // The slot of a node, and none of a head.
     #[inline]
-    fn slot_at(&self, place: u32) -> Option<u32>
-        ensures { result ≡ place_slot self.now.homes place }
+    fn slot_at(&self, node: u32) -> Option<u32>
+        ensures { result ≡ node_slot self.now.slots node }
     {
-        if place < self.homes {
-            None
-        } else {
-            Some(place - self.homes)
-        }
+        (node < self.slots).then_some(node)
     }
 }

@@ -1,4 +1,6 @@
-ghost use Rattle.std.specs.Prelude.{◌≡◌, ◌<◌, ◌≤◌, ◌+◌, ◌-◌, ◌++◌, [], ◌∷◌, length, replicate, vec_capacity};
+ghost use Rattle.std.specs.Prelude.{◌≡◌, IfOk, map};
+ghost use Rattle.std.specs.List.{range_with_len};
+ghost use Rattle.ert_wheel.specs.Wheels.{no_key};
 
 use crate::row::Key;
 use ert_defs::NoMemory;
@@ -13,28 +15,18 @@ struct Record<T> {
 }
 
 /// The key of each slot's last row, and a value of each slot.
-///
-/// The record of a slot is written when it is first set. There is room for all from the beginning.
 #[derive(Drop)]
 pub struct Kept<T> {
-    slots: u32,
-    // The value of a slot whose record isn't written.
-    unused: T,
     records: Vec<Record<T>>,
 }
 
 impl<T> Model for Kept<T> {
-    ghost use Rattle.std.specs.Prelude.{map, vec_capacity};
-    ghost use Rattle.ert_wheel.specs.Kept.{KeptSlots, record_key, record_value, all_records, HasRecords};
+    ghost use Rattle.std.specs.Prelude.{map};
+    ghost use Rattle.ert_wheel.specs.Kept.{KeptSlots, record_key, record_value};
 
     ghost Value = { KeptSlots T };
 
-    ghost view = { λ k. record {
-      keys = map record_key (all_records k.slots k.unused k.records.items);
-      values = map record_value (all_records k.slots k.unused k.records.items);
-    } };
-
-    ghost invariant = { λ k. HasRecords k.slots k.records.items (vec_capacity k.records) };
+    ghost view = { λ k. record { keys = map record_key k.records.items; values = map record_value k.records.items } };
 }
 
 impl<T: Copy> Kept<T> {
@@ -47,12 +39,8 @@ impl<T: Copy> Kept<T> {
         ensures keys { IfOk result (λ kept. kept.keys ≡ replicate slots no_key) }
         ensures values { IfOk result (λ kept. kept.values ≡ replicate slots value) }
     {
-        let records = Vec::with_capacity(alloc, slots as usize)?;
-        Ok(Kept {
-            slots,
-            unused: value,
-            records,
-        })
+        let records = same(alloc, slots, value)?;
+        Ok(Kept { records })
     }
 
     /// The deadline of a slot's last row.
@@ -61,12 +49,7 @@ impl<T: Copy> Kept<T> {
         requires { slot < length self.now.keys }
         ensures { result ≡ (slice_index_or self.now.keys slot no_key).deadline }
     {
-        let at = slot as usize;
-        if at < self.records.len() {
-            self.records[at].key.deadline
-        } else {
-            0
-        }
+        self.records[slot as usize].key.deadline
     }
 
     /// The key of a slot's last row.
@@ -75,12 +58,7 @@ impl<T: Copy> Kept<T> {
         requires { slot < length self.now.keys }
         ensures { result ≡ slice_index_or self.now.keys slot no_key }
     {
-        let at = slot as usize;
-        if at < self.records.len() {
-            self.records[at].key
-        } else {
-            NO_KEY
-        }
+        self.records[slot as usize].key
     }
 
     /// The value of a slot.
@@ -89,12 +67,7 @@ impl<T: Copy> Kept<T> {
         requires { slot < length self.now.values }
         ensures { slice_get self.now.values slot ≡ Some result }
     {
-        let at = slot as usize;
-        if at < self.records.len() {
-            self.records[at].value
-        } else {
-            self.unused
-        }
+        self.records[slot as usize].value
     }
 
     /// Gives a slot another key and another value.
@@ -104,35 +77,20 @@ impl<T: Copy> Kept<T> {
         ensures keys { self.new.keys ≡ slice_set self.old.keys slot key }
         ensures values { self.new.values ≡ slice_set self.old.values slot value }
     {
-        let at = slot as usize;
-        let record = Record { key, value };
-        if at < self.records.len() {
-            self.records[at] = record;
-            return;
-        }
-        let unused = Record {
-            key: NO_KEY,
-            value: self.unused,
-        };
-        add(&mut self.records, at, unused, record);
+        self.records[slot as usize] = Record { key, value };
     }
 }
 
-/// The key of a slot that never had a row.
-const NO_KEY: Key = Key {
-    deadline: 0,
-    order: 0,
-};
-
-/// Adds the record of a slot, and before it unused ones, for the slots below it that have none.
-#[cold]
-#[inline(never)]
-fn add<T: Copy>(records: &mut Vec<Record<T>>, at: usize, unused: Record<T>, first: Record<T>)
-    requires room { at < vec_capacity records.old }
-    requires high { length records.old.items ≤ at }
-    ensures items { records.new.items ≡ (records.old.items ++ replicate (at - length records.old.items) unused) ++ first ∷ [] }
-    ensures capacity { vec_capacity records.old ≤ vec_capacity records.new }
+/// So many records without a row, each with this value.
+fn same<T: Copy>(alloc: Global, slots: u32, value: T) -> Result<Vec<Record<T>>, NoMemory>
+    ensures { IfOk result (λ records. records.items ≡ map (λ _. record { key = no_key; value = value }) (range_with_len 0 slots)) }
 {
-    let _ = records.resize(at, unused);
-    records.push_reserved(first);
+    let none = Record {
+        key: Key {
+            deadline: 0,
+            order: 0,
+        },
+        value,
+    };
+    Ok((0..slots).map(|_| none).collect(alloc)?)
 }

@@ -4,10 +4,7 @@
 //! **Chains** (`Chains`). A slot is in the chain of one home, or in none. A chain is a ring of links through its head. A
 //! slot in no chain is alone in a ring of its own. So putting a slot in writes four links, as does taking it out, with
 //! no case for an empty chain, a first or a last slot, or a slot in none. A chain runs from its newest slot to its
-//! oldest. The links stand in one vector, 8 bytes each: those of the heads, and behind them those of the slots, as far as
-//! they were written. The link of a slot is written when the slot is first put into a chain, and with it those of the
-//! slots below it; until then it counts as alone. So a wheel whose slots are taken from the lowest on touches memory for
-//! no more slots than were ever in use.
+//! oldest. The links stand in one vector, 8 bytes each: those of the slots, and behind them those of the heads.
 //!
 //! A wheel has two: the chains of the buckets, and beside these the chains of the owners, with as many heads as there
 //! are owners. What is read and written in one stays out of the caches' lines of the other: a cancel touches links of
@@ -20,7 +17,7 @@
 //!
 //! **Records** (`Kept`). A row's deadline and order stand beside the value that the wheel's user keeps of its slot, in
 //! one record. So a start writes one place for all of them, and where a row moves to a lower level, what its expiry will
-//! read comes into the caches. A record, too, is written when its slot is first used.
+//! read comes into the caches.
 //!
 //! **Another row of a slot** (`replace`) takes the place of the one before it. Where the slot is the newest of the bucket
 //! to which the new row belongs, as where a timer is moved on again and again, no link is written.
@@ -74,8 +71,8 @@
 //! it is in one, and `newest_owned` tells the newest of an owner. This hangs on no row: a slot may have an owner without a row, and a row without an owner.
 //!
 //! **At rest** a slot takes 32 bytes and its value: 16 of key and 16 of links; an owner 8 bytes for its head; and a wheel
-//! 20 KiB for the heads of its buckets, and 320 bytes for the marks. There is room for all when the wheel is made, and no
-//! call takes memory after that; what is written then are the heads and the marks.
+//! 20 KiB for the heads of its buckets, and 320 bytes for the marks. All is taken when the wheel is made, and no call
+//! takes memory after that.
 //!
 //! `due` gives the due rows and leaves them, so that the part above can settle and `remove` them one by
 //! one, and then tell by `pass` that nothing is left; `advance` does all three. `first_due` leaves its row too. What they answer is said

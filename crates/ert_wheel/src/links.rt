@@ -1,10 +1,11 @@
 //! The links of nodes in rings. Each write keeps to the nodes that it names.
-//!
-//! The nodes from a number on aren't written: each of these is alone in its ring.
 
-ghost use Rattle.std.specs.Prelude.{◌≡◌, ◌≢◌, ◌<◌, ◌≤◌, ◌+◌, ℕ, length, max, vec_capacity};
+ghost use Rattle.std.specs.Prelude.{◌≡◌, ◌≢◌, ◌<◌, ℕ, length, map, IfOk};
+ghost use Rattle.std.specs.List.{range_with_len};
 ghost use Rattle.ert_wheel.specs.Chained.{Changed, Spliced, Unspliced};
-ghost use Rattle.ert_wheel.specs.Links.{next_at, prev_at, node_link};
+ghost use Rattle.ert_wheel.specs.Links.{next_at, prev_at, lone_link};
+
+use std::alloc::{AllocError, Global};
 
 /// The nodes after and before a node in its ring.
 #[derive(Clone, Copy)]
@@ -13,37 +14,16 @@ pub struct Link {
     pub prev: u32,
 }
 
-/// Writes nodes, each alone in its ring, up to so many, unless that many are written.
-#[inline]
-pub fn write_up_to(links: &mut Vec<Link>, count: u32)
-    requires { count ≤ vec_capacity links.old }
-    ensures count { count ≤ length links.new.items }
-    ensures most { length links.new.items ≤ max (length links.old.items) count }
-    ensures more { length links.old.items ≤ length links.new.items }
-    ensures same { (node : ℕ) → node_link links.new.items node ≡ node_link links.old.items node }
-    ensures capacity { vec_capacity links.new ≡ vec_capacity links.old }
+/// So many nodes, each alone in its ring.
+pub fn alone(alloc: Global, count: u32) -> Result<Vec<Link>, AllocError>
+    ensures { IfOk result (λ links. links.items ≡ map lone_link (range_with_len 0 count)) }
 {
-    if links.len() < count as usize {
-        add_alone(links, count);
-    }
-}
-
-/// Adds nodes, each alone in its ring, up to so many.
-#[cold]
-#[inline(never)]
-fn add_alone(links: &mut Vec<Link>, count: u32)
-    requires room { count ≤ vec_capacity links.old }
-    requires more { length links.old.items ≤ count }
-    ensures count { length links.new.items ≡ count }
-    ensures same { (node : ℕ) → node_link links.new.items node ≡ node_link links.old.items node }
-    ensures capacity { vec_capacity links.new ≡ vec_capacity links.old }
-{
-    for node in links.len() as u32..count {
-        links.push_reserved(Link {
+    (0..count)
+        .map(|node| Link {
             next: node,
             prev: node,
-        });
-    }
+        })
+        .collect(alloc)
 }
 
 /// Puts a slot in behind a head.
@@ -97,30 +77,6 @@ pub fn prev_of(links: &[Link], node: u32) -> u32
     ensures { result ≡ prev_at links.now node }
 {
     links[node as usize].prev
-}
-
-/// The node after a node in its ring, whether it is written or not.
-#[inline]
-pub fn after(links: &[Link], node: u32) -> u32
-    ensures { result ≡ (node_link links.now node).next }
-{
-    if (node as usize) < links.len() {
-        next_of(links, node)
-    } else {
-        node
-    }
-}
-
-/// The node before a node in its ring, whether it is written or not.
-#[inline]
-pub fn before(links: &[Link], node: u32) -> u32
-    ensures { result ≡ (node_link links.now node).prev }
-{
-    if (node as usize) < links.len() {
-        prev_of(links, node)
-    } else {
-        node
-    }
 }
 
 #[inline]
