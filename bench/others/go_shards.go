@@ -1,7 +1,7 @@
 // The rows start_cancel and cancel of bench/shards.c by Go's package time: each thread is a goroutine on an operating system
 // thread of its own, a start is time.AfterFunc and a cancel Timer.Stop. A start asks the operating system for the time, and
-// a stopped timer may stay in the runtime's heap for a while. The memory of earlier passes is collected before each. Threads
-// and passes are as bench/threads.h says.
+// a stopped timer may stay in the runtime's heap for a while. The memory of earlier passes is collected before each, so there
+// are fewer of them. Else threads and passes are as bench/threads.h says.
 package main
 
 import (
@@ -17,7 +17,7 @@ import (
 )
 
 const (
-	passes      = 600
+	passes      = 200
 	calls       = 10000
 	timers      = 16384
 	mostThreads = 4
