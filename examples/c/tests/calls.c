@@ -274,7 +274,7 @@ static void timer_calls(void) {
     IS(ert_world_take(&w, 1, &mail), ERT_OK);
     IS(mail.tag, ERT_BARE);
     IS(mail.msg, 12);
-    IS(mail.timer.slot, 1);
+    IS(mail.timer.slot, 0);
     IS(ert_world_next_due(&w, 0, &due), ERT_EMPTY);
 
     s.when = 4000;
