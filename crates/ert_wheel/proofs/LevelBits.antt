@@ -8,6 +8,7 @@ use Rattle.std.specs.Int.Count.{count_leading_zeros}
 use Rattle.std.specs.Int.Bits.{xor_self, xor_zero_l, xor_zero_r, xor_assoc}
 use Rattle.ert_wheel.proofs.Levels.{home_top, home_near, home_far, home_low, home_next}
 use Rattle.ert_wheel.specs.Levels.{home_at}
+use Rattle.ert_wheel.specs.declared.row.TheConstants.{NEVER, BUCKETS}
 
 -- numbers that differ in no bit are one
 same_bits : (a b : ℕ) → bit_xor a b ≡ 0 → a ≡ b
@@ -113,9 +114,9 @@ by_window d n fits high low =
 pub next_place : (n : ℕ) → bit_and n 511 ≡ home_at 4 n n
 next_place n = and_mask n 9 ∙ sym (home_next 3 n)
 
--- there are as many buckets as a number of 45 bits needs
-pub bucket_low : (n d : ℕ) → d < 2 ^ 45 → home_at 4 d n < 2560
-bucket_low n d fits = omega (arith, home_low 4 d n (omega arith))
+-- there are as many buckets as a time below NEVER needs
+pub bucket_low : (n d : ℕ) → d < NEVER → home_at 4 d n < BUCKETS
+bucket_low n d fits = omega (arith, home_low 4 192 d n (omega arith) (omega arith))
 
 -- the low bits of a time are cleared
 pub begin_is : (time level : ℕ) → time < 2 ^ 64 → level ≤ 7

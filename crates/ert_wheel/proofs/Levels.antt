@@ -1,7 +1,7 @@
 -- Levels of buckets: which rows move to another bucket when time moves on, and which buckets have what is due.
 
 use Rattle.std.proofs.Common.{◌≡◌, ◌≢◌, ℕ, zero, suc, ◌+◌, ◌*◌, ◌/◌, ◌%◌, ◌^◌, ◌<◌, ◌≤◌, cond, sym, ◌∙◌, ap, inl, inr, refl, arith}
-use Rattle.std.proofs.Math.Nat.{pow-succ', div-div-eq-div-mul}
+use Rattle.std.proofs.Math.Nat.{pow-succ', div-div-eq-div-mul, mul_left_comm}
 use Rattle.std.proofs.lemmas.Bool.{cases_eq, eq-eqb, ne_eqb}
 use Rattle.ert_wheel.specs.Levels.{home_at}
 
@@ -46,16 +46,17 @@ pub window_of : (f n d : ℕ) → home_at (suc f) d n < 512 → d / 512 ≡ n / 
 window_of f n d low =
     elim (cases_eq (d / 512) (n / 512)) [ inl e ↦ e | inr ne ↦ absurd (omega (arith, home_far f d n ne)) ]
 
--- buckets are fewer than 512 a level
-pub home_low : (f d n : ℕ) → d < 512 ^ suc f → home_at f d n < 512 * suc f
-home_low zero d n low = omega (arith, home_top d n)
-home_low (suc f) d n low =
+-- buckets are at most 512 a level, and on the highest one as many as times need
+pub home_low : (f most d n : ℕ) → 1 ≤ most → d < most * 512 ^ f → home_at f d n < 512 * f + most
+home_low zero most d n some low = omega (arith, home_top d n)
+home_low (suc f) most d n some low =
     elim (cases_eq (d / 512) (n / 512)) [
       | inl e ↦ omega (arith, home_near f d n e)
       | inr ne ↦
-          let p : ◌≡◌ {A = ℕ} (512 ^ suc (suc f)) (512 * 512 ^ suc f) = pow-succ' 512 (suc f) in
-          let k : d / 512 < 512 ^ suc f = omega arith in
-          omega (arith, home_far f d n ne, home_low f (d / 512) (n / 512) k)
+          let p : ◌≡◌ {A = ℕ} (512 ^ suc f) (512 * 512 ^ f) = pow-succ' 512 f in
+          let q : most * 512 ^ suc f ≡ 512 * (most * 512 ^ f) = ap (λ e. most * e) p ∙ mul_left_comm most 512 (512 ^ f) in
+          let k : d / 512 < most * 512 ^ f = omega (arith, q) in
+          omega (arith, home_far f d n ne, home_low f most (d / 512) (n / 512) some k)
     ]
 
 -- Where time moves from n on to m, and what is left isn't due before m, only the rows of one bucket get

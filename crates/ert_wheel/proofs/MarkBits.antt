@@ -48,9 +48,9 @@ with_mark-some words bucket zero =
     absurd (omega (arith, sym (bit_at_set_same w64 (get_or words (bucket / 64) 0) (bucket % 64) (omega arith)) ∙ (ap (λ n. bit_at n (bucket % 64)) zero ∙ bit_at-zero (bucket % 64))))
 
 -- no bucket is marked in words of 0
-pub no_mark : (bucket : ℕ) → bucket < BUCKETS → mark_of (replicate 40 0) bucket ≡ 0
+pub no_mark : (bucket : ℕ) → bucket < BUCKETS → mark_of (replicate 35 0) bucket ≡ 0
 no_mark bucket low =
-    ap (λ n. bit_at n (bucket % 64)) (get_or-replicate 40 (bucket / 64) 0 0 (omega arith)) ∙ bit_at-zero (bucket % 64)
+    ap (λ n. bit_at n (bucket % 64)) (get_or-replicate 35 (bucket / 64) 0 0 (omega arith)) ∙ bit_at-zero (bucket % 64)
 
 -- what is shifted
 bit_at_shr : (word from i : ℕ) → bit_at (word / 2 ^ from) i ≡ bit_at word (from + i)
@@ -100,15 +100,15 @@ some_bit word from low fits some =
     }
 
 -- words of 0 have no mark
-pub sums_none : AreSummed (replicate 40 0) 0
+pub sums_none : AreSummed (replicate 35 0) 0
 sums_none = record {
-  wide = length-replicate {A = ℕ} 40 0;
-  none = λ at low _. get_or-replicate 40 at 0 0 low;
+  wide = length-replicate {A = ℕ} 35 0;
+  none = λ at low _. get_or-replicate 35 at 0 0 low;
   some = λ at low one. absurd (omega (arith, sym one ∙ bit_at-zero at));
 }
 
 -- a word that isn't 0 is noted
-pub sums_set : (words : List ℕ) (used at word : ℕ) → AreSummed words used → at < 40 → word ≢ 0
+pub sums_set : (words : List ℕ) (used at word : ℕ) → AreSummed words used → at < 35 → word ≢ 0
     → AreSummed (set words at word) (bit_or used (1 * 2 ^ at % 2 ^ 64))
 sums_set words used at word sums low some = record {
   wide = length-set words at word ∙ sums.wide;
@@ -125,7 +125,7 @@ sums_set words used at word sums low some = record {
 }
 
 -- a word that has a mark gets another
-pub sums_kept : (words : List ℕ) (used at word : ℕ) → AreSummed words used → at < 40 → get_or words at 0 ≢ 0 → word ≢ 0
+pub sums_kept : (words : List ℕ) (used at word : ℕ) → AreSummed words used → at < 35 → get_or words at 0 ≢ 0 → word ≢ 0
     → AreSummed (set words at word) used
 sums_kept words used at word sums low had some = record {
   wide = length-set words at word ∙ sums.wide;
@@ -142,7 +142,7 @@ sums_kept words used at word sums low had some = record {
 }
 
 -- a word of 0 is noted
-pub sums_clear : (words : List ℕ) (used at : ℕ) → AreSummed words used → at < 40
+pub sums_clear : (words : List ℕ) (used at : ℕ) → AreSummed words used → at < 35
     → AreSummed (set words at 0) (bit_and used (bit_not w64 (1 * 2 ^ at % 2 ^ 64)))
 sums_clear words used at sums low = record {
   wide = length-set words at 0 ∙ sums.wide;

@@ -13,7 +13,7 @@ use Rattle.ert_wheel.specs.Rings.{Rings, Place, AreChains}
 use Rattle.ert_wheel.specs.Rows.{key_in}
 use Rattle.ert_wheel.specs.Wheels.{bucket_of, home_by, places, IsWheel}
 use Rattle.ert_wheel.specs.declared.row.Key.{Key}
-use Rattle.ert_wheel.specs.declared.row.TheConstants.{BUCKETS}
+use Rattle.ert_wheel.specs.declared.row.TheConstants.{NEVER, BUCKETS}
 use Rattle.ert_wheel.proofs.Least.{at_place}
 
 -- the first bucket that has a row
@@ -125,7 +125,7 @@ near_window {next = next} {first = first} {home = home} f less low b =
 
 -- the least of the first bucket's rows is the least of all
 pub least_due : {next count first home least : ℕ} {keys : List (Option Key)} {chains : Rings}
-    → IsFirst next count first home keys chains → home < BUCKETS → IsLeastIn keys (home_by next) home (2 ^ 45 - 1) least
+    → IsFirst next count first home keys chains → home < BUCKETS → IsLeastIn keys (home_by next) home NEVER least
     → IsDueIn keys (home_by next) home least
 least_due {next = next} {home = home} {least = least} {keys = keys} f low looks =
     elim looks.near [
@@ -138,7 +138,7 @@ least_due {next = next} {home = home} {least = least} {keys = keys} f low looks 
     ]
 
 pub none_before_least : {next count first home least : ℕ} {keys : List (Option Key)} {chains : Rings}
-    → IsFirst next count first home keys chains → IsLeastIn keys (home_by next) home (2 ^ 45 - 1) least
+    → IsFirst next count first home keys chains → IsLeastIn keys (home_by next) home NEVER least
     → IsDueIn keys (home_by next) home least → NoneBefore keys least
 none_before_least {next = next} {home = home} f looks due j key has =
     elim (cases_eq (home_by next key) home) [

@@ -15,7 +15,7 @@ use Rattle.ert_wheel.specs.Walks.{MayMoveOn}
 use Rattle.ert_wheel.specs.Wheels.{no_key, held_keys, home_by, place_of, places, IsWheel, IsWheelKept}
 use Rattle.ert_wheel.specs.declared.row.Key.{Key}
 use Rattle.ert_wheel.specs.declared.row.Row.{Row}
-use Rattle.ert_wheel.specs.declared.row.TheConstants.{BUCKETS}
+use Rattle.ert_wheel.specs.declared.row.TheConstants.{NEVER, BUCKETS}
 
 -- a wheel as it is seen, and what it stores
 pub record Sees (next count floor : ℕ) (stored : List Key) (seen : List (Option Key)) (chains : Rings) : Type 0 where
@@ -96,7 +96,7 @@ count_fits {seen = seen} slot key s low vacant = omega (
 -- what a row that is stored needs
 pub record CanStore (seen : List (Option Key)) (slot : ℕ) (key : Key) : Type 0 where
   pub low : slot < length seen
-  pub deadline : key.deadline < 2 ^ 45 - 1
+  pub deadline : key.deadline < NEVER
   pub order : key.order < 2 ^ 64
   pub newest : (j : ℕ) → IfSome (key_in seen j) (λ k. k.order < key.order)
 
@@ -119,7 +119,7 @@ stored_row {next = next} {stored = stored} {seen = seen} {new = new} {slot = slo
     time = s.wheel.time;
     counts = counts;
     low = λ j k has. elim (key_set seen slot (Some key) j k can.low has) [
-      | inl (here, some) ↦ let same : key ≡ k = cc in subst (λ (x : Key). x.deadline < 2 ^ 45 - 1) same can.deadline
+      | inl (here, some) ↦ let same : key ≡ k = cc in subst (λ (x : Key). x.deadline < NEVER) same can.deadline
       | inr (ne, was) ↦ s.wheel.low j k was
     ];
     are = chains_set new (home_by next) seen slot (Some key) can.low are;
@@ -212,7 +212,7 @@ vacant_view seen slot none = sym (set-get_or seen slot None) ∙ ap (set seen sl
 -- time may move on where all that is passed is gone
 pub may_move : {next next' count : ℕ} {keys : List (Option Key)} {chains : Rings} (to : ℕ) → IsWheel next count keys chains
     → ((j : ℕ) → IfSome (key_in keys j) (λ key. to < key.deadline)) → next ≤ next' → next' ≤ max next (to + 1)
-    → next' < 2 ^ 45 - 1 → MayMoveOn chains keys next next'
+    → next' < NEVER → MayMoveOn chains keys next next'
 may_move to w none up low fits = record {
   slots = w.slots;
   homes = w.homes;
@@ -229,7 +229,7 @@ may_move to w none up low fits = record {
 pub moved : {next next' count floor floor' : ℕ} {stored : List Key} {seen : List (Option Key)} {chains new : Rings} (to after : ℕ)
     → Sees next count floor stored seen chains → ((j : ℕ) → IfSome (key_in seen j) (λ key. to < key.deadline))
     → after ≤ to + 1 → floor' ≡ max floor after
-    → next' < 2 ^ 45 - 1 → new.slots ≡ chains.slots → new.homes ≡ chains.homes
+    → next' < NEVER → new.slots ≡ chains.slots → new.homes ≡ chains.homes
     → AreChains new (places (home_by next') seen) → Sees next' count floor' stored seen new
 moved to after s none low up fits slots homes are = record {
   are_stored = s.are_stored;

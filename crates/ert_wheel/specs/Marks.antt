@@ -12,9 +12,9 @@ mark_of words bucket = bit_at (slice_index_or words (bucket / 64) 0) (bucket % 6
 
 -- a bit for each word tells whether it has a mark
 pub record AreSummed (words : List ℕ) (used : ℕ) : Type 0 where
-  pub wide : length words ≡ 40
-  pub none : (at : ℕ) → at < 40 → bit_at used at ≡ 0 → slice_index_or words at 0 ≡ 0
-  pub some : (at : ℕ) → at < 40 → bit_at used at ≡ 1 → slice_index_or words at 0 ≢ 0
+  pub wide : length words ≡ 35
+  pub none : (at : ℕ) → at < 35 → bit_at used at ≡ 0 → slice_index_or words at 0 ≡ 0
+  pub some : (at : ℕ) → at < 35 → bit_at used at ≡ 1 → slice_index_or words at 0 ≢ 0
 
 -- the node after the head of a home
 abbrev pub newest_node : Rings → ℕ → ℕ

@@ -5,6 +5,7 @@ use Rattle.ert_wheel.specs.Rings.{Rings, AreChains}
 use Rattle.ert_wheel.specs.Rows.{key_in}
 use Rattle.ert_wheel.specs.Wheels.{places}
 use Rattle.ert_wheel.specs.declared.row.Key.{Key}
+use Rattle.ert_wheel.specs.declared.row.TheConstants.{NEVER}
 
 -- there is no row
 abbrev pub NoRow : List (Option Key) → Type 0
@@ -103,4 +104,4 @@ pub record BeginsIn (keys : List (Option Key)) (home : Key → ℕ) (bucket time
 -- no row
 abbrev pub IsEarlyIn : List (Option Key) → (Key → ℕ) → ℕ → Option ℕ → Type 0
 IsEarlyIn keys home bucket None = (slot : ℕ) (key : Key) → key_in keys slot ≡ Some key → home key ≡ bucket → ⊥
-IsEarlyIn keys home bucket (Some time) = IsLeastIn keys home bucket (2 ^ 45 - 1) time ⊎ BeginsIn keys home bucket time
+IsEarlyIn keys home bucket (Some time) = IsLeastIn keys home bucket NEVER time ⊎ BeginsIn keys home bucket time

@@ -22,7 +22,7 @@
 //! **Another row of a slot** (`replace`) takes the place of the one before it. Where the slot is the newest of the bucket
 //! to which the new row belongs, as where a timer is moved on again and again, no link is written.
 //!
-//! **Levels** (`Wheel`). A wheel has 2,560 buckets, 512 on each of five levels. A bucket of
+//! **Levels** (`Wheel`). A wheel has 2,240 buckets, 512 on each of four levels and 192 on the highest. A bucket of
 //! the lowest level is a millisecond; one of the next is a window of 512 milliseconds, and so on: a bucket is as
 //! wide as all of the level below. A row's home is told by its deadline and by the next time, the first that
 //! wasn't passed: the lowest level in which both stand in one window, and there the deadline's place. With the
@@ -33,11 +33,11 @@
 //!     1       512 ms            2 .. 511, of window 0 of level 2     1,024 .. 262,143
 //!     2       262,144 ms        1 .. 511, of window 0 of level 3     262,144 .. 134,217,727
 //!     3       134,217,728 ms    1 .. 511, of window 0 of level 4     134,217,728 .. 68,719,476,735
-//!     4       68,719,476,736 ms 1 .. 511                             68,719,476,736 .. 35,184,372,088,830
+//!     4       68,719,476,736 ms 1 .. 191                             68,719,476,736 .. 13,194,139,533,311
 //!
 //! The number of a bucket is its level times 512 and its place, so later times have higher numbers, or the same.
-//! A row that is late has the bucket of the next time itself. Five levels are for deadlines of 45 bits, over a thousand
-//! years of milliseconds.
+//! A row that is late has the bucket of the next time itself. The 192 are for deadlines of up to 418 years of
+//! milliseconds.
 //!
 //! **A cascade.** When time moves on to another window, the rows that are left have their homes by a new next
 //! time. Those of one bucket alone change, however far time leaps: of the bucket in which the new next time stood.
@@ -49,7 +49,7 @@
 //!
 //! **Marks** (`Marks`, `MarkedChains`). A bit for each bucket tells whether it has a slot: a put into an empty one sets
 //! it, and a take of the only slot clears it. All other puts and takes leave the bits alone. One more word has a bit
-//! for each of the 40 words. So no look comes to an empty bucket: it reads three words at most, however far the next row
+//! for each of the 35 words. So no look comes to an empty bucket: it reads three words at most, however far the next row
 //! is.
 //!
 //! **A step of time** visits the buckets that have rows, up to the bucket of the time that it comes to.
@@ -71,7 +71,7 @@
 //! it is in one, and `newest_owned` tells the newest of an owner. This hangs on no row: a slot may have an owner without a row, and a row without an owner.
 //!
 //! **At rest** a slot takes 32 bytes and its value: 16 of key and 16 of links; an owner 8 bytes for its head; and a wheel
-//! 20 KiB for the heads of its buckets, and 320 bytes for the marks. All is taken when the wheel is made, and no call
+//! 17.5 KiB for the heads of its buckets, and 280 bytes for the marks. All is taken when the wheel is made, and no call
 //! takes memory after that.
 //!
 //! `due` gives the due rows and leaves them, so that the part above can settle and `remove` them one by

@@ -7,7 +7,7 @@ use std::marker::Model;
 /// A mark for each bucket, in words of 64 bits.
 #[derive(Drop)]
 pub struct Marks {
-    words: [u64; 40],
+    words: [u64; 35],
     // A bit for each word, which tells whether it has a mark.
     used: u64,
 }
@@ -33,7 +33,7 @@ impl Marks {
         ensures { (bucket : ℕ) → bucket < BUCKETS → mark_of result bucket ≡ 0 }
     {
         Marks {
-            words: [0; 40],
+            words: [0; 35],
             used: 0,
         }
     }
@@ -85,7 +85,7 @@ impl Marks {
             return (at * 64 + bit).min(end);
         }
         let at = first_bit(self.used, at + 1);
-        if at >= 40 {
+        if at >= 35 {
             return end;
         }
         (at * 64 + first_bit(self.words[at as usize], 0)).min(end)
@@ -94,7 +94,7 @@ impl Marks {
     /// Stores a word, and tells of it whether it has a mark.
     #[inline]
     fn store(&mut self, at: u32, word: u64)
-        requires { at < 40 }
+        requires { at < 35 }
         ensures { self.new ≡ slice_set self.old at word }
     {
         self.words[at as usize] = word;
