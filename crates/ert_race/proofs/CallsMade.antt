@@ -1,8 +1,7 @@
--- Calls of a caller that take no lock, and labels that are looked up twice.
+-- Ops that were done, and labels that are looked up twice.
 
-use Rattle.std.proofs.Common.{rules, ◌≡◌, ℕ, Bool, true, false, cond, nat_eq, [], ◌∷◌, ◌++◌, List, Some, None, Ok, Err, refl, sym, subst}
-use Rattle.ert_effects.specs.Ways.{Step, Grows, beside}
-use Rattle.ert_defs.specs.declared.entry.Actor.{Actor}
+use Rattle.std.proofs.Common.{rules, ◌≡◌, ℕ, Bool, true, false, cond, nat_eq, [], ◌∷◌, ◌++◌, List, Some, None, Ok, Err, refl, sym}
+use Rattle.ert_effects.specs.Ways.{beside}
 use Rattle.ert_defs.specs.declared.entry.Actor.TheVariants.{Caller}
 use Rattle.ert_defs.specs.declared.entry.Entry.{Entry}
 use Rattle.ert_defs.specs.declared.memory.NoMemory.{NoMemory}
@@ -13,19 +12,9 @@ use Rattle.ert_race.specs.Workers.{AnswersOwn}
 use Rattle.ert_script.proofs.Answered.{unbound}
 use Rattle.ert_script.specs.Doing.{IsAnswered, IsTimerOf, HasStarted}
 use Rattle.ert_script.specs.LabelMaps.{first_ref}
-use Rattle.ert_locks.proofs.Lent.{steps_alone}
-use Rattle.ert_table.specs.Calls.{IsMade}
-use Rattle.ert_table.specs.Desks.{view_of, front_of}
-use Rattle.ert_table.specs.declared.desk.Pass.{Pass}
 use Rattle.ert_transcript.specs.Labels.{Labels, ref_of}
 use Rattle.ert_transcript.specs.Scripts.{labels_after}
 use Rattle.ert_transcript.specs.declared.reply.Reply.{Reply}
-
--- a call at a desk with these settings, by a pass with one actor
-pub made_alone : (g s : Settings) (a : Actor) (allows : Settings → Step) (p q : Pass) → s ≡ g → (view_of p).actors ≡ a ∷ [] → IsMade s (view_of p) (allows s) (view_of q)
-    → Grows (beside g a [] (allows g)) (front_of p) (front_of q)
-made_alone g s a allows p q same actors made =
-    steps_alone g a (view_of p) (allows g) (view_of q) actors (subst (λ t. IsMade t (view_of p) (allows t) (view_of q)) same made)
 
 -- a label that is bound in the first of two lists
 pub ref_first : (ls own : Labels) (label : ℕ) (timer : TimerRef) → Some timer ≡ first_ref ls label → ref_of (ls ++ own) label ≡ timer

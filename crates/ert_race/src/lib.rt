@@ -18,20 +18,19 @@
 //! **Labels.** A list knows the labels that were bound before the race, by the `LabelMap` of the ops, which all
 //! workers share, and its own, for which it keeps another. It knows none of another list.
 //!
-//! It stands on `ert_service` and `ert_locks` for the threads, on `ert_calls` for the calls that take no lock, and
-//! on `ert_script` for the ops and the text.
+//! It stands on `ert_service` and `ert_locks` for the threads, and on `ert_script` for the ops and the text.
 #![tactic(auto)]
 
 mod contested;
 mod gates;
 mod laws;
 mod list;
-mod member;
 mod op;
 mod race;
 mod report;
 mod round;
 mod run;
+mod session_doer;
 mod turns;
 mod workers;
 

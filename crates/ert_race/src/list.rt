@@ -5,8 +5,8 @@ ghost use Rattle.ert_race.specs.Workers.{DoesWhole, DoesSome};
 ghost use Rattle.ert_table.specs.Desks.{front_of};
 
 use crate::gates::Gate;
-use crate::member::Member;
 use crate::op::do_one;
+use crate::session_doer::SessionDoer;
 use ert_defs::NoMemory;
 use ert_locks::DeskName;
 use ert_ops::Op;
@@ -32,27 +32,27 @@ pub struct ListDone {
 /// what it makes before it takes memory.
 pub(crate) fn do_list<L: DeskName, R: Wait, G: Gate>(
     alloc: Global,
-    member: &mut Member<L, R>,
+    doer: &mut SessionDoer<L, R>,
     known: &LabelMap,
     ops: &[Op],
     gate: &G,
 ) -> Result<ListDone, NoMemory>
     requires { MayDo L.settings ops.now }
-    ensures number { member.new.seat.number ≡ member.old.seat.number }
-    ensures done { IfOk result (λ done. DoesWhole L.settings member.old.seat.number known.now ops.now done (front_of member.old.seat.pass) (front_of member.new.seat.pass)) }
-    ensures stops { OnErr result (DoesSome L.settings member.old.seat.number known.now ops.now (front_of member.old.seat.pass) (front_of member.new.seat.pass)) }
+    ensures number { doer.new.session.seat.number ≡ doer.old.session.seat.number }
+    ensures done { IfOk result (λ done. DoesWhole L.settings doer.old.session.seat.number known.now ops.now done (front_of doer.old.session.seat.pass) (front_of doer.new.session.seat.pass)) }
+    ensures stops { OnErr result (DoesSome L.settings doer.old.session.seat.number known.now ops.now (front_of doer.old.session.seat.pass) (front_of doer.new.session.seat.pass)) }
 {
-    let number = member.seat.number;
+    let number = doer.session.seat.number;
     let worker = if number == 0 {
         0
     } else {
-        member.service.desk().settings().schedulers + number
+        doer.session.service.settings().schedulers + number
     };
     let mut own = LabelMap::new(alloc);
     let mut replies = Vec::new(alloc);
     for op in ops {
         gate.before(worker, replies.len() as u64 + 1);
-        let reply = match do_one(member, known, &mut own, op) {
+        let reply = match do_one(doer, known, &mut own, op) {
             Ok(reply) => reply,
             Err(e) => return Err(e),
         };

@@ -6,7 +6,7 @@ ghost use Rattle.ert_script.specs.Doing.{IsTimerOf};
 ghost use Rattle.ert_table.specs.Desks.{front_of};
 ghost use Rattle.ert_transcript.specs.Labels.{ref_of};
 
-use crate::member::Member;
+use crate::session_doer::SessionDoer;
 use ert_defs::{NoMemory, TimerRef};
 use ert_locks::DeskName;
 use ert_ops::Op;
@@ -21,19 +21,19 @@ use std::sync::Wait;
 /// done.
 #[tactic(auto, using(crate::proofs::CallsMade::own_done, crate::proofs::CallsMade::own_failed, crate::proofs::CallsMade::own_unbound))]
 pub(crate) fn do_one<L: DeskName, R: Wait>(
-    member: &mut Member<L, R>,
+    doer: &mut SessionDoer<L, R>,
     known: &LabelMap,
     own: &mut LabelMap,
     op: &Op,
 ) -> Result<Reply, NoMemory>
     requires callers { IsCallersOp op.now }
     requires range { IsOpInRange L.settings op.now }
-    ensures number { member.new.seat.number ≡ member.old.seat.number }
-    ensures answer { AnswersOwn L.settings member.old.seat.number known.now own.old op.now result own.new
-        (front_of member.old.seat.pass) (front_of member.new.seat.pass) }
+    ensures number { doer.new.session.seat.number ≡ doer.old.session.seat.number }
+    ensures answer { AnswersOwn L.settings doer.old.session.seat.number known.now own.old op.now result own.new
+        (front_of doer.old.session.seat.pass) (front_of doer.new.session.seat.pass) }
 {
     let timer = timer_in(known, own, op);
-    match do_op(member, op, timer) {
+    match do_op(doer, op, timer) {
         Ok(reply) => match own.bind_started(op, &reply) {
             Ok(()) => Ok(reply),
             Err(e) => Err(e),

@@ -5,8 +5,8 @@ ghost use Rattle.ert_race.specs.Workers.{TurnsSoOften, TurnsLess};
 
 use crate::gates::Gate;
 use ert_defs::NoMemory;
-use ert_locks::{DeskName, SchedSeat};
-use ert_service::Service;
+use ert_locks::DeskName;
+use ert_service::SchedSession;
 use std::sync::Wait;
 
 /// Makes so many turns of a scheduler, one after the other. Before each it passes the gate, as this worker;
@@ -14,20 +14,18 @@ use std::sync::Wait;
 ///
 /// If memory runs out, it has stopped in a turn, and what was done stays done.
 pub(crate) fn do_turns<L: DeskName, R: Wait, G: Gate>(
-    rt: &R,
-    service: &Service<L>,
-    seat: &mut SchedSeat<L>,
+    session: &mut SchedSession<L, R>,
     turns: u64,
     worker: u32,
     gate: &G,
 ) -> Result<(), NoMemory>
-    ensures number { seat.new.part.wheel ≡ seat.old.part.wheel }
-    ensures turned { OnOk result (TurnsSoOften L.settings seat.old.part.wheel turns (front_of seat.old.pass) (front_of seat.new.pass)) }
-    ensures stops { OnErr result (TurnsLess L.settings seat.old.part.wheel turns (front_of seat.old.pass) (front_of seat.new.pass)) }
+    ensures number { session.new.seat.part.wheel ≡ session.old.seat.part.wheel }
+    ensures turned { OnOk result (TurnsSoOften L.settings session.old.seat.part.wheel turns (front_of session.old.seat.pass) (front_of session.new.seat.pass)) }
+    ensures stops { OnErr result (TurnsLess L.settings session.old.seat.part.wheel turns (front_of session.old.seat.pass) (front_of session.new.seat.pass)) }
 {
     for done in 0..turns {
         gate.before(worker, done + 1);
-        if let Err(e) = service.turn(rt, seat) {
+        if let Err(e) = session.turn() {
             return Err(e);
         }
     }

@@ -8,13 +8,13 @@ ghost use Rattle.ert_table.specs.Desks.{front_of};
 
 use crate::gates::Gate;
 use crate::list::{ListDone, do_list};
-use crate::member::Member;
+use crate::session_doer::SessionDoer;
 use crate::turns::do_turns;
 use ert_defs::NoMemory;
 use ert_locks::{CallerSeat, DeskName, SchedSeat};
 use ert_ops::{Op, RaceLists};
 use ert_script::LabelMap;
-use ert_service::Service;
+use ert_service::{Service, Session};
 use std::alloc::Global;
 use std::sync::Wait;
 use std::thread;
@@ -62,10 +62,11 @@ fn work_as_caller<L: DeskName, R: Wait, G: Gate>(
         seat.number (front_of seat.pass) result.seat.number (front_of result.seat.pass) result.done }
 {
     let ops = list_for(race, seat.number);
-    let mut member = Member { rt, service, seat };
-    let done = do_list(alloc, &mut member, known, ops, gate);
+    let session = Session { service, rt, seat };
+    let mut doer = SessionDoer { session };
+    let done = do_list(alloc, &mut doer, known, ops, gate);
     CallerDone {
-        seat: member.seat,
+        seat: doer.session.seat,
         done,
     }
 }
@@ -81,9 +82,12 @@ fn work_as_sched<L: DeskName, R: Wait, G: Gate>(
     ensures { SchedWorked L.settings turns seat.part.wheel (front_of seat.pass) result.seat.part.wheel (front_of result.seat.pass) result.done }
 {
     let worker = seat.part.wheel + 1;
-    let mut seat = seat;
-    let done = do_turns(rt, service, &mut seat, turns, worker, gate);
-    SchedDone { seat, done }
+    let mut session = Session { service, rt, seat };
+    let done = do_turns(&mut session, turns, worker, gate);
+    SchedDone {
+        seat: session.seat,
+        done,
+    }
 }
 
 /// Each caller does its list, in a thread of its own where one can be made.

@@ -1,3 +1,4 @@
+pub mod Alone
 pub mod Chained
 pub mod Closed
 pub mod Divided

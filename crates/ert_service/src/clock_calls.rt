@@ -1,81 +1,80 @@
-//! The calls of callers on the clock and on wheels.
-#![tactic(auto, using(crate::proofs::LegalFronts::legal_front))]
+//! The calls of callers on the clock.
+#![tactic(auto, using(crate::proofs::LegalFronts::legal_front, crate::proofs::Alone::made_alone))]
 
-use crate::service::Service;
+use crate::session::{CallerSession, Session};
+use ert_calls::{monotonic_time, system_time, time_offset};
 use ert_clock::{ClockErr, Moved};
-use ert_defs::{OffsetState, Reading, Start, TimerRef};
-use ert_effects::StartErr;
-use ert_locks::{CallerSeat, DeskName};
+use ert_defs::{Actor, OffsetState, Reading};
+use ert_locks::DeskName;
 use std::sync::Wait;
 
-impl<L: DeskName> Service<L> {
-    ghost use Rattle.std.specs.Prelude.{◌≡◌, ◌≢◌, ◌<◌, Err, IfOk};
-    ghost use Rattle.ert_effects.specs.ClockCalls.{Ticks, Finalizes};
-    ghost use Rattle.ert_effects.specs.TimerCalls.{Starts};
-    ghost use Rattle.ert_effects.specs.declared.answers.StartErr.TheVariants.{NoMemory as OutOfMemory};
-    ghost use Rattle.ert_defs.specs.States.{HasExited, state};
-    ghost use Rattle.ert_defs.specs.declared.entry.Actor.TheVariants.{Keeper, Wheel, Caller};
+impl<'a, L: DeskName, R: Wait> CallerSession<'a, L, R> {
+    ghost use Rattle.std.specs.Prelude.{◌≡◌};
+    ghost use Rattle.ert_effects.specs.ClockCalls.{Ticks, Finalizes, TellsTime, TellsOffset, TellsSystemTime};
+    ghost use Rattle.ert_defs.specs.declared.entry.Actor.TheVariants.{Keeper, Caller};
     ghost use Rattle.ert_locks.specs.Passes.{StepsWith};
-    ghost use Rattle.ert_service.specs.Fronts.{IsLegal};
-    ghost use Rattle.ert_service.specs.Settled.{WasSettled};
+    ghost use Rattle.ert_service.specs.Fronts.{IsLegal, StepsAlone};
     ghost use Rattle.ert_table.specs.Desks.{front_of};
 
     /// Takes one reading of the OS clocks. `force` asks for a check of the clock, as if one were due.
     ///
     /// It is refused where the clock refuses it (`ClockErr`), and then it makes no entry.
-    pub fn tick<R: Wait>(
-        &self,
-        rt: &R,
-        seat: &mut CallerSeat<L>,
-        reading: Reading,
-        force: bool,
-    ) -> Result<Moved, ClockErr>
-        ensures call { StepsWith L.settings (Caller seat.old.number) Keeper (Ticks L.settings seat.old.number reading force result) seat.old.pass seat.new.pass }
-        ensures number { seat.new.number ≡ seat.old.number }
-        ensures legal { IsLegal L.settings (front_of seat.new.pass) }
+    pub fn tick(&mut self, reading: Reading, force: bool) -> Result<Moved, ClockErr>
+        ensures call { StepsWith L.settings (Caller self.old.seat.number) Keeper (Ticks L.settings self.old.seat.number reading force result) self.old.seat.pass self.new.seat.pass }
+        ensures number { self.new.seat.number ≡ self.old.seat.number }
+        ensures legal { IsLegal L.settings (front_of self.new.seat.pass) }
     {
-        self.keeper.lock(rt).tick(self.desk(), seat, reading, force)
+        let mut keeper = self.service.keeper.lock(self.rt);
+        keeper.tick(self.service.desk(), &mut self.seat, reading, force)
     }
 
     /// Finalizes the time offset (`erlang:system_flag(time_offset, finalize)`), and answers the state
     /// before. Only a preliminary offset moves.
     ///
     /// It is refused where the clock refuses it (`ClockErr`), and then it makes no entry.
-    pub fn finalize<R: Wait>(
-        &self,
-        rt: &R,
-        seat: &mut CallerSeat<L>,
-        reading: Reading,
-    ) -> Result<(OffsetState, Moved), ClockErr>
-        ensures call { StepsWith L.settings (Caller seat.old.number) Keeper (Finalizes L.settings seat.old.number reading result) seat.old.pass seat.new.pass }
-        ensures number { seat.new.number ≡ seat.old.number }
-        ensures legal { IsLegal L.settings (front_of seat.new.pass) }
+    pub fn finalize(&mut self, reading: Reading) -> Result<(OffsetState, Moved), ClockErr>
+        ensures call { StepsWith L.settings (Caller self.old.seat.number) Keeper (Finalizes L.settings self.old.seat.number reading result) self.old.seat.pass self.new.seat.pass }
+        ensures number { self.new.seat.number ≡ self.old.seat.number }
+        ensures legal { IsLegal L.settings (front_of self.new.seat.pass) }
     {
-        self.keeper.lock(rt).finalize(self.desk(), seat, reading)
+        let mut keeper = self.service.keeper.lock(self.rt);
+        keeper.finalize(self.service.desk(), &mut self.seat, reading)
     }
 
-    /// Starts a timer on a wheel (`erlang` module reference, `start_timer` and `send_after`).
+    /// Erlang monotonic time, in nanoseconds (`erlang` module reference, `monotonic_time`). It takes no lock.
     ///
-    /// BadArg comes where the start has no deadline at the time of the call, and Full where each slot of the
-    /// wheel that was looked at is taken or rests (`MOST_LOOKS` of `ert_effects`), or the wheel has had 2^53 timers. A timer for a process that has exited is started
-    /// and cancelled at once, so that it is settled when the call returns. No memory is taken.
-    pub fn start<R: Wait>(
-        &self,
-        rt: &R,
-        seat: &mut CallerSeat<L>,
-        wheel: u32,
-        start: &Start,
-    ) -> Result<TimerRef, StartErr>
-        requires wheel { wheel < L.settings.schedulers }
-        requires dest { start.now.dest < L.settings.processes }
-        ensures memory { result ≢ Err OutOfMemory }
-        ensures settled { HasExited L.settings (front_of seat.old.pass) start.now.dest
-            → IfOk result (λ timer. WasSettled (state L.settings (front_of seat.new.pass)) timer) }
-        ensures call { StepsWith L.settings (Caller seat.old.number) (Wheel wheel)
-            (Starts L.settings seat.old.number wheel start.now result) seat.old.pass seat.new.pass }
-        ensures number { seat.new.number ≡ seat.old.number }
-        ensures legal { IsLegal L.settings (front_of seat.new.pass) }
+    /// It never falls from one call to a later one.
+    pub fn monotonic_time(&mut self) -> i64
+        ensures call { StepsAlone L.settings (Caller self.old.seat.number) (TellsTime L.settings (Caller self.old.seat.number) result) self.old.seat.pass self.new.seat.pass }
+        ensures number { self.new.seat.number ≡ self.old.seat.number }
+        ensures legal { IsLegal L.settings (front_of self.new.seat.pass) }
     {
-        self.wheels.at(rt, wheel).start(self.desk(), seat, start)
+        let Session { service, seat, .. } = self;
+        let by = Actor::Caller(seat.number);
+        monotonic_time(service.desk(), &mut seat.pass, by)
+    }
+
+    /// Erlang system time, in nanoseconds: the time, and the time offset added that is read after it (`erlang`
+    /// module reference, `system_time`). It takes no lock.
+    pub fn system_time(&mut self) -> i64
+        ensures call { StepsAlone L.settings (Caller self.old.seat.number) (TellsSystemTime L.settings (Caller self.old.seat.number) result) self.old.seat.pass self.new.seat.pass }
+        ensures number { self.new.seat.number ≡ self.old.seat.number }
+        ensures legal { IsLegal L.settings (front_of self.new.seat.pass) }
+    {
+        let Session { service, seat, .. } = self;
+        let by = Actor::Caller(seat.number);
+        system_time(service.desk(), &mut seat.pass, by)
+    }
+
+    /// The time offset, in nanoseconds, and its state (`erlang` module reference, `time_offset`). It takes no
+    /// lock.
+    pub fn time_offset(&mut self) -> (i64, OffsetState)
+        ensures call { StepsAlone L.settings (Caller self.old.seat.number) (TellsOffset L.settings (Caller self.old.seat.number) result) self.old.seat.pass self.new.seat.pass }
+        ensures number { self.new.seat.number ≡ self.old.seat.number }
+        ensures legal { IsLegal L.settings (front_of self.new.seat.pass) }
+    {
+        let Session { service, seat, .. } = self;
+        let by = Actor::Caller(seat.number);
+        time_offset(service.desk(), &mut seat.pass, by)
     }
 }

@@ -1,9 +1,9 @@
 //! The service for many threads: one desk, and every part behind a lock of its own.
 //!
 //! **What it is.** Threads share a `Service` by a `&`. A thread acts as a caller or as a scheduler, by its
-//! seat (`ert_locks`), which is lent to each call by `&mut`. The calls of `ert_calls` take the seat's pass and
-//! the desk (`Service::desk`), and no lock. Each other call takes the lock of the part that it needs, one
-//! after the other where it needs several, and at most one is held at a time.
+//! seat (`ert_locks`), and makes its calls through a `Session`, which has the seat. The calls that tell the time,
+//! read or cancel a timer, or look whether a process is alive take no lock. Each other call takes the lock of the
+//! part that it needs, one after the other where it needs several, and at most one is held at a time.
 //!
 //! **What it promises.** Each call that returns takes place: the history has grown by it, in the words that
 //! tell a call of one thread too (`ert_effects`), said over the way `beside`. So from the place at which a
@@ -26,10 +26,12 @@ mod opening;
 mod rooms;
 mod sched_steps;
 mod service;
-mod sitting;
+mod session;
+mod timer_calls;
 mod turns;
 
 pub use ert_effects::Turned;
 pub use ert_locks::{CallerSeat, DeskName, SchedSeat};
 pub use laws::calls_settle_timers;
 pub use service::{Opened, Service};
+pub use session::{CallerSession, SchedSession, Session};

@@ -4,65 +4,36 @@
 ghost use Rattle.std.specs.Prelude.{◌≡◌, ◌<◌, Some};
 ghost use Rattle.ert_defs.specs.Mails.{first_of};
 
-use crate::service::Service;
+use crate::session::SchedSession;
 use ert_defs::{NoMemory, Request, TimerRow};
 use ert_locks::{DeskName, SchedSeat};
 use ert_mail::Handed;
+use ert_world::SchedSteps;
 use std::sync::Wait;
 
-impl<L: DeskName> Service<L> {
-    ghost use Rattle.std.specs.Prelude.{◌≡◌, ◌<◌, Some, None, IfOk, OnOk};
-    ghost use Rattle.ert_effects.specs.Chains.{HoldsRequest, AdvancesWheel, Hands};
-    ghost use Rattle.ert_effects.specs.RequestCalls.{Picks, Answers};
+impl<'a, L: DeskName, R: Wait> SchedSession<'a, L, R> {
+    ghost use Rattle.std.specs.Prelude.{◌≡◌, None, IfOk};
+    ghost use Rattle.ert_effects.specs.Chains.{AdvancesWheel};
+    ghost use Rattle.ert_effects.specs.RequestCalls.{Picks};
     ghost use Rattle.ert_effects.specs.Ways.{beside};
-    ghost use Rattle.ert_defs.specs.Mails.{first_of, others_of};
     ghost use Rattle.ert_defs.specs.States.{state};
-    ghost use Rattle.ert_defs.specs.declared.entry.Actor.TheVariants.{Inbox, Sched, MailOf};
+    ghost use Rattle.ert_defs.specs.declared.entry.Actor.TheVariants.{Inbox, Sched};
     ghost use Rattle.ert_locks.specs.Passes.{FrontGrows, StepsWith};
     ghost use Rattle.ert_service.specs.Fronts.{IsLegal};
     ghost use Rattle.ert_service.specs.Settled.{NoneDue};
     ghost use Rattle.ert_table.specs.Desks.{front_of};
 
-    /// The request in a scheduler's hand. Where the hand is empty, the first of the inbox is taken into it.
-    pub(crate) fn hold<R: Wait>(&self, rt: &R, seat: &mut SchedSeat<L>) -> Option<Request>
-        ensures hand { seat.new.part.hand ≡ result }
-        ensures call { FrontGrows (HoldsRequest L.settings (beside L.settings (Sched seat.old.part.wheel)) seat.old.part.wheel result) seat.old.pass seat.new.pass }
-        ensures number { seat.new.part.wheel ≡ seat.old.part.wheel }
-    {
-        match seat.part.hand {
-            Some(request) => Some(request),
-            None => self.pick(rt, seat),
-        }
-    }
-
     /// Takes the first request of the inbox into the empty hand.
-    fn pick<R: Wait>(&self, rt: &R, seat: &mut SchedSeat<L>) -> Option<Request>
-        requires empty { seat.old.part.hand ≡ None }
-        ensures hand { seat.new.part.hand ≡ result }
-        ensures call { StepsWith L.settings (Sched seat.old.part.wheel) (Inbox seat.old.part.wheel)
-            (Picks L.settings seat.old.part.wheel result) seat.old.pass seat.new.pass }
-        ensures number { seat.new.part.wheel ≡ seat.old.part.wheel }
+    fn pick(&mut self) -> Option<Request>
+        requires empty { self.old.seat.part.hand ≡ None }
+        ensures hand { self.new.seat.part.hand ≡ result }
+        ensures call { StepsWith L.settings (Sched self.old.seat.part.wheel) (Inbox self.old.seat.part.wheel)
+            (Picks L.settings self.old.seat.part.wheel result) self.old.seat.pass self.new.seat.pass }
+        ensures number { self.new.seat.part.wheel ≡ self.old.seat.part.wheel }
     {
-        let wheel = seat.part.wheel;
-        self.inboxes.at(rt, wheel).pick(self.desk(), seat)
-    }
-
-    /// Answers the request in the hand, and empties that.
-    pub(crate) fn answer<R: Wait>(
-        &self,
-        rt: &R,
-        seat: &mut SchedSeat<L>,
-        request: &Request,
-    ) -> Result<Option<u64>, NoMemory>
-        requires hand { seat.old.part.hand ≡ Some request.now }
-        ensures call { StepsWith L.settings (Sched seat.old.part.wheel) (MailOf request.now.reply_to)
-            (Answers L.settings seat.old.part.wheel request.now result) seat.old.pass seat.new.pass }
-        ensures number { seat.new.part.wheel ≡ seat.old.part.wheel }
-    {
-        let process = asker_of(seat, request);
-        self.mails
-            .at(rt, process)
-            .answer(self.desk(), seat, request)
+        let wheel = self.seat.part.wheel;
+        let mut inbox = self.service.inboxes.at(self.rt, wheel);
+        inbox.pick(self.service.desk(), &mut self.seat)
     }
 
     /// Lets every timer of the scheduler's wheel expire that is due, and answers the time, in whole
@@ -70,33 +41,81 @@ impl<L: DeskName> Service<L> {
     /// is due by then.
     ///
     /// If memory runs out, none has expired.
-    pub fn advance<R: Wait>(&self, rt: &R, seat: &mut SchedSeat<L>) -> Result<(u64, u32), NoMemory>
-        ensures due { IfOk result (λ answer. NoneDue (state L.settings (front_of seat.new.pass)) seat.old.part.wheel answer.0) }
-        ensures call { FrontGrows (AdvancesWheel L.settings (beside L.settings (Sched seat.old.part.wheel)) seat.old.part.wheel result) seat.old.pass seat.new.pass }
-        ensures number { seat.new.part.wheel ≡ seat.old.part.wheel }
-        ensures legal { IsLegal L.settings (front_of seat.new.pass) }
+    pub fn advance(&mut self) -> Result<(u64, u32), NoMemory>
+        ensures due { IfOk result (λ answer. NoneDue (state L.settings (front_of self.new.seat.pass)) self.old.seat.part.wheel answer.0) }
+        ensures call { FrontGrows (AdvancesWheel L.settings (beside L.settings (Sched self.old.seat.part.wheel)) self.old.seat.part.wheel result) self.old.seat.pass self.new.seat.pass }
+        ensures number { self.new.seat.part.wheel ≡ self.old.seat.part.wheel }
+        ensures legal { IsLegal L.settings (front_of self.new.seat.pass) }
     {
-        let wheel = seat.part.wheel;
-        self.wheels.at(rt, wheel).advance(self.desk(), seat)
+        let wheel = self.seat.part.wheel;
+        let mut locked = self.service.wheels.at(self.rt, wheel);
+        locked.advance(self.service.desk(), &mut self.seat)
+    }
+}
+
+impl<'a, L: DeskName, R: Wait> SchedSteps for SchedSession<'a, L, R> {
+    ghost use Rattle.std.specs.Prelude.{◌≡◌};
+    ghost use Rattle.std.proofs.Common.{refl, ◌∙◌};
+    ghost use Rattle.ert_effects.specs.Ways.{beside};
+    ghost use Rattle.ert_defs.specs.declared.entry.Actor.TheVariants.{Sched};
+    ghost use Rattle.ert_service.specs.Fronts.{IsLegal};
+    ghost use Rattle.ert_table.specs.Desks.{front_of};
+
+    ghost settings = { λ s. L.settings };
+
+    ghost history = { λ s. front_of s.seat.pass };
+
+    ghost is_legal = { λ s. IsLegal L.settings (front_of s.seat.pass) };
+
+    ghost mark = { λ s. 0 };
+
+    ghost way = { λ g mark sched. beside g (Sched sched) };
+
+    ghost acts = { λ s sched. s.seat.part.wheel ≡ sched };
+
+    ghost stays = { λ s t. t.seat.part.wheel ≡ s.seat.part.wheel };
+
+    /// Others may start timers of the wheel between two steps.
+    ghost passed = { λ s sched to. Unit {0} };
+
+    fn hold(&mut self, _sched: u32) -> Option<Request> {
+        match self.seat.part.hand {
+            Some(request) => Some(request),
+            None => self.pick(),
+        }
     }
 
-    /// Hands over the scheduler's first expired timer.
-    pub(crate) fn hand_over<R: Wait>(
-        &self,
-        rt: &R,
-        seat: &mut SchedSeat<L>,
-        expired: &TimerRow,
-    ) -> Result<Handed, NoMemory>
-        requires first { first_of seat.old.part.expired.rows ≡ Some expired.now }
-        ensures expired { OnOk result (seat.new.part.expired.rows ≡ others_of seat.old.part.expired.rows) }
-        ensures call { FrontGrows (Hands L.settings (beside L.settings (Sched seat.old.part.wheel)) seat.old.part.wheel result) seat.old.pass seat.new.pass }
-        ensures number { seat.new.part.wheel ≡ seat.old.part.wheel }
-    {
-        let process = destination_of(seat, expired);
-        self.mails
-            .at(rt, process)
-            .hand_over(self.desk(), seat, expired)
+    fn answer_held(&mut self, _sched: u32, request: &Request) -> Result<Option<u64>, NoMemory> {
+        let process = asker_of(&self.seat, request);
+        let mut mailbox = self.service.mails.at(self.rt, process);
+        mailbox.answer(self.service.desk(), &mut self.seat, request)
     }
+
+    fn advance_wheel(&mut self, _sched: u32) -> Result<(u64, u32), NoMemory> {
+        self.advance()
+    }
+
+    fn first_of_expired(&self, _sched: u32) -> Option<TimerRow> {
+        self.seat.part.expired.first()
+    }
+
+    fn hand_first(&mut self, _sched: u32, expired: &TimerRow) -> Result<Handed, NoMemory> {
+        let process = destination_of(&self.seat, expired);
+        let mut mailbox = self.service.mails.at(self.rt, process);
+        mailbox.hand_over(self.service.desk(), &mut self.seat, expired)
+    }
+
+    ghost same_settings = { λ s t stay. refl };
+
+    ghost same_mark = { λ s t stay. refl };
+
+    ghost acts_on = { λ s t sched stay acts. stay ∙ acts };
+
+    ghost still_passed = { λ s t sched to stay passed. passed };
+
+    ghost stay = { λ s t u one other. other ∙ one };
+
+    ghost same = { λ s. refl };
 }
 
 /// The process that is to get the answer to the request in a scheduler's hand.

@@ -8,7 +8,7 @@ use crate::opening::{seat_callers, seat_scheds};
 use crate::rooms::{PaddedLock, Room};
 use crossbeam_utils::CachePadded;
 use ert_calls::KeeperPart;
-use ert_defs::{Actor, NoMemory};
+use ert_defs::{Actor, NoMemory, Settings};
 use ert_locks::{CallerSeat, DeskName, Locked, SchedSeat};
 use ert_mail::{InboxPart, MailPart};
 use ert_table::{Desk, Pass};
@@ -17,11 +17,7 @@ use ert_world::{Parts, SchedPart, World};
 use std::alloc::Global;
 use std::sync::{Arc, Mutex};
 
-/// The clock and timer service for many threads, on the desk that `L` names.
-///
-///     let timer = service.start(rt, seat, 0, start)?;    // takes the lock of wheel 0
-///     let by = Actor::Caller(seat.number);
-///     let left = cancel_timer(service.desk(), &mut seat.pass, by, timer);   // takes none
+/// The clock and timer service for many threads, on the desk that `L` names. Its calls are those of a `Session`.
 #[derive(Drop)]
 pub struct Service<L: DeskName> {
     desk: Arc<Desk>,
@@ -50,6 +46,7 @@ impl<L: DeskName> Service<L> {
     ghost use Rattle.std.specs.Prelude.{◌≡◌, IfOk, All};
     ghost use Rattle.std.specs.Arc.{arc_value};
     ghost use Rattle.ert_defs.specs.declared.entry.Actor.TheVariants.{Caller, Sched};
+    ghost use Rattle.ert_defs.specs.Settings.{IsChecked};
     ghost use Rattle.ert_laws.specs.KeptLaws.{KeepsLaws};
     ghost use Rattle.ert_world.specs.Parts.{parts_of};
     ghost use Rattle.ert_world.specs.Worlds.{AreFit};
@@ -154,8 +151,16 @@ impl<L: DeskName> Service<L> {
         })
     }
 
+    /// What the service was opened with.
+    pub fn settings(&self) -> &Settings
+        ensures value { result.now ≡ L.settings }
+        ensures checked { IsChecked L.settings }
+    {
+        self.desk().settings()
+    }
+
     /// The desk, for the calls that take no lock (`ert_calls`).
-    pub fn desk(&self) -> &Desk
+    pub(crate) fn desk(&self) -> &Desk
         ensures { IsDesk L.table L.settings result.now }
     {
         &self.desk

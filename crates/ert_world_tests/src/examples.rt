@@ -3,11 +3,10 @@ ghost use Rattle.std.specs.Prelude.{◌<◌};
 
 use crate::tests::service_calls::is_process;
 use crate::tests::trials::{Seats, Told, Trial, try_out};
-use ert_calls::cancel_timer;
-use ert_defs::{Actor, Kind, Mail, Mode, NoMemory, Reading, Settings, Start, When};
+use ert_defs::{Kind, Mail, Mode, NoMemory, Reading, Settings, Start, When};
 use ert_effects::{StartErr, Taken};
-use ert_locks::{CallerSeat, DeskName};
-use ert_service::Service;
+use ert_locks::DeskName;
+use ert_service::{CallerSession, Service, Session};
 use ert_unique::{Spent, Uniques};
 use ert_wheel::{Row, Wheel};
 use ert_world::World;
@@ -57,18 +56,14 @@ fn a_timer_sends_its_message(rt: HostRuntime) -> Result<(), NoMemory> {
 }
 
 fn start_and_cancel<L: DeskName, R: Wait>(
-    rt: &R,
-    service: &Service<L>,
-    seat: &mut CallerSeat<L>,
+    session: &mut CallerSession<L, R>,
     start: &Start,
 ) -> Result<Option<u64>, StartErr>
     requires wheel { 0 < L.settings.schedulers }
     requires dest { start.now.dest < L.settings.processes }
 {
-    let timer = service.start(rt, seat, 0, start)?;
-    let by = Actor::Caller(seat.number);
-    let left = cancel_timer(service.desk(), &mut seat.pass, by, timer);
-    Ok(left)
+    let timer = session.start(0, start)?;
+    Ok(session.cancel_timer(timer))
 }
 
 /// The first caller starts a timer of scheduler 0 for process 0, and cancels it.
@@ -77,7 +72,8 @@ pub(crate) fn first_timer<L: DeskName, R: Wait + Abort>(
     service: &Service<L>,
     (scheds, mut callers): Seats<L>,
 ) -> Result<(Seats<L>, Told), NoMemory> {
-    let mut seat = callers.pop().expect(rt, "a caller");
+    let seat = callers.pop().expect(rt, "a caller");
+    let mut session = Session { service, rt, seat };
     let start = Start {
         when: When::After(50),
         dest: 0,
@@ -85,10 +81,10 @@ pub(crate) fn first_timer<L: DeskName, R: Wait + Abort>(
         kind: Kind::Bare,
     };
     is_process(rt, service, 0);
-    assert!(rt; service.desk().settings().schedulers > 0);
-    let left = start_and_cancel(rt, service, &mut seat, &start).unwrap_or(None);
+    assert!(rt; service.settings().schedulers > 0);
+    let left = start_and_cancel(&mut session, &start).unwrap_or(None);
     callers.reserve(1)?;
-    callers.push_reserved(seat);
+    callers.push_reserved(session.seat);
     Ok(((scheds, callers), Told::Left(left)))
 }
 

@@ -2,13 +2,13 @@
 //! `examples/c/tests/lasting.c`.
 
 use crate::tests::compare::same;
-use crate::tests::service_calls::{cancel as cancel_of, start as start_of, turn_all};
+use crate::tests::service_calls::{start, turn_all};
 use crate::tests::settings::SMALL;
 use crate::tests::trials::{Seats, Told, Trial, try_out};
 use crate::tests::workers::Totals;
 use ert_defs::{Kind, NoMemory, Reading, Settings, Start, TimerRef, When};
 use ert_locks::{CallerSeat, DeskName};
-use ert_service::Service;
+use ert_service::{Service, Session};
 use std::process::Abort;
 use std::sync::Wait;
 use std::thread;
@@ -45,21 +45,22 @@ struct Used {
 fn use_seat<L: DeskName, R: Wait + Abort>(
     rt: &R,
     service: &Service<L>,
-    mut seat: CallerSeat<L>,
+    seat: CallerSeat<L>,
     tries: u32,
 ) -> (CallerSeat<L>, Used) {
+    let mut session = Session { service, rt, seat };
     let mut used = Used {
         started: 0,
         first: None,
     };
     for _ in 0..tries {
-        if let Ok(timer) = start_of(rt, service, &mut seat, 0, &FIVE) {
-            same(rt, 0, &cancel_of(service, &mut seat, timer), &Some(5));
+        if let Ok(timer) = start(&mut session, 0, &FIVE) {
+            same(rt, 0, &session.cancel_timer(timer), &Some(5));
             used.started = used.started.saturating_add(1);
             used.first = used.first.or(Some(timer));
         }
     }
-    (seat, used)
+    (session.seat, used)
 }
 
 /// A caller uses every slot as often as a round has uses, until all rest. When they have rested, it is told the time,
@@ -71,14 +72,16 @@ pub(crate) fn use_service<L: DeskName + Send + Sync, R: Threads + Wait + Abort +
 ) -> Result<(Seats<L>, Told), NoMemory> {
     let second = callers.pop().expect(rt, "two callers");
     let first = callers.pop().expect(rt, "two callers");
-    let (mut first, used) = use_seat(rt, service, first, 1_048_573);
+    let (seat, used) = use_seat(rt, service, first, 1_048_573);
     same(rt, 0, &used.started, &1_048_572);
     let reading = Reading {
         mono: 0,
         sys: 6 * MILLISECOND,
     };
-    let moved = service.tick(rt, &mut first, reading, false);
+    let mut session = Session { service, rt, seat };
+    let moved = session.tick(reading, false);
     assert!(rt; moved.is_ok());
+    let first = session.seat;
     let ((first, one), (second, other)) = thread::join(
         rt,
         || use_seat(rt, service, first, 30_000),

@@ -1,7 +1,7 @@
 //! Each call of a service once, on one thread.
 
 use crate::tests::compare::same;
-use crate::tests::service_calls::{ask, is_process, start, times, turn_all};
+use crate::tests::service_calls::{ask, is_process, start, turn_all};
 use crate::tests::settings::SMALL;
 use crate::tests::trials::{Seats, Trial, try_out};
 use crate::tests::workers::Totals;
@@ -10,8 +10,8 @@ use ert_defs::{
     Kind, Mail, Mode, NoMemory, OffsetState, Reading, RequestKind, Settings, Start, TimerRef, When,
 };
 use ert_effects::{Taken, Turned};
-use ert_locks::{CallerSeat, DeskName, SchedSeat};
-use ert_service::Service;
+use ert_locks::DeskName;
+use ert_service::{CallerSession, SchedSession, Service, Session};
 use ert_world::Counts;
 use std::process::Abort;
 use std::sync::Wait;
@@ -61,25 +61,19 @@ enum Work {
 }
 
 /// Makes each call of the caller in turn.
-fn call_all<L: DeskName, R: Wait + Abort>(
-    rt: &R,
-    service: &Service<L>,
-    seat: &mut CallerSeat<L>,
-    calls: &[Call],
-) {
+fn call_all<L: DeskName, R: Wait + Abort>(session: &mut CallerSession<L, R>, calls: &[Call]) {
     for (at, call) in calls.iter().enumerate() {
-        call_one(rt, service, seat, at, call);
+        call_one(session, at, call);
     }
 }
 
 fn call_one<L: DeskName, R: Wait + Abort>(
-    rt: &R,
-    service: &Service<L>,
-    seat: &mut CallerSeat<L>,
+    session: &mut CallerSession<L, R>,
     at: usize,
     call: &Call,
 ) {
-    is_process(rt, service, 0);
+    let rt = session.rt;
+    is_process(rt, session.service, 0);
     match *call {
         Call::Start(left, msg, timer) => {
             let asked = Start {
@@ -88,60 +82,52 @@ fn call_one<L: DeskName, R: Wait + Abort>(
                 msg,
                 kind: Kind::Wrapped,
             };
-            same(rt, at, &start(rt, service, seat, 0, &asked), &Ok(timer));
+            same(rt, at, &start(session, 0, &asked), &Ok(timer));
         }
         Call::Ask(timer) => {
-            let got = ask(rt, service, seat, RequestKind::Read, timer, 0);
+            let got = ask(session, RequestKind::Read, timer, 0);
             same(rt, at, &got, &Ok(()));
         }
-        Call::Take(taken) => same(rt, at, &service.take(rt, seat, 0), &taken),
-        Call::Monitor(number) => same(rt, at, &service.monitor(rt, seat, 0), &Ok(number)),
+        Call::Take(taken) => same(rt, at, &session.take(0), &taken),
+        Call::Monitor(number) => same(rt, at, &session.monitor(0), &Ok(number)),
         Call::Demonitor(number, stood) => {
-            same(rt, at, &service.demonitor(rt, seat, 0, number), &stood);
+            same(rt, at, &session.demonitor(0, number), &stood);
         }
-        Call::Tell(told) => same(rt, at, &service.notify(rt, seat, 0), &Ok(told)),
+        Call::Tell(told) => same(rt, at, &session.notify(0), &Ok(told)),
         Call::Tick(sys, force, now, shift) => {
-            let got = service.tick(rt, seat, Reading { mono: 0, sys }, force);
+            let got = session.tick(Reading { mono: 0, sys }, force);
             same(rt, at, &got, &Ok(Moved { now, shift }));
         }
         Call::Finalize(sys, before, now) => {
-            let got = service.finalize(rt, seat, Reading { mono: 0, sys });
+            let got = session.finalize(Reading { mono: 0, sys });
             same(rt, at, &got, &Ok((before, Moved { now, shift: None })));
         }
-        Call::Times(monotonic, system) => same(rt, at, &times(service, seat), &(monotonic, system)),
-        Call::Exit(exits) => same(rt, at, &service.exit(rt, seat, 0), &exits),
+        Call::Times(monotonic, system) => {
+            same(rt, at, &session.monotonic_time(), &monotonic);
+            same(rt, at, &session.system_time(), &system);
+        }
+        Call::Exit(exits) => same(rt, at, &session.exit(0), &exits),
     }
 }
 
 /// Makes each call of the scheduler in turn.
-fn work_all<L: DeskName, R: Wait + Abort>(
-    rt: &R,
-    service: &Service<L>,
-    seat: &mut SchedSeat<L>,
-    works: &[Work],
-) {
+fn work_all<L: DeskName, R: Wait + Abort>(session: &mut SchedSession<L, R>, works: &[Work]) {
     for (at, work) in works.iter().enumerate() {
-        work_one(rt, service, seat, at, work);
+        work_one(session, at, work);
     }
 }
 
 fn work_one<L: DeskName, R: Wait + Abort>(
-    rt: &R,
-    service: &Service<L>,
-    seat: &mut SchedSeat<L>,
+    session: &mut SchedSession<L, R>,
     at: usize,
     work: &Work,
 ) {
+    let rt = session.rt;
     match *work {
-        Work::Serve(served) => same(rt, at, &service.serve(rt, seat), &Ok(served)),
-        Work::Advance(to, expired) => same(rt, at, &service.advance(rt, seat), &Ok((to, expired))),
-        Work::Deliver(put, dropped) => same(
-            rt,
-            at,
-            &service.deliver(rt, seat),
-            &Ok((put, dropped)),
-        ),
-        Work::Turn(turned) => same(rt, at, &service.turn(rt, seat), &Ok(turned)),
+        Work::Serve(served) => same(rt, at, &session.serve(), &Ok(served)),
+        Work::Advance(to, expired) => same(rt, at, &session.advance(), &Ok((to, expired))),
+        Work::Deliver(put, dropped) => same(rt, at, &session.deliver(), &Ok((put, dropped))),
+        Work::Turn(turned) => same(rt, at, &session.turn(), &Ok(turned)),
     }
 }
 
@@ -189,14 +175,12 @@ const LAST_CALLS: [Call; 11] = [
 /// A timer is started, and read by a request. When it has expired, the answer and its message are taken, in
 /// that order; then the time offset changes, and the process is told; and the process exits once.
 fn make_calls<L: DeskName, R: Wait + Abort>(
-    rt: &R,
-    service: &Service<L>,
-    caller: &mut CallerSeat<L>,
-    sched: &mut SchedSeat<L>,
+    caller: &mut CallerSession<L, R>,
+    sched: &mut SchedSession<L, R>,
 ) {
-    call_all(rt, service, caller, &FIRST_CALLS);
-    work_all(rt, service, sched, &WORKS);
-    call_all(rt, service, caller, &LAST_CALLS);
+    call_all(caller, &FIRST_CALLS);
+    work_all(sched, &WORKS);
+    call_all(caller, &LAST_CALLS);
 }
 
 /// Makes each call by the one caller and the one scheduler.
@@ -205,13 +189,15 @@ pub(crate) fn each_call<L: DeskName, R: Wait + Abort>(
     service: &Service<L>,
     (mut scheds, mut callers): Seats<L>,
 ) -> Result<Seats<L>, NoMemory> {
-    let mut sched = scheds.pop().expect(rt, "a scheduler");
-    let mut caller = callers.pop().expect(rt, "a caller");
-    make_calls(rt, service, &mut caller, &mut sched);
+    let seat = scheds.pop().expect(rt, "a scheduler");
+    let mut sched = Session { service, rt, seat };
+    let seat = callers.pop().expect(rt, "a caller");
+    let mut caller = Session { service, rt, seat };
+    make_calls(&mut caller, &mut sched);
     scheds.reserve(1)?;
-    scheds.push_reserved(sched);
+    scheds.push_reserved(sched.seat);
     callers.reserve(1)?;
-    callers.push_reserved(caller);
+    callers.push_reserved(caller.seat);
     Ok((scheds, callers))
 }
 

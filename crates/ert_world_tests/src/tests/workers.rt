@@ -1,9 +1,9 @@
 //! What the threads of the test do: callers that start, cancel, ask, take and exit, and schedulers that turn.
-use crate::tests::service_calls::{ask, cancel, is_process, start};
+use crate::tests::service_calls::{ask, is_process, start};
 use ert_defs::{Kind, Mail, NoMemory, Reading, RequestKind, Start, TimerRef, When};
 use ert_effects::{Taken, Turned};
 use ert_locks::{CallerSeat, DeskName, SchedSeat};
-use ert_service::Service;
+use ert_service::{CallerSession, Service, Session};
 use std::alloc::{AllocError, Global};
 use std::process::Abort;
 use std::sync::Wait;
@@ -111,26 +111,25 @@ pub(crate) fn work<L: DeskName, R: Wait + Abort>(
     rt: &R,
     alloc: Global,
     service: &Service<L>,
-    mut seat: CallerSeat<L>,
+    seat: CallerSeat<L>,
 ) -> Result<(CallerSeat<L>, Answers), NoMemory> {
+    let mut session = Session { service, rt, seat };
     let mut answers = Answers::new(alloc);
     for call in 0..CALLS {
         match call % 8 {
-            0 | 1 | 3 => start_one(rt, service, &mut seat, call, &mut answers)?,
-            2 | 6 => cancel_one(service, &mut seat, call, &mut answers)?,
-            4 => ask_one(rt, service, &mut seat, call, &mut answers),
-            5 => take_one(rt, service, &mut seat, call % 3, &mut answers)?,
-            _ => move_on(rt, service, &mut seat, call, &mut answers),
+            0 | 1 | 3 => start_one(&mut session, call, &mut answers)?,
+            2 | 6 => cancel_one(&mut session, call, &mut answers)?,
+            4 => ask_one(&mut session, call, &mut answers),
+            5 => take_one(&mut session, call % 3, &mut answers)?,
+            _ => move_on(&mut session, call, &mut answers),
         }
     }
-    Ok((seat, answers))
+    Ok((session.seat, answers))
 }
 
 /// Starts a timer of some milliseconds, on a wheel and for a process that differ from call to call.
 fn start_one<L: DeskName, R: Wait + Abort>(
-    rt: &R,
-    service: &Service<L>,
-    seat: &mut CallerSeat<L>,
+    session: &mut CallerSession<L, R>,
     call: u32,
     answers: &mut Answers,
 ) -> Result<(), AllocError> {
@@ -140,7 +139,7 @@ fn start_one<L: DeskName, R: Wait + Abort>(
         msg: 7,
         kind: Kind::Wrapped,
     };
-    if let Ok(timer) = start(rt, service, seat, call / 8 % 2, &request) {
+    if let Ok(timer) = start(session, call / 8 % 2, &request) {
         answers.started.push(timer)?;
     }
     Ok(())
@@ -154,16 +153,15 @@ fn recent(answers: &Answers, call: u32) -> Option<TimerRef> {
 }
 
 /// Cancels one of the last timers, which may have been settled by others.
-fn cancel_one<L: DeskName>(
-    service: &Service<L>,
-    seat: &mut CallerSeat<L>,
+fn cancel_one<L: DeskName, R: Wait>(
+    session: &mut CallerSession<L, R>,
     call: u32,
     answers: &mut Answers,
 ) -> Result<(), AllocError> {
     let Some(timer) = recent(answers, call) else {
         return Ok(());
     };
-    if cancel(service, seat, timer).is_some() {
+    if session.cancel_timer(timer).is_some() {
         answers.cancelled.push(timer)?;
     }
     Ok(())
@@ -171,70 +169,65 @@ fn cancel_one<L: DeskName>(
 
 /// Asks a scheduler to cancel one of the last timers.
 fn ask_one<L: DeskName, R: Wait + Abort>(
-    rt: &R,
-    service: &Service<L>,
-    seat: &mut CallerSeat<L>,
+    session: &mut CallerSession<L, R>,
     call: u32,
     answers: &mut Answers,
 ) {
     let Some(timer) = recent(answers, call) else {
         return;
     };
-    if ask(rt, service, seat, RequestKind::Cancel, timer, 0).is_ok() {
+    if ask(session, RequestKind::Cancel, timer, 0).is_ok() {
         answers.asked = answers.asked.saturating_add(1);
     }
 }
 
 /// Takes a message of a process.
 fn take_one<L: DeskName, R: Wait + Abort>(
-    rt: &R,
-    service: &Service<L>,
-    seat: &mut CallerSeat<L>,
+    session: &mut CallerSession<L, R>,
     process: u32,
     answers: &mut Answers,
 ) -> Result<(), AllocError> {
-    is_process(rt, service, process);
-    let taken = service.take(rt, seat, process);
+    is_process(session.rt, session.service, process);
+    let taken = session.take(process);
     answers.note(&taken)
 }
 
 /// The first caller moves the time on, and every caller lets one process exit halfway.
 fn move_on<L: DeskName, R: Wait + Abort>(
-    rt: &R,
-    service: &Service<L>,
-    seat: &mut CallerSeat<L>,
+    session: &mut CallerSession<L, R>,
     call: u32,
     answers: &mut Answers,
 ) {
     if call == CALLS / 2 + 7 {
-        is_process(rt, service, MORTAL);
-        if service.exit(rt, seat, MORTAL) {
+        is_process(session.rt, session.service, MORTAL);
+        if session.exit(MORTAL) {
             answers.exits = answers.exits.saturating_add(1);
         }
         return;
     }
-    if seat.number > 0 {
+    if session.seat.number > 0 {
         return;
     }
     let reading = Reading {
         mono: 0,
         sys: call as i64 * 100_000,
     };
-    let moved = service.tick(rt, seat, reading, false);
-    assert!(rt; moved.is_ok());
+    let moved = session.tick(reading, false);
+    assert!(session.rt; moved.is_ok());
 }
 
 /// A scheduler makes its turns.
 pub(crate) fn turns<L: DeskName, R: Wait>(
     rt: &R,
     service: &Service<L>,
-    mut seat: SchedSeat<L>,
+    seat: SchedSeat<L>,
 ) -> Result<(SchedSeat<L>, Totals), NoMemory> {
+    let mut session = Session { service, rt, seat };
     let mut totals = Totals::new();
     for _ in 0..TURNS {
-        let turned = service.turn(rt, &mut seat)?;
+        let turned = session.turn()?;
         totals.add(&turned);
         thread::yield_now();
     }
-    Ok((seat, totals))
+    Ok((session.seat, totals))
 }

@@ -20,10 +20,10 @@ do_one-requires-clause-range g c =
 pub loop-op-preserved : goal.loop-op-preserved
 loop-op-preserved g c =
     let s = g.L.DeskName.settings in
-    let n = c.args.member.now.seat.number in
-    let f = front_of c.args.member.now.seat.pass in
-    let h = front_of c.loop-op.member.seat.pass in
-    let k = front_of c.do_one.new.member.seat.pass in
+    let n = c.args.doer.now.session.seat.number in
+    let f = front_of c.args.doer.now.session.seat.pass in
+    let h = front_of c.loop-op.doer.session.seat.pass in
+    let k = front_of c.do_one.new.doer.session.seat.pass in
     let own = c.loop-op.own in
     let own_new = c.do_one.new.own in
     let kept : c.push.new.self.items ≡ c.loop-op.replies.items ++ c.in-Ok.reply ∷ [] = search rules in
@@ -40,22 +40,22 @@ loop-op-preserved g c =
 pub returns-in-Err-clause-stops : goal.returns-in-Err-clause-stops
 returns-in-Err-clause-stops g c =
     let s = g.L.DeskName.settings in
-    let n = c.args.member.now.seat.number in
-    let h = front_of c.loop-op.member.seat.pass in
-    let k = front_of c.do_one.new.member.seat.pass in
+    let n = c.args.doer.now.session.seat.number in
+    let h = front_of c.loop-op.doer.session.seat.pass in
+    let k = front_of c.do_one.new.doer.session.seat.pass in
     let own = c.loop-op.own in
     let fails = rw c.in-Err.is at c.do_one.ensures.answer.fails in
     let own_fails = subst (λ (m : ℕ). FailsOwn s m c.args.known.now own c.op-item.result h k) c.loop-op.invariant.number fails in
-    some_done s n c.args.known.now c.args.ops.now c.loop-op.op-index c.op-item.result c.loop-op.replies.items own (front_of c.args.member.now.seat.pass) h k
+    some_done s n c.args.known.now c.args.ops.now c.loop-op.op-index c.op-item.result c.loop-op.replies.items own (front_of c.args.doer.now.session.seat.pass) h k
     c.loop-op-test.true c.loop-op.invariant.so_far (subst (λ (op : Op). FailsOwn s n c.args.known.now own op h k) c.op-item.is own_fails)
 
 pub returns-then-is_err-clause-stops : goal.returns-then-is_err-clause-stops
 returns-then-is_err-clause-stops g c =
     let s = g.L.DeskName.settings in
-    let n = c.args.member.now.seat.number in
-    let f = front_of c.args.member.now.seat.pass in
-    let h = front_of c.loop-op.member.seat.pass in
-    let k = front_of c.do_one.new.member.seat.pass in
+    let n = c.args.doer.now.session.seat.number in
+    let f = front_of c.args.doer.now.session.seat.pass in
+    let h = front_of c.loop-op.doer.session.seat.pass in
+    let k = front_of c.do_one.new.doer.session.seat.pass in
     let own = c.loop-op.own in
     let own_new = c.do_one.new.own in
     let done = rw c.in-Ok.is at c.do_one.ensures.answer.does in

@@ -5,6 +5,6 @@ use Rattle.ert_race.proofs.list.do_list.Given as goal
 
 abbrev pub invariant-loop-op : goal.invariant-loop-op
 invariant-loop-op g l = record {
-  number : l.member.seat.number ≡ l.fn.member.seat.number;
-  so_far : DoesAll g.L.DeskName.settings l.fn.member.seat.number l.known (take l.op-index l.ops) l.replies.items l.own (front_of l.fn.member.seat.pass) (front_of l.member.seat.pass);
+  number : l.doer.session.seat.number ≡ l.fn.doer.session.seat.number;
+  so_far : DoesAll g.L.DeskName.settings l.fn.doer.session.seat.number l.known (take l.op-index l.ops) l.replies.items l.own (front_of l.fn.doer.session.seat.pass) (front_of l.doer.session.seat.pass);
 }

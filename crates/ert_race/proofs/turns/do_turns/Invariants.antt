@@ -5,6 +5,6 @@ use Rattle.ert_race.proofs.turns.do_turns.Given as goal
 
 abbrev pub invariant-loop-done : goal.invariant-loop-done
 invariant-loop-done g l = record {
-  number : l.seat.part.wheel ≡ l.fn.seat.part.wheel;
-  so_far : TurnsSoOften g.L.DeskName.settings l.fn.seat.part.wheel l.done (front_of l.fn.seat.pass) (front_of l.seat.pass);
+  number : l.session.seat.part.wheel ≡ l.fn.session.seat.part.wheel;
+  so_far : TurnsSoOften g.L.DeskName.settings l.fn.session.seat.part.wheel l.done (front_of l.fn.session.seat.pass) (front_of l.session.seat.pass);
 }

@@ -1,0 +1,11 @@
+use Rattle.ert_effects.specs.TimerCalls.{Reads}
+use Rattle.ert_defs.specs.declared.entry.Actor.TheVariants.{Caller}
+use Rattle.ert_service.proofs.Alone.{made_alone}
+use Rattle.ert_service.proofs.timer_calls.CallerSession+L+R.read_timer.Goals as goal
+
+pub returns-clause-call : goal.returns-clause-call
+returns-clause-call g c =
+    let seat = c.args.self.now.seat in
+    let by = Caller seat.number in
+    made_alone g.L.DeskName.settings _ by (λ s. Reads s by c.args.timer c.read_timer.result) seat.pass c.read_timer.new.pass c.desk.ensures.settings_is
+    seat.sits.actors c.read_timer.ensures.call.call
