@@ -2,7 +2,7 @@
 ghost use Rattle.std.specs.Prelude.{◌<◌};
 
 use crate::tests::service_calls::is_process;
-use crate::tests::trials::{Seats, Told, Trial, try_out};
+use crate::tests::trials::{Told, Trial, try_out};
 use ert_calls::cancel_timer;
 use ert_defs::{Actor, Kind, Mail, Mode, NoMemory, Reading, Settings, Start, When};
 use ert_effects::{StartErr, Taken};
@@ -75,9 +75,9 @@ fn start_and_cancel<L: DeskName, R: Wait>(
 pub(crate) fn first_timer<L: DeskName, R: Wait + Abort>(
     rt: &R,
     service: &Service<L>,
-    (scheds, mut callers): Seats<L>,
-) -> Result<(Seats<L>, Told), NoMemory> {
-    let mut seat = callers.pop().expect(rt, "a caller");
+    callers: &mut [CallerSeat<L>],
+) -> Option<u64> {
+    let seat = callers.first_mut().expect(rt, "a caller");
     let start = Start {
         when: When::After(50),
         dest: 0,
@@ -86,15 +86,12 @@ pub(crate) fn first_timer<L: DeskName, R: Wait + Abort>(
     };
     is_process(rt, service, 0);
     assert!(rt; service.desk().settings().schedulers > 0);
-    let left = start_and_cancel(rt, service, &mut seat, &start).unwrap_or(None);
-    callers.reserve(1)?;
-    callers.push_reserved(seat);
-    Ok(((scheds, callers), Told::Left(left)))
+    start_and_cancel(rt, service, seat, &start).unwrap_or(None)
 }
 
 #[test]
 fn a_seat_starts_and_cancels(rt: HostRuntime) -> Result<(), NoMemory> {
-    let (_, told) = try_out(&rt, rt.alloc(), &SETTINGS, Trial::FirstTimer)?;
+    let (_, told) = try_out(&rt, rt.alloc(), &SETTINGS, &Trial::FirstTimer)?;
     assert!(rt; matches!(told, Told::Left(Some(50))));
     Ok(())
 }

@@ -9,8 +9,9 @@ use crate::tests::crossing::cross;
 use crate::tests::rounds::use_service;
 use crate::tests::service::each_call;
 use crate::tests::service_calls::{are_callers, are_scheds};
-use crate::tests::workers::{Answers, Totals};
+use crate::tests::workers::Answers;
 use ert_defs::{NoMemory, Settings};
+use ert_effects::Turned;
 use ert_locks::{CallerSeat, DeskName, SchedSeat};
 use ert_service::{Opened, Service};
 use ert_world::{Parts, World};
@@ -21,7 +22,6 @@ use std::sync::Wait;
 use std::thread::Threads;
 
 /// What a test does on a service.
-#[derive(Clone, Copy)]
 pub(crate) enum Trial {
     /// Starts a timer and cancels it.
     FirstTimer,
@@ -42,18 +42,15 @@ pub(crate) enum Told {
     /// How many timers were started.
     Started(u64),
     /// What each caller was answered, and what the turns of each scheduler did.
-    Crossed(Vec<Answers>, Vec<Totals>),
+    Crossed(Vec<Answers>, Vec<Turned>),
 }
-
-/// The seats of the schedulers and of the callers.
-pub(crate) type Seats<L> = (Vec<SchedSeat<L>>, Vec<CallerSeat<L>>);
 
 /// Opens a service with these settings, does that, and closes it.
 pub(crate) fn try_out<R: Threads + Wait + Abort + Sync>(
     rt: &R,
     alloc: Global,
     settings: &Settings,
-    trial: Trial,
+    trial: &Trial,
 ) -> Result<(World, Told), NoMemory> {
     assert!(rt; settings.check().is_ok());
     let parts = World::open(alloc, settings)?.into_parts();
@@ -64,7 +61,7 @@ fn try_on<L: DeskName + Send + Sync, R: Threads + Wait + Abort + Sync>(
     rt: &R,
     alloc: Global,
     parts: Parts,
-    trial: Trial,
+    trial: &Trial,
 ) -> Result<(World, Told), NoMemory>
     requires desk { IsDesk L.table L.settings (arc_value parts.desk) }
     requires fit { AreFit (arc_value parts.desk) parts.pass 1 (parts_of parts.keeper parts.wheels.items parts.inboxes.items parts.mails.items parts.scheds.items) }
@@ -72,10 +69,10 @@ fn try_on<L: DeskName + Send + Sync, R: Threads + Wait + Abort + Sync>(
     let Opened {
         rest,
         service,
-        scheds,
-        callers,
+        mut scheds,
+        mut callers,
     } = Service::<L>::open(alloc, parts)?;
-    let ((scheds, callers), told) = do_trial(rt, alloc, &service, (scheds, callers), trial)?;
+    let told = do_trial(rt, alloc, &service, &mut scheds, &mut callers, trial)?;
     are_scheds(rt, &service, &scheds);
     are_callers(rt, &service, &callers);
     Ok((service.close(rest, scheds, callers), told))
@@ -85,13 +82,20 @@ fn do_trial<L: DeskName + Send + Sync, R: Threads + Wait + Abort + Sync>(
     rt: &R,
     alloc: Global,
     service: &Service<L>,
-    seats: Seats<L>,
-    trial: Trial,
-) -> Result<(Seats<L>, Told), NoMemory> {
-    match trial {
-        Trial::FirstTimer => first_timer(rt, service, seats),
-        Trial::EachCall => Ok((each_call(rt, service, seats)?, Told::Nothing)),
-        Trial::Rounds => use_service(rt, service, seats),
-        Trial::Crossing => cross(rt, alloc, service, seats),
+    scheds: &mut [SchedSeat<L>],
+    callers: &mut [CallerSeat<L>],
+    trial: &Trial,
+) -> Result<Told, NoMemory> {
+    match *trial {
+        Trial::FirstTimer => Ok(Told::Left(first_timer(rt, service, callers))),
+        Trial::EachCall => {
+            each_call(rt, service, scheds, callers);
+            Ok(Told::Nothing)
+        }
+        Trial::Rounds => Ok(Told::Started(use_service(rt, service, callers))),
+        Trial::Crossing => {
+            let (answers, turned) = cross(rt, alloc, service, scheds, callers)?;
+            Ok(Told::Crossed(answers, turned))
+        }
     }
 }

@@ -70,40 +70,21 @@ impl Answers {
     }
 }
 
-/// What the turns of a scheduler answered, added up.
-#[derive(Drop)]
-pub(crate) struct Totals {
-    pub(crate) served: u64,
-    pub(crate) expired: u64,
-    pub(crate) put: u64,
-    pub(crate) dropped: u64,
-}
+/// What no turn has done.
+pub(crate) const NO_TURN: Turned = Turned {
+    served: 0,
+    to: 0,
+    expired: 0,
+    put: 0,
+    dropped: 0,
+};
 
-impl Totals {
-    pub(crate) fn new() -> Totals {
-        Totals {
-            served: 0,
-            expired: 0,
-            put: 0,
-            dropped: 0,
-        }
-    }
-
-    /// Adds what another did.
-    pub(crate) fn join(&mut self, other: &Totals) {
-        self.served = self.served.saturating_add(other.served);
-        self.expired = self.expired.saturating_add(other.expired);
-        self.put = self.put.saturating_add(other.put);
-        self.dropped = self.dropped.saturating_add(other.dropped);
-    }
-
-    /// Adds what a turn did.
-    pub(crate) fn add(&mut self, turned: &Turned) {
-        self.served = self.served.saturating_add(turned.served as u64);
-        self.expired = self.expired.saturating_add(turned.expired as u64);
-        self.put = self.put.saturating_add(turned.put as u64);
-        self.dropped = self.dropped.saturating_add(turned.dropped as u64);
-    }
+/// Adds what other turns did. The time to which they advanced isn't looked at.
+pub(crate) fn add(all: &mut Turned, turned: &Turned) {
+    all.served = all.served.saturating_add(turned.served);
+    all.expired = all.expired.saturating_add(turned.expired);
+    all.put = all.put.saturating_add(turned.put);
+    all.dropped = all.dropped.saturating_add(turned.dropped);
 }
 
 /// A caller makes its calls, of all kinds in turn.
@@ -111,19 +92,19 @@ pub(crate) fn work<L: DeskName, R: Wait + Abort>(
     rt: &R,
     alloc: Global,
     service: &Service<L>,
-    mut seat: CallerSeat<L>,
-) -> Result<(CallerSeat<L>, Answers), NoMemory> {
+    seat: &mut CallerSeat<L>,
+) -> Result<Answers, AllocError> {
     let mut answers = Answers::new(alloc);
     for call in 0..CALLS {
         match call % 8 {
-            0 | 1 | 3 => start_one(rt, service, &mut seat, call, &mut answers)?,
-            2 | 6 => cancel_one(service, &mut seat, call, &mut answers)?,
-            4 => ask_one(rt, service, &mut seat, call, &mut answers),
-            5 => take_one(rt, service, &mut seat, call % 3, &mut answers)?,
-            _ => move_on(rt, service, &mut seat, call, &mut answers),
+            0 | 1 | 3 => start_one(rt, service, seat, call, &mut answers)?,
+            2 | 6 => cancel_one(service, seat, call, &mut answers)?,
+            4 => ask_one(rt, service, seat, call, &mut answers),
+            5 => take_one(rt, service, seat, call % 3, &mut answers)?,
+            _ => move_on(rt, service, seat, call, &mut answers),
         }
     }
-    Ok((seat, answers))
+    Ok(answers)
 }
 
 /// Starts a timer of some milliseconds, on a wheel and for a process that differ from call to call.
@@ -228,13 +209,13 @@ fn move_on<L: DeskName, R: Wait + Abort>(
 pub(crate) fn turns<L: DeskName, R: Wait>(
     rt: &R,
     service: &Service<L>,
-    mut seat: SchedSeat<L>,
-) -> Result<(SchedSeat<L>, Totals), NoMemory> {
-    let mut totals = Totals::new();
+    seat: &mut SchedSeat<L>,
+) -> Result<Turned, NoMemory> {
+    let mut all = NO_TURN;
     for _ in 0..TURNS {
-        let turned = service.turn(rt, &mut seat)?;
-        totals.add(&turned);
+        let turned = service.turn(rt, seat)?;
+        add(&mut all, &turned);
         thread::yield_now();
     }
-    Ok((seat, totals))
+    Ok(all)
 }
