@@ -2,11 +2,11 @@
 ghost use Rattle.std.specs.Prelude.{◌<◌};
 
 use crate::tests::service_calls::is_process;
-use crate::tests::trials::{Seats, Told, Trial, try_out};
+use crate::tests::trials::{Told, Trial, try_out};
 use ert_defs::{Kind, Mail, Mode, NoMemory, Reading, Settings, Start, When};
 use ert_effects::{StartErr, Taken};
 use ert_locks::DeskName;
-use ert_service::{CallerSession, Service, Session};
+use ert_service::CallerSession;
 use ert_unique::{Spent, Uniques};
 use ert_wheel::{Row, Wheel};
 use ert_world::World;
@@ -69,28 +69,23 @@ fn start_and_cancel<L: DeskName, R: Wait>(
 /// The first caller starts a timer of scheduler 0 for process 0, and cancels it.
 pub(crate) fn first_timer<L: DeskName, R: Wait + Abort>(
     rt: &R,
-    service: &Service<L>,
-    (scheds, mut callers): Seats<L>,
-) -> Result<(Seats<L>, Told), NoMemory> {
-    let seat = callers.pop().expect(rt, "a caller");
-    let mut session = Session { service, rt, seat };
+    callers: &mut [CallerSession<L, R>],
+) -> Option<u64> {
+    let session = callers.first_mut().expect(rt, "a caller");
     let start = Start {
         when: When::After(50),
         dest: 0,
         msg: 7,
         kind: Kind::Bare,
     };
-    is_process(rt, service, 0);
-    assert!(rt; service.settings().schedulers > 0);
-    let left = start_and_cancel(&mut session, &start).unwrap_or(None);
-    callers.reserve(1)?;
-    callers.push_reserved(session.seat);
-    Ok(((scheds, callers), Told::Left(left)))
+    is_process(rt, session.service, 0);
+    assert!(rt; session.service.settings().schedulers > 0);
+    start_and_cancel(session, &start).unwrap_or(None)
 }
 
 #[test]
 fn a_seat_starts_and_cancels(rt: HostRuntime) -> Result<(), NoMemory> {
-    let (_, told) = try_out(&rt, rt.alloc(), &SETTINGS, Trial::FirstTimer)?;
+    let (_, told) = try_out(&rt, rt.alloc(), &SETTINGS, &Trial::FirstTimer)?;
     assert!(rt; matches!(told, Told::Left(Some(50))));
     Ok(())
 }

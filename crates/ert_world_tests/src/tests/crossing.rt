@@ -4,12 +4,12 @@ ghost use Rattle.std.specs.Prelude.{◌≡◌, OnOk};
 use crate::tests::compare::same;
 use crate::tests::service_calls::turn_all;
 use crate::tests::settings::SMALL;
-use crate::tests::trials::{Seats, Told, Trial, try_out};
-use crate::tests::workers::{Answers, MORTAL, Totals, turns, work};
-use ert_defs::{NoMemory, Settings};
-use ert_effects::Taken;
-use ert_locks::{CallerSeat, DeskName, SchedSeat};
-use ert_service::Service;
+use crate::tests::trials::{Told, Trial, try_out};
+use crate::tests::workers::{Answers, MORTAL, NO_TURN, add, turns, work};
+use ert_defs::{NoMemory, Settings, TimerRef};
+use ert_effects::{Taken, Turned};
+use ert_locks::DeskName;
+use ert_service::{CallerSession, SchedSession};
 use ert_world::{Counts, World};
 use std::alloc::{AllocError, Global};
 use std::process::Abort;
@@ -28,68 +28,38 @@ const SETTINGS: Settings = Settings {
 /// So many last turns that every request that waits is served, at 64 a turn.
 const LAST_TURNS: u32 = 64;
 
-/// Runs the threads to their end.
+/// Runs the threads to their end. What each caller was answered, and what the turns of each scheduler did.
 pub(crate) fn cross<L: DeskName + Send + Sync, R: Threads + Wait + Abort + Sync>(
     rt: &R,
     alloc: Global,
-    service: &Service<L>,
-    (scheds, callers): Seats<L>,
-) -> Result<(Seats<L>, Told), NoMemory> {
+    scheds: &mut [SchedSession<L, R>],
+    callers: &mut [CallerSession<L, R>],
+) -> Result<(Vec<Answers>, Vec<Turned>), AllocError> {
+    let scheds = scheds.iter_mut().collect(alloc)?;
+    let callers = callers.iter_mut().collect(alloc)?;
     let (worked, turned) = thread::join(
         rt,
-        || thread::map_vec(rt, callers, &|seat| work(rt, alloc, service, seat)),
-        || thread::map_vec(rt, scheds, &|seat| turns(rt, service, seat)),
+        || thread::map_vec(
+            rt,
+            callers,
+            &|session| work(alloc, session).expect(rt, "there is memory"),
+        ),
+        || thread::map_vec(
+            rt,
+            scheds,
+            &|session| turns(session).expect(rt, "there is memory"),
+        ),
     );
-    let (callers, answers) = callers_of(alloc, worked?)?;
-    let (scheds, totals) = scheds_of(alloc, turned?)?;
-    Ok(((scheds, callers), Told::Crossed(answers, totals)))
-}
-
-type Worked<L> = Result<(CallerSeat<L>, Answers), NoMemory>;
-
-/// The seats of the callers and what they were answered, each by itself.
-fn callers_of<L: DeskName>(
-    alloc: Global,
-    worked: Vec<Worked<L>>,
-) -> Result<(Vec<CallerSeat<L>>, Vec<Answers>), NoMemory> {
-    let mut seats = Vec::new(alloc);
-    let mut answers = Vec::new(alloc);
-    for one in worked {
-        let (seat, own) = one?;
-        seats.reserve(1)?;
-        seats.push_reserved(seat);
-        answers.reserve(1)?;
-        answers.push_reserved(own);
-    }
-    Ok((seats, answers))
-}
-
-type Turns<L> = Result<(SchedSeat<L>, Totals), NoMemory>;
-
-/// The seats of the schedulers and what their turns did, each by itself.
-fn scheds_of<L: DeskName>(
-    alloc: Global,
-    turned: Vec<Turns<L>>,
-) -> Result<(Vec<SchedSeat<L>>, Vec<Totals>), NoMemory> {
-    let mut seats = Vec::new(alloc);
-    let mut totals = Vec::new(alloc);
-    for one in turned {
-        let (seat, own) = one?;
-        seats.reserve(1)?;
-        seats.push_reserved(seat);
-        totals.reserve(1)?;
-        totals.push_reserved(own);
-    }
-    Ok((seats, totals))
+    Ok((worked?, turned?))
 }
 
 /// All turns that were made, the last ones too, so that no request waits and no timer that is due is armed.
-fn finish(rt: &impl Abort, world: &mut World, totals: &[Totals]) -> Result<Totals, NoMemory>
+fn finish(rt: &impl Abort, world: &mut World, turned: &[Turned]) -> Result<Turned, NoMemory>
     ensures { OnOk result (world.new.next ≡ 1) }
 {
-    let mut all = Totals::new();
-    for one in totals {
-        all.join(one);
+    let mut all = NO_TURN;
+    for one in turned {
+        add(&mut all, one);
     }
     for _ in 0..LAST_TURNS {
         turn_all(rt, world, &mut all)?;
@@ -122,7 +92,21 @@ fn gather(
     Ok(all)
 }
 
-/// Each of the timers was cancelled or delivered once, and can't be read any more.
+/// None of the timers can be read any more. Adds what their references say.
+fn settle(
+    rt: &impl Abort,
+    world: &mut World,
+    timers: &[TimerRef],
+    settled: &mut Vec<(u32, u32, u64)>,
+) -> Result<(), AllocError> {
+    for timer in timers {
+        assert!(rt; world.read_timer(*timer).is_none(), "{timer:?}");
+        settled.push((timer.wheel, timer.slot, timer.generation))?;
+    }
+    Ok(())
+}
+
+/// Each of the timers was cancelled or delivered once.
 fn are_settled_once(
     rt: &impl Abort,
     alloc: Global,
@@ -130,61 +114,85 @@ fn are_settled_once(
     answers: &Answers,
 ) -> Result<(), AllocError> {
     let mut settled = Vec::new(alloc);
-    for timer in answers.cancelled.iter().chain(answers.received.iter()) {
-        same(rt, 0, &world.read_timer(*timer), &None);
-        settled.push((timer.wheel, timer.slot, timer.generation))?;
-    }
+    settle(rt, world, answers.cancelled.as_slice(), &mut settled)?;
+    settle(rt, world, answers.received.as_slice(), &mut settled)?;
+    let count = settled.len();
     settled.sort()?;
-    for pair in settled.windows(2) {
-        assert_ne!(rt; pair[0], pair[1]);
-    }
+    settled.dedup();
+    assert!(rt; settled.len() == count, "{count} timers");
     Ok(())
 }
 
+/// The sum of all counts.
+fn sum(counts: &Counts) -> u64 {
+    let settled = counts
+        .delivered
+        .saturating_add(counts.dropped)
+        .saturating_add(counts.cancelled);
+    let others = counts
+        .armed
+        .saturating_add(counts.expired)
+        .saturating_add(counts.orphaned);
+    settled.saturating_add(others)
+}
+
 /// The counts are what the threads were answered. One of those that let the process exit was told that it did.
-fn fit(rt: &impl Abort, counts: &Counts, answers: &Answers, totals: &Totals) {
-    let Counts {
-        armed,
-        expired,
-        delivered,
-        dropped,
-        cancelled,
-        orphaned,
-    } = *counts;
-    let six = [armed, expired, delivered, dropped, cancelled, orphaned];
-    let mut sum: u64 = 0;
-    for count in six {
-        sum = sum.saturating_add(count);
-    }
-    let counted = [
-        (sum, answers.started.len() as u64),
-        (cancelled, answers.cancelled.len() as u64),
-        (delivered, totals.put),
-        (dropped, totals.dropped),
-        (totals.expired, totals.put.saturating_add(totals.dropped)),
-        (expired, 0),
-        (totals.served, answers.asked),
-        (answers.answered, answers.asked),
-        (answers.exits, 1),
+fn fit(rt: &impl Abort, counts: &Counts, answers: &Answers, turned: &Turned) {
+    let got = [
+        sum(counts),
+        counts.cancelled,
+        counts.delivered,
+        counts.dropped,
+        turned.expired as u64,
+        counts.expired,
+        turned.served as u64,
+        answers.answered,
+        answers.exits,
     ];
-    for (at, (got, wanted)) in counted.iter().enumerate() {
-        same(rt, at, got, wanted);
-    }
-    assert!(rt; answers.received.len() as u64 <= delivered);
+    let wanted = [
+        answers.started.len() as u64,
+        answers.cancelled.len() as u64,
+        turned.put as u64,
+        turned.dropped as u64,
+        turned.put as u64 + turned.dropped as u64,
+        0,
+        answers.asked,
+        answers.asked,
+        1,
+    ];
+    same(rt, 0, &got, &wanted);
+    assert!(rt; answers.received.len() as u64 <= counts.delivered);
+}
+
+/// What the threads were answered fits what the world counts once all has been turned.
+fn all_fit(
+    rt: &impl Abort,
+    alloc: Global,
+    world: &mut World,
+    answers: &[Answers],
+    turned: &[Turned],
+) -> Result<(), NoMemory> {
+    let turned = finish(rt, world, turned)?;
+    let counts = world.counts();
+    let answers = gather(rt, alloc, world, answers)?;
+    are_settled_once(rt, alloc, world, &answers)?;
+    fit(rt, &counts, &answers, &turned);
+    Ok(())
 }
 
 /// Whatever the order of their steps: each timer that was started is counted once, and the counts are what the
 /// threads were answered.
 #[test]
 fn threads_cross(rt: HostRuntime) -> Result<(), NoMemory> {
-    let (mut world, told) = try_out(&rt, rt.alloc(), &SETTINGS, Trial::Crossing)?;
-    let Told::Crossed(answers, totals) = told else {
+    let (mut world, told) = try_out(&rt, rt.alloc(), &SETTINGS, &Trial::Crossing)?;
+    let Told::Crossed(answers, turned) = told else {
         panic!(rt; "another trial");
     };
-    let totals = finish(&rt, &mut world, totals.as_slice())?;
-    let counts = world.counts();
-    let answers = gather(&rt, rt.alloc(), &mut world, answers.as_slice())?;
-    are_settled_once(&rt, rt.alloc(), &mut world, &answers)?;
-    fit(&rt, &counts, &answers, &totals);
-    Ok(())
+    all_fit(
+        &rt,
+        rt.alloc(),
+        &mut world,
+        answers.as_slice(),
+        turned.as_slice(),
+    )
 }

@@ -12,7 +12,6 @@ use std::process::Abort;
 const SETTINGS: Settings = Settings { slots: 4, ..SMALL };
 
 /// A call, its arguments, and last its answer.
-#[derive(Clone, Copy)]
 enum Step {
     /// The milliseconds that both OS clocks come to. It is accepted.
     Tick(i64),

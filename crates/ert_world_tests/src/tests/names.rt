@@ -25,13 +25,12 @@ const A: TimerRef = TimerRef {
 const REFUSED: Result<(), NameErr> = Err(NameErr::BadArg);
 
 /// A call, its arguments, and last its answer.
-#[derive(Clone, Copy)]
-enum Step<'a> {
-    Register(&'a str, u32, Result<(), NameErr>),
-    Unregister(&'a str, bool),
-    Whereis(&'a str, Option<u32>),
+enum Step {
+    Register(&'static str, u32, Result<(), NameErr>),
+    Unregister(&'static str, bool),
+    Whereis(&'static str, Option<u32>),
     /// The milliseconds, the name and the message of a timer.
-    Start(i64, &'a str, u64, Kind, Result<TimerRef, StartErr>),
+    Start(i64, &'static str, u64, Kind, Result<TimerRef, StartErr>),
     Read(TimerRef, Option<u64>),
     /// OS system time. It is accepted.
     Tick(i64),
@@ -52,8 +51,7 @@ fn go(rt: &impl Abort, service: &mut NameWorld, steps: &[Step]) {
 fn go_on(rt: &impl Abort, service: &mut NameWorld, at: usize, step: &Step) {
     match *step {
         Step::Register(name, process, registered) => {
-            is_process(rt, service.world(), process);
-            same(rt, at, &service.register(name, process), &registered);
+            register(rt, service, at, name, process, registered);
         }
         Step::Unregister(name, was) => same(rt, at, &service.unregister(name), &was),
         Step::Whereis(name, process) => same(rt, at, &service.whereis(name), &process),
@@ -84,6 +82,18 @@ fn go_on(rt: &impl Abort, service: &mut NameWorld, at: usize, step: &Step) {
     }
 }
 
+fn register(
+    rt: &impl Abort,
+    service: &mut NameWorld,
+    at: usize,
+    name: &str,
+    process: u32,
+    registered: Result<(), NameErr>,
+) {
+    is_process(rt, service.world(), process);
+    same(rt, at, &service.register(name, process), &registered);
+}
+
 fn counts(turn: NamedTurn) -> (u64, u64) {
     (turn.handed, turn.lost)
 }
@@ -94,7 +104,7 @@ const MAIL: NamedMail = NamedMail {
     kind: Kind::Wrapped,
 };
 
-const FOLLOWS: [Step<'static>; 9] = [
+const FOLLOWS: [Step; 9] = [
     Step::Register("db", 1, Ok(())),
     Step::Start(1, "db", 7, Kind::Wrapped, Ok(A)),
     Step::Unregister("db", true),
@@ -114,7 +124,7 @@ fn a_message_follows_its_name(rt: HostRuntime) -> Result<(), NoMemory> {
     Ok(())
 }
 
-const IS_LOST: [Step<'static>; 12] = [
+const IS_LOST: [Step; 12] = [
     Step::Register("undefined", 1, REFUSED),
     Step::Register("a", 1, Ok(())),
     Step::Whereis("a", Some(1)),
@@ -152,12 +162,9 @@ fn names_have_limits(rt: HostRuntime) -> Result<(), NoMemory> {
     let mut service = NameWorld::open(rt.alloc(), &SETTINGS)?;
     let longest = name_of(rt.alloc(), 255)?;
     let longer = name_of(rt.alloc(), 256)?;
-    let steps = [
-        Step::Register("", 1, REFUSED),
-        Step::Register(longest.as_str(), 0, REFUSED),
-        Step::Register(longest.as_str(), 1, Ok(())),
-        Step::Register(longer.as_str(), 2, REFUSED),
-    ];
-    go(&rt, &mut service, &steps);
+    register(&rt, &mut service, 0, "", 1, REFUSED);
+    register(&rt, &mut service, 1, longest.as_str(), 0, REFUSED);
+    register(&rt, &mut service, 2, longest.as_str(), 1, Ok(()));
+    register(&rt, &mut service, 3, longer.as_str(), 2, REFUSED);
     Ok(())
 }

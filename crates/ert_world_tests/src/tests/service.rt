@@ -3,15 +3,15 @@
 use crate::tests::compare::same;
 use crate::tests::service_calls::{ask, is_process, start, turn_all};
 use crate::tests::settings::SMALL;
-use crate::tests::trials::{Seats, Trial, try_out};
-use crate::tests::workers::Totals;
+use crate::tests::trials::{Trial, try_out};
+use crate::tests::workers::NO_TURN;
 use ert_clock::Moved;
 use ert_defs::{
     Kind, Mail, Mode, NoMemory, OffsetState, Reading, RequestKind, Settings, Start, TimerRef, When,
 };
 use ert_effects::{Taken, Turned};
 use ert_locks::DeskName;
-use ert_service::{CallerSession, SchedSession, Service, Session};
+use ert_service::{CallerSession, SchedSession};
 use ert_world::Counts;
 use std::process::Abort;
 use std::sync::Wait;
@@ -29,8 +29,7 @@ const A: TimerRef = TimerRef {
     generation: 1,
 };
 
-/// A call of the caller over the one process and the one scheduler: its arguments, and last its answer.
-#[derive(Clone, Copy)]
+/// A call of the caller or of the scheduler, over the one process: its arguments, and last its answer.
 enum Call {
     /// The milliseconds and the message of a timer.
     Start(i64, u64, TimerRef),
@@ -49,26 +48,15 @@ enum Call {
     /// Monotonic time and system time.
     Times(i64, i64),
     Exit(bool),
-}
-
-/// A call of the scheduler: its answer.
-#[derive(Clone, Copy)]
-enum Work {
     Serve(bool),
     Advance(u64, u32),
     Deliver(u32, u32),
     Turn(Turned),
 }
 
-/// Makes each call of the caller in turn.
-fn call_all<L: DeskName, R: Wait + Abort>(session: &mut CallerSession<L, R>, calls: &[Call]) {
-    for (at, call) in calls.iter().enumerate() {
-        call_one(session, at, call);
-    }
-}
-
 fn call_one<L: DeskName, R: Wait + Abort>(
     session: &mut CallerSession<L, R>,
+    sched: &mut SchedSession<L, R>,
     at: usize,
     call: &Call,
 ) {
@@ -107,36 +95,25 @@ fn call_one<L: DeskName, R: Wait + Abort>(
             same(rt, at, &session.system_time(), &system);
         }
         Call::Exit(exits) => same(rt, at, &session.exit(0), &exits),
+        _ => turn_one(sched, at, call),
     }
 }
 
-/// Makes each call of the scheduler in turn.
-fn work_all<L: DeskName, R: Wait + Abort>(session: &mut SchedSession<L, R>, works: &[Work]) {
-    for (at, work) in works.iter().enumerate() {
-        work_one(session, at, work);
-    }
-}
-
-fn work_one<L: DeskName, R: Wait + Abort>(
+/// Makes a call of the scheduler.
+fn turn_one<L: DeskName, R: Wait + Abort>(
     session: &mut SchedSession<L, R>,
     at: usize,
-    work: &Work,
+    call: &Call,
 ) {
     let rt = session.rt;
-    match *work {
-        Work::Serve(served) => same(rt, at, &session.serve(), &Ok(served)),
-        Work::Advance(to, expired) => same(rt, at, &session.advance(), &Ok((to, expired))),
-        Work::Deliver(put, dropped) => same(rt, at, &session.deliver(), &Ok((put, dropped))),
-        Work::Turn(turned) => same(rt, at, &session.turn(), &Ok(turned)),
+    match *call {
+        Call::Serve(served) => same(rt, at, &session.serve(), &Ok(served)),
+        Call::Advance(to, expired) => same(rt, at, &session.advance(), &Ok((to, expired))),
+        Call::Deliver(put, dropped) => same(rt, at, &session.deliver(), &Ok((put, dropped))),
+        Call::Turn(turned) => same(rt, at, &session.turn(), &Ok(turned)),
+        _ => panic!(rt; "step {at} is no call of a service"),
     }
 }
-
-const FIRST_CALLS: [Call; 4] = [
-    Call::Start(5, 7, A),
-    Call::Monitor(0),
-    Call::Ask(A),
-    Call::Tick(5_000_000, false, 5_000_000, None),
-];
 
 const IDLE: Turned = Turned {
     served: 0,
@@ -146,19 +123,22 @@ const IDLE: Turned = Turned {
     dropped: 0,
 };
 
-const WORKS: [Work; 4] = [
-    Work::Serve(true),
-    Work::Advance(5, 1),
-    Work::Deliver(1, 0),
-    Work::Turn(IDLE),
-];
-
 const READ: Mail = Mail::ReadDone {
     timer: A,
     left: Some(0),
 };
 
-const LAST_CALLS: [Call; 11] = [
+/// A timer is started, and read by a request. When it has expired, the answer and its message are taken, in
+/// that order; then the time offset changes, and the process is told; and the process exits once.
+const CALLS: [Call; 19] = [
+    Call::Start(5, 7, A),
+    Call::Monitor(0),
+    Call::Ask(A),
+    Call::Tick(5_000_000, false, 5_000_000, None),
+    Call::Serve(true),
+    Call::Advance(5, 1),
+    Call::Deliver(1, 0),
+    Call::Turn(IDLE),
     Call::Take(Taken::Mail(READ)),
     Call::Take(Taken::Mail(Mail::Timeout { timer: A, msg: 7 })),
     Call::Take(Taken::Empty),
@@ -172,40 +152,25 @@ const LAST_CALLS: [Call; 11] = [
     Call::Take(Taken::Exited),
 ];
 
-/// A timer is started, and read by a request. When it has expired, the answer and its message are taken, in
-/// that order; then the time offset changes, and the process is told; and the process exits once.
-fn make_calls<L: DeskName, R: Wait + Abort>(
-    caller: &mut CallerSession<L, R>,
-    sched: &mut SchedSession<L, R>,
-) {
-    call_all(caller, &FIRST_CALLS);
-    work_all(sched, &WORKS);
-    call_all(caller, &LAST_CALLS);
-}
-
 /// Makes each call by the one caller and the one scheduler.
 pub(crate) fn each_call<L: DeskName, R: Wait + Abort>(
     rt: &R,
-    service: &Service<L>,
-    (mut scheds, mut callers): Seats<L>,
-) -> Result<Seats<L>, NoMemory> {
-    let seat = scheds.pop().expect(rt, "a scheduler");
-    let mut sched = Session { service, rt, seat };
-    let seat = callers.pop().expect(rt, "a caller");
-    let mut caller = Session { service, rt, seat };
-    make_calls(&mut caller, &mut sched);
-    scheds.reserve(1)?;
-    scheds.push_reserved(sched.seat);
-    callers.reserve(1)?;
-    callers.push_reserved(caller.seat);
-    Ok((scheds, callers))
+    scheds: &mut [SchedSession<L, R>],
+    callers: &mut [CallerSession<L, R>],
+) {
+    let sched = scheds.first_mut().expect(rt, "a scheduler");
+    let caller = callers.first_mut().expect(rt, "a caller");
+    for (at, call) in CALLS.iter().enumerate() {
+        call_one(caller, sched, at, call);
+    }
 }
 
 #[test]
 fn each_call_of_a_service(rt: HostRuntime) -> Result<(), NoMemory> {
-    let (mut world, _) = try_out(&rt, rt.alloc(), &SETTINGS, Trial::EachCall)?;
+    let (mut world, _) = try_out(&rt, rt.alloc(), &SETTINGS, &Trial::EachCall)?;
     same(&rt, 0, &world.published(), &5_000_000);
-    turn_all(&rt, &mut world, &mut Totals::new())?;
+    let mut turned = NO_TURN;
+    turn_all(&rt, &mut world, &mut turned)?;
     let counts = Counts {
         armed: 0,
         expired: 0,

@@ -2,9 +2,9 @@
 ghost use Rattle.std.specs.Prelude.{◌≡◌, ◌<◌, OnOk};
 ghost use Rattle.ert_service.specs.Joining.{AreNumbered};
 
-use crate::tests::workers::Totals;
+use crate::tests::workers::add;
 use ert_defs::{NoMemory, Request, RequestKind, Start, TimerRef};
-use ert_effects::StartErr;
+use ert_effects::{StartErr, Turned};
 use ert_locks::{CallerSeat, DeskName, SchedSeat};
 use ert_service::{CallerSession, Service};
 use ert_world::World;
@@ -80,16 +80,12 @@ pub(crate) fn are_scheds<L: DeskName>(
 }
 
 /// A turn of every scheduler, added to what their turns did before.
-pub(crate) fn turn_all(
-    rt: &impl Abort,
-    world: &mut World,
-    totals: &mut Totals,
-) -> Result<(), NoMemory>
+pub(crate) fn turn_all(rt: &impl Abort, world: &mut World, all: &mut Turned) -> Result<(), NoMemory>
     ensures { OnOk result (world.new.next ≡ 1) }
 {
     for sched in 0..world.settings().schedulers {
         let turned = world.turn(sched)?;
-        totals.add(&turned);
+        add(all, &turned);
     }
     assert!(rt; world.seats() == 0);
     Ok(())

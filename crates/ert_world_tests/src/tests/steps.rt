@@ -27,7 +27,6 @@ pub(crate) const EIGHT_SLOTS: Settings = Settings {
 };
 
 /// A call, and last what it has to answer.
-#[derive(Clone, Copy)]
 pub(crate) enum Step {
     Tick(Reading, Result<Moved, ClockErr>),
     Finalize(Reading, Result<(OffsetState, Moved), ClockErr>),
@@ -59,8 +58,8 @@ pub(crate) fn is_alone(rt: &impl Abort, world: &World)
 }
 
 /// Makes one step, of which a message tells the number.
-pub(crate) fn make(rt: &impl Abort, world: &mut World, at: usize, one: Step) {
-    match one {
+pub(crate) fn make(rt: &impl Abort, world: &mut World, at: usize, one: &Step) {
+    match *one {
         Step::CancelAlone(..) | Step::Counts(_) => panic!(rt; "step {at} takes a world apart"),
         Step::Tick(reading, want) => same(rt, at, &world.tick(reading, false), &want),
         Step::Finalize(reading, want) => same(rt, at, &world.finalize(reading), &want),

@@ -12,10 +12,12 @@ const READ_FAULT: Result<&[u8], ReadErr> = Err(ReadErr::ReadFault);
 
 const WRITE_FAULT_AT_20: Result<(), WriteErr> = Err(WriteErr::WriteFault { written: 20 });
 
-// Bytes that don't repeat at a piece's length.
-fn pattern(alloc: Global, count: usize) -> Result<Vec<u8>, AllocError> {
-    (0..count).map(|i| (i % 251) as u8).collect(alloc)
-}
+const NINE: [u8; 9] = [0, 1, 2, 3, 4, 5, 6, 7, 8];
+
+const THIRTY: [u8; 30] = [
+    0, 1, 2, 3, 4, 5, 6, 7, 8, 9, 10, 11, 12, 13, 14, 15, 16, 17, 18, 19, 20, 21, 22, 23, 24, 25,
+    26, 27, 28, 29,
+];
 
 /// Reads to the end of a source.
 fn reads<S: Source>(
@@ -56,23 +58,20 @@ fn failing(rt: &impl Abort, alloc: Global, call: u32) -> Vec<u32> {
 
 #[test]
 fn a_failed_read_loses_no_byte(rt: HostRuntime) {
-    let bytes = pattern(rt.alloc(), 9).expect(&rt, "there is memory");
+    let bytes = NINE.to_vec(rt.alloc()).expect(&rt, "there is memory");
     let mut source = MemSource::new(bytes, failing(&rt, rt.alloc(), 1));
-    let all: Result<&[u8], ReadErr> = Ok(&[0, 1, 2, 3, 4, 5, 6, 7, 8]);
     reads(&rt, rt.alloc(), 1, &mut source, 9, READ_FAULT);
-    reads(&rt, rt.alloc(), 2, &mut source, 9, all);
+    reads(&rt, rt.alloc(), 2, &mut source, 9, Ok(&NINE));
 }
 
 #[test]
 fn a_failed_write_tells_how_many_were_appended(rt: HostRuntime) {
-    let bytes = pattern(rt.alloc(), 30).expect(&rt, "there is memory");
-    assert!(rt; bytes.len() == 30);
-    let (first, last) = bytes.as_slice().split_at(20);
+    let (first, last) = THIRTY.as_slice().split_at(20);
     let mut sink = MemSink::new(rt.alloc(), 1, failing(&rt, rt.alloc(), 21));
-    writes(&rt, 1, &mut sink, bytes.as_slice(), WRITE_FAULT_AT_20);
+    writes(&rt, 1, &mut sink, &THIRTY, WRITE_FAULT_AT_20);
     assert!(rt; sink.bytes() == first);
     writes(&rt, 2, &mut sink, last, Ok(()));
-    assert!(rt; sink.bytes() == bytes.as_slice());
+    assert!(rt; sink.bytes() == THIRTY.as_slice());
 }
 
 /// An error's message is this text.

@@ -5,7 +5,7 @@ use crate::tests::steps::Step::{
     Offset, Read, Start, Tick,
 };
 use crate::tests::steps::{EIGHT_SLOTS, SETTINGS, Step};
-use crate::tests::worlds::{Left, make_all, make_all_to_end};
+use crate::tests::worlds::{are_left, make_all};
 use ert_clock::Moved;
 use ert_defs::OffsetState::{Final, Preliminary};
 use ert_defs::When::After;
@@ -47,13 +47,10 @@ const PUBLISHED: [Step; 10] = [
 /// The word of a slot has the status, the deadline and the generation of its last timer.
 #[test]
 fn a_cancel_and_an_exit_are_published(rt: HostRuntime) -> Result<(), NoMemory> {
-    let left = Left {
-        time: 2_000_000,
-        offset: 9_223_372_036_854_775_809,
-        timers: &[4 + 6 * 8 + (1 << 46)],
-        processes: &[0, 1],
-    };
-    make_all_to_end(&rt, rt.alloc(), &SETTINGS, &PUBLISHED, left)
+    let words = make_all(&rt, rt.alloc(), &SETTINGS, &PUBLISHED)?;
+    let clock = (2_000_000, 9_223_372_036_854_775_809);
+    are_left(&rt, &words, clock, &[4 + 6 * 8 + (1 << 46)], &[0, 1]);
+    Ok(())
 }
 
 const ONE: TimerRef = TimerRef {
@@ -113,7 +110,8 @@ const REFERENCES: [Step; 16] = [
 /// A reference of another wheel, slot or generation names no timer.
 #[test]
 fn a_reference_names_one_timer(rt: HostRuntime) -> Result<(), NoMemory> {
-    make_all(&rt, rt.alloc(), &SETTINGS, &REFERENCES)
+    make_all(&rt, rt.alloc(), &SETTINGS, &REFERENCES)?;
+    Ok(())
 }
 
 const TIMER_0_3: TimerRef = TimerRef {
@@ -141,7 +139,8 @@ const THREE_USES: [Step; 7] = [
 /// Each use of a slot has a reference of its own.
 #[test]
 fn a_slot_is_used_three_times(rt: HostRuntime) -> Result<(), NoMemory> {
-    make_all(&rt, rt.alloc(), &SETTINGS, &THREE_USES)
+    make_all(&rt, rt.alloc(), &SETTINGS, &THREE_USES)?;
+    Ok(())
 }
 
 const LONG_WAITS: [Step; 4] = [
@@ -154,7 +153,8 @@ const LONG_WAITS: [Step; 4] = [
 /// A slot that had a long wait is taken by the next long one, and by a short one only where no other is free.
 #[test]
 fn long_waits_keep_their_slots(rt: HostRuntime) -> Result<(), NoMemory> {
-    make_all(&rt, rt.alloc(), &EIGHT_SLOTS, &LONG_WAITS)
+    make_all(&rt, rt.alloc(), &EIGHT_SLOTS, &LONG_WAITS)?;
+    Ok(())
 }
 
 const GIVEN_BACK: [Step; 6] = [
@@ -169,7 +169,8 @@ const GIVEN_BACK: [Step; 6] = [
 /// The slot of an expired timer is taken until its message is delivered, and then by the next start.
 #[test]
 fn a_delivered_message_gives_its_slot_back(rt: HostRuntime) -> Result<(), NoMemory> {
-    make_all(&rt, rt.alloc(), &EIGHT_SLOTS, &GIVEN_BACK)
+    make_all(&rt, rt.alloc(), &EIGHT_SLOTS, &GIVEN_BACK)?;
+    Ok(())
 }
 
 const MARKED: [Step; 6] = [
@@ -184,7 +185,8 @@ const MARKED: [Step; 6] = [
 /// The timers of a process that is marked stay armed until their wheel is swept.
 #[test]
 fn a_process_is_marked(rt: HostRuntime) -> Result<(), NoMemory> {
-    make_all(&rt, rt.alloc(), &EIGHT_SLOTS, &MARKED)
+    make_all(&rt, rt.alloc(), &EIGHT_SLOTS, &MARKED)?;
+    Ok(())
 }
 
 const PUT_TOGETHER: [Step; 8] = [
@@ -201,5 +203,6 @@ const PUT_TOGETHER: [Step; 8] = [
 /// A wheel that wasn't told of a cancel holds the timer until its world is put together.
 #[test]
 fn a_world_that_is_put_together_drops_what_was_cancelled(rt: HostRuntime) -> Result<(), NoMemory> {
-    make_all(&rt, rt.alloc(), &EIGHT_SLOTS, &PUT_TOGETHER)
+    make_all(&rt, rt.alloc(), &EIGHT_SLOTS, &PUT_TOGETHER)?;
+    Ok(())
 }

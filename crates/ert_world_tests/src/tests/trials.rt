@@ -9,19 +9,19 @@ use crate::tests::crossing::cross;
 use crate::tests::rounds::use_service;
 use crate::tests::service::each_call;
 use crate::tests::service_calls::{are_callers, are_scheds};
-use crate::tests::workers::{Answers, Totals};
+use crate::tests::workers::Answers;
 use ert_defs::{NoMemory, Settings};
-use ert_locks::{CallerSeat, DeskName, SchedSeat};
-use ert_service::{Opened, Service};
+use ert_effects::Turned;
+use ert_locks::DeskName;
+use ert_service::{CallerSession, Opened, SchedSession, Service, Session};
 use ert_world::{Parts, World};
-use std::alloc::Global;
+use std::alloc::{AllocError, Global};
 use std::marker::Brand;
 use std::process::Abort;
 use std::sync::Wait;
 use std::thread::Threads;
 
 /// What a test does on a service.
-#[derive(Clone, Copy)]
 pub(crate) enum Trial {
     /// Starts a timer and cancels it.
     FirstTimer,
@@ -42,18 +42,15 @@ pub(crate) enum Told {
     /// How many timers were started.
     Started(u64),
     /// What each caller was answered, and what the turns of each scheduler did.
-    Crossed(Vec<Answers>, Vec<Totals>),
+    Crossed(Vec<Answers>, Vec<Turned>),
 }
-
-/// The seats of the schedulers and of the callers.
-pub(crate) type Seats<L> = (Vec<SchedSeat<L>>, Vec<CallerSeat<L>>);
 
 /// Opens a service with these settings, does that, and closes it.
 pub(crate) fn try_out<R: Threads + Wait + Abort + Sync>(
     rt: &R,
     alloc: Global,
     settings: &Settings,
-    trial: Trial,
+    trial: &Trial,
 ) -> Result<(World, Told), NoMemory> {
     assert!(rt; settings.check().is_ok());
     let parts = World::open(alloc, settings)?.into_parts();
@@ -64,7 +61,7 @@ fn try_on<L: DeskName + Send + Sync, R: Threads + Wait + Abort + Sync>(
     rt: &R,
     alloc: Global,
     parts: Parts,
-    trial: Trial,
+    trial: &Trial,
 ) -> Result<(World, Told), NoMemory>
     requires desk { IsDesk L.table L.settings (arc_value parts.desk) }
     requires fit { AreFit (arc_value parts.desk) parts.pass 1 (parts_of parts.keeper parts.wheels.items parts.inboxes.items parts.mails.items parts.scheds.items) }
@@ -75,23 +72,59 @@ fn try_on<L: DeskName + Send + Sync, R: Threads + Wait + Abort + Sync>(
         scheds,
         callers,
     } = Service::<L>::open(alloc, parts)?;
-    let ((scheds, callers), told) = do_trial(rt, alloc, &service, (scheds, callers), trial)?;
+    let mut scheds = sessions(rt, alloc, &service, scheds)?;
+    let mut callers = sessions(rt, alloc, &service, callers)?;
+    let told = do_trial(rt, alloc, &mut scheds, &mut callers, trial)?;
+    let scheds = seats(alloc, scheds)?;
+    let callers = seats(alloc, callers)?;
     are_scheds(rt, &service, &scheds);
     are_callers(rt, &service, &callers);
     Ok((service.close(rest, scheds, callers), told))
 }
 
+/// A session of each seat.
+fn sessions<'a, L: DeskName, R: Wait, S: Drop>(
+    rt: &'a R,
+    alloc: Global,
+    service: &'a Service<L>,
+    seats: Vec<S>,
+) -> Result<Vec<Session<'a, L, R, S>>, AllocError> {
+    let mut made = Vec::new(alloc);
+    for seat in seats {
+        made.push(Session { service, rt, seat })?;
+    }
+    Ok(made)
+}
+
+/// The seat of each session.
+fn seats<L: DeskName, R: Wait, S: Drop>(
+    alloc: Global,
+    sessions: Vec<Session<L, R, S>>,
+) -> Result<Vec<S>, AllocError> {
+    let mut made = Vec::new(alloc);
+    for session in sessions {
+        made.push(session.seat)?;
+    }
+    Ok(made)
+}
+
 fn do_trial<L: DeskName + Send + Sync, R: Threads + Wait + Abort + Sync>(
     rt: &R,
     alloc: Global,
-    service: &Service<L>,
-    seats: Seats<L>,
-    trial: Trial,
-) -> Result<(Seats<L>, Told), NoMemory> {
-    match trial {
-        Trial::FirstTimer => first_timer(rt, service, seats),
-        Trial::EachCall => Ok((each_call(rt, service, seats)?, Told::Nothing)),
-        Trial::Rounds => use_service(rt, service, seats),
-        Trial::Crossing => cross(rt, alloc, service, seats),
+    scheds: &mut [SchedSession<L, R>],
+    callers: &mut [CallerSession<L, R>],
+    trial: &Trial,
+) -> Result<Told, NoMemory> {
+    match *trial {
+        Trial::FirstTimer => Ok(Told::Left(first_timer(rt, callers))),
+        Trial::EachCall => {
+            each_call(rt, scheds, callers);
+            Ok(Told::Nothing)
+        }
+        Trial::Rounds => Ok(Told::Started(use_service(rt, callers))),
+        Trial::Crossing => {
+            let (answers, turned) = cross(rt, alloc, scheds, callers)?;
+            Ok(Told::Crossed(answers, turned))
+        }
     }
 }

@@ -8,7 +8,6 @@ use std::alloc::{AllocError, Global};
 use std::thread::join;
 
 /// A call on one of the two passes, and the number that it draws.
-#[derive(Clone, Copy)]
 enum Draw {
     One(u64),
     Two(u64),
@@ -19,13 +18,13 @@ enum Draw {
 }
 
 /// Whether a call answers as wanted.
-fn answers(uniques: &Uniques, one: &mut UniquePass, two: &mut UniquePass, draw: Draw) -> bool
+fn answers(uniques: &Uniques, one: &mut UniquePass, two: &mut UniquePass, draw: &Draw) -> bool
     requires one { BelongsToUniques uniques.now one.old }
     requires two { BelongsToUniques uniques.now two.old }
     ensures one { BelongsToUniques uniques.now one.new }
     ensures two { BelongsToUniques uniques.now two.new }
 {
-    match draw {
+    match *draw {
         Draw::One(want) => uniques.monotonic(one) == Ok(want),
         Draw::Two(want) => uniques.monotonic(two) == Ok(want),
         Draw::Meet => {
@@ -55,24 +54,25 @@ fn together(
     Ok(passes)
 }
 
+const DRAWS: [Draw; 9] = [
+    Draw::One(1),
+    Draw::Two(2),
+    Draw::One(3),
+    Draw::Meet,
+    Draw::Two(4),
+    // Each pass answers from a range of its own.
+    Draw::PlainOne(1),
+    Draw::PlainOne(2),
+    Draw::PlainTwo(1_099_511_627_777),
+    Draw::PlainTwo(1_099_511_627_778),
+];
+
 #[test]
 fn passes_draw_in_turn(rt: HostRuntime) -> Result<(), NoMemory> {
-    let draws = [
-        Draw::One(1),
-        Draw::Two(2),
-        Draw::One(3),
-        Draw::Meet,
-        Draw::Two(4),
-        // Each pass answers from a range of its own.
-        Draw::PlainOne(1),
-        Draw::PlainOne(2),
-        Draw::PlainTwo(1_099_511_627_777),
-        Draw::PlainTwo(1_099_511_627_778),
-    ];
     let (uniques, mut passes) = Uniques::open(rt.alloc(), 2)?;
     let mut two = passes.pop().expect(&rt, "there are two passes");
     let mut one = passes.pop().expect(&rt, "there are two passes");
-    'draws: for (step, draw) in draws.into_iter().enumerate() {
+    'draws: for (step, draw) in DRAWS.iter().enumerate() {
         assert!(rt; answers(&uniques, &mut one, &mut two, draw), "step {step}");
     }
     let passes = together(rt.alloc(), &uniques, one, two).expect(&rt, "there is memory");

@@ -9,16 +9,18 @@ use std::test::Fail;
 /// The last time, counted from the start.
 const LAST: i64 = 8_796_093_022_207_000_000;
 
+/// A time, the start, and the word of the time.
+const TIMES: [(i64, i64, u64); 5] = [
+    (11_000_000, 0, 11_000_000),
+    (-(1 << 58), -(1 << 58), 0),
+    (i64::MIN, i64::MIN, 0),
+    (i64::MIN + LAST, i64::MIN, LAST as u64),
+    ((1 << 58) + LAST, 1 << 58, LAST as u64),
+];
+
 #[test]
 fn times_are_packed(rt: HostRuntime) {
-    let rows = [
-        (11_000_000, 0, 11_000_000),
-        (-(1 << 58), -(1 << 58), 0),
-        (i64::MIN, i64::MIN, 0),
-        (i64::MIN + LAST, i64::MIN, LAST as u64),
-        ((1 << 58) + LAST, 1 << 58, LAST as u64),
-    ];
-    for (now, start, want) in rows {
+    for (now, start, want) in TIMES {
         assert!(rt; start <= now && now as i128 <= start as i128 + LAST as i128);
         let word = time_word(now, start);
         assert!(rt;
@@ -28,17 +30,19 @@ fn times_are_packed(rt: HostRuntime) {
     }
 }
 
+/// An offset, whether it is the last, and its word.
+const OFFSETS: [(i64, bool, u64); 6] = [
+    (0, true, 9_223_372_036_854_775_809),
+    (0, false, 9_223_372_036_854_775_808),
+    (-4_611_686_018_427_387_903, false, 2),
+    (-4_611_686_018_427_387_903, true, 3),
+    (4_611_686_018_427_387_903, false, u64::MAX - 1),
+    (4_611_686_018_427_387_903, true, u64::MAX),
+];
+
 #[test]
 fn offsets_are_packed(rt: HostRuntime) {
-    let rows = [
-        (0, true, 9_223_372_036_854_775_809),
-        (0, false, 9_223_372_036_854_775_808),
-        (-4_611_686_018_427_387_903, false, 2),
-        (-4_611_686_018_427_387_903, true, 3),
-        (4_611_686_018_427_387_903, false, u64::MAX - 1),
-        (4_611_686_018_427_387_903, true, u64::MAX),
-    ];
-    for (offset, last, want) in rows {
+    for (offset, last, want) in OFFSETS {
         assert!(rt; -(1 << 62) < offset && offset < 1 << 62);
         let word = offset_word(offset, last);
         assert!(rt;

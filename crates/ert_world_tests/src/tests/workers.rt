@@ -2,8 +2,8 @@
 use crate::tests::service_calls::{ask, is_process, start};
 use ert_defs::{Kind, Mail, NoMemory, Reading, RequestKind, Start, TimerRef, When};
 use ert_effects::{Taken, Turned};
-use ert_locks::{CallerSeat, DeskName, SchedSeat};
-use ert_service::{CallerSession, Service, Session};
+use ert_locks::DeskName;
+use ert_service::{CallerSession, SchedSession};
 use std::alloc::{AllocError, Global};
 use std::process::Abort;
 use std::sync::Wait;
@@ -70,61 +70,39 @@ impl Answers {
     }
 }
 
-/// What the turns of a scheduler answered, added up.
-#[derive(Drop)]
-pub(crate) struct Totals {
-    pub(crate) served: u64,
-    pub(crate) expired: u64,
-    pub(crate) put: u64,
-    pub(crate) dropped: u64,
-}
+/// What no turn has done.
+pub(crate) const NO_TURN: Turned = Turned {
+    served: 0,
+    to: 0,
+    expired: 0,
+    put: 0,
+    dropped: 0,
+};
 
-impl Totals {
-    pub(crate) fn new() -> Totals {
-        Totals {
-            served: 0,
-            expired: 0,
-            put: 0,
-            dropped: 0,
-        }
-    }
-
-    /// Adds what another did.
-    pub(crate) fn join(&mut self, other: &Totals) {
-        self.served = self.served.saturating_add(other.served);
-        self.expired = self.expired.saturating_add(other.expired);
-        self.put = self.put.saturating_add(other.put);
-        self.dropped = self.dropped.saturating_add(other.dropped);
-    }
-
-    /// Adds what a turn did.
-    pub(crate) fn add(&mut self, turned: &Turned) {
-        self.served = self.served.saturating_add(turned.served as u64);
-        self.expired = self.expired.saturating_add(turned.expired as u64);
-        self.put = self.put.saturating_add(turned.put as u64);
-        self.dropped = self.dropped.saturating_add(turned.dropped as u64);
-    }
+/// Adds what other turns did. The time to which they advanced isn't looked at.
+pub(crate) fn add(all: &mut Turned, turned: &Turned) {
+    all.served = all.served.saturating_add(turned.served);
+    all.expired = all.expired.saturating_add(turned.expired);
+    all.put = all.put.saturating_add(turned.put);
+    all.dropped = all.dropped.saturating_add(turned.dropped);
 }
 
 /// A caller makes its calls, of all kinds in turn.
 pub(crate) fn work<L: DeskName, R: Wait + Abort>(
-    rt: &R,
     alloc: Global,
-    service: &Service<L>,
-    seat: CallerSeat<L>,
-) -> Result<(CallerSeat<L>, Answers), NoMemory> {
-    let mut session = Session { service, rt, seat };
+    session: &mut CallerSession<L, R>,
+) -> Result<Answers, AllocError> {
     let mut answers = Answers::new(alloc);
     for call in 0..CALLS {
         match call % 8 {
-            0 | 1 | 3 => start_one(&mut session, call, &mut answers)?,
-            2 | 6 => cancel_one(&mut session, call, &mut answers)?,
-            4 => ask_one(&mut session, call, &mut answers),
-            5 => take_one(&mut session, call % 3, &mut answers)?,
-            _ => move_on(&mut session, call, &mut answers),
+            0 | 1 | 3 => start_one(session, call, &mut answers)?,
+            2 | 6 => cancel_one(session, call, &mut answers)?,
+            4 => ask_one(session, call, &mut answers),
+            5 => take_one(session, call % 3, &mut answers)?,
+            _ => move_on(session, call, &mut answers),
         }
     }
-    Ok((session.seat, answers))
+    Ok(answers)
 }
 
 /// Starts a timer of some milliseconds, on a wheel and for a process that differ from call to call.
@@ -218,16 +196,13 @@ fn move_on<L: DeskName, R: Wait + Abort>(
 
 /// A scheduler makes its turns.
 pub(crate) fn turns<L: DeskName, R: Wait>(
-    rt: &R,
-    service: &Service<L>,
-    seat: SchedSeat<L>,
-) -> Result<(SchedSeat<L>, Totals), NoMemory> {
-    let mut session = Session { service, rt, seat };
-    let mut totals = Totals::new();
+    session: &mut SchedSession<L, R>,
+) -> Result<Turned, NoMemory> {
+    let mut all = NO_TURN;
     for _ in 0..TURNS {
         let turned = session.turn()?;
-        totals.add(&turned);
+        add(&mut all, &turned);
         thread::yield_now();
     }
-    Ok((session.seat, totals))
+    Ok(all)
 }

@@ -10,15 +10,6 @@ use std::alloc::Global;
 use std::process::Abort;
 use std::sync::Arc;
 
-/// What a desk is left with.
-#[derive(Clone, Copy)]
-pub(crate) struct Left<'a> {
-    pub(crate) time: u64,
-    pub(crate) offset: u64,
-    pub(crate) timers: &'a [u64],
-    pub(crate) processes: &'a [u64],
-}
-
 /// A world that was just opened.
 pub(crate) fn open(rt: &impl Abort, alloc: Global, settings: &Settings) -> Result<World, NoMemory> {
     assert!(rt; settings.check().is_ok());
@@ -35,49 +26,40 @@ pub(crate) fn close(rt: &impl Abort, alloc: Global, world: World) -> Result<Word
     desk.close(alloc, pass)
 }
 
-/// Opens a world, makes each step, and closes it.
+/// Opens a world, makes each step, and closes it. The words of its desk are left.
 pub(crate) fn make_all(
     rt: &impl Abort,
     alloc: Global,
     settings: &Settings,
     steps: &[Step],
-) -> Result<(), NoMemory> {
-    close(rt, alloc, run(rt, open(rt, alloc, settings)?, steps))?;
-    Ok(())
+) -> Result<Words, NoMemory> {
+    close(rt, alloc, run(rt, open(rt, alloc, settings)?, steps))
 }
 
-/// Does the same. These words are left.
-pub(crate) fn make_all_to_end(
+/// A desk was left with the words of this time and offset, and of each timer and process.
+pub(crate) fn are_left(
     rt: &impl Abort,
-    alloc: Global,
-    settings: &Settings,
-    steps: &[Step],
-    want: Left,
-) -> Result<(), NoMemory> {
-    let words = close(rt, alloc, run(rt, open(rt, alloc, settings)?, steps))?;
-    assert!(rt; words.time == want.time, "time {}", words.time);
-    assert!(rt; words.offset == want.offset, "offset {}", words.offset);
-    same(rt, steps.len(), &words.timers.as_slice(), &want.timers);
-    same(
-        rt,
-        steps.len(),
-        &words.processes.as_slice(),
-        &want.processes,
-    );
-    Ok(())
+    words: &Words,
+    clock: (u64, u64),
+    timers: &[u64],
+    processes: &[u64],
+) {
+    same(rt, 0, &(words.time, words.offset), &clock);
+    same(rt, 1, &words.timers.as_slice(), &timers);
+    same(rt, 2, &words.processes.as_slice(), &processes);
 }
 
 /// Makes each step.
 pub(crate) fn run(rt: &impl Abort, world: World, steps: &[Step]) -> World {
     let mut now = world;
     for (at, one) in steps.iter().enumerate() {
-        now = next(rt, now, at, *one);
+        now = next(rt, now, at, one);
     }
     now
 }
 
-fn next(rt: &impl Abort, mut world: World, at: usize, one: Step) -> World {
-    match one {
+fn next(rt: &impl Abort, mut world: World, at: usize, one: &Step) -> World {
+    match *one {
         Step::CancelAlone(timer, want) => cancel(rt, world, at, timer, want),
         Step::Counts(want) => count(rt, world, at, want),
         _ => {

@@ -1,10 +1,10 @@
 //! Each event, its words taken from the table in `docs/FORMATS.md`.
 
-use crate::tests::spelling::spell;
 use ert_defs::{
     Act, Actor, Entry, Event, Kind, Mail, OffsetState, Reading, Request, RequestKind, Start,
     Status, TimerRef, When,
 };
+use ert_spelling::read_history;
 use std::alloc::Global;
 use std::process::Abort;
 
@@ -21,70 +21,64 @@ const REQUEST: Request = Request {
     info: true,
 };
 
-/// Each text is the words of its event.
-fn reads(rt: &impl Abort, alloc: Global, rows: &[(&str, Event)]) {
-    for (words, event) in rows {
-        let line = format!(in alloc; "c7 - {words}").expect(rt, "there is memory");
+/// The text spells entries of caller 7 alone, with these events, after settings that don't matter.
+fn reads(rt: &impl Abort, alloc: Global, text: &str, events: &[Event]) {
+    let history = read_history(alloc, text.as_bytes()).expect(rt, "it is a history");
+    assert!(rt; history.entries.len() == events.len());
+    for (got, event) in history.entries.iter().zip(events.iter()) {
         let want = Entry {
             by: Actor::Caller(7),
             with: None,
             event: *event,
         };
-        spell(rt, alloc, line.as_str(), &[want]);
+        assert!(rt; *got == want, "{got:?}, not {want:?}");
     }
 }
 
 const READING: Reading = Reading { mono: 1, sys: -2 };
 
-const OF_THE_CLOCK: [(&str, Event); 9] = [
-    (
-        "tick 1 -2 plain 3",
-        Event::Tick {
-            reading: READING,
-            act: Act::Plain,
-            now: 3,
-        },
-    ),
-    (
-        "tick 1 -2 force 3",
-        Event::Tick {
-            reading: READING,
-            act: Act::Force,
-            now: 3,
-        },
-    ),
-    (
-        "tick 1 -2 finalize 3",
-        Event::Tick {
-            reading: READING,
-            act: Act::Finalize,
-            now: 3,
-        },
-    ),
-    (
-        "shift 5 final",
-        Event::Shift {
-            offset: 5,
-            state: OffsetState::Final,
-        },
-    ),
-    ("look 0", Event::Look { now: 0 }),
-    ("look -9223372036854775808", Event::Look { now: i64::MIN }),
-    ("look 9223372036854775807", Event::Look { now: i64::MAX }),
-    (
-        "off -5 preliminary",
-        Event::Off {
-            offset: -5,
-            state: OffsetState::Preliminary,
-        },
-    ),
-    (
-        "off 10 volatile",
-        Event::Off {
-            offset: 10,
-            state: OffsetState::Volatile,
-        },
-    ),
+const OF_THE_CLOCK_TEXT: &str = "settings no false 0 1 1 1 1 0 0\n\
+c7 - tick 1 -2 plain 3\n\
+c7 - tick 1 -2 force 3\n\
+c7 - tick 1 -2 finalize 3\n\
+c7 - shift 5 final\n\
+c7 - look 0\n\
+c7 - look -9223372036854775808\n\
+c7 - look 9223372036854775807\n\
+c7 - off -5 preliminary\n\
+c7 - off 10 volatile\n";
+
+const OF_THE_CLOCK: [Event; 9] = [
+    Event::Tick {
+        reading: READING,
+        act: Act::Plain,
+        now: 3,
+    },
+    Event::Tick {
+        reading: READING,
+        act: Act::Force,
+        now: 3,
+    },
+    Event::Tick {
+        reading: READING,
+        act: Act::Finalize,
+        now: 3,
+    },
+    Event::Shift {
+        offset: 5,
+        state: OffsetState::Final,
+    },
+    Event::Look { now: 0 },
+    Event::Look { now: i64::MIN },
+    Event::Look { now: i64::MAX },
+    Event::Off {
+        offset: -5,
+        state: OffsetState::Preliminary,
+    },
+    Event::Off {
+        offset: 10,
+        state: OffsetState::Volatile,
+    },
 ];
 
 const AFTER: Start = Start {
@@ -101,112 +95,94 @@ const AT: Start = Start {
     kind: Kind::Wrapped,
 };
 
-const OF_TIMERS: [(&str, Event); 10] = [
-    (
-        "arm 1 2 3 after 6 5 4 bare",
-        Event::Arm {
-            timer: TIMER,
-            start: AFTER,
-        },
-    ),
-    (
-        "arm 1 2 3 at -6 5 18446744073709551615 wrapped",
-        Event::Arm {
-            timer: TIMER,
-            start: AT,
-        },
-    ),
-    (
-        "peek 1 2 3 none",
-        Event::Peek {
-            timer: TIMER,
-            left: None,
-        },
-    ),
-    (
-        "peek 1 2 3 4",
-        Event::Peek {
-            timer: TIMER,
-            left: Some(4),
-        },
-    ),
-    (
-        "cancel 1 2 3 0",
-        Event::Cancel {
-            timer: TIMER,
-            left: Some(0),
-        },
-    ),
-    ("expire 1 2 3", Event::Expire { timer: TIMER }),
-    ("orphan 1 2 3", Event::Orphan { timer: TIMER }),
-    ("deliver 1 2 3", Event::Deliver { timer: TIMER }),
-    ("drop 1 2 3", Event::Drop { timer: TIMER }),
-    (
-        "advanced 4294967295 8",
-        Event::Advanced {
-            wheel: u32::MAX,
-            to: 8,
-        },
-    ),
+const OF_TIMERS_TEXT: &str = "settings no false 0 1 1 1 1 0 0\n\
+c7 - arm 1 2 3 after 6 5 4 bare\n\
+c7 - arm 1 2 3 at -6 5 18446744073709551615 wrapped\n\
+c7 - peek 1 2 3 none\n\
+c7 - peek 1 2 3 4\n\
+c7 - cancel 1 2 3 0\n\
+c7 - expire 1 2 3\n\
+c7 - orphan 1 2 3\n\
+c7 - deliver 1 2 3\n\
+c7 - drop 1 2 3\n\
+c7 - advanced 4294967295 8\n";
+
+const OF_TIMERS: [Event; 10] = [
+    Event::Arm {
+        timer: TIMER,
+        start: AFTER,
+    },
+    Event::Arm {
+        timer: TIMER,
+        start: AT,
+    },
+    Event::Peek {
+        timer: TIMER,
+        left: None,
+    },
+    Event::Peek {
+        timer: TIMER,
+        left: Some(4),
+    },
+    Event::Cancel {
+        timer: TIMER,
+        left: Some(0),
+    },
+    Event::Expire { timer: TIMER },
+    Event::Orphan { timer: TIMER },
+    Event::Deliver { timer: TIMER },
+    Event::Drop { timer: TIMER },
+    Event::Advanced {
+        wheel: u32::MAX,
+        to: 8,
+    },
 ];
 
-const OF_PROBES: [(&str, Event); 7] = [
-    (
-        "probe 1 2 none",
-        Event::Probe {
-            wheel: 1,
-            slot: 2,
-            found: None,
-        },
-    ),
-    (
-        "probe 1 2 armed",
-        Event::Probe {
-            wheel: 1,
-            slot: 2,
-            found: Some(Status::Armed),
-        },
-    ),
-    (
-        "probe 1 2 expired",
-        Event::Probe {
-            wheel: 1,
-            slot: 2,
-            found: Some(Status::Expired),
-        },
-    ),
-    (
-        "probe 1 2 delivered",
-        Event::Probe {
-            wheel: 1,
-            slot: 2,
-            found: Some(Status::Delivered),
-        },
-    ),
-    (
-        "probe 1 2 cancelled",
-        Event::Probe {
-            wheel: 1,
-            slot: 2,
-            found: Some(Status::Cancelled),
-        },
-    ),
-    (
-        "probe 1 2 orphaned",
-        Event::Probe {
-            wheel: 1,
-            slot: 2,
-            found: Some(Status::Orphaned),
-        },
-    ),
-    (
-        "probe 1 2 dropped",
-        Event::Probe {
-            wheel: 1,
-            slot: 2,
-            found: Some(Status::Dropped),
-        },
-    ),
+const OF_PROBES_TEXT: &str = "settings no false 0 1 1 1 1 0 0\n\
+c7 - probe 1 2 none\n\
+c7 - probe 1 2 armed\n\
+c7 - probe 1 2 expired\n\
+c7 - probe 1 2 delivered\n\
+c7 - probe 1 2 cancelled\n\
+c7 - probe 1 2 orphaned\n\
+c7 - probe 1 2 dropped\n";
+
+const OF_PROBES: [Event; 7] = [
+    Event::Probe {
+        wheel: 1,
+        slot: 2,
+        found: None,
+    },
+    Event::Probe {
+        wheel: 1,
+        slot: 2,
+        found: Some(Status::Armed),
+    },
+    Event::Probe {
+        wheel: 1,
+        slot: 2,
+        found: Some(Status::Expired),
+    },
+    Event::Probe {
+        wheel: 1,
+        slot: 2,
+        found: Some(Status::Delivered),
+    },
+    Event::Probe {
+        wheel: 1,
+        slot: 2,
+        found: Some(Status::Cancelled),
+    },
+    Event::Probe {
+        wheel: 1,
+        slot: 2,
+        found: Some(Status::Orphaned),
+    },
+    Event::Probe {
+        wheel: 1,
+        slot: 2,
+        found: Some(Status::Dropped),
+    },
 ];
 
 const READ: Request = Request {
@@ -215,153 +191,122 @@ const READ: Request = Request {
     ..REQUEST
 };
 
-const OF_REQUESTS: [(&str, Event); 6] = [
-    (
-        "ask 9 cancel 1 2 3 4 true",
-        Event::Ask {
-            wheel: 9,
-            request: REQUEST,
-        },
-    ),
-    (
-        "ask 9 read 1 2 3 4 false",
-        Event::Ask {
-            wheel: 9,
-            request: READ,
-        },
-    ),
-    (
-        "pick 9 none",
-        Event::Pick {
-            wheel: 9,
-            got: None,
-        },
-    ),
-    (
-        "pick 9 cancel 1 2 3 4 true",
-        Event::Pick {
-            wheel: 9,
-            got: Some(REQUEST),
-        },
-    ),
-    (
-        "answer 9 none",
-        Event::Answer {
-            wheel: 9,
+const OF_REQUESTS_TEXT: &str = "settings no false 0 1 1 1 1 0 0\n\
+c7 - ask 9 cancel 1 2 3 4 true\n\
+c7 - ask 9 read 1 2 3 4 false\n\
+c7 - pick 9 none\n\
+c7 - pick 9 cancel 1 2 3 4 true\n\
+c7 - answer 9 none\n\
+c7 - answer 9 8\n";
+
+const OF_REQUESTS: [Event; 6] = [
+    Event::Ask {
+        wheel: 9,
+        request: REQUEST,
+    },
+    Event::Ask {
+        wheel: 9,
+        request: READ,
+    },
+    Event::Pick {
+        wheel: 9,
+        got: None,
+    },
+    Event::Pick {
+        wheel: 9,
+        got: Some(REQUEST),
+    },
+    Event::Answer {
+        wheel: 9,
+        left: None,
+    },
+    Event::Answer {
+        wheel: 9,
+        left: Some(8),
+    },
+];
+
+const OF_PROCESSES_TEXT: &str = "settings no false 0 1 1 1 1 0 0\n\
+c7 - mark 5 true false\n\
+c7 - unwatch 5 6 true\n\
+c7 - watch 5 6 -7\n\
+c7 - tell 5 -7\n";
+
+const OF_PROCESSES: [Event; 4] = [
+    Event::Mark {
+        process: 5,
+        exits: true,
+        was: false,
+    },
+    Event::Unwatch {
+        process: 5,
+        monitor: 6,
+        was: true,
+    },
+    Event::Watch {
+        process: 5,
+        monitor: 6,
+        offset: -7,
+    },
+    Event::Tell {
+        process: 5,
+        offset: -7,
+    },
+];
+
+const OF_MESSAGES_TEXT: &str = "settings no false 0 1 1 1 1 0 0\n\
+c7 - take 5 none\n\
+c7 - take 5 timeout 1 2 3 4\n\
+c7 - take 5 bare 4\n\
+c7 - take 5 cancel_done 1 2 3 none\n\
+c7 - take 5 read_done 1 2 3 4\n\
+c7 - take 5 change 6 -7\n";
+
+const OF_MESSAGES: [Event; 6] = [
+    Event::Take {
+        process: 5,
+        got: None,
+    },
+    Event::Take {
+        process: 5,
+        got: Some(Mail::Timeout {
+            timer: TIMER,
+            msg: 4,
+        }),
+    },
+    Event::Take {
+        process: 5,
+        got: Some(Mail::Bare { msg: 4 }),
+    },
+    Event::Take {
+        process: 5,
+        got: Some(Mail::CancelDone {
+            timer: TIMER,
             left: None,
-        },
-    ),
-    (
-        "answer 9 8",
-        Event::Answer {
-            wheel: 9,
-            left: Some(8),
-        },
-    ),
-];
-
-const OF_PROCESSES: [(&str, Event); 4] = [
-    (
-        "mark 5 true false",
-        Event::Mark {
-            process: 5,
-            exits: true,
-            was: false,
-        },
-    ),
-    (
-        "unwatch 5 6 true",
-        Event::Unwatch {
-            process: 5,
-            monitor: 6,
-            was: true,
-        },
-    ),
-    (
-        "watch 5 6 -7",
-        Event::Watch {
-            process: 5,
+        }),
+    },
+    Event::Take {
+        process: 5,
+        got: Some(Mail::ReadDone {
+            timer: TIMER,
+            left: Some(4),
+        }),
+    },
+    Event::Take {
+        process: 5,
+        got: Some(Mail::Change {
             monitor: 6,
             offset: -7,
-        },
-    ),
-    (
-        "tell 5 -7",
-        Event::Tell {
-            process: 5,
-            offset: -7,
-        },
-    ),
-];
-
-const OF_MESSAGES: [(&str, Event); 6] = [
-    (
-        "take 5 none",
-        Event::Take {
-            process: 5,
-            got: None,
-        },
-    ),
-    (
-        "take 5 timeout 1 2 3 4",
-        Event::Take {
-            process: 5,
-            got: Some(Mail::Timeout {
-                timer: TIMER,
-                msg: 4,
-            }),
-        },
-    ),
-    (
-        "take 5 bare 4",
-        Event::Take {
-            process: 5,
-            got: Some(Mail::Bare { msg: 4 }),
-        },
-    ),
-    (
-        "take 5 cancel_done 1 2 3 none",
-        Event::Take {
-            process: 5,
-            got: Some(Mail::CancelDone {
-                timer: TIMER,
-                left: None,
-            }),
-        },
-    ),
-    (
-        "take 5 read_done 1 2 3 4",
-        Event::Take {
-            process: 5,
-            got: Some(Mail::ReadDone {
-                timer: TIMER,
-                left: Some(4),
-            }),
-        },
-    ),
-    (
-        "take 5 change 6 -7",
-        Event::Take {
-            process: 5,
-            got: Some(Mail::Change {
-                monitor: 6,
-                offset: -7,
-            }),
-        },
-    ),
+        }),
+    },
 ];
 
 #[test]
 fn reads_events(rt: HostRuntime) {
-    let tables = [
-        OF_THE_CLOCK.as_slice(),
-        OF_TIMERS.as_slice(),
-        OF_PROBES.as_slice(),
-        OF_REQUESTS.as_slice(),
-        OF_PROCESSES.as_slice(),
-        OF_MESSAGES.as_slice(),
-    ];
-    for rows in tables {
-        reads(&rt, rt.alloc(), rows);
-    }
+    reads(&rt, rt.alloc(), OF_THE_CLOCK_TEXT, &OF_THE_CLOCK);
+    reads(&rt, rt.alloc(), OF_TIMERS_TEXT, &OF_TIMERS);
+    reads(&rt, rt.alloc(), OF_PROBES_TEXT, &OF_PROBES);
+    reads(&rt, rt.alloc(), OF_REQUESTS_TEXT, &OF_REQUESTS);
+    reads(&rt, rt.alloc(), OF_PROCESSES_TEXT, &OF_PROCESSES);
+    reads(&rt, rt.alloc(), OF_MESSAGES_TEXT, &OF_MESSAGES);
 }
