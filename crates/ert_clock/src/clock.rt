@@ -93,6 +93,7 @@ impl Clock {
     /// Takes one reading, and sets monotonic time by it. `force` asks for a check, which else comes once
     /// the last one is a minute away ("Time Correction"). A check sets the rate, and in multi time warp mode
     /// the offset, where that is more than a millisecond off ("Time Warp Modes").
+    #[inline(always)]
     pub fn tick(&mut self, reading: Reading, force: bool) -> Result<Moved, ClockErr>
         ensures gives { Gives self.old reading (act_of force) result self.new }
         ensures stands { ClockTicks self.old reading (act_of force) result self.new }
@@ -126,6 +127,7 @@ impl Clock {
 
     /// Takes one reading, for one of the three acts. It computes first what can be refused; between two checks that is
     /// nothing, and time alone runs on.
+    #[inline(always)]
     fn step(&mut self, reading: Reading, act: Act) -> Result<Moved, ClockErr>
         ensures { Gives self.old reading act result self.new }
     {

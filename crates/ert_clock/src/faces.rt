@@ -205,6 +205,7 @@ impl Face {
     }
 
     /// Takes a tick to a time, before any shift.
+    #[inline(never)]
     pub fn tick(&mut self, settings: &Settings, reading: Reading, act: Act, now: i64)
         ensures { face_of self.new ≡ ticked settings.now (face_of self.old) reading act now }
     {
@@ -217,6 +218,7 @@ impl Face {
     }
 
     /// The offset and the state that are due after a tick to a time. The offset may be outside its limits.
+    #[inline(never)]
     pub fn due_after(
         &self,
         settings: &Settings,
@@ -249,6 +251,7 @@ impl Face {
     }
 
     /// Sets the offset and its state as a tick made due.
+    #[inline(never)]
     pub fn shift(&mut self, due: Option<(i64, OffsetState)>)
         ensures { face_of self.new ≡ shifted (face_of self.old) due }
     {

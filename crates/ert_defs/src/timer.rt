@@ -1,6 +1,5 @@
 ghost use Rattle.std.specs.Prelude.{◌≡◌};
 ghost use Rattle.ert_defs.specs.Legal.{names_timer};
-ghost use Rattle.ert_defs.specs.Legal as legal;
 ghost use Rattle.ert_defs.specs.Timers as timers;
 
 use crate::settings::Settings;
@@ -26,9 +25,6 @@ pub const USES_OF_ROUND: u64 = 262_143;
 /// The least generation of a later round.
 pub const FIRST_LATER_GENERATION: u64 = 1 << 43;
 
-// One above the greatest generation, the last use of a round with the greatest deadline.
-const END_OF_GENERATIONS: u64 = (USES_OF_ROUND + 1) * FIRST_LATER_GENERATION;
-
 impl TimerRef {
     /// Whether the reference is in range.
     pub fn is_in_range(&self, settings: &Settings) -> bool
@@ -36,16 +32,9 @@ impl TimerRef {
     {
         self.wheel < settings.schedulers
             && self.slot < settings.slots
-            && is_generation(self.generation)
+            && 1 <= use_of(self.generation)
+            && use_of(self.generation) <= USES_OF_ROUND
     }
-}
-
-// Whether a timer may have this generation.
-fn is_generation(generation: u64) -> bool
-    ensures { result ≡ legal.is_generation generation }
-{
-    (1 <= generation && generation <= USES_OF_ROUND)
-        || (FIRST_LATER_GENERATION <= generation && generation < END_OF_GENERATIONS)
 }
 
 /// Which use of its round a generation is, 1 to 262143 where it is in range.

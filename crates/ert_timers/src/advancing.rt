@@ -26,6 +26,7 @@ impl WheelPart {
     /// A due timer that doesn't expire was settled by another. The row of each due timer goes, and then no row is held
     /// that is due by that time. All memory is taken before the first timer expires:
     /// after NoMemory none has.
+    #[inline(always)]
     pub fn advance(
         &mut self,
         desk: &Desk,
@@ -52,6 +53,7 @@ impl WheelPart {
     }
 
     /// Looks at the time, and tries all rows that are due by it.
+    #[inline(always)]
     pub(crate) fn try_due(
         &mut self,
         desk: &Desk,
@@ -77,6 +79,7 @@ impl WheelPart {
     }
 
     /// Tries all rows that are due at `to`, in order.
+    #[inline(never)]
     fn expire_all(
         &mut self,
         desk: &Desk,

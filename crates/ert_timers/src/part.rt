@@ -213,6 +213,7 @@ impl WheelPart {
 
     /// The rows with a deadline up to `to`, in order of deadline and then of start, with room for their timers
     /// in the list.
+    #[inline(never)]
     pub(crate) fn find_due(
         &mut self,
         to: u64,

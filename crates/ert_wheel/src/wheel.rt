@@ -277,6 +277,7 @@ impl<T: Copy> Wheel<T> {
     /// another window of the lowest level, the rows of one bucket move to levels below.
     ///
     /// A wheel that isn't told so gives the same rows, but looks at more and more buckets.
+    #[inline(always)]
     pub fn pass(&mut self, to: u64)
         requires { (slot : ℕ) → IfSome (key_in self.old.keys slot) (λ key. to < key.deadline) }
         ensures keys { self.new.keys ≡ self.old.keys }
