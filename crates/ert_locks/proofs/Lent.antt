@@ -6,26 +6,24 @@ use Rattle.ert_effects.proofs.Growing.{filter_within}
 use Rattle.ert_effects.specs.Ways.{Step, Grows, beside}
 use Rattle.ert_defs.specs.Actors.{has_actor, same_actor, of}
 use Rattle.ert_defs.specs.Entries.{is_ours}
+use Rattle.ert_defs.specs.Legal.{Legal}
 use Rattle.ert_defs.specs.States.{State, state}
 use Rattle.ert_defs.specs.declared.entry.Actor.{Actor}
 use Rattle.ert_defs.specs.declared.entry.Entry.{Entry}
 use Rattle.ert_defs.specs.declared.settings.Settings.{Settings}
+use Rattle.ert_locks.specs.Kinds.{Kind, PartFits}
+use Rattle.ert_locks.specs.Lent.{AllHave, IsLent, IsGivenBack}
 use Rattle.ert_locks.specs.Names.{IsDesk, IsPassFor}
 use Rattle.ert_locks.specs.Passes.{PartMeets}
 use Rattle.ert_table.proofs.Holders.{or_left, or_right, same_actor_self}
 use Rattle.ert_table.proofs.Parts.{free_later}
 use Rattle.ert_table.specs.Calls.{IsMade}
-use Rattle.ert_table.specs.Desks.{actors_of, Belongs}
-use Rattle.ert_table.specs.Held.{is_held}
+use Rattle.ert_table.specs.Desks.{settings_of, front_of, view_of, actors_of, Belongs}
+use Rattle.ert_table.specs.Held.{is_held, actors_but}
 use Rattle.ert_table.specs.Views.{Begins}
 use Rattle.ert_table.specs.declared.desk.Desk.{Desk}
 use Rattle.ert_table.specs.declared.desk.Pass.{Pass}
 use Rattle.ert_table.specs.declared.view.View.{View}
-
--- each of these entries has the actor
-abbrev pub AllHave : Actor → List Entry → Type 0
-AllHave a [] = Unit {0}
-AllHave a (e ∷ es) = (has_actor e a ≡ true) × AllHave a es
 
 all_own : (a : Actor) (es : List Entry) → AllHave a es → filter (is_ours (a ∷ [])) es ≡ es
 all_own a [] have = refl
@@ -85,6 +83,43 @@ lent_out {g} {t} {a} {m} {n} {k} {v} {j} {w} {h} sort allows is at meets made ha
     (subst (λ h. Grows (beside g a (sort m ∷ []) (allows g m)) v.front h) (sym front)
     (lent (allows g m) meets made_g (have (state g j.front) made_g.entries made_g.allowed)))
 
+-- a pass of the named desk with one actor
+pub is_of : (table : TableId) (g : Settings) (a : Actor) (d : Desk) (p : Pass) → IsDesk table g d → Belongs d p → actors_of p ≡ a ∷ [] → IsPassFor table g a p
+is_of table g a d p desk belongs actors = record {
+  table_is = belongs.table ∙ desk.table_is;
+  named = belongs.named ∙ ap (λ s. Some s) desk.settings_is;
+  actors = actors;
+}
+
+-- the part as it is lent to a seat
+pub lent_to : {X Y : Type 0} {g : Settings} {k : Kind X} {u : Kind Y} {n : ℕ} {d : Desk} {x : X} {own : Y} {j v : View} {p : Pass} → k.number x ≡ n
+    → PartMeets g (k.actor (k.number x)) (u.actor (u.number own)) j v (view_of p) → Belongs d p → Legal (settings_of d) (front_of p)
+    → k.stands (settings_of d) (front_of p) x → u.stands (settings_of d) (front_of p) own → IsLent d k u n v.front x p own
+lent_to number meets belongs legal stands own_stands = record {
+  number = number;
+  belongs = belongs;
+  actors = meets.actors;
+  has_part = has_part meets;
+  has_user = has_user meets;
+  since = meets.joined.other_begins;
+  legal = legal;
+  stands = stands;
+  own_stands = own_stands;
+}
+
+-- the pass fits the part again without the actor of the seat
+pub fits_again : {X Y : Type 0} {table : TableId} {g : Settings} {k : Kind X} {u : Kind Y} {allows : Settings → ℕ → ℕ → Step} {n : ℕ} {d : Desk} {f : List Entry}
+    {x y : X} {own left : Y} {p q r : Pass} → IsDesk table g d → IsLent d k u n f x p own → IsGivenBack d k u allows x p own y q left
+    → same_actor (k.actor (k.number x)) (u.actor (u.number own)) ≡ false → Belongs d r → actors_of r ≡ actors_but (actors_of q) (u.actor (u.number own))
+    → front_of r ≡ front_of q → PartFits table g k y r
+fits_again {table = table} {g = g} {k = k} {u = u} {d = d} {y = y} {own = own} {q = q} {r = r} desk lent left other belongs rest front =
+    let user = u.actor (u.number own) in
+    let alone = rw (other, same_actor_self user) at (rest ∙ ap (λ l. actors_but l user) (left.call.call.actors ∙ lent.actors)) in
+    record {
+      sits = is_of table g (k.actor (k.number y)) d r desk belongs (alone ∙ ap (λ m. k.actor m ∷ []) (sym left.number));
+      stands = subst (λ h. k.stands g h y) (sym front) (subst (λ t. k.stands t (front_of q) y) desk.settings_is left.stands);
+    }
+
 -- a call of an actor alone, which holds no part
 pub steps_alone : (g : Settings) (a : Actor) (v : View) (allows : Step) (w : View) → v.actors ≡ a ∷ [] → IsMade g v allows w
     → Grows (beside g a [] allows) v.front w.front
@@ -105,11 +140,3 @@ steps_alone g a v allows w actors made =
         allowed = subst (λ h. allows (state g h) made.entries) (sym (append-nil v.front)) made.allowed;
       };
     }
-
--- a pass of the named desk with one actor
-pub is_of : (table : TableId) (g : Settings) (a : Actor) (d : Desk) (p : Pass) → IsDesk table g d → Belongs d p → actors_of p ≡ a ∷ [] → IsPassFor table g a p
-is_of table g a d p desk belongs actors = record {
-  table_is = belongs.table ∙ desk.table_is;
-  named = belongs.named ∙ ap (λ s. Some s) desk.settings_is;
-  actors = actors;
-}

@@ -1,6 +1,6 @@
 -- Each entry of a call has the actor that makes the call.
 
-use Rattle.std.proofs.Common.{◌≡◌, ℕ, zero, suc, Bool, true, false, List, [], ◌∷◌, ◌++◌, Option, Some, None, Result, Ok, Err, inl, inr, refl, sym, subst}
+use Rattle.std.proofs.Common.{◌≡◌, ℕ, Bool, true, false, List, [], ◌∷◌, ◌++◌, Option, Some, None, Result, Ok, Err, inl, inr, refl, sym, subst}
 use Rattle.ert_effects.specs.ClockCalls.{Ticks, Finalizes, FinalizesFrom, ActsOnReading}
 use Rattle.ert_effects.specs.MailCalls.{HandsOver, Takes, Monitors, Demonitors, Notifies}
 use Rattle.ert_effects.specs.RequestCalls.{Asks, Picks, Answers, DoesAsked}
@@ -39,7 +39,7 @@ use Rattle.ert_defs.specs.declared.timer.Start.{Start}
 use Rattle.ert_defs.specs.declared.timer.Status.{Status}
 use Rattle.ert_defs.specs.declared.timer.TimerRef.{TimerRef}
 use Rattle.ert_table.proofs.Holders.{same_actor_self}
-use Rattle.ert_locks.proofs.Lent.{AllHave}
+use Rattle.ert_locks.specs.Lent.{AllHave}
 
 -- entries that are these
 as_these : (a : Actor) (es fs : List Entry) → es ≡ fs → AllHave a fs → AllHave a es

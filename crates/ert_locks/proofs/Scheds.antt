@@ -1,11 +1,11 @@
 -- What a scheduler has after its steps with a part.
 
-use Rattle.std.proofs.Common.{◌≡◌, ℕ, ◌-◌, ◌<◌, ◌≤◌, true, List, [], ◌∷◌, ◌++◌, length, Option, Some, Result, Ok, Err, refl, sym, ap, subst, ◌∙◌}
+use Rattle.std.proofs.Common.{◌≡◌, ℕ, ◌-◌, ◌≤◌, true, List, [], ◌∷◌, ◌++◌, length, Option, Some, Result, Ok, Err, refl, sym, ap, subst, ◌∙◌}
 use Rattle.std.specs.Prelude.{IfOk}
 use Rattle.atomic_table.specs.Seated.{TableId}
-use Rattle.ert_effects.specs.Chains.{Hands, SweepsWheel}
+use Rattle.ert_effects.specs.Chains.{Hands}
 use Rattle.ert_effects.specs.MailCalls.{HandsOver}
-use Rattle.ert_effects.specs.WheelCalls.{Advances, Sweeps, IsSwept}
+use Rattle.ert_effects.specs.WheelCalls.{Advances}
 use Rattle.ert_effects.specs.Ways.{Grows, beside}
 use Rattle.ert_effects.specs.declared.answers.Handed.{Handed}
 use Rattle.ert_defs.proofs.Runs.{state-append, exit_stays}
@@ -13,42 +13,29 @@ use Rattle.ert_defs.specs.Legal.{Legal}
 use Rattle.ert_defs.specs.Mails.{SchedState, first_of, others_of}
 use Rattle.ert_defs.specs.States.{State, run, state}
 use Rattle.ert_defs.specs.Timers.{Row}
-use Rattle.ert_defs.specs.declared.entry.Actor.{Actor}
-use Rattle.ert_defs.specs.declared.entry.Actor.TheVariants.{Wheel, MailOf, Sched}
+use Rattle.ert_defs.specs.declared.entry.Actor.TheVariants.{MailOf, Sched}
 use Rattle.ert_defs.specs.declared.entry.Entry.{Entry}
 use Rattle.ert_defs.specs.declared.mail.Request.{Request}
 use Rattle.ert_defs.specs.declared.memory.NoMemory.{NoMemory}
 use Rattle.ert_defs.specs.declared.settings.Settings.{Settings}
 use Rattle.ert_laws.proofs.RowRanges.{first_placed}
-use Rattle.ert_locks.proofs.Lent.{is_of}
 use Rattle.ert_locks.specs.Hands.{hand_left, rows_left, counted}
-use Rattle.ert_locks.specs.Kinds.{PartFits, scheds}
+use Rattle.ert_locks.specs.Kinds.{Kind, scheds, mails}
+use Rattle.ert_locks.specs.Lent.{IsLent}
 use Rattle.ert_locks.specs.Names.{IsDesk}
-use Rattle.ert_locks.specs.Passes.{PartMeets}
-use Rattle.ert_mail.specs.Mailboxes.{handed, sched_after_answer}
+use Rattle.ert_mail.specs.Mailboxes.{Mailbox, HoldsMailboxAndSched, handed, sched_after_answer}
 use Rattle.ert_world.proofs.Advances.{advance_hand, advance_still, advance_fits, difference}
-use Rattle.ert_world.proofs.SchedCalls.{sched_stands}
+use Rattle.ert_world.proofs.Calls.{if_ok_made}
 use Rattle.ert_world.specs.Parts.{SchedStands}
 use Rattle.ert_world.specs.declared.sched_part.SchedPart.{SchedPart}
-use Rattle.ert_table.specs.Calls.{IsMade}
-use Rattle.ert_table.specs.Desks.{settings_of, front_of, actors_of, Belongs}
+use Rattle.ert_table.specs.Calls.{IsMade, IsMadeIfOk}
+use Rattle.ert_table.specs.Desks.{settings_of, front_of, view_of, state_of}
 use Rattle.ert_table.specs.Held.{is_held}
 use Rattle.ert_table.specs.declared.desk.Desk.{Desk}
 use Rattle.ert_table.specs.declared.desk.Pass.{Pass}
 use Rattle.ert_table.specs.declared.view.View.{View}
 use Rattle.ert_timers.specs.Expiring.{IsAdvanced}
 use Rattle.ert_defs.specs.declared.settings.TheConstants.{MOST_SLOTS}
-
--- after a step the part and its pass make a seat again, where the part has what the history has
-pub seat_after : {table : TableId} {g : Settings} {x : SchedPart} {p : Pass} {h : List Entry} (d : Desk) (after : SchedState) → IsDesk table g d → Belongs d p
-    → actors_of p ≡ Sched x.wheel ∷ [] → front_of p ≡ h → x.wheel < g.schedulers → (state (settings_of d) h).scheds x.wheel ≡ after
-    → x.hand ≡ after.hand → x.expired.rows ≡ after.expired → PartFits table g scheds x p
-seat_after {table} {g} {x} {p} {h} d after desk belongs actors front low made hand expired =
-    record {
-      sits = is_of table g (Sched x.wheel) d p desk belongs actors;
-      stands = sched_stands g (front_of p) x after low
-          (ap (λ l. (state g l).scheds x.wheel) front ∙ subst (λ s. (state s h).scheds x.wheel ≡ after) desk.settings_is made) hand expired;
-    }
 
 -- an answer empties the hand, or leaves what the scheduler has
 pub answered_hand : (left : Result (Option ℕ) NoMemory) (s : SchedState) (hand : Option Request) → hand ≡ s.hand → hand_left left hand ≡ (sched_after_answer left s).hand
@@ -93,23 +80,14 @@ advanced g n m (Err e) p x j u high held has is now was = record {
   few = tt;
 }
 
--- a process that has exited stays so
-pub exited_in : {g t : Settings} {part a : Actor} {k v j : View} (process : ℕ) → t ≡ g → PartMeets g part a k v j → (state g v.front).exited process ≡ true
-    → (state t j.front).exited process ≡ true
-exited_in {g} {t} {part} {a} {k} {v} {j} process is meets exited =
-    let on : state g j.front ≡ run g (state g v.front) meets.joined.other_begins.later =
-    ap (state g) meets.joined.other_begins.grown ∙ state-append g v.front meets.joined.other_begins.later in
-    subst (λ s. (state s j.front).exited process ≡ true) (sym is)
-    (subst (λ (s : State). s.exited process ≡ true) (sym on) (exit_stays g process (state g v.front) meets.joined.other_begins.later exited))
-
--- a wheel that is swept
-pub swept : (g : Settings) (a : Actor) (by process w : ℕ) (f h : List Entry) → Grows (beside g a (Wheel w ∷ []) (Sweeps g by w process)) f h
-    → IsSwept (state g h) w process → Grows (SweepsWheel g (beside g a) by process w) f h
-swept g a by process w f h grows none = record {
-  piece = grows.piece;
-  grown = grows.grown;
-  made = record { steps = grows.made; swept = subst (λ l. IsSwept (state g l) w process) grows.grown none };
-}
+-- a process that has exited stays so in the front of a pass that a part is lent with
+pub exited_lent : {X Y : Type 0} {table : TableId} {g : Settings} {d : Desk} {k : Kind X} {u : Kind Y} {n : ℕ} {f : List Entry} {x : X} {p : Pass} {own : Y} (process : ℕ)
+    → IsDesk table g d → IsLent d k u n f x p own → (state g f).exited process ≡ true → (state (settings_of d) (front_of p)).exited process ≡ true
+exited_lent {g = g} {f = f} {p = p} process desk lent exited =
+    let later = lent.since.later in
+    let on : state g (front_of p) ≡ run g (state g f) later = ap (state g) lent.since.grown ∙ state-append g f later in
+    subst (λ s. (state s (front_of p)).exited process ≡ true) (sym desk.settings_is)
+    (subst (λ (s : State). s.exited process ≡ true) (sym on) (exit_stays g process (state g f) later exited))
 
 -- the first expired timer of a scheduler is handed over
 pub hands : (g : Settings) (p : SchedPart) (expired : Row) (how : Result Handed NoMemory) (f h : List Entry) → SchedStands g f p
@@ -125,9 +103,29 @@ hands g p expired how f h stands first grows = record {
   };
 }
 
--- it is the first that the front has, and one of the scheduler's wheel
-pub first_in : {t : Settings} {h : List Entry} {x : SchedPart} (row : Row) → Legal t h → SchedStands t h x → first_of x.expired.rows ≡ Some row
-    → (first_of ((state t h).scheds x.wheel).expired ≡ Some row) × (row.timer.wheel ≡ x.wheel)
-first_in {t} {h} {x} row legal stands first =
-    let here : first_of ((state t h).scheds x.wheel).expired ≡ Some row = ap (λ (l : List Row). first_of l) (sym stands.expired) ∙ first in
-    (here, (first_placed t h x.wheel row legal here).wheel)
+-- the first expired timer of a scheduler that a mailbox is lent to: the front has it too, and it is one of the
+-- scheduler's wheel
+pub record IsFirst (d : Desk) (row : Row) (s : SchedPart) (process : ℕ) (p : Pass) : Type 0 where
+  pub here : first_of ((state_of d p).scheds row.timer.wheel).expired ≡ Some row
+  pub own : row.timer.wheel ≡ s.wheel
+  pub holds : HoldsMailboxAndSched (settings_of d) (view_of p) row.timer.wheel process
+
+pub first_lent : {d : Desk} {n : ℕ} {s old : SchedPart} {f : List Entry} {x : Mailbox} {p : Pass} {row : Row} → s ≡ old → IsLent d mails scheds n f x p s
+    → first_of old.expired.rows ≡ Some row → IsFirst d row s x.process p
+first_lent {d} {n} {s} {old} {f} {x} {p} {row} is lent first =
+    let legal = lent.legal in
+    let here : first_of ((state_of d p).scheds s.wheel).expired ≡ Some row =
+    ap (λ (l : List Row). first_of l) (sym lent.own_stands.expired) ∙ (ap (λ (s : SchedPart). first_of s.expired.rows) is ∙ first) in
+    let own : row.timer.wheel ≡ s.wheel = (first_placed (settings_of d) (front_of p) s.wheel row legal here).wheel in
+    record {
+      here = subst (λ m. first_of ((state_of d p).scheds m).expired ≡ Some row) (sym own) here;
+      own = own;
+      holds = subst (λ m. HoldsMailboxAndSched (settings_of d) (view_of p) m x.process) (sym own)
+          (record { sched = lent.has_user; below = lent.own_stands.in_range; mail = lent.has_part });
+    }
+
+-- so it is handed over for that scheduler
+pub handed_made : (g : Settings) (v u : View) (row : Row) (w : ℕ) (how : Result Handed NoMemory) → row.timer.wheel ≡ w → Legal g v.front
+    → IsMadeIfOk g v (HandsOver g row.timer.wheel row) how u → IsMade g v (HandsOver g w row how) u
+handed_made g v u row w how own legal made =
+    subst (λ m. IsMade g v (HandsOver g m row how) u) own (if_ok_made g v (HandsOver g row.timer.wheel row) how u legal made)

@@ -14,7 +14,7 @@ use Rattle.ert_defs.specs.States.{State, state}
 use Rattle.ert_defs.specs.declared.entry.Actor.TheVariants.{Keeper, Sched}
 use Rattle.ert_defs.specs.declared.entry.Entry.{Entry}
 use Rattle.ert_defs.specs.declared.settings.Settings.{Settings}
-use Rattle.ert_locks.specs.Kinds.{IsKind, keepers, wheels, inboxes, scheds, mails}
+use Rattle.ert_locks.specs.Kinds.{IsKind, keepers, wheels, inboxes, scheds, mails, callers}
 use Rattle.ert_mail.proofs.LawsHold.{inbox_on, mail_on}
 use Rattle.ert_world.specs.Parts.{SchedStands}
 use Rattle.ert_world.specs.declared.sched_part.SchedPart.{SchedPart}
@@ -71,5 +71,12 @@ pub mails_are : IsKind mails
 mails_are = record {
   stand_on = λ g f h m longer same legal stands. mail_on g f h m longer same stands;
   low = λ g h m stands. stands.in_range;
+  apart = λ g m n _ _ other. other;
+}
+
+pub callers_are : IsKind callers
+callers_are = record {
+  stand_on = λ g f h n longer same legal stands. stands;
+  low = λ g h n stands. stands;
   apart = λ g m n _ _ other. other;
 }

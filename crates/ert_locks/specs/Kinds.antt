@@ -6,7 +6,7 @@ use Rattle.ert_clock.specs.Shown.{Shown, ClockStands}
 use Rattle.ert_defs.specs.Actors.{of, same_actor}
 use Rattle.ert_defs.specs.Legal.{Legal}
 use Rattle.ert_defs.specs.declared.entry.Actor.{Actor}
-use Rattle.ert_defs.specs.declared.entry.Actor.TheVariants.{Keeper, Wheel, Inbox, Sched, MailOf}
+use Rattle.ert_defs.specs.declared.entry.Actor.TheVariants.{Keeper, Wheel, Inbox, Sched, MailOf, Caller}
 use Rattle.ert_defs.specs.declared.entry.Entry.{Entry}
 use Rattle.ert_defs.specs.declared.settings.Settings.{Settings}
 use Rattle.ert_mail.specs.Inboxes.{Waiting, InboxStands}
@@ -44,6 +44,10 @@ scheds = record { actor = Sched; count = λ g. g.schedulers; number = λ p. p.wh
 -- the mailboxes, one for every process
 abbrev pub mails : Kind Mailbox
 mails = record { actor = MailOf; count = λ g. g.processes; number = λ m. m.process; stands = MailStands }
+
+-- the callers, each of which has its number alone
+abbrev pub callers : Kind ℕ
+callers = record { actor = Caller; count = λ g. g.callers; number = λ n. n; stands = λ g h n. n < g.callers }
 
 -- what is so of each kind: a part stands for a longer history too, where none of the later entries has its
 -- actor; its number is below the count; and two numbers have two actors

@@ -1,5 +1,6 @@
 pub mod Hands
 pub mod KindLaws
 pub mod Kinds
+pub mod Lent
 pub mod Names
 pub mod Passes

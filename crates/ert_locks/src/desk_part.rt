@@ -1,4 +1,4 @@
-//! What may stand behind a lock: a part of a desk with an actor of its own.
+//! What stands behind a lock, and what a seat has: a part of a desk with an actor of its own.
 ghost use Rattle.std.specs.Prelude.{◌≡◌};
 ghost use Rattle.ert_locks.specs.Kinds.{Kind, IsKind};
 
@@ -6,6 +6,7 @@ use ert_calls::KeeperPart;
 use ert_defs::Actor;
 use ert_mail::{InboxPart, MailPart};
 use ert_timers::WheelPart;
+use ert_world::SchedPart;
 
 /// A part of a desk, which has one actor and stands for a history.
 pub trait DeskPart {
@@ -89,4 +90,40 @@ impl DeskPart for MailPart {
     }
 
     ghost is_kind = { mails_are };
+}
+
+/// A scheduler has its own part.
+impl DeskPart for SchedPart {
+    ghost use Rattle.ert_locks.specs.KindLaws.{scheds_are};
+    ghost use Rattle.ert_locks.specs.Kinds.{scheds};
+
+    ghost kind = { scheds };
+
+    fn own_number(&self) -> u32 {
+        self.wheel
+    }
+
+    fn own_actor(&self) -> Actor {
+        Actor::Sched(self.wheel)
+    }
+
+    ghost is_kind = { scheds_are };
+}
+
+/// A caller has its number alone.
+impl DeskPart for u32 {
+    ghost use Rattle.ert_locks.specs.KindLaws.{callers_are};
+    ghost use Rattle.ert_locks.specs.Kinds.{callers};
+
+    ghost kind = { callers };
+
+    fn own_number(&self) -> u32 {
+        *self
+    }
+
+    fn own_actor(&self) -> Actor {
+        Actor::Caller(*self)
+    }
+
+    ghost is_kind = { callers_are };
 }

@@ -1,10 +1,11 @@
 //! An inbox behind its lock.
-use crate::locked::{Locked, meet};
+use crate::locked::Locked;
 use crate::names::DeskName;
 use crate::seats::{CallerSeat, SchedSeat};
-use ert_defs::{Actor, NoMemory, Request};
+use ert_defs::{NoMemory, Request};
 use ert_mail::InboxPart;
 use ert_table::Desk;
+use std::marker::Brand;
 
 impl<L: DeskName> Locked<InboxPart, L> {
     ghost use Rattle.std.specs.Prelude.{◌≡◌, ◌<◌, None};
@@ -16,6 +17,7 @@ impl<L: DeskName> Locked<InboxPart, L> {
     /// Puts a request last, for a caller (`cancel_timer` and `read_timer`, option `async`).
     ///
     /// If memory runs out, nothing has changed.
+    #[tactic(auto, using(crate::proofs::Own::asks_have, ert_world::proofs::Calls::if_ok_made))]
     pub fn ask(
         &mut self,
         desk: &Desk,
@@ -29,14 +31,13 @@ impl<L: DeskName> Locked<InboxPart, L> {
         ensures call { StepsWith L.settings (Caller seat.old.number) (Inbox self.old)
             (Asks L.settings seat.old.number self.old request result) seat.old.pass seat.new.pass }
     {
-        let by = seat.number;
-        meet::<InboxPart, L>(desk, &self.part, &mut self.pass, &mut seat.pass);
-        let answer = self.part.ask(desk, &mut self.pass, by, request);
-        seat.pass = self.pass.split(desk, Actor::Caller(by));
-        answer
+        self.lend::<Brand, _, _, _>(desk, &mut seat.number, &mut seat.pass, |part, pass, by| {
+            part.ask(desk, pass, *by, request)
+        })
     }
 
     /// Takes the first request into the empty hand of the scheduler of this inbox; None where there is none.
+    #[tactic(auto, using(crate::proofs::Own::picks_have))]
     pub fn pick(&mut self, desk: &Desk, seat: &mut SchedSeat<L>) -> Option<Request>
         requires desk { IsDesk L.table L.settings desk.now }
         requires own { self.old ≡ seat.old.part.wheel }
@@ -47,11 +48,10 @@ impl<L: DeskName> Locked<InboxPart, L> {
         ensures call { StepsWith L.settings (Sched seat.old.part.wheel) (Inbox seat.old.part.wheel)
             (Picks L.settings seat.old.part.wheel result) seat.old.pass seat.new.pass }
     {
-        let wheel = seat.part.wheel;
-        meet::<InboxPart, L>(desk, &self.part, &mut self.pass, &mut seat.pass);
-        let got = self.part.pick(desk, &mut self.pass);
-        seat.part.hand = got;
-        seat.pass = self.pass.split(desk, Actor::Sched(wheel));
-        got
+        self.lend::<Brand, _, _, _>(desk, &mut seat.part, &mut seat.pass, |part, pass, sched| {
+            let got = part.pick(desk, pass);
+            sched.hand = got;
+            got
+        })
     }
 }

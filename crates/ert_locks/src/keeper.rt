@@ -1,11 +1,12 @@
 //! The clock's part behind its lock.
-use crate::locked::{Locked, meet};
+use crate::locked::Locked;
 use crate::names::DeskName;
 use crate::seats::CallerSeat;
 use ert_calls::KeeperPart;
 use ert_clock::{ClockErr, Moved};
-use ert_defs::{Actor, OffsetState, Reading};
+use ert_defs::{OffsetState, Reading};
 use ert_table::Desk;
+use std::marker::Brand;
 
 impl<L: DeskName> Locked<KeeperPart, L> {
     ghost use Rattle.std.specs.Prelude.{◌≡◌};
@@ -17,6 +18,7 @@ impl<L: DeskName> Locked<KeeperPart, L> {
     /// Takes one reading of the OS clocks for a caller. `force` asks for a check of the clock.
     ///
     /// It is refused where the clock refuses it (`ClockErr`), and then it makes no entry.
+    #[tactic(auto, using(crate::proofs::Own::ticks_have))]
     pub fn tick(
         &mut self,
         desk: &Desk,
@@ -28,17 +30,16 @@ impl<L: DeskName> Locked<KeeperPart, L> {
         ensures number { seat.new.number ≡ seat.old.number }
         ensures call { StepsWith L.settings (Caller seat.old.number) Keeper (Ticks L.settings seat.old.number reading force result) seat.old.pass seat.new.pass }
     {
-        let by = seat.number;
-        meet::<KeeperPart, L>(desk, &self.part, &mut self.pass, &mut seat.pass);
-        let answer = self.part.tick(desk, &mut self.pass, by, reading, force);
-        seat.pass = self.pass.split(desk, Actor::Caller(by));
-        answer
+        self.lend::<Brand, _, _, _>(desk, &mut seat.number, &mut seat.pass, |part, pass, by| {
+            part.tick(desk, pass, *by, reading, force)
+        })
     }
 
     /// Finalizes the time offset for a caller (`erlang:system_flag(time_offset, finalize)`), and answers the
     /// state before. Only a preliminary offset moves.
     ///
     /// It is refused where the clock refuses it (`ClockErr`), and then it makes no entry.
+    #[tactic(auto, using(crate::proofs::Own::finalizes_have, crate::proofs::Least::reads_by))]
     pub fn finalize(
         &mut self,
         desk: &Desk,
@@ -49,10 +50,8 @@ impl<L: DeskName> Locked<KeeperPart, L> {
         ensures number { seat.new.number ≡ seat.old.number }
         ensures call { StepsWith L.settings (Caller seat.old.number) Keeper (Finalizes L.settings seat.old.number reading result) seat.old.pass seat.new.pass }
     {
-        let by = seat.number;
-        meet::<KeeperPart, L>(desk, &self.part, &mut self.pass, &mut seat.pass);
-        let answer = self.part.finalize(desk, &mut self.pass, by, reading);
-        seat.pass = self.pass.split(desk, Actor::Caller(by));
-        answer
+        self.lend::<Brand, _, _, _>(desk, &mut seat.number, &mut seat.pass, |part, pass, by| {
+            part.finalize(desk, pass, *by, reading)
+        })
     }
 }

@@ -1,11 +1,9 @@
 //! A part behind its lock.
-ghost use Rattle.std.specs.Prelude.{◌≡◌, ◌++◌};
 ghost use Rattle.ert_defs.specs.Legal.{Legal};
-ghost use Rattle.ert_defs.specs.declared.entry.Actor.{Actor};
-ghost use Rattle.ert_locks.specs.Kinds.{PartFits, scheds};
-ghost use Rattle.ert_locks.specs.Names.{IsDesk, IsPassFor};
+ghost use Rattle.ert_locks.specs.Kinds.{PartFits};
+ghost use Rattle.ert_locks.specs.Names.{IsDesk};
 ghost use Rattle.ert_locks.specs.Passes.{PartMeets};
-ghost use Rattle.ert_table.specs.Desks.{settings_of, view_of, front_of, actors_of, Belongs};
+ghost use Rattle.ert_table.specs.Desks.{settings_of, view_of, front_of, Belongs};
 
 use crate::desk_part::DeskPart;
 use crate::names::DeskName;
@@ -64,21 +62,26 @@ impl<P: DeskPart + Drop, L: DeskName> Locked<P, L> {
     }
 }
 
-/// Takes the actor of a seat to the pass of a part, which then knows what both knew. The part stands for that,
-/// and so does the part of a scheduler's seat.
-pub(crate) fn meet<P: DeskPart, L: DeskName>(desk: &Desk, part: &P, pass: &mut Pass, own: &mut Pass)
+/// Takes the actor of a seat to the pass of a part, which then knows what both knew. The part and what the seat
+/// has stand for that.
+pub(crate) fn meet<P: DeskPart, S: DeskPart, L: DeskName>(
+    desk: &Desk,
+    part: &P,
+    pass: &mut Pass,
+    own: &S,
+    seat: &mut Pass,
+)
     requires desk { IsDesk L.table L.settings desk.now }
     requires fits { PartFits L.table L.settings P.kind part.now pass.old }
-    requires belongs { Belongs desk.now own.old }
+    requires own_fits { PartFits L.table L.settings S.kind own.now seat.old }
     ensures belongs { Belongs desk.now pass.new }
-    ensures actors { actors_of pass.new ≡ actors_of pass.old ++ actors_of own.old }
     ensures legal { Legal (settings_of desk.now) (front_of pass.new) }
     ensures stands { P.kind.stands (settings_of desk.now) (front_of pass.new) part.now }
-    ensures meets { (a : Actor) → IsPassFor L.table L.settings a own.old
-        → PartMeets L.settings (P.kind.actor (P.kind.number part.now)) a (view_of pass.old) (view_of own.old) (view_of pass.new) }
-    ensures sched { (x : _) → PartFits L.table L.settings scheds x own.old → scheds.stands (settings_of desk.now) (front_of pass.new) x }
+    ensures own_stands { S.kind.stands (settings_of desk.now) (front_of pass.new) own.now }
+    ensures meets { PartMeets L.settings (P.kind.actor (P.kind.number part.now)) (S.kind.actor (S.kind.number own.now))
+        (view_of pass.old) (view_of seat.old) (view_of pass.new) }
 {
     // For the prover alone: what is known of a part is known of one that is read.
     let _part = part;
-    pass.join(desk, own.take(desk));
+    pass.join(desk, seat.take(desk));
 }

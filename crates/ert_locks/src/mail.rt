@@ -1,10 +1,11 @@
 //! A mailbox behind its lock.
-use crate::locked::{Locked, meet};
+use crate::locked::Locked;
 use crate::names::DeskName;
 use crate::seats::CallerSeat;
-use ert_defs::{Actor, NoMemory};
+use ert_defs::NoMemory;
 use ert_mail::{MailPart, MonitorErr, Taken};
 use ert_table::Desk;
+use std::marker::Brand;
 
 mod handing;
 
@@ -17,17 +18,16 @@ impl<L: DeskName> Locked<MailPart, L> {
 
     /// Takes the first message for a caller (`receive`): Exited where the process has exited, whatever it
     /// has, and Empty where it has none.
+    #[tactic(auto, using(crate::proofs::Own::takes_have))]
     pub fn take(&mut self, desk: &Desk, seat: &mut CallerSeat<L>) -> Taken
         requires desk { IsDesk L.table L.settings desk.now }
         ensures same { self.new ≡ self.old }
         ensures number { seat.new.number ≡ seat.old.number }
         ensures call { StepsWith L.settings (Caller seat.old.number) (MailOf self.old) (Takes L.settings seat.old.number self.old result) seat.old.pass seat.new.pass }
     {
-        let by = seat.number;
-        meet::<MailPart, L>(desk, &self.part, &mut self.pass, &mut seat.pass);
-        let answer = self.part.take(desk, &mut self.pass, by);
-        seat.pass = self.pass.split(desk, Actor::Caller(by));
-        answer
+        self.lend::<Brand, _, _, _>(desk, &mut seat.number, &mut seat.pass, |part, pass, by| {
+            part.take(desk, pass, *by)
+        })
     }
 
     /// Makes a monitor of the time offset (`erlang` module reference, `monitor`, type `time_offset`), and
@@ -35,20 +35,20 @@ impl<L: DeskName> Locked<MailPart, L> {
     ///
     /// Full comes where 64 monitors of the process stand, or its last number was given. After a refusal
     /// nothing has changed.
+    #[tactic(auto, using(crate::proofs::Own::monitors_have, ert_world::proofs::Calls::monitor_made))]
     pub fn monitor(&mut self, desk: &Desk, seat: &mut CallerSeat<L>) -> Result<u32, MonitorErr>
         requires desk { IsDesk L.table L.settings desk.now }
         ensures same { self.new ≡ self.old }
         ensures number { seat.new.number ≡ seat.old.number }
         ensures call { StepsWith L.settings (Caller seat.old.number) (MailOf self.old) (Monitors L.settings seat.old.number self.old result) seat.old.pass seat.new.pass }
     {
-        let by = seat.number;
-        meet::<MailPart, L>(desk, &self.part, &mut self.pass, &mut seat.pass);
-        let answer = self.part.monitor(desk, &mut self.pass, by);
-        seat.pass = self.pass.split(desk, Actor::Caller(by));
-        answer
+        self.lend::<Brand, _, _, _>(desk, &mut seat.number, &mut seat.pass, |part, pass, by| {
+            part.monitor(desk, pass, *by)
+        })
     }
 
     /// Removes a monitor (`demonitor`), and tells whether it stood.
+    #[tactic(auto, using(crate::proofs::Own::demonitors_have))]
     pub fn demonitor(&mut self, desk: &Desk, seat: &mut CallerSeat<L>, monitor: u32) -> bool
         requires desk { IsDesk L.table L.settings desk.now }
         ensures same { self.new ≡ self.old }
@@ -56,27 +56,24 @@ impl<L: DeskName> Locked<MailPart, L> {
         ensures call { StepsWith L.settings (Caller seat.old.number) (MailOf self.old)
             (Demonitors L.settings seat.old.number self.old monitor result) seat.old.pass seat.new.pass }
     {
-        let by = seat.number;
-        meet::<MailPart, L>(desk, &self.part, &mut self.pass, &mut seat.pass);
-        let answer = self.part.demonitor(desk, &mut self.pass, by, monitor);
-        seat.pass = self.pass.split(desk, Actor::Caller(by));
-        answer
+        self.lend::<Brand, _, _, _>(desk, &mut seat.number, &mut seat.pass, |part, pass, by| {
+            part.demonitor(desk, pass, *by, monitor)
+        })
     }
 
     /// Notifies the process of the time offset by one message for each monitor to which it is news, and answers
     /// how many there were (ERTS User's Guide, "Time Warp Modes": `CHANGE` messages).
     ///
     /// If memory runs out, nothing has changed.
+    #[tactic(auto, using(crate::proofs::Own::notifies_have, ert_world::proofs::Calls::if_ok_made))]
     pub fn notify(&mut self, desk: &Desk, seat: &mut CallerSeat<L>) -> Result<u32, NoMemory>
         requires desk { IsDesk L.table L.settings desk.now }
         ensures same { self.new ≡ self.old }
         ensures number { seat.new.number ≡ seat.old.number }
         ensures call { StepsWith L.settings (Caller seat.old.number) (MailOf self.old) (Notifies L.settings seat.old.number self.old result) seat.old.pass seat.new.pass }
     {
-        let by = seat.number;
-        meet::<MailPart, L>(desk, &self.part, &mut self.pass, &mut seat.pass);
-        let answer = self.part.notify(desk, &mut self.pass, by);
-        seat.pass = self.pass.split(desk, Actor::Caller(by));
-        answer
+        self.lend::<Brand, _, _, _>(desk, &mut seat.number, &mut seat.pass, |part, pass, by| {
+            part.notify(desk, pass, *by)
+        })
     }
 }

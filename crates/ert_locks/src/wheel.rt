@@ -1,15 +1,23 @@
 //! A wheel behind its lock.
 ghost use Rattle.std.specs.Prelude.{◌≡◌, ◌≤◌, ◌-◌, IfOk};
+ghost use Rattle.ert_effects.specs.WheelCalls.{Advances};
 ghost use Rattle.ert_locks.specs.Hands.{counted};
+ghost use Rattle.ert_locks.specs.Kinds.{scheds, wheels};
+ghost use Rattle.ert_locks.specs.Lent.{IsGivenBack};
+ghost use Rattle.ert_table.specs.Desks.{Belongs, front_of, settings_of, view_of};
+ghost use Rattle.ert_timers.specs.Parts.{HoldsSched, PartStands};
+ghost use Rattle.ert_world.specs.Parts.{SchedStands};
 ghost use Rattle.ert_defs.specs.declared.settings.TheConstants.{MOST_SLOTS};
 
-use crate::locked::{Locked, meet};
+use crate::locked::Locked;
 use crate::names::DeskName;
 use crate::seats::{CallerSeat, SchedSeat};
-use ert_defs::{Actor, NoMemory, Start, TimerRef};
+use ert_defs::{NoMemory, Start, TimerRef};
 use ert_effects::StartErr;
-use ert_table::Desk;
+use ert_table::{Desk, Pass};
 use ert_timers::WheelPart;
+use ert_world::SchedPart;
+use std::marker::Brand;
 
 impl<L: DeskName> Locked<WheelPart, L> {
     ghost use Rattle.std.specs.Prelude.{◌≡◌, ◌≢◌, ◌<◌, true, Err};
@@ -28,6 +36,7 @@ impl<L: DeskName> Locked<WheelPart, L> {
     /// BadArg comes where the start has no deadline at the time of the call, and Full where each slot of the
     /// wheel that was looked at is taken or rests (`MOST_LOOKS` of `ert_effects`), or the wheel has had 2^53 timers. A timer for a process that has exited is started
     /// and cancelled at once. No memory is taken.
+    #[tactic(auto, using(crate::proofs::Own::starts_have))]
     pub fn start(
         &mut self,
         desk: &Desk,
@@ -42,11 +51,9 @@ impl<L: DeskName> Locked<WheelPart, L> {
         ensures call { StepsWith L.settings (Caller seat.old.number) (Wheel self.old)
             (Starts L.settings seat.old.number self.old start.now result) seat.old.pass seat.new.pass }
     {
-        let by = seat.number;
-        meet::<WheelPart, L>(desk, &self.part, &mut self.pass, &mut seat.pass);
-        let answer = self.part.start(desk, &mut self.pass, by, start);
-        seat.pass = self.pass.split(desk, Actor::Caller(by));
-        answer
+        self.lend::<Brand, _, _, _>(desk, &mut seat.number, &mut seat.pass, |part, pass, by| {
+            part.start(desk, pass, *by, start)
+        })
     }
 
     /// Cancels all timers of a process that the caller has seen to have exited.
@@ -58,10 +65,9 @@ impl<L: DeskName> Locked<WheelPart, L> {
         ensures number { seat.new.number ≡ seat.old.number }
         ensures call { FrontGrows (SweepsWheel L.settings (beside L.settings (Caller seat.old.number)) seat.old.number process self.old) seat.old.pass seat.new.pass }
     {
-        let by = seat.number;
-        meet::<WheelPart, L>(desk, &self.part, &mut self.pass, &mut seat.pass);
-        self.part.sweep(desk, &mut self.pass, by, process);
-        seat.pass = self.pass.split(desk, Actor::Caller(by));
+        self.lend::<Brand, _, _, _>(desk, &mut seat.number, &mut seat.pass, |part, pass, by| {
+            part.sweep(desk, pass, *by, process);
+        });
     }
 
     /// Lets every due timer expire, for the scheduler of this wheel, and answers the time, in whole
@@ -75,16 +81,30 @@ impl<L: DeskName> Locked<WheelPart, L> {
         ensures number { seat.new.part.wheel ≡ seat.old.part.wheel }
         ensures call { FrontGrows (AdvancesWheel L.settings (beside L.settings (Sched seat.old.part.wheel)) seat.old.part.wheel result) seat.old.pass seat.new.pass }
     {
-        let wheel = seat.part.wheel;
-        meet::<WheelPart, L>(desk, &self.part, &mut self.pass, &mut seat.pass);
-        let before = seat.part.expired.len();
-        let to = self
-            .part
-            .advance(desk, &mut self.pass, &mut seat.part.expired);
-        let after = seat.part.expired.len();
-        seat.pass = self.pass.split(desk, Actor::Sched(wheel));
-        counted(to, before, after)
+        self.lend::<Brand, _, _, _>(desk, &mut seat.part, &mut seat.pass, |part, pass, sched| {
+            advance_for(part, desk, pass, sched)
+        })
     }
+}
+
+/// Lets every due timer of a wheel expire for its scheduler, and answers the time and how many expired.
+fn advance_for(
+    part: &mut WheelPart,
+    desk: &Desk,
+    pass: &mut Pass,
+    sched: &mut SchedPart,
+) -> Result<(u64, u32), NoMemory>
+    requires wheel { part.old.number ≡ sched.old.wheel }
+    requires belongs { Belongs desk.now pass.old }
+    requires holds { HoldsSched (view_of pass.old) part.old.number }
+    requires stands { PartStands (settings_of desk.now) (front_of pass.old) part.old }
+    requires sched { SchedStands (settings_of desk.now) (front_of pass.old) sched.old }
+    ensures { IsGivenBack desk.now wheels scheds (λ g w n. Advances g w result) part.old pass.old sched.old part.new pass.new sched.new }
+{
+    let before = sched.expired.len();
+    let to = part.advance(desk, pass, &mut sched.expired);
+    let after = sched.expired.len();
+    counted(to, before, after)
 }
 
 /// What an advance answers, where there were so many expired timers before it and after it.

@@ -2,13 +2,14 @@
 ghost use Rattle.std.specs.Prelude.{◌≡◌};
 ghost use Rattle.ert_locks.specs.Hands.{hand_left, rows_left};
 
-use crate::locked::{Locked, meet};
+use crate::locked::Locked;
 use crate::names::DeskName;
 use crate::seats::SchedSeat;
-use ert_defs::{Actor, NoMemory, Request, TimerRow};
+use ert_defs::{NoMemory, Request, TimerRow};
 use ert_mail::{Handed, MailPart};
 use ert_table::Desk;
 use ert_timers::ExpiredList;
+use std::marker::Brand;
 
 impl<L: DeskName> Locked<MailPart, L> {
     ghost use Rattle.std.specs.Prelude.{◌≡◌, Some, OnOk};
@@ -38,17 +39,17 @@ impl<L: DeskName> Locked<MailPart, L> {
         ensures call { StepsWith L.settings (Sched seat.old.part.wheel) (MailOf request.now.reply_to)
             (Answers L.settings seat.old.part.wheel request.now result) seat.old.pass seat.new.pass }
     {
-        let wheel = seat.part.wheel;
-        meet::<MailPart, L>(desk, &self.part, &mut self.pass, &mut seat.pass);
-        let left = self.part.answer(desk, &mut self.pass, wheel, request);
-        seat.part.hand = hand_after(seat.part.hand, &left);
-        seat.pass = self.pass.split(desk, Actor::Sched(wheel));
-        left
+        self.lend::<Brand, _, _, _>(desk, &mut seat.part, &mut seat.pass, |part, pass, sched| {
+            let left = part.answer(desk, pass, sched.wheel, request);
+            sched.hand = hand_after(sched.hand, &left);
+            left
+        })
     }
 
     /// Hands over the first expired timer of a scheduler, whose destination is this mailbox's process.
     ///
     /// If memory runs out, nothing has changed.
+    #[tactic(auto, using(crate::proofs::Own::hands_have))]
     pub fn hand_over(
         &mut self,
         desk: &Desk,
@@ -63,12 +64,11 @@ impl<L: DeskName> Locked<MailPart, L> {
         ensures expired { OnOk result (seat.new.part.expired.rows ≡ others_of seat.old.part.expired.rows) }
         ensures call { FrontGrows (Hands L.settings (beside L.settings (Sched seat.old.part.wheel)) seat.old.part.wheel result) seat.old.pass seat.new.pass }
     {
-        let wheel = seat.part.wheel;
-        meet::<MailPart, L>(desk, &self.part, &mut self.pass, &mut seat.pass);
-        let handed = self.part.deliver(desk, &mut self.pass, expired);
-        drop_handed(&mut seat.part.expired, &handed);
-        seat.pass = self.pass.split(desk, Actor::Sched(wheel));
-        handed
+        self.lend::<Brand, _, _, _>(desk, &mut seat.part, &mut seat.pass, |part, pass, sched| {
+            let handed = part.deliver(desk, pass, expired);
+            drop_handed(&mut sched.expired, &handed);
+            handed
+        })
     }
 }
 

@@ -1,9 +1,6 @@
 use Rattle.std.proofs.Common.{sym, subst, subst₂}
 use Rattle.ert_defs.specs.Legal.{Legal}
-use Rattle.ert_defs.specs.declared.entry.Actor.TheVariants.{Sched}
-use Rattle.ert_locks.specs.KindLaws.{scheds_are}
 use Rattle.ert_locks.proofs.Lent.{holds_self}
-use Rattle.ert_locks.specs.Kinds.{scheds}
 use Rattle.ert_table.specs.Desks.{front_of, view_of}
 use Rattle.ert_table.specs.Views.{Joined}
 use Rattle.ert_locks.proofs.locked.meet.Goals as goal
@@ -18,14 +15,16 @@ returns-clause-stands g c =
     subst (λ t. k.stands t (front_of c.join.new.self) x) (sym c.requires.desk.settings_is)
     (g.met.P.DeskPart.is_kind.stand_on s (front_of c.args.pass.now) (front_of c.join.new.self) x c.join.ensures.joined.begins own legal c.requires.fits.stands)
 
-pub returns-clause-sched : goal.returns-clause-sched
-returns-clause-sched g c = λ x fits.
+pub returns-clause-own_stands : goal.returns-clause-own_stands
+returns-clause-own_stands g c =
     let s = g.L.DeskName.settings in
+    let k = g.S.DeskPart.kind in
+    let x = c.args.own.now in
     let v = view_of c.args.pass.now in
     let h = front_of c.join.new.self in
     let legal = subst (λ t. Legal t h) c.requires.desk.settings_is c.join.ensures.legal in
     let joined = subst₂ (λ f l. Joined (record { front = v.front; actors = v.actors; other_front = f; other_actors = l }) h)
     c.take.ensures.new_front c.take.ensures.actors c.join.ensures.joined in
-    let own = joined.other_own (Sched x.wheel) (rw fits.sits.actors (holds_self (Sched x.wheel))) in
-    subst (λ t. scheds.stands t h x) (sym c.requires.desk.settings_is)
-    (scheds_are.stand_on s (front_of c.args.own.now) h x joined.other_begins own legal fits.stands)
+    let own = joined.other_own (k.actor (k.number x)) (rw c.requires.own_fits.sits.actors (holds_self (k.actor (k.number x)))) in
+    subst (λ t. k.stands t h x) (sym c.requires.desk.settings_is)
+    (g.met.S.DeskPart.is_kind.stand_on s (front_of c.args.seat.now) h x joined.other_begins own legal c.requires.own_fits.stands)
