@@ -1,6 +1,9 @@
 //! What a program in C cannot do with a hub and its shards: shards that come back, and a world again. Each call
 //! that it can make is tested by `examples/c/tests/shards.c`, and calls of many threads by `fuzz/shards.c`.
-use crate::tests::shard_calls::{SETTINGS, cut, divide, join, open, same, start, tick, whole};
+use crate::tests::compare::same;
+use crate::tests::shard_calls::{
+    SETTINGS, both, cut, cut_both, divide, join, open, start, tick, whole,
+};
 use ert_defs::{NoMemory, Request, RequestKind, TimerRef};
 use ert_shard::{Hub, ServeErr, Shard, ShardErr, Turn};
 use ert_world::World;
@@ -19,9 +22,9 @@ const fn turn(to: u64, put: u32) -> Turn {
 
 /// Scheduler 1 gets processes 2 and 3, and scheduler 0 the others.
 fn are_cut(rt: &impl Abort, low: &Shard, high: &Shard) {
-    same(rt, &(low.number(), low.from(), low.to()), &(0, 0, 2));
-    same(rt, &(high.number(), high.from(), high.to()), &(1, 2, 4));
-    same(rt, &high.processes(), &4);
+    same(rt, 0, &(low.number(), low.from(), low.to()), &(0, 0, 2));
+    same(rt, 1, &(high.number(), high.from(), high.to()), &(1, 2, 4));
+    same(rt, 2, &high.processes(), &4);
 }
 
 /// A wheel that has had timers isn't cut for fewer processes than it had.
@@ -34,14 +37,13 @@ fn is_not_cut(rt: &impl Abort, hub: &mut Hub) {
 #[test]
 fn shards_come_back(rt: HostRuntime) -> Result<(), NoMemory> {
     let mut hub = open(&rt, rt.alloc())?;
-    let high = cut(&rt, &mut hub, 2);
-    let mut low = cut(&rt, &mut hub, 2);
+    let (mut low, high) = cut_both(&rt, &mut hub);
     are_cut(&rt, &low, &high);
     let _timer = start(&rt, &mut low, 1, 5);
-    same(&rt, &hub.is_next(&high), &false);
+    same(&rt, 0, &hub.is_next(&high), &false);
     join(&rt, &mut hub, low);
     is_not_cut(&rt, &mut hub);
-    same(&rt, &hub.is_next(&high), &true);
+    same(&rt, 1, &hub.is_next(&high), &true);
     Ok(())
 }
 
@@ -49,15 +51,11 @@ fn shards_come_back(rt: HostRuntime) -> Result<(), NoMemory> {
 #[test]
 fn shards_come_back_in_any_order(rt: HostRuntime) -> Result<(), NoMemory> {
     let mut hub = open(&rt, rt.alloc())?;
-    let high = cut(&rt, &mut hub, 2);
-    let low = cut(&rt, &mut hub, 2);
-    let mut back = Vec::new(rt.alloc());
-    back.reserve(2)?;
-    back.push_reserved(high);
-    back.push_reserved(low);
+    let (low, high) = cut_both(&rt, &mut hub);
+    let mut back = both(rt.alloc(), &hub, high, low)?;
     hub.join_all(&mut back);
-    same(&rt, &(back.len(), hub.schedulers_left()), &(0, 2));
-    same(&rt, &whole(&rt, hub).seats(), &0);
+    same(&rt, 0, &(back.len(), hub.schedulers_left()), &(0, 2));
+    same(&rt, 1, &whole(&rt, hub).seats(), &0);
     Ok(())
 }
 
@@ -70,8 +68,8 @@ fn a_wheel_is_cut_again(rt: HostRuntime) -> Result<(), NoMemory> {
     join(&rt, &mut hub, high);
     let mut high = cut(&rt, &mut hub, 2);
     tick(&rt, &mut hub, 5);
-    same(&rt, &hub.published(), &5_000_000);
-    same(&rt, &high.turn(), &Ok(turn(5, 1)));
+    same(&rt, 0, &hub.published(), &5_000_000);
+    same(&rt, 1, &high.turn(), &Ok(turn(5, 1)));
     Ok(())
 }
 
@@ -93,11 +91,11 @@ fn a_request_of_before_stays(rt: HostRuntime) -> Result<(), NoMemory> {
     assert!(rt; SETTINGS.check().is_ok());
     let mut world = World::open(rt.alloc(), &SETTINGS)?;
     assert!(rt; world.settings().processes > 0);
-    same(&rt, &world.ask(REQUEST), &Ok(()));
+    same(&rt, 0, &world.ask(REQUEST), &Ok(()));
     let mut hub = divide(&rt, world)?;
     let mut high = cut(&rt, &mut hub, 2);
-    same(&rt, &high.serve(), &Err(ServeErr::NotHome));
-    same(&rt, &high.turn(), &Ok(turn(0, 0)));
+    same(&rt, 1, &high.serve(), &Err(ServeErr::NotHome));
+    same(&rt, 2, &high.turn(), &Ok(turn(0, 0)));
     Ok(())
 }
 
@@ -105,6 +103,6 @@ fn a_request_of_before_stays(rt: HostRuntime) -> Result<(), NoMemory> {
 #[test]
 fn a_hub_is_a_world(rt: HostRuntime) -> Result<(), NoMemory> {
     let hub = open(&rt, rt.alloc())?;
-    same(&rt, &whole(&rt, hub).seats(), &0);
+    same(&rt, 0, &whole(&rt, hub).seats(), &0);
     Ok(())
 }

@@ -1,13 +1,13 @@
 //! The calls of a hub and of a shard. What a caller has to know is looked up first.
-ghost use Rattle.std.specs.Prelude.{◌≡◌};
+ghost use Rattle.std.specs.Prelude.{IfOk};
 ghost use Rattle.ert_shard.specs.Shards.{IsHome};
-ghost use Rattle.ert_world_tests.specs.Kept.{IsSameShard, IsCut};
+ghost use Rattle.ert_shard.specs.Hubs.{AreOurs};
+ghost use Rattle.ert_world_tests.specs.Kept.{IsOfHub, IsSameShard, IsCut};
 
 use ert_defs::{Kind, Mode, NoMemory, Reading, Settings, Start, TimerRef, When};
 use ert_shard::{Hub, Shard};
 use ert_world::World;
-use std::alloc::Global;
-use std::fmt::Debug;
+use std::alloc::{AllocError, Global};
 use std::process::Abort;
 
 /// Two schedulers and four processes, with no time correction, and a caller for one seat.
@@ -21,11 +21,6 @@ pub(crate) const SETTINGS: Settings = Settings {
     callers: 4,
     first: Reading { mono: 0, sys: 0 },
 };
-
-/// Ends the test where an answer is another than the one that is wanted.
-pub(crate) fn same<T: PartialEq + Debug>(rt: &impl Abort, got: &T, wanted: &T) {
-    assert!(rt; *got == *wanted, "{got:?} in place of {wanted:?}");
-}
 
 /// All of a world that was just opened.
 pub(crate) fn open(rt: &impl Abort, alloc: Global) -> Result<Hub, NoMemory> {
@@ -49,6 +44,16 @@ pub(crate) fn cut(rt: &impl Abort, hub: &mut Hub, processes: u32) -> Shard
     hub.shard(processes).expect(rt, "a shard")
 }
 
+/// Both shards of a hub, with two processes each: the first and the last.
+pub(crate) fn cut_both(rt: &impl Abort, hub: &mut Hub) -> (Shard, Shard)
+    ensures first { IsOfHub hub.new result.0 }
+    ensures last { IsOfHub hub.new result.1 }
+{
+    let last = cut(rt, hub, 2);
+    let first = cut(rt, hub, 2);
+    (first, last)
+}
+
 /// The world again.
 pub(crate) fn whole(rt: &impl Abort, hub: Hub) -> World {
     let settings = *hub.settings();
@@ -59,11 +64,27 @@ pub(crate) fn whole(rt: &impl Abort, hub: Hub) -> World {
 
 /// The next shard comes back.
 pub(crate) fn join(rt: &impl Abort, hub: &mut Hub, shard: Shard)
-    requires table { shard.table ≡ hub.old.table }
-    requires settings { shard.settings ≡ hub.old.settings }
+    requires { IsOfHub hub.old shard }
 {
     assert!(rt; hub.is_next(&shard));
     hub.join(shard);
+}
+
+/// Two shards of a hub, to come back.
+pub(crate) fn both(
+    alloc: Global,
+    hub: &Hub,
+    first: Shard,
+    second: Shard,
+) -> Result<Vec<Shard>, AllocError>
+    requires first { IsOfHub hub.now first }
+    requires second { IsOfHub hub.now second }
+    ensures { IfOk result (λ shards. AreOurs hub.now shards.items) }
+{
+    let mut shards = Vec::with_capacity(alloc, 2)?;
+    shards.push(first)?;
+    shards.push(second)?;
+    Ok(shards)
 }
 
 fn is_home(rt: &impl Abort, shard: &Shard, process: u32)
