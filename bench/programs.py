@@ -55,9 +55,9 @@ def passes(timers):
     return 60 if timers < 100_000 else 15 if timers < 250_000 else 6 if timers < 1_000_000 else 2
 
 
-def least(program, operation, timers):
-    """The least nanoseconds of an operation, or its bytes; None if the library can't do it."""
-    words = [operation, timers, CALLS.get(operation, 0), passes(timers)]
+def least(program, operation, timers, count=None):
+    """The least nanoseconds of an operation, or its bytes, of so many passes; None if the library can't do it."""
+    words = [operation, timers, CALLS.get(operation, 0), count or passes(timers)]
     done = subprocess.run([program, *map(str, words)], capture_output=True, text=True)
     if done.returncode == TOO_LARGE:
         return None

@@ -1,6 +1,6 @@
 /*
- * The starts, cancels and expiries of bench/ratio, once each, of the library and of bench/floor.c, so that
- * bench/spent can count the instructions of each:
+ * The starts, cancels, expiries and idle turns of bench/ratio, once each, of the library and of bench/floor.c, so that
+ * bench/spent can count the instructions of each. There are as many idle turns as timers:
  *
  *     spent LIBRARY TIMERS         LIBRARY is ertime or C
  *
@@ -48,6 +48,10 @@ WHOLE void c_cancel(const Timer *timer, uint64_t *left) {
     *left = cancel(*timer);
 }
 
+WHOLE void c_tick(uint64_t now) {
+    tick(now);
+}
+
 WHOLE uint32_t c_advance(uint32_t wheel) {
     return advance(wheel);
 }
@@ -66,26 +70,26 @@ static uint32_t next_wheel(void) {
     return wheel;
 }
 
-static void ertime_start_all(uint32_t count) {
+static void ertime_start_all(uint32_t count, uint32_t later) {
     for (uint32_t i = 0; i < count; i++) {
-        ert_start how = {.when = waits_at[i]};
+        ert_start how = {.when = waits_at[i] + later};
         must(ert_world_start(&world, next_wheel(), &how, &names_at[i]));
     }
 }
 
-static void c_start_all(uint32_t count) {
+static void c_start_all(uint32_t count, uint32_t later) {
     for (uint32_t i = 0; i < count; i++) {
-        c_start(next_wheel(), waits_at[i], &timers_at[i]);
+        c_start(next_wheel(), waits_at[i] + later, &timers_at[i]);
     }
 }
 
 APART void ertime_start(uint32_t count) {
-    ertime_start_all(count);
+    ertime_start_all(count, 0);
     __asm__ volatile("");
 }
 
 APART void ertime_start_again(uint32_t count) {
-    ertime_start_all(count);
+    ertime_start_all(count, 0);
     __asm__ volatile("" ::: "memory");
 }
 
@@ -114,13 +118,24 @@ APART void ertime_expire(uint32_t count) {
     expect(taken == count);
 }
 
+APART void ertime_idle(uint32_t count) {
+    ert_moved moved;
+    ert_turned turned;
+    for (uint32_t i = 0; i < count; i++) {
+        ert_reading reading = {i * (int64_t)MICROSECOND, i * (int64_t)MICROSECOND};
+        must(ert_world_tick(&world, &reading, 0, &moved));
+        must(ert_world_turn(&world, next_wheel(), &turned));
+        expect(turned.expired == 0);
+    }
+}
+
 APART void plain_start(uint32_t count) {
-    c_start_all(count);
+    c_start_all(count, 0);
     __asm__ volatile("");
 }
 
 APART void plain_start_again(uint32_t count) {
-    c_start_all(count);
+    c_start_all(count, 0);
     __asm__ volatile("" ::: "memory");
 }
 
@@ -134,7 +149,7 @@ APART void plain_cancel(uint32_t count) {
 APART void plain_expire(uint32_t count) {
     uint32_t taken = 0;
     for (uint64_t now = 1; now <= SPREAD; now++) {
-        atomic_store(&words[TIME], now * MILLISECOND);
+        c_tick(now * MILLISECOND);
         for (uint32_t wheel = 0; wheel < wheel_count; wheel++) {
             if (c_advance(wheel) > 0) {
                 c_deliver(wheel);
@@ -143,6 +158,13 @@ APART void plain_expire(uint32_t count) {
         }
     }
     expect(taken == count);
+}
+
+APART void plain_idle(uint32_t count) {
+    for (uint32_t i = 0; i < count; i++) {
+        c_tick(i * MICROSECOND);
+        expect(c_advance(next_wheel()) == 0);
+    }
 }
 
 /* The same order of cancels for both. */
@@ -166,8 +188,12 @@ static void run_ertime(uint32_t count) {
     ertime_start_again(count);
     must(ert_world_close(&world));
     open_world(count);
-    ertime_start_all(count);
+    ertime_start_all(count, 0);
     ertime_expire(count);
+    must(ert_world_close(&world));
+    open_world(count);
+    ertime_start_all(count, TIMEOUT);
+    ertime_idle(count);
     must(ert_world_close(&world));
 }
 
@@ -179,8 +205,12 @@ static void run_plain(uint32_t count) {
     plain_start_again(count);
     close_rig();
     open_rig(count);
-    c_start_all(count);
+    c_start_all(count, 0);
     plain_expire(count);
+    close_rig();
+    open_rig(count);
+    c_start_all(count, TIMEOUT);
+    plain_idle(count);
     close_rig();
 }
 

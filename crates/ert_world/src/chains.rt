@@ -27,6 +27,7 @@ pub fn serve<S: SchedSteps>(steps: &mut S, sched: u32) -> Result<bool, NoMemory>
 }
 
 /// Serves requests until there is none, 64 at most, and answers how many were served.
+#[inline(always)]
 pub fn serve_all<S: SchedSteps>(steps: &mut S, sched: u32) -> Result<u32, NoMemory>
     requires { S.acts steps.old sched }
     ensures call { Grows (ServesAll (S.settings steps.old) (S.way (S.settings steps.old) (S.mark steps.old) sched) sched result) (S.history steps.old) (S.history steps.new) }

@@ -36,6 +36,7 @@ impl SchedSteps for World {
         }
     }
 
+    #[inline(never)]
     fn answer_held(&mut self, sched: u32, request: &Request) -> Result<Option<u64>, NoMemory> {
         may_get_mail(&mut self.list, request.reply_to);
         let left = self.mails[request.reply_to as usize].answer(

@@ -58,6 +58,7 @@ impl World {
     /// milliseconds since the start time, and how many expired.
     ///
     /// If memory runs out, none has expired. Else the wheel holds no row then that is due by that time.
+    #[inline(always)]
     pub fn advance(&mut self, sched: u32) -> Result<(u64, u32), NoMemory>
         requires { sched < self.old.settings.schedulers }
         ensures call { Goes self.old (λ way. AdvancesWheel self.old.settings way sched result) self.new }
