@@ -81,10 +81,7 @@ pub(crate) fn both(
     requires second { IsOfHub hub.now second }
     ensures { IfOk result (λ shards. AreOurs hub.now shards.items) }
 {
-    let mut shards = Vec::with_capacity(alloc, 2)?;
-    shards.push(first)?;
-    shards.push(second)?;
-    Ok(shards)
+    Ok(vec![in alloc; first, second]?)
 }
 
 fn is_home(rt: &impl Abort, shard: &Shard, process: u32)
