@@ -42,7 +42,7 @@ pub(crate) fn cross<L: DeskName + Send + Sync, R: Threads + Wait + Abort + Sync>
         || thread::map_vec(
             rt,
             callers,
-            &|session| work(alloc, session).expect(rt, "there is memory"),
+            &|session| work(session, alloc).expect(rt, "there is memory"),
         ),
         || thread::map_vec(
             rt,

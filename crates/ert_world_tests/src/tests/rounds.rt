@@ -36,7 +36,7 @@ const LATER: u64 = 8_796_093_022_208;
 
 /// Tries so often to start a timer, and cancels it, which none but its caller does. How many timers were started, and
 /// the first of them.
-fn use_seat<L: DeskName, R: Wait + Abort>(
+fn use_session<L: DeskName, R: Wait + Abort>(
     session: &mut CallerSession<L, R>,
     tries: u32,
 ) -> (u32, Option<TimerRef>) {
@@ -58,10 +58,9 @@ pub(crate) fn use_service<L: DeskName + Send + Sync, R: Threads + Wait + Abort +
     rt: &R,
     callers: &mut [CallerSession<L, R>],
 ) -> u64 {
-    let [first, second] = callers else {
-        panic!(rt; "two callers");
-    };
-    let (whole, _) = use_seat(first, 1_048_573);
+    let (first, others) = callers.split_first_mut().expect(rt, "two callers");
+    let second = others.first_mut().expect(rt, "two callers");
+    let (whole, _) = use_session(first, 1_048_573);
     same(rt, 0, &whole, &1_048_572);
     let reading = Reading {
         mono: 0,
@@ -69,7 +68,11 @@ pub(crate) fn use_service<L: DeskName + Send + Sync, R: Threads + Wait + Abort +
     };
     let moved = first.tick(reading, false);
     assert!(rt; moved.is_ok());
-    let (one, other) = thread::join(rt, || use_seat(first, 30_000), || use_seat(second, 30_000));
+    let (one, other) = thread::join(
+        rt,
+        || use_session(first, 30_000),
+        || use_session(second, 30_000),
+    );
     is_later(rt, one.1);
     is_later(rt, other.1);
     1_048_572 + one.0 as u64 + other.0 as u64

@@ -55,13 +55,13 @@ enum Call {
 }
 
 fn call_one<L: DeskName, R: Wait + Abort>(
-    session: &mut CallerSession<L, R>,
+    caller: &mut CallerSession<L, R>,
     sched: &mut SchedSession<L, R>,
     at: usize,
     call: &Call,
 ) {
-    let rt = session.rt;
-    is_process(rt, session.service, 0);
+    let rt = caller.rt;
+    is_process(rt, caller.service, 0);
     match *call {
         Call::Start(left, msg, timer) => {
             let asked = Start {
@@ -70,47 +70,43 @@ fn call_one<L: DeskName, R: Wait + Abort>(
                 msg,
                 kind: Kind::Wrapped,
             };
-            same(rt, at, &start(session, 0, &asked), &Ok(timer));
+            same(rt, at, &start(caller, 0, &asked), &Ok(timer));
         }
         Call::Ask(timer) => {
-            let got = ask(session, RequestKind::Read, timer, 0);
+            let got = ask(caller, RequestKind::Read, timer, 0);
             same(rt, at, &got, &Ok(()));
         }
-        Call::Take(taken) => same(rt, at, &session.take(0), &taken),
-        Call::Monitor(number) => same(rt, at, &session.monitor(0), &Ok(number)),
+        Call::Take(taken) => same(rt, at, &caller.take(0), &taken),
+        Call::Monitor(number) => same(rt, at, &caller.monitor(0), &Ok(number)),
         Call::Demonitor(number, stood) => {
-            same(rt, at, &session.demonitor(0, number), &stood);
+            same(rt, at, &caller.demonitor(0, number), &stood);
         }
-        Call::Tell(told) => same(rt, at, &session.notify(0), &Ok(told)),
+        Call::Tell(told) => same(rt, at, &caller.notify(0), &Ok(told)),
         Call::Tick(sys, force, now, shift) => {
-            let got = session.tick(Reading { mono: 0, sys }, force);
+            let got = caller.tick(Reading { mono: 0, sys }, force);
             same(rt, at, &got, &Ok(Moved { now, shift }));
         }
         Call::Finalize(sys, before, now) => {
-            let got = session.finalize(Reading { mono: 0, sys });
+            let got = caller.finalize(Reading { mono: 0, sys });
             same(rt, at, &got, &Ok((before, Moved { now, shift: None })));
         }
         Call::Times(monotonic, system) => {
-            same(rt, at, &session.monotonic_time(), &monotonic);
-            same(rt, at, &session.system_time(), &system);
+            same(rt, at, &caller.monotonic_time(), &monotonic);
+            same(rt, at, &caller.system_time(), &system);
         }
-        Call::Exit(exits) => same(rt, at, &session.exit(0), &exits),
+        Call::Exit(exits) => same(rt, at, &caller.exit(0), &exits),
         _ => turn_one(sched, at, call),
     }
 }
 
 /// Makes a call of the scheduler.
-fn turn_one<L: DeskName, R: Wait + Abort>(
-    session: &mut SchedSession<L, R>,
-    at: usize,
-    call: &Call,
-) {
-    let rt = session.rt;
+fn turn_one<L: DeskName, R: Wait + Abort>(sched: &mut SchedSession<L, R>, at: usize, call: &Call) {
+    let rt = sched.rt;
     match *call {
-        Call::Serve(served) => same(rt, at, &session.serve(), &Ok(served)),
-        Call::Advance(to, expired) => same(rt, at, &session.advance(), &Ok((to, expired))),
-        Call::Deliver(put, dropped) => same(rt, at, &session.deliver(), &Ok((put, dropped))),
-        Call::Turn(turned) => same(rt, at, &session.turn(), &Ok(turned)),
+        Call::Serve(served) => same(rt, at, &sched.serve(), &Ok(served)),
+        Call::Advance(to, expired) => same(rt, at, &sched.advance(), &Ok((to, expired))),
+        Call::Deliver(put, dropped) => same(rt, at, &sched.deliver(), &Ok((put, dropped))),
+        Call::Turn(turned) => same(rt, at, &sched.turn(), &Ok(turned)),
         _ => panic!(rt; "step {at} is no call of a service"),
     }
 }

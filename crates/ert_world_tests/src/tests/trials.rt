@@ -72,40 +72,40 @@ fn try_on<L: DeskName + Send + Sync, R: Threads + Wait + Abort + Sync>(
         scheds,
         callers,
     } = Service::<L>::open(alloc, parts)?;
-    let mut scheds = sessions(rt, alloc, &service, scheds)?;
-    let mut callers = sessions(rt, alloc, &service, callers)?;
+    let mut scheds = sessions_of(rt, alloc, &service, scheds)?;
+    let mut callers = sessions_of(rt, alloc, &service, callers)?;
     let told = do_trial(rt, alloc, &mut scheds, &mut callers, trial)?;
-    let scheds = seats(alloc, scheds)?;
-    let callers = seats(alloc, callers)?;
+    let scheds = seats_of(alloc, scheds)?;
+    let callers = seats_of(alloc, callers)?;
     are_scheds(rt, &service, &scheds);
     are_callers(rt, &service, &callers);
     Ok((service.close(rest, scheds, callers), told))
 }
 
-/// A session of each seat.
-fn sessions<'a, L: DeskName, R: Wait, S: Drop>(
+/// A session for each seat.
+fn sessions_of<'a, L: DeskName, R: Wait, S: Drop>(
     rt: &'a R,
     alloc: Global,
     service: &'a Service<L>,
     seats: Vec<S>,
 ) -> Result<Vec<Session<'a, L, R, S>>, AllocError> {
-    let mut made = Vec::new(alloc);
+    let mut sessions = Vec::new(alloc);
     for seat in seats {
-        made.push(Session { service, rt, seat })?;
+        sessions.push(Session { service, rt, seat })?;
     }
-    Ok(made)
+    Ok(sessions)
 }
 
-/// The seat of each session.
-fn seats<L: DeskName, R: Wait, S: Drop>(
+/// The seats of the sessions.
+fn seats_of<L: DeskName, R: Wait, S: Drop>(
     alloc: Global,
     sessions: Vec<Session<L, R, S>>,
 ) -> Result<Vec<S>, AllocError> {
-    let mut made = Vec::new(alloc);
+    let mut seats = Vec::new(alloc);
     for session in sessions {
-        made.push(session.seat)?;
+        seats.push(session.seat)?;
     }
-    Ok(made)
+    Ok(seats)
 }
 
 fn do_trial<L: DeskName + Send + Sync, R: Threads + Wait + Abort + Sync>(

@@ -89,8 +89,8 @@ pub(crate) fn add(all: &mut Turned, turned: &Turned) {
 
 /// A caller makes its calls, of all kinds in turn.
 pub(crate) fn work<L: DeskName, R: Wait + Abort>(
-    alloc: Global,
     session: &mut CallerSession<L, R>,
+    alloc: Global,
 ) -> Result<Answers, AllocError> {
     let mut answers = Answers::new(alloc);
     for call in 0..CALLS {
