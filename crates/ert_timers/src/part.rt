@@ -33,8 +33,6 @@ pub struct Use {
 pub struct WheelPart {
     /// The number of the scheduler and of its wheel.
     number: u32,
-    /// How many processes the desk has.
-    processes: u32,
     /// The timers that are held as armed, and for each process the chain of the slots whose timers go to it. A slot
     /// without such a timer stays in its chain until it is used for another process, or until the chain is swept.
     wheel: Wheel<Slot>,
@@ -75,7 +73,7 @@ impl Model for WheelPart {
 
     ghost view = { λ p. record {
       number = p.number;
-      processes = p.processes;
+      processes = p.wheel.owners.homes;
       slots = p.wheel.values;
       keys = p.wheel.keys;
       free = (free_set p.free).held;
@@ -85,7 +83,7 @@ impl Model for WheelPart {
       passed = p.wheel.passed;
     } };
 
-    ghost invariant = { λ p. AreFieldsFit p.processes p.wheel.values p.wheel.keys (free_set p.free) p.wheel.owners p.arms p.expires p.orphans };
+    ghost invariant = { λ p. AreFieldsFit p.wheel.values p.wheel.keys (free_set p.free) p.wheel.owners p.arms p.expires p.orphans };
 }
 
 impl WheelPart {
@@ -112,7 +110,6 @@ impl WheelPart {
         let due = Vec::with_capacity(alloc, settings.slots as usize)?;
         Ok(WheelPart {
             number: wheel,
-            processes: settings.processes,
             wheel: timers,
             free,
             arms: 0,
