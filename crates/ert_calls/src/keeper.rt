@@ -66,6 +66,7 @@ impl KeeperPart {
     /// was set (ERTS User's Guide, "Time Correction" and "Time Warp Modes"). `force` asks for a check.
     ///
     /// It is refused where the clock refuses it (`ClockErr`), and then no step is taken.
+    #[inline(always)]
     pub fn tick(
         &mut self,
         desk: &Desk,
