@@ -12,7 +12,7 @@ pub mod Received
 pub mod Rejoined
 pub mod Renewed
 pub mod Requested
-pub mod Reserving
+pub mod RoomChanged
 pub mod Returned
 pub mod Seats
 pub mod Served

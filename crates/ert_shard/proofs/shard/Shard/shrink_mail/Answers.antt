@@ -1,6 +1,6 @@
 use Rattle.std.proofs.Common.{sym, subst}
 use Rattle.std.specs.Arc.{arc_value}
-use Rattle.ert_shard.proofs.Reserving.{room_changed}
+use Rattle.ert_shard.proofs.RoomChanged.{room_changed}
 use Rattle.ert_shard.specs.Shards.{Owned, IsHome, share_of, shard_parts_of}
 use Rattle.ert_shard.proofs.shard.Shard.shrink_mail.Goals as goal
 
