@@ -235,9 +235,21 @@ static void next_mail(Run *run) {
     SAME(some == 0 ? process == 99 : process < run->mirror.settings.processes && mirror_can_take(&run->mirror, process), true);
 }
 
+/* Room for some messages is made, or given back: no later answer tells it. */
+static void change_room(Run *run, uint32_t process, uint32_t how) {
+    if (how % 2 == 0) {
+        SAME(ert_world_reserve_mail(&run->world, process, how), ERT_OK);
+        SAME(ert_world_reserve_mail(&run->world, process, SIZE_MAX), ERT_NO_MEMORY);
+    } else {
+        SAME(ert_world_shrink_mail(&run->world, process), ERT_OK);
+    }
+}
+
 static void do_mail(Run *run) {
     uint32_t how = byte(&run->input), process = some(run, run->mirror.settings.processes);
-    if (how % 2 == 0) {
+    if (how >= 192) {
+        change_room(run, process, how - 192);
+    } else if (how % 2 == 0) {
         take_some(run, process);
     } else {
         next_mail(run);

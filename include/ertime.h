@@ -621,6 +621,28 @@ int32_t ert_world_take_some(ert_world *world, uint32_t process, ert_mail *mails,
 int32_t ert_world_next_mail(ert_world *world, uint32_t *process);
 
 /*
+ * Makes room in the mailbox of a process for `count` messages more than it has.
+ *
+ * Until as many were put there, ert_world_deliver and ert_world_serve need no memory for it. A mailbox has no room at
+ * first, gets more when a message is put that finds none, and keeps it when messages are taken. So a program that must get
+ * its messages in time makes the room ahead, for the most that can wait at once.
+ *
+ * ERT_NO_MEMORY: there is not as much memory; the mailbox has the room that it had. ERT_RANGE: there is no such process.
+ * ERT_CLOSED. If there is the room already, constant work and no memory; otherwise work for the messages in the mailbox.
+ */
+int32_t ert_world_reserve_mail(ert_world *world, uint32_t process, size_t count);
+
+/*
+ * Gives back the memory of the mailbox of a process that its messages don't need, which a burst of them took: all of it,
+ * if it is empty.
+ *
+ * ERT_NO_MEMORY: the allocator had no smaller block to move the messages to; nothing has changed, and the call can be made
+ * again. It is never returned if the mailbox is empty. ERT_RANGE: there is no such process. ERT_CLOSED. Work for the
+ * messages in the mailbox.
+ */
+int32_t ert_world_shrink_mail(ert_world *world, uint32_t process);
+
+/*
  * Makes a monitor of the time offset for a process (`erlang:monitor(time_offset, clock_service)`), and writes
  * its number.
  *
@@ -657,8 +679,8 @@ int32_t ert_world_notify(ert_world *world, uint32_t process, uint32_t *told);
  *
  * Writes 1 to `served`, or 0 if there was none.
  *
- * ERT_NO_MEMORY: the request stays, and is served by the next call. ERT_RANGE: there is no such scheduler.
- * ERT_CLOSED.
+ * ERT_NO_MEMORY: the request stays, and is served by the next call; it never comes if there is room in the mailbox of
+ * `reply_to` (ert_world_reserve_mail). ERT_RANGE: there is no such scheduler. ERT_CLOSED.
  */
 int32_t ert_world_serve(ert_world *world, uint32_t sched, uint32_t *served);
 
@@ -680,7 +702,8 @@ int32_t ert_world_advance(ert_world *world, uint32_t sched, ert_advanced *advanc
  * They go in order of deadline, and then of start. Writes how many of both there were to `delivered`.
  *
  * ERT_NO_MEMORY: those that were not delivered stay, and the next call goes on with them; how many were delivered
- * is not reported then. ERT_RANGE: there is no such scheduler. ERT_CLOSED.
+ * is not reported then. It never comes if there is room in the mailbox of each of their processes
+ * (ert_world_reserve_mail). ERT_RANGE: there is no such scheduler. ERT_CLOSED.
  */
 int32_t ert_world_deliver(ert_world *world, uint32_t sched, ert_delivered *delivered);
 
@@ -690,8 +713,9 @@ int32_t ert_world_deliver(ert_world *world, uint32_t sched, ert_delivered *deliv
  *
  * Writes what it did to `turned`.
  *
- * ERT_NO_MEMORY: what was done stays done and is not reported, and the next turn goes on. ERT_RANGE: there is no
- * such scheduler. ERT_CLOSED.
+ * ERT_NO_MEMORY: what was done stays done and is not reported, and the next turn goes on. The advance needs memory for the
+ * list of what expires, and the messages need room in their mailboxes, which ert_world_reserve_mail makes ahead.
+ * ERT_RANGE: there is no such scheduler. ERT_CLOSED.
  */
 int32_t ert_world_turn(ert_world *world, uint32_t sched, ert_turned *turned);
 
@@ -1142,6 +1166,24 @@ int32_t ert_shard_take_some(ert_shard *shard, uint32_t process, ert_mail *mails,
  * each process of the shard whose mailbox got messages since it was found empty or exited; no memory.
  */
 int32_t ert_shard_next_mail(ert_shard *shard, uint32_t *process);
+
+/*
+ * Makes room in the mailbox of a process of the shard for `count` messages more than it has, as ert_world_reserve_mail
+ * does: until as many were put there, ert_shard_deliver and ert_shard_serve need no memory for it.
+ *
+ * ERT_NO_MEMORY: there is not as much memory; the mailbox has the room that it had. ERT_RANGE: the process is not of the
+ * shard. ERT_CLOSED. Work as of ert_world_reserve_mail.
+ */
+int32_t ert_shard_reserve_mail(ert_shard *shard, uint32_t process, size_t count);
+
+/*
+ * Gives back the memory of the mailbox of a process of the shard that its messages don't need, as ert_world_shrink_mail
+ * does.
+ *
+ * ERT_NO_MEMORY: as of ert_world_shrink_mail. ERT_RANGE: the process is not of the shard. ERT_CLOSED. Work for the
+ * messages in the mailbox.
+ */
+int32_t ert_shard_shrink_mail(ert_shard *shard, uint32_t process);
 
 /*
  * Requests that the scheduler of the shard cancels or reads a timer, as ert_world_ask does, and sends the answer to a

@@ -218,6 +218,8 @@ unsafe extern "C" {
         count: *mut usize,
     ) -> i32;
     pub fn ert_world_next_mail(world: *mut ert_world, process: *mut u32) -> i32;
+    pub fn ert_world_reserve_mail(world: *mut ert_world, process: u32, count: usize) -> i32;
+    pub fn ert_world_shrink_mail(world: *mut ert_world, process: u32) -> i32;
     pub fn ert_world_monitor(world: *mut ert_world, process: u32, monitor: *mut u32) -> i32;
     pub fn ert_world_demonitor(world: *mut ert_world, process: u32, monitor: u32) -> i32;
     pub fn ert_world_notify(world: *mut ert_world, process: u32, told: *mut u32) -> i32;
@@ -299,6 +301,8 @@ unsafe extern "C" {
         count: *mut usize,
     ) -> i32;
     pub fn ert_shard_next_mail(shard: *mut ert_shard, process: *mut u32) -> i32;
+    pub fn ert_shard_reserve_mail(shard: *mut ert_shard, process: u32, count: usize) -> i32;
+    pub fn ert_shard_shrink_mail(shard: *mut ert_shard, process: u32) -> i32;
     pub fn ert_shard_ask(shard: *mut ert_shard, request: *const ert_request) -> i32;
     pub fn ert_shard_serve(shard: *mut ert_shard, served: *mut u32) -> i32;
     pub fn ert_shard_monitor(shard: *mut ert_shard, process: u32, monitor: *mut u32) -> i32;

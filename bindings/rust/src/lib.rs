@@ -600,6 +600,17 @@ impl World {
         Ok(done_or(status, ffi::ERT_EMPTY)?.then_some(process))
     }
 
+    /// Makes room in the mailbox of a process for `count` messages more than it has: until as many were put there,
+    /// `deliver` and `serve` need no memory for it.
+    pub fn reserve_mail(&mut self, process: u32, count: usize) -> Result<(), Error> {
+        done(unsafe { ffi::ert_world_reserve_mail(&mut *self.handle, process, count) })
+    }
+
+    /// Gives back the memory of the mailbox of a process that its messages don't need.
+    pub fn shrink_mail(&mut self, process: u32) -> Result<(), Error> {
+        done(unsafe { ffi::ert_world_shrink_mail(&mut *self.handle, process) })
+    }
+
     /// Makes a monitor of the time offset for a process.
     pub fn monitor(&mut self, process: u32) -> Result<u32, Error> {
         let mut monitor = 0;

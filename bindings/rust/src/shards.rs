@@ -274,6 +274,17 @@ impl Shard {
         Ok(done_or(status, ffi::ERT_EMPTY)?.then_some(process))
     }
 
+    /// Makes room in the mailbox of a process of the shard for `count` messages more than it has: until as many were put
+    /// there, `deliver` and `serve` need no memory for it.
+    pub fn reserve_mail(&mut self, process: u32, count: usize) -> Result<(), Error> {
+        done(unsafe { ffi::ert_shard_reserve_mail(&mut *self.handle, process, count) })
+    }
+
+    /// Gives back the memory of the mailbox of a process of the shard that its messages don't need.
+    pub fn shrink_mail(&mut self, process: u32) -> Result<(), Error> {
+        done(unsafe { ffi::ert_shard_shrink_mail(&mut *self.handle, process) })
+    }
+
     /// Asks the scheduler of the shard to cancel or to read a timer of whatever shard, in one of its next turns. The answer
     /// comes to `reply_to`, a process of the shard, if it is Some; otherwise none is sent.
     pub fn ask(

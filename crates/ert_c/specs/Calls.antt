@@ -24,7 +24,7 @@ use Rattle.ert_world.specs.Stepping.{Stays}
 use Rattle.ert_world.specs.Worlds.{Seen, Goes, By, HasForgotten, HasPassedAt, IsNextHeldAt, IsNearestAt}
 use Rattle.ert_timers.specs.NextDue.{NoneArmedBefore}
 use Rattle.ert_c.specs.Through.{Through, TellsC, IfBelow, IsOutOfRange, IsRefusedAs}
-use Rattle.ert_c.specs.Told.{start_of, request_kind_at, request_of, IsStartTold, IsRoomTold, IsAsked}
+use Rattle.ert_c.specs.Told.{start_of, request_kind_at, request_of, IsStartTold, IsRoomTold, IsToldDone}
 use Rattle.ert_c.specs.declared.mail_calls.ErtRequest.{ErtRequest}
 use Rattle.ert_c.specs.declared.status.TheConstants.{BAD_KIND}
 use Rattle.ert_c.specs.declared.timer_calls.ErtStart.{ErtStart}
@@ -100,7 +100,7 @@ AsksBy request answer = MakesCall (λ w. By w (λ g. Asks g 0 (inbox_for g reque
 -- C puts a request; where no request has its kind, or there is no process to reply to, nothing has changed
 abbrev pub PutsRequest : ErtRequest → Option Seen → ℤ → Option Seen → Type 0
 PutsRequest request old status new = Through ⊤ (λ was now. MatchOption (request_kind_at request.kind) (IsRefusedAs BAD_KIND status was now)
-    (λ kind. AtProcess request.reply_to (AsksBy (request_of request kind)) (λ answer. IsAsked answer status) status ⊤ was now)) old status new
+    (λ kind. AtProcess request.reply_to (AsksBy (request_of request kind)) (λ answer. IsToldDone answer status) status ⊤ was now)) old status new
 
 -- caller 0 takes the first message of a process, if there is one and the process is alive
 abbrev pub TakesBy : ℕ → Taken → Seen → Seen → Type 0

@@ -3,7 +3,7 @@
 use Rattle.std.specs.Prelude.{◌≡◌, ℕ, ◌+◌, ℤ, Bool, Option, Result, Ok, Err, MatchOption, ⊤}
 use Rattle.ert_c.specs.ShardCalls.{AtHome}
 use Rattle.ert_c.specs.Through.{Through, IsRefusedAs}
-use Rattle.ert_c.specs.Told.{flag, request_of, request_kind_at, IsAsked}
+use Rattle.ert_c.specs.Told.{flag, request_of, request_kind_at, IsToldDone}
 use Rattle.ert_c.specs.declared.mail_calls.ErtRequest.{ErtRequest}
 use Rattle.ert_c.specs.declared.status.TheConstants.{OK, NO_MEMORY, RANGE, BAD_KIND}
 use Rattle.ert_defs.specs.declared.mail.Request.{Request}
@@ -23,7 +23,7 @@ ShardAsksBy request answer old new =
 -- changed
 abbrev pub ShardPutsRequest : ErtRequest → Option Owned → ℤ → Option Owned → Type 0
 ShardPutsRequest request old status new = Through ⊤ (λ was now. MatchOption (request_kind_at request.kind) (IsRefusedAs BAD_KIND status was now)
-    (λ kind. AtHome request.reply_to (ShardAsksBy (request_of request kind)) (λ answer. IsAsked answer status) status ⊤ was now)) old status new
+    (λ kind. AtHome request.reply_to (ShardAsksBy (request_of request kind)) (λ answer. IsToldDone answer status) status ⊤ was now)) old status new
 
 -- a shard serves a request, if there is one whose answer is for a process of its own. Its wheel holds no row of a timer that
 -- it cancelled

@@ -144,10 +144,10 @@ request_kind_at n = cond (nat_eq n 0) (Some Cancel) (cond (nat_eq n 1) (Some Rea
 abbrev pub request_of : ErtRequest → RequestKind → Request
 request_of r kind = record { kind = kind; timer = timer_from_c r.timer; reply_to = r.reply_to; info = is_on r.info }
 
--- a request was put, or out of memory
-abbrev pub IsAsked : Result (Unit {0}) OutOfMemory → ℤ → Type 0
-IsAsked (Ok _) status = status ≡ OK
-IsAsked (Err e) status = status ≡ NO_MEMORY
+-- a call that tells nothing more was done, or out of memory
+abbrev pub IsToldDone : Result (Unit {0}) OutOfMemory → ℤ → Type 0
+IsToldDone (Ok _) status = status ≡ OK
+IsToldDone (Err e) status = status ≡ NO_MEMORY
 
 -- the number of the monitor that was made, or why none was
 abbrev pub IsMonitorTold : Result ℕ MonitorErr → ℕ → ℤ → ℕ → Type 0

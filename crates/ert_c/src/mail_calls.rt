@@ -4,7 +4,7 @@ ghost use Rattle.ert_defs.specs.Legal.{Legal};
 ghost use Rattle.ert_c.specs.Mailing.{end_as, IsNextTold, TakesPlaces};
 ghost use Rattle.ert_c.specs.ShardMailing.{ShardTakesPlaces};
 ghost use Rattle.ert_shard.specs.Shards.{IsHome};
-ghost use Rattle.ert_c.specs.Told.{no_timer, c_mail_of, mail_as, request_of, request_kind_at, IsTakeTold, IsAsked, IsMonitorTold, IsDemonitored};
+ghost use Rattle.ert_c.specs.Told.{no_timer, c_mail_of, mail_as, request_of, request_kind_at, IsTakeTold, IsToldDone, IsMonitorTold, IsDemonitored};
 
 use crate::status::{EMPTY, EXITED, FULL, NO_MEMORY, NO_MONITOR, OK};
 use crate::timer_calls::ErtTimer;
@@ -130,9 +130,9 @@ pub(crate) fn tell_taken(answer: Taken, mail: &mut ErtMail) -> i32
     }
 }
 
-/// Tells C whether a request was put into an inbox.
-pub(crate) fn tell_asked(answer: Result<(), NoMemory>) -> i32
-    ensures { IsAsked answer result }
+/// Tells C whether a call was done that answers nothing more.
+pub(crate) fn tell_done(answer: Result<(), NoMemory>) -> i32
+    ensures { IsToldDone answer result }
 {
     match answer {
         Ok(()) => OK,

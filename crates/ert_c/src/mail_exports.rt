@@ -2,12 +2,12 @@
 ghost use Rattle.std.specs.Prelude.{⊤, length};
 ghost use Rattle.ert_c.specs.Calls.{AtProcess, AnswersAtProcess, PutsRequest, TakesBy, MonitorsBy, DemonitorsBy, NotifiesBy};
 ghost use Rattle.ert_c.specs.Told.{IsTakeTold, IsMonitorTold, IsDemonitored, IsNumber};
-ghost use Rattle.ert_c.specs.Mailing.{FindsMailBy, IsNextTold, TakesSomeBy, IsTookSome};
+ghost use Rattle.ert_c.specs.Mailing.{FindsMailBy, IsNextTold, TakesSomeBy, IsTookSome, ChangesRoom};
 ghost use Rattle.ert_c.specs.Through.{Through, AnswersThrough};
 
 use crate::handle::{ErtWorld, at_process, opened};
 use crate::mail_calls::{
-    ErtMail, ErtRequest, request_kind_at, take_places, tell_asked, tell_demonitored, tell_end,
+    ErtMail, ErtRequest, request_kind_at, take_places, tell_demonitored, tell_done, tell_end,
     tell_monitored, tell_next, tell_taken,
 };
 use crate::status::{BAD_KIND, CLOSED, RANGE};
@@ -26,7 +26,7 @@ pub extern "C" fn ert_world_ask(world: &mut ErtWorld, request: &ErtRequest) -> i
         return RANGE;
     }
     let answer = service.ask(request.with_kind(kind));
-    tell_asked(answer)
+    tell_done(answer)
 }
 
 /// Takes the first message of a process.
@@ -63,6 +63,26 @@ pub extern "C" fn ert_world_next_mail(world: &mut ErtWorld, process: &mut u32) -
 {
     let answer = opened!(world).next_mail();
     tell_next(answer, process)
+}
+
+/// Makes room in the mailbox of a process for so many more messages.
+#[unsafe(no_mangle)]
+pub extern "C" fn ert_world_reserve_mail(world: &mut ErtWorld, process: u32, count: usize) -> i32
+    ensures { ChangesRoom process world.old.place.value result world.new.place.value }
+{
+    let service = at_process!(world, process);
+    let answer = service.reserve_mail(process, count);
+    tell_done(answer)
+}
+
+/// Gives back the memory of the mailbox of a process that its messages don't need.
+#[unsafe(no_mangle)]
+pub extern "C" fn ert_world_shrink_mail(world: &mut ErtWorld, process: u32) -> i32
+    ensures { ChangesRoom process world.old.place.value result world.new.place.value }
+{
+    let service = at_process!(world, process);
+    let answer = service.shrink_mail(process);
+    tell_done(answer)
 }
 
 /// Makes a monitor of the time offset for a process.

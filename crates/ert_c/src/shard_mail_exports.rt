@@ -2,13 +2,14 @@
 ghost use Rattle.std.specs.Prelude.{length};
 ghost use Rattle.ert_c.specs.Mailing.{IsNextTold, IsTookSome};
 ghost use Rattle.ert_c.specs.ShardCalls.{AnswersAtHome, ShardDemonitors, ShardTakesBy, ShardMonitorsBy, ShardNotifiesBy};
-ghost use Rattle.ert_c.specs.ShardMailing.{ShardFindsMailBy, ShardTakesSomeBy};
+ghost use Rattle.ert_c.specs.ShardMailing.{ShardFindsMailBy, ShardTakesSomeBy, ShardChangesRoom};
 ghost use Rattle.ert_c.specs.Through.{AnswersThrough};
 ghost use Rattle.ert_c.specs.Told.{IsTakeTold, IsMonitorTold, IsNumber};
 
 use crate::handle::opened;
 use crate::mail_calls::{
-    ErtMail, take_shard_places, tell_demonitored, tell_end, tell_monitored, tell_next, tell_taken,
+    ErtMail, take_shard_places, tell_demonitored, tell_done, tell_end, tell_monitored, tell_next,
+    tell_taken,
 };
 use crate::shard_handle::{ErtShard, at_home};
 use crate::status::{CLOSED, RANGE};
@@ -48,6 +49,26 @@ pub extern "C" fn ert_shard_next_mail(shard: &mut ErtShard, process: &mut u32) -
 {
     let answer = opened!(shard).next_mail();
     tell_next(answer, process)
+}
+
+/// Makes room in the mailbox of a process of a shard for so many more messages.
+#[unsafe(no_mangle)]
+pub extern "C" fn ert_shard_reserve_mail(shard: &mut ErtShard, process: u32, count: usize) -> i32
+    ensures { ShardChangesRoom process shard.old.place.value result shard.new.place.value }
+{
+    let own = at_home!(shard, process);
+    let answer = own.reserve_mail(process, count);
+    tell_done(answer)
+}
+
+/// Gives back the memory of the mailbox of a process of a shard that its messages don't need.
+#[unsafe(no_mangle)]
+pub extern "C" fn ert_shard_shrink_mail(shard: &mut ErtShard, process: u32) -> i32
+    ensures { ShardChangesRoom process shard.old.place.value result shard.new.place.value }
+{
+    let own = at_home!(shard, process);
+    let answer = own.shrink_mail(process);
+    tell_done(answer)
 }
 
 /// Makes a monitor of the time offset for a process of a shard.

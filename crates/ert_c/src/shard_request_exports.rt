@@ -3,7 +3,7 @@ ghost use Rattle.ert_c.specs.ShardServing.{ShardPutsRequest, ShardServesBy, IsSe
 ghost use Rattle.ert_c.specs.Through.{AnswersThrough};
 
 use crate::handle::opened;
-use crate::mail_calls::{ErtRequest, request_kind_at, tell_asked};
+use crate::mail_calls::{ErtRequest, request_kind_at, tell_done};
 use crate::shard_handle::ErtShard;
 use crate::status::{BAD_KIND, CLOSED, NO_MEMORY, OK, RANGE};
 use ert_shard::ServeErr;
@@ -21,7 +21,7 @@ pub extern "C" fn ert_shard_ask(shard: &mut ErtShard, request: &ErtRequest) -> i
         return RANGE;
     }
     let answer = own.ask(request.with_kind(kind));
-    tell_asked(answer)
+    tell_done(answer)
 }
 
 /// Serves one request of a shard.

@@ -1,6 +1,6 @@
 -- A mailbox stands on after a step of the pass that holds it.
 
-use Rattle.std.proofs.Common.{◌≡◌, ℕ, ◌+◌, true, false, List, [], ◌∷◌, ◌++◌, length, filter, refl, sym, ap, ◌∙◌, length-append, add-zero}
+use Rattle.std.proofs.Common.{◌≡◌, ℕ, ◌+◌, ◌<◌, true, false, List, [], ◌∷◌, ◌++◌, length, filter, refl, sym, ap, subst, ◌∙◌, length-append, add-zero}
 use Rattle.ert_defs.specs.Actors.{has_actor, is_with, same_actor}
 use Rattle.ert_defs.specs.Mails.{MailState}
 use Rattle.ert_defs.specs.States.{State, next, state}
@@ -14,7 +14,7 @@ use Rattle.ert_table.proofs.Holders.{or_false}
 use Rattle.ert_table.proofs.Parts.{not_of, entries_after, part_before, stepped}
 use Rattle.ert_table.specs.declared.view.View.{View}
 use Rattle.ert_laws.specs.Counts.{deliveries, delivers_to}
-use Rattle.ert_mail.specs.Mailboxes.{Mailbox, MailboxStands}
+use Rattle.ert_mail.specs.Mailboxes.{Mailbox, IsSame, MailboxStands}
 
 -- what isn't of a process's mailbox isn't delivered to it
 pub undelivered : (p : ℕ) (e : Entry) → has_actor e (MailOf p) ≡ false → delivers_to p e ≡ false
@@ -45,6 +45,14 @@ stands_at g v e w m n held stands step process has delivered =
       held = has ∙ (sym after ∙ ap (λ p. (state g w.front).mails p) (sym process));
       delivered = delivered ∙ (ap (λ d. d + deliveries m.process (e ∷ [])) stands.delivered ∙ (sym count ∙ ap (λ p. deliveries p w.front) (sym process)));
     }
+
+-- so does one that is what it was but for its room
+pub same_stands : (g : Settings) (h : List Entry) (old new : Mailbox) → IsSame old new → MailboxStands g h old → MailboxStands g h new
+same_stands g h old new same stands = record {
+  in_range = subst (λ p. p < g.processes) (sym same.process) stands.in_range;
+  held = same.held ∙ (stands.held ∙ ap (λ p. (state g h).mails p) (sym same.process));
+  delivered = same.delivered ∙ (stands.delivered ∙ ap (λ p. deliveries p h) (sym same.process));
+}
 
 -- an entry makes this of what a process has
 abbrev pub Turns : Settings → ℕ → Entry → (MailState → MailState) → Type 0

@@ -30,7 +30,8 @@
 //!
 //! **Memory.** A call that may put something makes room first, and takes no step where it finds none. So when
 //! out of memory nothing has changed: a request is still in the hand, and its timer as it was. `take`,
-//! `demonitor` and `pick` take no memory. Messages and requests stand in rings: to put or to take one moves no other.
+//! `demonitor` and `pick` take no memory. `reserve` makes room for messages ahead, and `shrink` gives back what they don't
+//! need. Messages and requests stand in rings: to put or to take one moves no other.
 //!
 //! It stands on `ert_defs`, `ert_laws`, `ert_effects`, `ert_table` and `ert_calls`.
 #![tactic(auto)]

@@ -36,7 +36,7 @@ impl Model for MailPart {
 }
 
 impl MailPart {
-    ghost use Rattle.std.specs.Prelude.{◌<◌, Some, OnOk, OnErr, length};
+    ghost use Rattle.std.specs.Prelude.{◌≢◌, ◌+◌, ◌<◌, ◌≤◌, [], Some, OnOk, OnErr, length};
     ghost use Rattle.ert_defs.specs.Mails.{first_of};
     ghost use Rattle.ert_effects.specs.MailCalls.{HandsOver, Takes};
     ghost use Rattle.ert_effects.specs.RequestCalls.{Answers};
@@ -78,13 +78,34 @@ impl MailPart {
         self.queue.len() as u64
     }
 
-    /// Makes room for one more message.
-    pub fn reserve(&mut self) -> Result<(), NoMemory>
-        ensures room { OnOk result (0 < self.new.room) }
+    /// Makes room for so many more messages: then as many calls of `deliver` and `answer` take no memory, since each takes up
+    /// the room of one at most, and a `take` none.
+    ///
+    /// Out of memory comes only where there wasn't the room.
+    pub fn reserve(&mut self, count: usize) -> Result<(), NoMemory>
+        ensures room { OnOk result (count ≤ self.new.room) }
+        ensures more { self.old.room ≤ self.new.room }
         ensures same { IsSame self.old self.new }
-        ensures memory { OnErr result (self.old.room ≡ 0) }
+        ensures memory { OnErr result (self.old.room < count) }
     {
-        self.queue.reserve(1)?;
+        self.queue.reserve(count)?;
+        Ok(())
+    }
+
+    /// Gives back the memory that its messages don't need: all of it where it has none. They are moved to a smaller block,
+    /// so the work is in proportion to their number.
+    ///
+    /// Out of memory comes only where it has messages and room, and the smaller block couldn't be had.
+    pub fn shrink(&mut self) -> Result<(), NoMemory>
+        ensures room { OnOk result (self.new.room ≡ 0) }
+        ensures less { self.new.room ≤ self.old.room }
+        ensures same { IsSame self.old self.new }
+        ensures memory { OnErr result ((0 < self.old.room) × (self.old.held.queue ≢ [])) }
+    {
+        self.queue.shrink_to_fit();
+        if self.queue.len() < self.queue.capacity() {
+            return Err(NoMemory);
+        }
         Ok(())
     }
 
@@ -96,6 +117,7 @@ impl MailPart {
         ensures belongs { Belongs desk.now pass.new }
         ensures call { IsMade (settings_of desk.now) (view_of pass.old) (Takes (settings_of desk.now) by self.old.process result) (view_of pass.new) }
         ensures taken { IsTaken self.old.held.queue result self.new.held.queue }
+        ensures room { self.old.room ≤ self.new.room }
         ensures process { self.new.process ≡ self.old.process }
         ensures stands { MailboxStands (settings_of desk.now) (front_of pass.new) self.new }
     {
@@ -115,7 +137,8 @@ impl MailPart {
     /// Hands over an expired timer to its process, for its scheduler of which it is the first: its message
     /// is put last, or thrown away where the process is seen to have exited.
     ///
-    /// Out of memory comes only where there was no room. Then no step was taken and nothing has changed.
+    /// It takes up the room of one message at most. Out of memory comes only where there was no room. Then no step was taken
+    /// and nothing has changed.
     #[inline(always)]
     pub fn deliver(
         &mut self,
@@ -133,6 +156,7 @@ impl MailPart {
             (HandsOver (settings_of desk.now) expired.now.timer.wheel expired.now) result (view_of pass.new) }
         ensures sched { (state_of desk.now pass.new).scheds expired.now.timer.wheel ≡ handed result ((state_of desk.now pass.old).scheds expired.now.timer.wheel) }
         ensures memory { OnErr result (self.old.room ≡ 0) }
+        ensures room { self.old.room ≤ self.new.room + 1 }
         ensures err { OnErr result (IsSame self.old self.new) }
         ensures process { self.new.process ≡ self.old.process }
         ensures stands { MailboxStands (settings_of desk.now) (front_of pass.new) self.new }
@@ -149,8 +173,8 @@ impl MailPart {
     /// Answers the request in the hand of a scheduler: cancels or reads its timer, puts the answer last where
     /// one is wanted, empties the hand, and tells the whole milliseconds that were left of the timer.
     ///
-    /// Out of memory comes only where there was no room. Then no step was taken and nothing has changed: the
-    /// request is in the hand, and the timer is as it was.
+    /// It takes up the room of one message at most. Out of memory comes only where there was no room. Then no step was taken
+    /// and nothing has changed: the request is in the hand, and the timer is as it was.
     pub fn answer(
         &mut self,
         desk: &Desk,
@@ -169,6 +193,7 @@ impl MailPart {
         ensures process { self.new.process ≡ self.old.process }
         ensures stands { MailboxStands (settings_of desk.now) (front_of pass.new) self.new }
         ensures memory { OnErr result (self.old.room ≡ 0) }
+        ensures room { self.old.room ≤ self.new.room + 1 }
         ensures err { OnErr result (IsSame self.old self.new) }
     {
         self.queue.reserve(1)?;

@@ -1,5 +1,5 @@
 //! The steps by which an asynchronous request is answered.
-ghost use Rattle.std.specs.Prelude.{◌≡◌, ◌<◌, ◌++◌, true, Some};
+ghost use Rattle.std.specs.Prelude.{◌≡◌, ◌+◌, ◌<◌, ◌≤◌, ◌++◌, true, Some};
 ghost use Rattle.std.specs.VecDeque.{deque_len, deque_capacity};
 ghost use Rattle.ert_effects.specs.RequestCalls.{DoesAsked};
 ghost use Rattle.ert_defs.specs.Mails.{answer_of};
@@ -53,7 +53,9 @@ fn do_asked(desk: &Desk, pass: &mut Pass, sched: u32, request: &Request) -> Opti
 /// Puts the answer to a request last, where one is wanted.
 pub(crate) fn put_answer(queue: &mut VecDeque<Mail>, request: &Request, left: Option<u64>)
     requires { deque_len queue.old < deque_capacity queue.old }
-    ensures { queue.new.items ≡ queue.old.items ++ answer_of request.now left }
+    ensures items { queue.new.items ≡ queue.old.items ++ answer_of request.now left }
+    ensures len { deque_len queue.new ≤ deque_len queue.old + 1 }
+    ensures capacity { deque_capacity queue.new ≡ deque_capacity queue.old }
 {
     if request.info {
         queue.push_back_reserved(Mail::of_answer(request, left));

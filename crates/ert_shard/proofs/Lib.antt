@@ -12,6 +12,7 @@ pub mod Received
 pub mod Rejoined
 pub mod Renewed
 pub mod Requested
+pub mod RoomChanged
 pub mod Returned
 pub mod Seats
 pub mod Served

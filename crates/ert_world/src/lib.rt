@@ -36,6 +36,7 @@
 //! | `turn_some` | a scheduler | the same, and delivers so many expired timers at most | as these three |
 //! | `seats`, `settings`, `published` | | no entry: how many seats were given out, settings and the last published time | constant |
 //! | `held`, `expired`, `mail_count` | | no entry: how many timers a wheel holds, how many expired ones and how many messages wait | constant |
+//! | `reserve_mail`, `shrink_mail` | | no entry: makes room for messages in a mailbox, gives back what its messages don't need | those messages |
 //! | `counts` | | no entry: how many timers have which status | the wheels, the schedulers and the processes |
 //! | `into_parts`, `into_desk` | | no entry: takes a world apart, ends it | constant |
 //! | `Seat::from_parts`, `into_parts` | | no entry: puts a seat together, takes one apart | constant |
@@ -68,10 +69,10 @@
 //! of parts with locks of their own (`ert_service`).
 //!
 //! **Memory.** `start`, `room`, `cancel_timer`, `cancel_all`, `read_timer`, `take`, `take_some`, `exit`, `meet`, the
-//! calls on the clock and all calls of a seat take none. Where there is none, `seat`, `ask`, `monitor`, `notify` and
-//! the first `next_mail` change nothing, `advance` lets
-//! no timer expire, `serve` keeps the request in the hand, `deliver` keeps what wasn't handed over, and of a turn
-//! what was done stays done. So each of them can be made again. No call copies a part.
+//! calls on the clock and all calls of a seat take none. Where there is none, `seat`, `ask`, `monitor`, `notify`,
+//! `reserve_mail`, `shrink_mail` and the first `next_mail` change nothing, `advance` lets no timer expire, `serve` keeps
+//! the request in the hand, `deliver` keeps what wasn't handed over, and of a turn what was done stays done. So each of
+//! them can be made again. No call copies a part.
 //!
 //! It stands on `ert_defs`, `ert_clock`, `ert_effects`, `ert_table`, `ert_calls`, `ert_timers`
 //! and `ert_mail`, and its proofs on the laws of `ert_laws`.
@@ -89,6 +90,7 @@ mod mailing;
 mod meeting;
 mod opening;
 mod parts;
+mod reserving;
 mod restart;
 mod sched_part;
 mod seat;

@@ -108,6 +108,125 @@ static void divide(void) {
     IS(ert_shard_close(&shards[1]), ERT_OK);
 }
 
+/* So many timers of a process expire, with messages that are numbered from one on. */
+static void expire(ert_world *world, uint32_t process, int32_t count, uint64_t from) {
+    ert_advanced advanced;
+    for (int32_t it = 0; it < count; it++) {
+        ert_start start = {.when = 0, .msg = from + (uint64_t)it, .dest = process};
+        IS(ert_world_start(world, 0, &start, &timer), ERT_OK);
+    }
+    IS(ert_world_advance(world, 0, &advanced), ERT_OK);
+    IS((int32_t)advanced.expired, count);
+}
+
+/* A delivery while no allocation succeeds. */
+static void deliver(ert_world *world, int32_t status) {
+    ert_delivered delivered;
+    succeed = 0;
+    IS(ert_world_deliver(world, 0, &delivered), status);
+    succeed = -1;
+}
+
+/* Messages of a process come in the order of their numbers, and then there is none. */
+static void take(ert_world *world, uint32_t process, int32_t count, uint64_t from) {
+    ert_mail mail;
+    for (int32_t it = 0; it < count; it++) {
+        IS(ert_world_take(world, process, &mail), ERT_OK);
+        IS(mail.msg == from + (uint64_t)it, 1);
+    }
+}
+
+#define BURST 1000
+#define REST 10
+
+/* Where there is room in a mailbox its messages need no memory, and where it was given back they do. */
+static void room_of_a_mailbox(void) {
+    ert_settings roomy = settings;
+    ert_world world = ERT_INIT;
+    ert_delivered delivered;
+    ert_mail mail;
+    roomy.slots = BURST;
+    IS(ert_world_open(&world, &roomy), ERT_OK);
+    expire(&world, 1, BURST, 0);
+    deliver(&world, ERT_NO_MEMORY);
+    succeed = 0;
+    IS(ert_world_reserve_mail(&world, 1, BURST), ERT_NO_MEMORY);
+    succeed = -1;
+    IS(ert_world_reserve_mail(&world, 1, SIZE_MAX), ERT_NO_MEMORY);
+    IS(ert_world_reserve_mail(&world, 0, BURST), ERT_OK);
+    deliver(&world, ERT_NO_MEMORY); /* that is the room of another process */
+    IS(ert_world_reserve_mail(&world, 1, BURST), ERT_OK);
+    succeed = 0;
+    IS(ert_world_reserve_mail(&world, 1, BURST), ERT_OK); /* there is the room */
+    deliver(&world, ERT_OK);
+    take(&world, 1, BURST - REST, 0);
+    succeed = 0;
+    IS(ert_world_shrink_mail(&world, 1), ERT_NO_MEMORY);
+    succeed = -1;
+    IS(ert_world_shrink_mail(&world, 1), ERT_OK);
+    succeed = 0;
+    IS(ert_world_shrink_mail(&world, 1), ERT_OK); /* there is nothing to give back */
+    succeed = -1;
+    expire(&world, 1, 1, BURST);
+    deliver(&world, ERT_NO_MEMORY);
+    IS(ert_world_deliver(&world, 0, &delivered), ERT_OK);
+    take(&world, 1, REST + 1, BURST - REST);
+    IS(ert_world_take(&world, 1, &mail), ERT_EMPTY);
+    succeed = 0;
+    IS(ert_world_shrink_mail(&world, 1), ERT_OK); /* without messages it takes no memory */
+    succeed = -1;
+    expire(&world, 1, 1, 0);
+    deliver(&world, ERT_NO_MEMORY);
+    IS(ert_world_close(&world), ERT_OK);
+}
+
+/* The same of a shard, whose processes aren't counted from 0. */
+static void room_of_a_shard(void) {
+    ert_settings divided = settings;
+    ert_hub hub = ERT_INIT;
+    ert_shard shard = ERT_INIT;
+    ert_delivered delivered;
+    ert_advanced advanced;
+    ert_mail mail;
+    divided.callers = 3;
+    divided.processes = 4;
+    IS(ert_hub_open(&hub, &divided), ERT_OK);
+    IS(ert_hub_shard(&hub, &shard, 2), ERT_OK);
+    for (uint32_t process = 2; process < 4; process++) {
+        ert_start start = {.when = 0, .msg = process, .dest = process};
+        IS(ert_shard_start(&shard, &start, &timer), ERT_OK);
+    }
+    IS(ert_shard_advance(&shard, &advanced), ERT_OK);
+    IS(ert_shard_reserve_mail(&shard, 2, 1), ERT_OK);
+    succeed = 0;
+    IS(ert_shard_deliver(&shard, &delivered), ERT_NO_MEMORY);
+    IS(ert_shard_take(&shard, 2, &mail), ERT_OK);
+    IS(ert_shard_take(&shard, 3, &mail), ERT_EMPTY);
+    IS(ert_shard_reserve_mail(&shard, 3, 1), ERT_NO_MEMORY);
+    succeed = -1;
+    IS(ert_shard_reserve_mail(&shard, 3, SIZE_MAX), ERT_NO_MEMORY);
+    IS(ert_shard_reserve_mail(&shard, 3, 1), ERT_OK);
+    IS(ert_shard_shrink_mail(&shard, 2), ERT_OK);
+    succeed = 0;
+    IS(ert_shard_deliver(&shard, &delivered), ERT_OK);
+    IS((int32_t)delivered.put, 1);
+    IS(ert_shard_take(&shard, 3, &mail), ERT_OK);
+    IS((int32_t)mail.msg, 3);
+    IS(ert_shard_shrink_mail(&shard, 3), ERT_OK);
+    succeed = -1;
+    for (uint32_t process = 2; process < 4; process++) {
+        ert_start start = {.when = 0, .msg = process, .dest = process};
+        IS(ert_shard_start(&shard, &start, &timer), ERT_OK);
+        IS(ert_shard_advance(&shard, &advanced), ERT_OK);
+        succeed = 0;
+        IS(ert_shard_deliver(&shard, &delivered), ERT_NO_MEMORY); /* both gave back what they had */
+        succeed = -1;
+        IS(ert_shard_deliver(&shard, &delivered), ERT_OK);
+    }
+    IS(ert_shard_close(&shard), ERT_OK);
+    IS(ert_hub_close(&hub), ERT_OK);
+}
+
 int main(void) {
     ert_world world = ERT_INIT;
     long refused = 0;
@@ -146,6 +265,8 @@ int main(void) {
     IS(ert_world_close(&world), ERT_OK);
     IS(ert_seat_close(&seat), ERT_OK);
     divide();
+    room_of_a_mailbox();
+    room_of_a_shard();
     puts("each call could be made again");
     return EXIT_SUCCESS;
 }

@@ -85,6 +85,8 @@ static void closed_handles(void) {
     IS(ert_shard_take(&s, 9, &mail), ERT_CLOSED);
     IS(ert_shard_take_some(&s, 9, &mail, 1, &taken), ERT_CLOSED);
     IS(ert_shard_next_mail(&s, &n), ERT_CLOSED);
+    IS(ert_shard_reserve_mail(&s, 9, 1), ERT_CLOSED);
+    IS(ert_shard_shrink_mail(&s, 9), ERT_CLOSED);
     IS(ert_shard_ask(&s, &request), ERT_CLOSED);
     IS(ert_shard_serve(&s, &n), ERT_CLOSED);
     IS(ert_shard_monitor(&s, 9, &n), ERT_CLOSED);
@@ -407,6 +409,11 @@ static void mail_of_many(void) {
     IS(ert_shard_take_some(&d.high, 2, mails, 2, &taken), ERT_RANGE);
     IS(ert_shard_take_some(&d.high, 5, mails, 2, &taken), ERT_RANGE);
     IS(taken, 7);
+    IS(ert_shard_reserve_mail(&d.high, 2, 1), ERT_RANGE);
+    IS(ert_shard_reserve_mail(&d.high, 5, 1), ERT_RANGE);
+    IS(ert_shard_shrink_mail(&d.high, 2), ERT_RANGE);
+    IS(ert_shard_shrink_mail(&d.high, 5), ERT_RANGE);
+    IS(ert_shard_reserve_mail(&d.high, 3, 100), ERT_OK);
     IS(ert_shard_take_some(&d.high, 3, mails, 2, &taken), ERT_EMPTY);
     IS(taken, 0);
     start(&d.high, 0, 3, 1);
@@ -427,6 +434,7 @@ static void mail_of_many(void) {
     IS(ert_shard_take_some(&d.high, 3, mails, 1, &taken), ERT_OK);
     IS(taken, 1);
     IS(mails[0].msg, 1);
+    IS(ert_shard_shrink_mail(&d.high, 3), ERT_OK);
     IS(ert_shard_take_some(&d.high, 3, mails, 2, &taken), ERT_EMPTY);
     IS(taken, 1);
     IS(mails[0].msg, 2);

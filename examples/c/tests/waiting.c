@@ -10,6 +10,7 @@
 #define TIMERS 10
 #define MANY 65536
 #define PIECE 256
+#define BURST 1000
 
 static int failed;
 
@@ -72,6 +73,8 @@ static void refusals(void) {
     IS(ert_world_turn_some(&world, 0, 1, &some), ERT_CLOSED);
     IS(ert_world_take_some(&world, 0, mails, 2, &taken), ERT_CLOSED);
     IS(ert_world_next_mail(&world, &process), ERT_CLOSED);
+    IS(ert_world_reserve_mail(&world, 0, 1), ERT_CLOSED);
+    IS(ert_world_shrink_mail(&world, 0), ERT_CLOSED);
     IS(ert_world_cancel_all(&world, 0, &count), ERT_CLOSED);
     opened(&world, 1);
     IS(ert_world_restart(&world, &timer, &start), ERT_RANGE);
@@ -80,6 +83,8 @@ static void refusals(void) {
     IS(ert_world_mail_count(&world, 2, &count), ERT_RANGE);
     IS(ert_world_turn_some(&world, 1, 1, &some), ERT_RANGE);
     IS(ert_world_take_some(&world, 2, mails, 2, &taken), ERT_RANGE);
+    IS(ert_world_reserve_mail(&world, 2, 1), ERT_RANGE);
+    IS(ert_world_shrink_mail(&world, 2), ERT_RANGE);
     IS(ert_world_cancel_all(&world, 2, &count), ERT_RANGE);
     IS(ert_world_next_mail(&world, &process), ERT_EMPTY);
     IS(process, 7);
@@ -308,6 +313,50 @@ static void mail_is_found(void) {
     IS(ert_world_close(&world), ERT_OK);
 }
 
+/* Room that is made and given back changes no answer: of two services that make the same calls one also makes these. */
+static void room_changes_nothing(void) {
+    static ert_mail mails[2][BURST + TIMERS + 1];
+    ert_world worlds[2] = {ERT_INIT, ERT_INIT};
+    size_t taken[2];
+    for (int it = 0; it < 2; it += 1) {
+        ert_world *world = &worlds[it];
+        opened(world, BURST);
+        if (it == 1) {
+            IS(ert_world_reserve_mail(world, 1, BURST), ERT_OK);
+            IS(ert_world_reserve_mail(world, 1, SIZE_MAX), ERT_NO_MEMORY);
+            IS(ert_world_reserve_mail(world, 1, 0), ERT_OK);
+        }
+        send(world, 1, BURST, 1);
+        IS(in_mailbox(world, 1), BURST);
+        IS(ert_world_take_some(world, 1, mails[it], BURST - TIMERS, &taken[it]), ERT_OK);
+        if (it == 1) {
+            IS(ert_world_shrink_mail(world, 1), ERT_OK);
+            IS(ert_world_shrink_mail(world, 0), ERT_OK);
+        }
+        IS(in_mailbox(world, 1), TIMERS);
+        send(world, 1, TIMERS, 2);
+        if (it == 1) {
+            IS(ert_world_reserve_mail(world, 1, BURST), ERT_OK);
+            IS(ert_world_shrink_mail(world, 1), ERT_OK);
+        }
+        IS(with_mail(world), 1);
+        IS(ert_world_take_some(world, 1, mails[it] + BURST - TIMERS, 2 * TIMERS + 1, &taken[it]), ERT_EMPTY);
+        IS(taken[it], 2 * TIMERS);
+        if (it == 1) {
+            IS(ert_world_shrink_mail(world, 1), ERT_OK);
+        }
+        IS(in_mailbox(world, 1), 0);
+        IS(ert_world_close(world), ERT_OK);
+    }
+    for (size_t it = 0; it < BURST + TIMERS; it += 1) {
+        IS(mails[1][it].tag, ERT_TIMEOUT);
+        IS(mails[1][it].msg, 200 + it % BURST);
+        IS(mails[0][it].msg, mails[1][it].msg);
+        IS(mails[1][it].timer.slot, mails[0][it].timer.slot);
+        IS(mails[1][it].timer.generation, mails[0][it].timer.generation);
+    }
+}
+
 /* A loop that takes until no process is found ends, also where a process exits in it with messages in its mailbox. */
 static void loop_ends(void) {
     ert_world world = ERT_INIT;
@@ -399,11 +448,12 @@ int main(void) {
     late_ones_in_order();
     beside_a_seat();
     mail_is_found();
+    room_changes_nothing();
     loop_ends();
     all_are_cancelled();
     if (failed != 0) {
         return EXIT_FAILURE;
     }
-    puts("restarts, counts, turns with a bound, mail that is found and cancels of all are as they must be");
+    puts("restarts, counts, turns with a bound, mail that is found, its room and cancels of all are as they must be");
     return EXIT_SUCCESS;
 }

@@ -1,0 +1,30 @@
+//! The calls of a shard that make room in a mailbox, and give it back. Neither makes an entry.
+use crate::shard::Shard;
+use ert_defs::NoMemory;
+
+impl Shard {
+    ghost use Rattle.std.specs.Prelude.{◌≡◌};
+    ghost use Rattle.ert_shard.specs.Shards.{IsHome};
+
+    /// Makes room in the mailbox of a process of the shard for so many more messages: `deliver` and `serve` put as many there
+    /// without memory.
+    ///
+    /// If memory runs out, nothing has changed.
+    pub fn reserve_mail(&mut self, process: u32, count: usize) -> Result<(), NoMemory>
+        requires { IsHome self.old.share process }
+        ensures { self.new ≡ self.old }
+    {
+        self.mails[(process - self.from) as usize].reserve(count)
+    }
+
+    /// Gives back the memory of the mailbox of a process of the shard that its messages don't need: all of it where it has
+    /// none. The work is in proportion to its messages.
+    ///
+    /// Out of memory comes where the smaller block for these couldn't be had; nothing has changed.
+    pub fn shrink_mail(&mut self, process: u32) -> Result<(), NoMemory>
+        requires { IsHome self.old.share process }
+        ensures { self.new ≡ self.old }
+    {
+        self.mails[(process - self.from) as usize].shrink()
+    }
+}

@@ -1,0 +1,42 @@
+-- The room of a mailbox changes, and nothing else.
+
+use Rattle.std.proofs.Common.{◌≡◌, ℕ, ◌<◌, Bool, List, [], ◌∷◌, length, Option, slice_index_or, refl, sym, ap, subst, ◌∙◌}
+use Rattle.std.specs.Prelude.{slice_set}
+use Rattle.ert_defs.specs.Mails.{MailState}
+use Rattle.ert_defs.specs.States.{state}
+use Rattle.ert_defs.specs.declared.entry.Actor.TheVariants.{MailOf}
+use Rattle.ert_defs.specs.declared.entry.Entry.{Entry}
+use Rattle.ert_defs.specs.declared.settings.Settings.{Settings}
+use Rattle.ert_mail.proofs.Standing.{same_stands}
+use Rattle.ert_mail.specs.Mailboxes.{Mailbox, IsSame, MailboxStands as MailStands}
+use Rattle.ert_table.specs.Desks.{settings_of, front_of}
+use Rattle.ert_table.specs.declared.desk.Desk.{Desk}
+use Rattle.ert_table.specs.declared.desk.Pass.{Pass}
+use Rattle.ert_world.proofs.Calls.{mail_named}
+use Rattle.ert_world.proofs.Listed.{listed_kept}
+use Rattle.ert_world.proofs.Returned.{lend, mail_back}
+use Rattle.ert_world.specs.Parts.{AllParts, Stand}
+use Rattle.ert_world.specs.Worlds.{AreKept}
+
+-- a world keeps its parts where a mailbox is what it was but for its room
+pub room_changed : (d : Desk) (p : Pass) (next : ℕ) (parts : AllParts) (list : Option (List Bool)) (i : ℕ) (old new : Mailbox) → AreKept d p next parts list
+    → i < (settings_of d).processes → old ≡ slice_index_or parts.mails i old → IsSame old new
+    → AreKept d p next (record parts { mails = slice_set parts.mails i new }) list
+room_changed d p next parts list i old new kept low lent same =
+    let g : Settings = settings_of d in
+    let h : List Entry = front_of p in
+    let stand : Stand g h [] parts = kept.sound.fit.stand in
+    let named : new.process ≡ i = same.process ∙ mail_named g h [] parts i old stand low lent in
+    let stands : MailStands g h new = same_stands g h old new same (subst (MailStands g h) (sym lent) (stand.mails.stand i old low refl)) in
+    let within : i < length parts.mails = rw stand.mails.counted low in
+    record {
+      sound = record {
+        fit = record {
+          belongs = kept.sound.fit.belongs;
+          holds = kept.sound.fit.holds;
+          stand = mail_back g h [] parts i new low named stands (lend g h (MailOf i ∷ []) parts stand);
+        };
+        tidy = kept.sound.tidy;
+      };
+      listed = listed_kept (state g h) list parts.mails i old new kept.listed within lent (λ some none. some (ap (λ (m : MailState). m.queue) same.held ∙ none));
+    }
