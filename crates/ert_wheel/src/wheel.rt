@@ -168,7 +168,7 @@ impl<T: Copy> Wheel<T> {
     /// Puts a row in, with a value of its slot. The slot has no row, and the order is above that of every row that is
     /// held.
     ///
-    /// A row whose deadline was passed already is given by the next advance. A deadline is at most 2^45 - 2.
+    /// A row whose deadline was passed already is given by the next advance. A deadline is at most `LAST`.
     #[inline]
     pub fn insert(&mut self, row: Row, value: T)
         requires slot { row.slot < self.old.owners.written }
