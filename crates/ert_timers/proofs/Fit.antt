@@ -23,17 +23,16 @@ pub set_none : (keys : List (Option Key)) (k : ℕ) → key_in keys k ≡ None �
 set_none keys k vacant = subst (λ key. set keys k key ≡ keys) vacant (set-get_or keys k None)
 
 -- the row of a slot goes, and the slot stays in its chain
-unfoldable pub fit_dropped : (processes : ℕ) (slots : List Slot) (keys : List (Option Key)) (free : FreeSet) (owners : Rings) (a x o k : ℕ) (key : Key)
-    → AreFieldsFit processes slots keys free owners a x o → key_in keys k ≡ Some key
-    → AreFieldsFit processes slots (set keys k None) free owners a x o
-fit_dropped processes slots keys free owners a x o k key fit held =
+unfoldable pub fit_dropped : (slots : List Slot) (keys : List (Option Key)) (free : FreeSet) (owners : Rings) (a x o k : ℕ) (key : Key)
+    → AreFieldsFit slots keys free owners a x o → key_in keys k ≡ Some key
+    → AreFieldsFit slots (set keys k None) free owners a x o
+fit_dropped slots keys free owners a x o k key fit held =
     let low : k < length keys = key_low keys k key held in
     record {
       few = fit.few;
       wide = length-set keys k None ∙ fit.wide;
       all_slots = fit.all_slots;
       owned = fit.owned;
-      homes = fit.homes;
       few_homes = fit.few_homes;
       vacant = λ j is. at j (fit.vacant j is) low;
       below = fit.below;
@@ -58,51 +57,50 @@ fit_dropped processes slots keys free owners a x o k key fit held =
         ]
 
 -- so the places are as they were
-pub same_places : (processes : ℕ) (slots : List Slot) (keys : List (Option Key)) (free : FreeSet) (owners : Rings) (a x o k : ℕ) (key : Key)
-    (fit : AreFieldsFit processes slots keys free owners a x o) (held : key_in keys k ≡ Some key)
-    → fit.chained.places ≡ (fit_dropped processes slots keys free owners a x o k key fit held).chained.places
+pub same_places : (slots : List Slot) (keys : List (Option Key)) (free : FreeSet) (owners : Rings) (a x o k : ℕ) (key : Key)
+    (fit : AreFieldsFit slots keys free owners a x o) (held : key_in keys k ≡ Some key)
+    → fit.chained.places ≡ (fit_dropped slots keys free owners a x o k key fit held).chained.places
 unfolding fit_dropped
-same_places processes slots keys free owners a x o k key fit held = refl
+same_places slots keys free owners a x o k key fit held = refl
 
 -- with other chains
-pub fit_owned : (processes : ℕ) (slots : List Slot) (keys : List (Option Key)) (free : FreeSet) (owners new : Rings) (a x o : ℕ)
-    → AreFieldsFit processes slots keys free owners a x o → new.slots ≡ owners.slots → new.homes ≡ owners.homes → AreOwned slots keys new a
-    → AreFieldsFit processes slots keys free new a x o
-fit_owned processes slots keys free owners new a x o fit same homes are = record {
+pub fit_owned : (slots : List Slot) (keys : List (Option Key)) (free : FreeSet) (owners new : Rings) (a x o : ℕ)
+    → AreFieldsFit slots keys free owners a x o → new.slots ≡ owners.slots → new.homes ≡ owners.homes → AreOwned slots keys new a
+    → AreFieldsFit slots keys free new a x o
+fit_owned slots keys free owners new a x o fit same homes are = record {
   few = fit.few;
   wide = fit.wide;
   all_slots = fit.all_slots;
   owned = same ∙ fit.owned;
-  homes = omega (arith, homes, fit.homes);
-  few_homes = fit.few_homes;
+  few_homes = omega (arith, homes, fit.few_homes);
   vacant = fit.vacant;
   below = fit.below;
   few_arms = fit.few_arms;
   tally = fit.tally;
   orders = fit.orders;
-  dests = fit.dests;
+  dests = λ j key is. omega (arith, homes, fit.dests j key is);
   chained = are;
 }
 
 -- the row of a slot goes, where it has one
-pub fit_removed : (processes : ℕ) (slots : List Slot) (keys left : List (Option Key)) (free : FreeSet) (owners new : Rings) (a x o k : ℕ)
-    → AreFieldsFit processes slots keys free owners a x o → left ≡ set keys k None → new ≡ owners → AreFieldsFit processes slots left free new a x o
-fit_removed processes slots keys left free owners new a x o k fit is same =
-    subst (λ ks. AreFieldsFit processes slots ks free new a x o) (sym is)
-    (subst (λ r. AreFieldsFit processes slots (set keys k None) free r a x o) (sym same) (at (key_in keys k) refl))
+pub fit_removed : (slots : List Slot) (keys left : List (Option Key)) (free : FreeSet) (owners new : Rings) (a x o k : ℕ)
+    → AreFieldsFit slots keys free owners a x o → left ≡ set keys k None → new ≡ owners → AreFieldsFit slots left free new a x o
+fit_removed slots keys left free owners new a x o k fit is same =
+    subst (λ ks. AreFieldsFit slots ks free new a x o) (sym is)
+    (subst (λ r. AreFieldsFit slots (set keys k None) free r a x o) (sym same) (at (key_in keys k) refl))
   where
-    at : (o' : Option Key) → key_in keys k ≡ o' → AreFieldsFit processes slots (set keys k None) free owners a x o
-    at None none = subst (λ ks. AreFieldsFit processes slots ks free owners a x o) (sym (set_none keys k none)) fit
-    at (Some key) held = fit_dropped processes slots keys free owners a x o k key fit held
+    at : (o' : Option Key) → key_in keys k ≡ o' → AreFieldsFit slots (set keys k None) free owners a x o
+    at None none = subst (λ ks. AreFieldsFit slots ks free owners a x o) (sym (set_none keys k none)) fit
+    at (Some key) held = fit_dropped slots keys free owners a x o k key fit held
 
 -- the chains have each slot
-pub may_leave : (processes : ℕ) (slots : List Slot) (keys : List (Option Key)) (free : FreeSet) (owners : Rings) (a x o k : ℕ)
-    → AreFieldsFit processes slots keys free owners a x o → k < length slots → MayTake owners k
-may_leave processes slots keys free owners a x o k fit low =
+pub may_leave : (slots : List Slot) (keys : List (Option Key)) (free : FreeSet) (owners : Rings) (a x o k : ℕ)
+    → AreFieldsFit slots keys free owners a x o → k < length slots → MayTake owners k
+may_leave slots keys free owners a x o k fit low =
     record { places = fit.chained.places; are = fit.chained.are; low = omega (arith, fit.owned) }
 
 -- a slot with a row isn't held free, and less is counted once the row has gone
-pub fit_lost : (p : Part) (owners : Rings) (free : FreeSet) (k : ℕ) (key : Key) → AreFieldsFit p.processes p.slots p.keys free owners p.arms p.expires p.orphans
+pub fit_lost : (p : Part) (owners : Rings) (free : FreeSet) (k : ℕ) (key : Key) → AreFieldsFit p.slots p.keys free owners p.arms p.expires p.orphans
     → free.held ≡ p.free → key_in p.keys k ≡ Some key → LostRow (dropped p k) k
 fit_lost p owners free k key fit same held =
     let low : k < length p.keys = key_low p.keys k key held in
@@ -132,15 +130,14 @@ none_key None not = refl
 none_key (Some key) not = absurd (not refl)
 
 -- with other counts, which are few enough
-pub fit_counted : (processes : ℕ) (slots : List Slot) (keys : List (Option Key)) (free : FreeSet) (owners : Rings) (a x o y p : ℕ)
-    → AreFieldsFit processes slots keys free owners a x o → (y + p) + count_by is_some keys ≤ a
-    → AreFieldsFit processes slots keys free owners a y p
-fit_counted processes slots keys free owners a x o y p fit few = record {
+pub fit_counted : (slots : List Slot) (keys : List (Option Key)) (free : FreeSet) (owners : Rings) (a x o y p : ℕ)
+    → AreFieldsFit slots keys free owners a x o → (y + p) + count_by is_some keys ≤ a
+    → AreFieldsFit slots keys free owners a y p
+fit_counted slots keys free owners a x o y p fit few = record {
   few = fit.few;
   wide = fit.wide;
   all_slots = fit.all_slots;
   owned = fit.owned;
-  homes = fit.homes;
   few_homes = fit.few_homes;
   vacant = fit.vacant;
   below = fit.below;
@@ -152,16 +149,15 @@ fit_counted processes slots keys free owners a x o y p fit few = record {
 }
 
 -- with other free slots, which were free before or can be
-pub fit_free : (processes : ℕ) (slots : List Slot) (keys : List (Option Key)) (free new : FreeSet) (owners : Rings) (a x o : ℕ)
-    → AreFieldsFit processes slots keys free owners a x o → new.slots ≡ free.slots
+pub fit_free : (slots : List Slot) (keys : List (Option Key)) (free new : FreeSet) (owners : Rings) (a x o : ℕ)
+    → AreFieldsFit slots keys free owners a x o → new.slots ≡ free.slots
     → ((j : ℕ) → sets.contains new.held j ≡ true → (key_in keys j ≡ None) × (j < length slots))
-    → AreFieldsFit processes slots keys new owners a x o
-fit_free processes slots keys free new owners a x o fit same can = record {
+    → AreFieldsFit slots keys new owners a x o
+fit_free slots keys free new owners a x o fit same can = record {
   few = fit.few;
   wide = fit.wide;
   all_slots = same ∙ fit.all_slots;
   owned = fit.owned;
-  homes = fit.homes;
   few_homes = fit.few_homes;
   vacant = λ j is. (can j is).0;
   below = λ j is. (can j is).1;
@@ -180,12 +176,12 @@ or_cases : (b c : Bool) (P : Type 0) → (b ≡ true → P) → (c ≡ true → 
 or_cases true c P f h is = f refl
 or_cases false c P f h is = h is
 
-pub fit_put : (processes : ℕ) (slots : List Slot) (keys : List (Option Key)) (free new : FreeSet) (owners : Rings) (a x o k : ℕ)
-    → AreFieldsFit processes slots keys free owners a x o → new ≡ record free { held = sets.insert free.held k }
+pub fit_put : (slots : List Slot) (keys : List (Option Key)) (free new : FreeSet) (owners : Rings) (a x o k : ℕ)
+    → AreFieldsFit slots keys free owners a x o → new ≡ record free { held = sets.insert free.held k }
     → k < length slots → key_in keys k ≡ None
-    → AreFieldsFit processes slots keys new owners a x o
-fit_put processes slots keys free new owners a x o k fit is low vacant =
-    fit_free processes slots keys free new owners a x o fit (ap (λ (f : FreeSet). f.slots) is) (λ j held.
+    → AreFieldsFit slots keys new owners a x o
+fit_put slots keys free new owners a x o k fit is low vacant =
+    fit_free slots keys free new owners a x o fit (ap (λ (f : FreeSet). f.slots) is) (λ j held.
     or_cases (nat_eq j k) (sets.contains free.held j) ((key_in keys j ≡ None) × (j < length slots))
     (λ same. (let e : k ≡ j = sym (eqb-true j k same) in (
       subst (λ n. key_in keys n ≡ None) e vacant,
@@ -243,11 +239,11 @@ some_left s k None empty =
     absurd cc
 some_left s k (Some x) empty = refl
 
-pub fit_picked : (processes : ℕ) (slots : List Slot) (keys : List (Option Key)) (free new : FreeSet) (owners : Rings) (a x o k : ℕ)
-    → AreFieldsFit processes slots keys free owners a x o → new ≡ record free { held = sets.remove free.held k }
-    → AreFieldsFit processes slots keys new owners a x o
-fit_picked processes slots keys free new owners a x o k fit is =
-    fit_free processes slots keys free new owners a x o fit (ap (λ (f : FreeSet). f.slots) is) (λ j held.
+pub fit_picked : (slots : List Slot) (keys : List (Option Key)) (free new : FreeSet) (owners : Rings) (a x o k : ℕ)
+    → AreFieldsFit slots keys free owners a x o → new ≡ record free { held = sets.remove free.held k }
+    → AreFieldsFit slots keys new owners a x o
+fit_picked slots keys free new owners a x o k fit is =
+    fit_free slots keys free new owners a x o fit (ap (λ (f : FreeSet). f.slots) is) (λ j held.
     let was : sets.contains free.held j ≡ true =
     taken_was free.held k j (ap (λ (f : FreeSet). sets.contains f.held j) (sym is) ∙ held) in
     (fit.vacant j was, fit.below j was))

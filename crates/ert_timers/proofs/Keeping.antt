@@ -106,10 +106,10 @@ owned_kept slots keys owners new a k slot key are low wide joins =
 
 -- a timer is put in
 pub fit_kept : (p : Part) (free : FreeSet) (owners new : Rings) (k : ℕ) (start : Start) (next : Use)
-    (fit : AreFieldsFit p.processes p.slots p.keys free owners p.arms p.expires p.orphans) → free.held ≡ p.free → MayBecomeFree p k
-    → p.arms < 9007199254740992 → start.dest < p.processes → new.slots ≡ owners.slots → new.homes ≡ owners.homes
+    (fit : AreFieldsFit p.slots p.keys free owners p.arms p.expires p.orphans) → free.held ≡ p.free → MayBecomeFree p k
+    → p.arms < 9007199254740992 → start.dest < owners.homes → new.slots ≡ owners.slots → new.homes ≡ owners.homes
     → Joins new fit.chained.places k start.dest p.arms
-    → let q = kept p k start next in AreFieldsFit q.processes q.slots q.keys free new q.arms q.expires q.orphans
+    → let q = kept p k start next in AreFieldsFit q.slots q.keys free new q.arms q.expires q.orphans
 fit_kept p free owners new k start next fit same can few dest slots homes joins =
     let slot : Slot = slot_for next (slot_at p.slots k).above start in
     let key : Key = record { deadline = next.deadline; order = p.arms } in
@@ -119,8 +119,7 @@ fit_kept p free owners new k start next fit same can few dest slots homes joins 
       wide = length-set p.keys k (Some key) ∙ (fit.wide ∙ sym (length-set p.slots k slot));
       all_slots = fit.all_slots ∙ sym (length-set p.slots k slot);
       owned = slots ∙ (fit.owned ∙ sym (length-set p.slots k slot));
-      homes = omega (arith, homes, fit.homes);
-      few_homes = fit.few_homes;
+      few_homes = omega (arith, homes, fit.few_homes);
       vacant = λ j is. get_or-set_other p.keys k j (Some key) None (other_free j is) ∙ fit.vacant j is;
       below = λ j is. subst (λ n. j < n) (sym (length-set p.slots k slot)) (fit.below j is);
       few_arms = omega (arith, few);
@@ -132,10 +131,10 @@ fit_kept p free owners new k start next fit same can few dest slots homes joins 
           ];
       dests = λ j seen is.
           elim (cases_eq j k) [
-            | inl here ↦ subst (λ (s : Slot). s.dest < p.processes)
-                (sym (ap (slot_at (set p.slots k slot)) here ∙ get_or-set_same p.slots k slot unused can.low)) dest
-            | inr other ↦ subst (λ (s : Slot). s.dest < p.processes) (sym (slot_other p.slots k j slot other))
-                (fit.dests j seen (key_kept p.keys k j key seen wide is other))
+            | inl here ↦ subst (λ (s : Slot). s.dest < new.homes)
+                (sym (ap (slot_at (set p.slots k slot)) here ∙ get_or-set_same p.slots k slot unused can.low)) (omega (arith, homes, dest))
+            | inr other ↦ subst (λ (s : Slot). s.dest < new.homes) (sym (slot_other p.slots k j slot other))
+                (omega (arith, homes, fit.dests j seen (key_kept p.keys k j key seen wide is other)))
           ];
       chained = owned_kept p.slots p.keys owners new p.arms k slot key fit.chained can.low wide joins;
     }
@@ -167,7 +166,7 @@ owned_thinned slots keys owners new a left are t = record {
 
 -- the newest row of a process is one that was found in its chain
 pub next_found : (p : Part) (free : FreeSet) (owners new : Rings) (process : ℕ) (found : Option Row)
-    (fit : AreFieldsFit p.processes p.slots p.keys free owners p.arms p.expires p.orphans)
+    (fit : AreFieldsFit p.slots p.keys free owners p.arms p.expires p.orphans)
     → FindsRow p.keys fit.chained.places process new found → NextOf p process found
 next_found p free owners new process None fit finds = λ k key is dest.
     let s = fit.chained.held k key is in
@@ -191,7 +190,7 @@ next_found p free owners new process (Some row) fit finds =
     )
 
 -- what a slot that was held free can be used for
-pub picked_free : (p : Part) (free : FreeSet) (owners : Rings) (k : ℕ) → AreFieldsFit p.processes p.slots p.keys free owners p.arms p.expires p.orphans
+pub picked_free : (p : Part) (free : FreeSet) (owners : Rings) (k : ℕ) → AreFieldsFit p.slots p.keys free owners p.arms p.expires p.orphans
     → free.held ≡ p.free → sets.contains free.held k ≡ true → MayBecomeFree (picked p k) k
 picked_free p free owners k fit same held = record {
   low = fit.below k held;
@@ -199,12 +198,12 @@ picked_free p free owners k fit same held = record {
   away = taken_out p.free k;
 }
 
-pub pick_fit : (p : Part) (free new : FreeSet) (owners : Rings) (o : Option ℕ) → AreFieldsFit p.processes p.slots p.keys free owners p.arms p.expires p.orphans
+pub pick_fit : (p : Part) (free new : FreeSet) (owners : Rings) (o : Option ℕ) → AreFieldsFit p.slots p.keys free owners p.arms p.expires p.orphans
     → IfNone o (new ≡ free) → IfSome o (λ k. new ≡ record free { held = sets.remove free.held k })
-    → AreFieldsFit p.processes p.slots p.keys new owners p.arms p.expires p.orphans
+    → AreFieldsFit p.slots p.keys new owners p.arms p.expires p.orphans
 pick_fit p free new owners None fit same taken =
-    subst (λ f. AreFieldsFit p.processes p.slots p.keys f owners p.arms p.expires p.orphans) (sym same) fit
-pick_fit p free new owners (Some k) fit same taken = fit_picked p.processes p.slots p.keys free new owners p.arms p.expires p.orphans k fit taken
+    subst (λ f. AreFieldsFit p.slots p.keys f owners p.arms p.expires p.orphans) (sym same) fit
+pick_fit p free new owners (Some k) fit same taken = fit_picked p.slots p.keys free new owners p.arms p.expires p.orphans k fit taken
 
 pub pick_none : (s : sets.FinSet nat_cmp) (o : Option ℕ) → (IsNone o → s ≡ sets.empty)
     → IfNone o ((slot : ℕ) → sets.contains s slot ≡ false)
@@ -223,7 +222,7 @@ pub if_some : (o : Option ℕ) (P : Type 0) → IsSome o → IfNone o P
 if_some None P some = absurd cc
 if_some (Some k) P some = tt
 
-pub pick_usable : (p : Part) (free new : FreeSet) (owners : Rings) (o : Option ℕ) → AreFieldsFit p.processes p.slots p.keys free owners p.arms p.expires p.orphans
+pub pick_usable : (p : Part) (free new : FreeSet) (owners : Rings) (o : Option ℕ) → AreFieldsFit p.slots p.keys free owners p.arms p.expires p.orphans
     → free.held ≡ p.free → IfSome o (λ k. sets.contains free.held k ≡ true)
     → IfSome o (λ k. new ≡ record free { held = sets.remove free.held k }) → IfSome o (MayBecomeFree (record p { free = new.held }))
 pick_usable p free new owners None fit same held taken = tt

@@ -36,11 +36,11 @@ slot_nowhere n k =
 no_keys : (n : ℕ) → count_by is_some (let keys : List (Option Key) = replicate n None in keys) ≡ 0
 no_keys n = omega (arith, sum_by-replicate (λ (o : Option Key). cond (is_some o) 1 0) n None)
 
-pub fit_open : (processes n : ℕ) (slots : List Slot) (keys : List (Option Key)) (free : FreeSet) (owners : Rings) → n ≤ MOST_SLOTS → processes ≤ MOST_PROCESSES
+pub fit_open : (n : ℕ) (slots : List Slot) (keys : List (Option Key)) (free : FreeSet) (owners : Rings) → n ≤ MOST_SLOTS → owners.homes ≤ MOST_PROCESSES
     → slots ≡ replicate n unused → keys ≡ replicate n None → free.slots ≡ n
-    → ((k : ℕ) → sets.contains free.held k ≡ nat_lt k n) → owners.slots ≡ n → processes ≤ owners.homes
-    → AreChains owners (λ _. None) → AreFieldsFit processes slots keys free owners 0 0 0
-fit_open processes n slots keys free owners few few_homes slots_are keys_are all every owned homes chains =
+    → ((k : ℕ) → sets.contains free.held k ≡ nat_lt k n) → owners.slots ≡ n
+    → AreChains owners (λ _. None) → AreFieldsFit slots keys free owners 0 0 0
+fit_open n slots keys free owners few few_homes slots_are keys_are all every owned chains =
     let wide : length slots ≡ n = ap length slots_are ∙ length-replicate n unused in
     let none : (k : ℕ) → key_in keys k ≡ None = λ k. ap (λ ks. key_in ks k) keys_are ∙ key_nowhere n k in
     record {
@@ -48,7 +48,6 @@ fit_open processes n slots keys free owners few few_homes slots_are keys_are all
       wide = ap length keys_are ∙ (length-replicate n None ∙ sym wide);
       all_slots = all ∙ sym wide;
       owned = owned ∙ sym wide;
-      homes = homes;
       few_homes = few_homes;
       vacant = λ k is. none k;
       below = λ k is. omega (arith, wide, ltb-true k n (sym (every k) ∙ is));

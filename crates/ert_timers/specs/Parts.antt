@@ -95,13 +95,12 @@ pub record AreOwned (slots : List Slot) (keys : List (Option Key)) (owners : Rin
   pub orders : (k : ℕ) (place : Place) → places k ≡ Some place → place.order < armed
 
 -- what the fields of a part keep, whatever the history
-pub record AreFieldsFit (processes : ℕ) (slots : List Slot) (keys : List (Option Key)) (free : FreeSet) (owners : Rings) (armed expired orphaned : ℕ) : Type 0 where
+pub record AreFieldsFit (slots : List Slot) (keys : List (Option Key)) (free : FreeSet) (owners : Rings) (armed expired orphaned : ℕ) : Type 0 where
   pub few : length slots ≤ MOST_SLOTS
   pub wide : length keys ≡ length slots
   pub all_slots : free.slots ≡ length slots
   pub owned : owners.slots ≡ length slots
-  pub homes : processes ≤ owners.homes
-  pub few_homes : processes ≤ MOST_PROCESSES
+  pub few_homes : owners.homes ≤ MOST_PROCESSES
   -- a slot that is held free has no row
   pub vacant : (k : ℕ) → set.contains free.held k ≡ true → key_in keys k ≡ None
   pub below : (k : ℕ) → set.contains free.held k ≡ true → k < length slots
@@ -111,7 +110,7 @@ pub record AreFieldsFit (processes : ℕ) (slots : List Slot) (keys : List (Opti
   pub tally : (expired + orphaned) + count_by is_some keys ≤ armed
   pub orders : (k : ℕ) (key : Key) → key_in keys k ≡ Some key → key.order < armed
   -- the rows of each process are in its chain
-  pub dests : (k : ℕ) (key : Key) → key_in keys k ≡ Some key → (slot_at slots k).dest < processes
+  pub dests : (k : ℕ) (key : Key) → key_in keys k ≡ Some key → (slot_at slots k).dest < owners.homes
   pub chained : AreOwned slots keys owners armed
 
 -- a timer whose row is held has this status: it is armed, or was cancelled by one who told the part nothing

@@ -21,19 +21,19 @@ insert-requires-clause-newest c = orders_if c.self.inside.wheel.keys c.self.insi
 pub is_with-stays-requires : goal.is_with-stays-requires
 is_with-stays-requires c =
     let p = c.self.inside in
-    (may_leave p.processes p.wheel.values p.wheel.keys (free_set p.free) p.wheel.owners p.arms p.expires p.orphans c.args.slot c.self.invariant
+    (may_leave p.wheel.values p.wheel.keys (free_set p.free) p.wheel.owners p.arms p.expires p.orphans c.args.slot c.self.invariant
     (subst (λ (q : Part). c.args.slot < length q.slots) (sym c.self.view_is) c.requires.free.low)).low
 
 pub join-requires-clause-process : goal.join-requires-clause-process
 join-requires-clause-process c =
     subst (λ (r : Rings). c.args.start.now.dest < r.homes) (sym c.insert.ensures.owners)
-    (omega (arith, subst (λ (q : Part). c.args.start.now.dest < q.processes) (sym c.self.view_is) c.requires.dest, c.self.invariant.homes))
+    (subst (λ (q : Part). c.args.start.now.dest < q.processes) (sym c.self.view_is) c.requires.dest)
 
 pub join-requires-clause-may : goal.join-requires-clause-may
 join-requires-clause-may c =
     let p = c.self.inside in
     subst (λ (r : Rings). MayTake r c.args.slot) (sym c.insert.ensures.owners)
-    (may_leave p.processes p.wheel.values p.wheel.keys (free_set p.free) p.wheel.owners p.arms p.expires p.orphans c.args.slot c.self.invariant
+    (may_leave p.wheel.values p.wheel.keys (free_set p.free) p.wheel.owners p.arms p.expires p.orphans c.args.slot c.self.invariant
     (subst (λ (q : Part). c.args.slot < length q.slots) (sym c.self.view_is) c.requires.free.low))
 
 pub invariant_of-self : goal.invariant_of-self
@@ -57,9 +57,9 @@ invariant_of-self c =
       orders = fit.chained.orders;
       stands = c.is_with-stays.ensures fit.chained.places fit.chained.are (λ place is. fit.chained.lasts k place is ∙ ap (λ (s : Slot). s.dest) read);
     }) in
-    subst (λ (slots : List Slot). AreFieldsFit p.processes slots new.keys (free_set p.free) new.owners (p.arms + 1) p.expires p.orphans)
+    subst (λ (slots : List Slot). AreFieldsFit slots new.keys (free_set p.free) new.owners (p.arms + 1) p.expires p.orphans)
     (sym (c.join.ensures.values ∙ (c.insert.ensures.values ∙ ap (set p.wheel.values k) is)))
-    (subst (λ (keys : List (Option Key)). AreFieldsFit p.processes (set p.wheel.values k (slot_for c.args.next (slot_at p.wheel.values k).above start)) keys
+    (subst (λ (keys : List (Option Key)). AreFieldsFit (set p.wheel.values k (slot_for c.args.next (slot_at p.wheel.values k).above start)) keys
     (free_set p.free) new.owners (p.arms + 1) p.expires p.orphans) (sym (c.join.ensures.keys ∙ c.insert.ensures.keys))
     (fit_kept seen (free_set p.free) p.wheel.owners new.owners k start c.args.next fit refl free
     (subst (λ (q : Part). q.arms < 9007199254740992) (sym c.self.view_is) c.requires.few) dest

@@ -13,7 +13,7 @@ use Rattle.ert_wheel.specs.declared.row.Key.{Key}
 pub disown-requires : goal.disown-requires
 disown-requires c =
     let p = c.self.inside in
-    may_leave p.processes p.wheel.values p.wheel.keys (free_set p.free) p.wheel.owners p.arms p.expires p.orphans c.args.slot c.self.invariant
+    may_leave p.wheel.values p.wheel.keys (free_set p.free) p.wheel.owners p.arms p.expires p.orphans c.args.slot c.self.invariant
     (subst (λ (q : Part). c.args.slot < length q.slots) (sym c.self.view_is) c.requires.low)
 
 pub invariant_of-self : goal.invariant_of-self
@@ -22,9 +22,9 @@ invariant_of-self c =
     let new = c.disown.new.self in
     let chained = c.self.invariant.chained in
     let none = subst (λ (q : Part). key_in q.keys c.args.slot ≡ None) (sym c.self.view_is) c.requires.vacant in
-    subst (λ (slots : List Slot). AreFieldsFit p.processes slots new.keys (free_set p.free) new.owners p.arms p.expires p.orphans) (sym c.disown.ensures.values)
-    (subst (λ (keys : List (Option Key)). AreFieldsFit p.processes p.wheel.values keys (free_set p.free) new.owners p.arms p.expires p.orphans) (sym c.disown.ensures.keys)
-    (fit_owned p.processes p.wheel.values p.wheel.keys (free_set p.free) p.wheel.owners new.owners p.arms p.expires p.orphans c.self.invariant
+    subst (λ (slots : List Slot). AreFieldsFit slots new.keys (free_set p.free) new.owners p.arms p.expires p.orphans) (sym c.disown.ensures.values)
+    (subst (λ (keys : List (Option Key)). AreFieldsFit p.wheel.values keys (free_set p.free) new.owners p.arms p.expires p.orphans) (sym c.disown.ensures.keys)
+    (fit_owned p.wheel.values p.wheel.keys (free_set p.free) p.wheel.owners new.owners p.arms p.expires p.orphans c.self.invariant
     c.disown.ensures.slots c.disown.ensures.homes
     (owned_thinned p.wheel.values p.wheel.keys p.wheel.owners new.owners p.arms (with_place chained.places c.args.slot None) chained
     (thinned_more p.wheel.owners new.owners p.wheel.keys chained.places chained.places c.args.slot

@@ -8,11 +8,11 @@ invariant_of-result c =
     let g = c.args.settings.now in
     let counts = c.requires.checked.counts in
     let timers = c.in_ok-timers in
-    fit_open g.processes g.slots timers.timers.values timers.timers.keys (free_set c.in_ok-free.free) timers.timers.owners counts.slots_high
-    counts.processes_high (timers.ensures.values ∙ ap (replicate g.slots) c.new-unused.ensures) timers.ensures.keys c.in_ok-free.ensures.slots c.in_ok-free.ensures.every
-    timers.ensures.slots (omega (arith, counts.processes_high, timers.ensures.homes)) timers.ensures.unowned
+    fit_open g.slots timers.timers.values timers.timers.keys (free_set c.in_ok-free.free) timers.timers.owners counts.slots_high
+    (omega (arith, counts.processes_high, timers.ensures.homes)) (timers.ensures.values ∙ ap (replicate g.slots) c.new-unused.ensures) timers.ensures.keys c.in_ok-free.ensures.slots c.in_ok-free.ensures.every
+    timers.ensures.slots timers.ensures.unowned
 
 pub returns-clause-stands : goal.returns-clause-stands
 returns-clause-stands c =
     let g = c.args.settings.now in
-    stands_open g c.args.wheel g.slots _ c.requires.checked c.requires.in_range refl refl refl (c.in_ok-timers.ensures.values ∙ ap (replicate g.slots) c.new-unused.ensures) c.in_ok-timers.ensures.keys refl refl refl
+    stands_open g c.args.wheel g.slots _ c.requires.checked c.requires.in_range refl refl c.in_ok-timers.ensures.homes (c.in_ok-timers.ensures.values ∙ ap (replicate g.slots) c.new-unused.ensures) c.in_ok-timers.ensures.keys refl refl refl

@@ -17,7 +17,7 @@ returns-in_err-slot-clause-none c =
 pub invariant_of-self-then-not-is_long : goal.invariant_of-self-then-not-is_long
 invariant_of-self-then-not-is_long c =
     let p = c.self.inside in
-    fit_picked p.processes p.wheel.values p.wheel.keys (free_set p.free) (free_set c.pick.new.self) p.wheel.owners p.arms p.expires p.orphans c.in_ok-slot.slot
+    fit_picked p.wheel.values p.wheel.keys (free_set p.free) (free_set c.pick.new.self) p.wheel.owners p.arms p.expires p.orphans c.in_ok-slot.slot
     c.self.invariant c.in_ok-slot.ensures.taken
 
 pub returns-then-not-is_long-clause-usable : goal.returns-then-not-is_long-clause-usable
@@ -29,7 +29,7 @@ returns-then-not-is_long-clause-usable c =
 pub invariant_of-self-then-is_long-long : goal.invariant_of-self-then-is_long-long
 invariant_of-self-then-is_long-long c =
     let p = c.self.inside in
-    fit_picked p.processes p.wheel.values p.wheel.keys (free_set p.free) (free_set c.pick.new.self) p.wheel.owners p.arms p.expires p.orphans c.in_ok-slot.slot
+    fit_picked p.wheel.values p.wheel.keys (free_set p.free) (free_set c.pick.new.self) p.wheel.owners p.arms p.expires p.orphans c.in_ok-slot.slot
     c.self.invariant c.in_ok-slot.ensures.taken
 
 pub returns-then-is_long-long-clause-usable : goal.returns-then-is_long-long-clause-usable

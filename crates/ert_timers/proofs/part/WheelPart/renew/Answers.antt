@@ -23,13 +23,13 @@ replace-requires-clause-newest c = orders_if c.self.inside.wheel.keys c.self.ins
 pub join-requires-clause-process : goal.join-requires-clause-process
 join-requires-clause-process c =
     subst (λ (r : Rings). c.args.start.now.dest < r.homes) (sym c.replace.ensures.owners)
-    (omega (arith, subst (λ (q : Part). c.args.start.now.dest < q.processes) (sym c.self.view_is) c.requires.dest, c.self.invariant.homes))
+    (subst (λ (q : Part). c.args.start.now.dest < q.processes) (sym c.self.view_is) c.requires.dest)
 
 pub join-requires-clause-may : goal.join-requires-clause-may
 join-requires-clause-may c =
     let p = c.self.inside in
     subst (λ (r : Rings). MayTake r c.args.slot) (sym c.replace.ensures.owners)
-    (may_leave p.processes p.wheel.values p.wheel.keys (free_set p.free) p.wheel.owners p.arms p.expires p.orphans c.args.slot c.self.invariant
+    (may_leave p.wheel.values p.wheel.keys (free_set p.free) p.wheel.owners p.arms p.expires p.orphans c.args.slot c.self.invariant
     (subst (λ (q : Part). c.args.slot < length q.slots) (sym c.self.view_is) c.requires.can.low))
 
 pub invariant_of-self : goal.invariant_of-self
@@ -47,7 +47,7 @@ invariant_of-self c =
     let new = c.join.new.wheel in
     let fit = c.self.invariant in
     let has = some_key _ can.held in
-    let less = fit_dropped p.processes p.wheel.values p.wheel.keys (free_set p.free) p.wheel.owners p.arms p.expires p.orphans k has.0 fit has.1 in
+    let less = fit_dropped p.wheel.values p.wheel.keys (free_set p.free) p.wheel.owners p.arms p.expires p.orphans k has.0 fit has.1 in
     let stays = nat_eq c.dest.result start.dest in
     let joins = subst (λ (r : Rings). AreChains r fit.chained.places → MayJoin fit.chained.places k start.dest p.arms stays → Joins new.owners fit.chained.places k start.dest p.arms)
     same (c.join.ensures.joins fit.chained.places p.arms) fit.chained.are
@@ -57,12 +57,12 @@ invariant_of-self c =
       stands = λ stays.
           subst (λ n. StandsIn fit.chained.places n k) (ap (λ (s : Slot). s.dest) read ∙ (sym c.dest.ensures ∙ eqb-true _ _ stays)) (fit.chained.held k has.0 has.1);
     }) in
-    subst (λ (slots : List Slot). AreFieldsFit p.processes slots new.keys (free_set p.free) new.owners (p.arms + 1) p.expires p.orphans)
+    subst (λ (slots : List Slot). AreFieldsFit slots new.keys (free_set p.free) new.owners (p.arms + 1) p.expires p.orphans)
     (sym (c.join.ensures.values ∙ (c.replace.ensures.values ∙ ap (set p.wheel.values k) is)))
-    (subst (λ (keys : List (Option Key)). AreFieldsFit p.processes (set p.wheel.values k (slot_for c.args.next (slot_at p.wheel.values k).above start)) keys
+    (subst (λ (keys : List (Option Key)). AreFieldsFit (set p.wheel.values k (slot_for c.args.next (slot_at p.wheel.values k).above start)) keys
     (free_set p.free) new.owners (p.arms + 1) p.expires p.orphans) (set_twice p.wheel.keys k _ _ ∙ sym (c.join.ensures.keys ∙ c.replace.ensures.keys))
     (fit_kept (dropped seen k) (free_set p.free) p.wheel.owners new.owners k start c.args.next less refl (free_again seen k can)
     can.few dest
     (c.join.ensures.slots ∙ ap (λ (r : Rings). r.slots) same) (c.join.ensures.homes ∙ ap (λ (r : Rings). r.homes) same)
     (subst (λ places. Joins new.owners places k start.dest p.arms)
-    (same_places p.processes p.wheel.values p.wheel.keys (free_set p.free) p.wheel.owners p.arms p.expires p.orphans k has.0 fit has.1) joins)))
+    (same_places p.wheel.values p.wheel.keys (free_set p.free) p.wheel.owners p.arms p.expires p.orphans k has.0 fit has.1) joins)))
