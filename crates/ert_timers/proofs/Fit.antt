@@ -1,13 +1,14 @@
 -- What the fields of a part keep, as each of its small calls changes them.
 
 use Rattle.std.proofs.Common.{◌≡◌, ◌≢◌, ℕ, ◌+◌, ◌<◌, ◌≤◌, Bool, true, false, not, ◌&&◌, ◌||◌, nat_eq, List, length, count_by, Option, Some, None, IfSome, IsNone, IsSome, refl, sym, ap, subst, ◌∙◌, arith, inl, inr, set, get_or-set_same, get_or-set_other, eqb-true, eq-eqb}
-use Rattle.std.proofs.lemmas.Bool.{and_parts, cases_eq}
+use Rattle.std.proofs.lemmas.Bool.{and_parts, cases_eq, cases_lt, ne_eqb}
 use Rattle.std.proofs.lemmas.List.{length-set, set-get_or}
 use Rattle.std.specs.Cmp.{nat_cmp_total, unsigned_tied}
 use Rattle.std.specs.FinSet as sets
 use Rattle.std.specs.Option.{is_some}
 use Rattle.std.specs.Ordering.{nat_cmp}
 use Rattle.ert_timers.specs.Changes.{LostRow, dropped}
+use Rattle.ert_timers.specs.Freeing.{IsInUse}
 use Rattle.ert_timers.specs.Parts.{AreFieldsFit, AreOwned, Part}
 use Rattle.ert_timers.specs.Slots.{Slot}
 use Rattle.ert_timers.proofs.Rows.{key_left}
@@ -15,6 +16,7 @@ use Rattle.ert_wheel.specs.Rings.{Rings, MayTake}
 use Rattle.ert_wheel.specs.Rows.{key_in}
 use Rattle.ert_wheel.specs.declared.row.Key.{Key}
 use Rattle.ert_wheel.proofs.Collect.{key_low}
+use Rattle.ert_wheel.proofs.Parts.{chains_written}
 use Rattle.ert_wheel.proofs.Views.{counts_less}
 use Rattle.ert_words.specs.Free.{FreeSet}
 
@@ -36,6 +38,7 @@ fit_dropped slots keys free owners a x o k key fit held =
       few_homes = fit.few_homes;
       vacant = λ j is. at j (fit.vacant j is) low;
       below = fit.below;
+      unwritten = fit.unwritten;
       few_arms = fit.few_arms;
       tally = omega (arith, fit.tally, counts_less keys k key low held);
       orders = λ j seen is. fit.orders j seen (key_left keys k j seen low is).1;
@@ -65,9 +68,10 @@ same_places slots keys free owners a x o k key fit held = refl
 
 -- with other chains
 pub fit_owned : (slots : List Slot) (keys : List (Option Key)) (free : FreeSet) (owners new : Rings) (a x o : ℕ)
-    → AreFieldsFit slots keys free owners a x o → new.slots ≡ owners.slots → new.homes ≡ owners.homes → AreOwned slots keys new a
+    → AreFieldsFit slots keys free owners a x o → new.slots ≡ owners.slots → new.homes ≡ owners.homes → new.written ≡ owners.written
+    → AreOwned slots keys new a
     → AreFieldsFit slots keys free new a x o
-fit_owned slots keys free owners new a x o fit same homes are = record {
+fit_owned slots keys free owners new a x o fit same homes written are = record {
   few = fit.few;
   wide = fit.wide;
   all_slots = fit.all_slots;
@@ -75,6 +79,7 @@ fit_owned slots keys free owners new a x o fit same homes are = record {
   few_homes = omega (arith, homes, fit.few_homes);
   vacant = fit.vacant;
   below = fit.below;
+  unwritten = λ k high low. fit.unwritten k (omega (arith, written, high)) low;
   few_arms = fit.few_arms;
   tally = fit.tally;
   orders = fit.orders;
@@ -141,6 +146,7 @@ fit_counted slots keys free owners a x o y p fit few = record {
   few_homes = fit.few_homes;
   vacant = fit.vacant;
   below = fit.below;
+  unwritten = fit.unwritten;
   few_arms = fit.few_arms;
   tally = few;
   orders = fit.orders;
@@ -148,12 +154,13 @@ fit_counted slots keys free owners a x o y p fit few = record {
   chained = fit.chained;
 }
 
--- with other free slots, which were free before or can be
+-- with more free slots, which were free before or can be
 pub fit_free : (slots : List Slot) (keys : List (Option Key)) (free new : FreeSet) (owners : Rings) (a x o : ℕ)
     → AreFieldsFit slots keys free owners a x o → new.slots ≡ free.slots
     → ((j : ℕ) → sets.contains new.held j ≡ true → (key_in keys j ≡ None) × (j < length slots))
+    → ((j : ℕ) → sets.contains free.held j ≡ true → sets.contains new.held j ≡ true)
     → AreFieldsFit slots keys new owners a x o
-fit_free slots keys free new owners a x o fit same can = record {
+fit_free slots keys free new owners a x o fit same can more = record {
   few = fit.few;
   wide = fit.wide;
   all_slots = same ∙ fit.all_slots;
@@ -161,6 +168,7 @@ fit_free slots keys free new owners a x o fit same can = record {
   few_homes = fit.few_homes;
   vacant = λ j is. (can j is).0;
   below = λ j is. (can j is).1;
+  unwritten = λ j high low. more j (fit.unwritten j high low);
   few_arms = fit.few_arms;
   tally = fit.tally;
   orders = fit.orders;
@@ -171,6 +179,14 @@ fit_free slots keys free new owners a x o fit same can = record {
 -- a set with one more
 put_or : (s : sets.FinSet nat_cmp) (k j : ℕ) → sets.contains (sets.insert s k) j ≡ true → (nat_eq j k || sets.contains s j) ≡ true
 put_or s k j is = sym (sets.contains-insert nat_cmp_total s k j ∙ (λ i. unsigned_tied j k i || sets.contains s j)) ∙ is
+
+put_keeps : (s : sets.FinSet nat_cmp) (k j : ℕ) → sets.contains s j ≡ true → sets.contains (sets.insert s k) j ≡ true
+put_keeps s k j was =
+    (sets.contains-insert nat_cmp_total s k j ∙ (λ i. unsigned_tied j k i || sets.contains s j)) ∙ (ap (λ b. nat_eq j k || b) was ∙ at (nat_eq j k))
+  where
+    at : (b : Bool) → (b || true) ≡ true
+    at true = refl
+    at false = refl
 
 or_cases : (b c : Bool) (P : Type 0) → (b ≡ true → P) → (c ≡ true → P) → (b || c) ≡ true → P
 or_cases true c P f h is = f refl
@@ -189,6 +205,7 @@ fit_put slots keys free new owners a x o k fit is low vacant =
     )))
     (λ was. (fit.vacant j was, fit.below j was))
     (put_or free.held k j (ap (λ (f : FreeSet). sets.contains f.held j) (sym is) ∙ held)))
+    (λ j was. ap (λ (f : FreeSet). sets.contains f.held j) is ∙ put_keeps free.held k j was)
 
 -- a set with one less
 taken_and : (s : sets.FinSet nat_cmp) (k j : ℕ) → sets.contains (sets.remove s k) j ≡ (not (nat_eq j k) && sets.contains s j)
@@ -239,11 +256,64 @@ some_left s k None empty =
     absurd cc
 some_left s k (Some x) empty = refl
 
-pub fit_picked : (slots : List Slot) (keys : List (Option Key)) (free new : FreeSet) (owners : Rings) (a x o k : ℕ)
-    → AreFieldsFit slots keys free owners a x o → new ≡ record free { held = sets.remove free.held k }
-    → AreFieldsFit slots keys new owners a x o
-fit_picked slots keys free new owners a x o k fit is =
-    fit_free slots keys free new owners a x o fit (ap (λ (f : FreeSet). f.slots) is) (λ j held.
-    let was : sets.contains free.held j ≡ true =
-    taken_was free.held k j (ap (λ (f : FreeSet). sets.contains f.held j) (sym is) ∙ held) in
-    (fit.vacant j was, fit.below j was))
+-- a slot that was held free is taken, and written if it wasn't
+pub fit_picked : (slots : List Slot) (keys : List (Option Key)) (free new : FreeSet) (owners : Rings) (a x o k written : ℕ)
+    → AreFieldsFit slots keys free owners a x o → new ≡ record free { held = sets.remove free.held k } → owners.written ≤ written → k < written
+    → AreFieldsFit slots keys new (record owners { written = written }) a x o
+fit_picked slots keys free new owners a x o k written fit is more here =
+    let was : (j : ℕ) → sets.contains new.held j ≡ true → sets.contains free.held j ≡ true =
+    λ j held. taken_was free.held k j (ap (λ (f : FreeSet). sets.contains f.held j) (sym is) ∙ held) in
+    record {
+      few = fit.few;
+      wide = fit.wide;
+      all_slots = ap (λ (f : FreeSet). f.slots) is ∙ fit.all_slots;
+      owned = fit.owned;
+      few_homes = fit.few_homes;
+      vacant = λ j held. fit.vacant j (was j held);
+      below = λ j held. fit.below j (was j held);
+      unwritten = λ j high low.
+          let other : j ≢ k = λ e. absurd (omega (arith, e, high, here)) in
+          ap (λ (f : FreeSet). sets.contains f.held j) is
+          ∙ (taken_and free.held k j ∙ (ap (λ b. not b && sets.contains free.held j) (ne_eqb j k other) ∙ fit.unwritten j (omega (arith, high, more)) low));
+      few_arms = fit.few_arms;
+      tally = fit.tally;
+      orders = fit.orders;
+      dests = fit.dests;
+      chained = record {
+        places = fit.chained.places;
+        are = chains_written owners written fit.chained.places fit.chained.are;
+        held = fit.chained.held;
+        lasts = fit.chained.lasts;
+        orders = fit.chained.orders;
+      };
+    }
+
+-- as it is where what it is of is the same
+pub fit_same : {slots slots' : List Slot} {keys keys' : List (Option Key)} {free : FreeSet} {owners owners' : Rings} {a x o : ℕ} → slots' ≡ slots
+    → keys' ≡ keys → owners' ≡ owners → AreFieldsFit slots keys free owners a x o → AreFieldsFit slots' keys' free owners' a x o
+fit_same {slots' = slots'} {keys = keys} {keys' = keys'} {free = free} {owners = owners} {a = a} {x = x} {o = o} s k r fit =
+    subst (λ (rs : Rings). AreFieldsFit slots' keys' free rs a x o) (sym r)
+    (subst (λ ks. AreFieldsFit slots' ks free owners a x o) (sym k)
+    (subst (λ ss. AreFieldsFit ss keys free owners a x o) (sym s) fit))
+
+-- a slot that isn't held free is written
+pub written_away : (slots : List Slot) (keys : List (Option Key)) (free : FreeSet) (owners : Rings) (a x o k : ℕ) → AreFieldsFit slots keys free owners a x o
+    → k < length slots → sets.contains free.held k ≡ false → k < owners.written
+written_away slots keys free owners a x o k fit low away =
+    elim (cases_lt k owners.written) [
+      | inl written ↦ written
+      | inr high ↦ let no : true ≡ false = sym (fit.unwritten k high low) ∙ away in absurd cc
+    ]
+
+-- and so is one in use
+pub written_used : (p : Part) (free : FreeSet) (owners : Rings) (k : ℕ) → AreFieldsFit p.slots p.keys free owners p.arms p.expires p.orphans
+    → free.held ≡ p.free → k < length p.slots → IsInUse p k → k < owners.written
+written_used p free owners k fit same low used =
+    written_away p.slots p.keys free owners p.arms p.expires p.orphans k fit low (elim used [
+      | inl away ↦ ap (λ s. sets.contains s k) same ∙ away
+      | inr row ↦ at (sets.contains free.held k) refl row
+    ])
+  where
+    at : (b : Bool) → sets.contains free.held k ≡ b → key_in p.keys k ≢ None → sets.contains free.held k ≡ false
+    at true is row = absurd (row (fit.vacant k is))
+    at false is row = is

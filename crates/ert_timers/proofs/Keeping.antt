@@ -1,21 +1,24 @@
 -- A timer is put in; the newest row of a process; a part of a new desk.
 
-use Rattle.std.proofs.Common.{◌≡◌, ◌≢◌, ℕ, ◌+◌, ◌<◌, ◌≤◌, Bool, true, false, List, length, Option, Some, None, IsNone, IsSome, IfNone, IfSome, refl, sym, ap, subst, ◌∙◌, arith, inl, inr, set, get_or-set_same, get_or-set_other}
+use Rattle.std.proofs.Common.{◌≡◌, ◌≢◌, ℕ, ◌+◌, ◌<◌, ◌≤◌, Bool, true, false, List, length, Option, Some, None, IsNone, IfNone, IfSome, refl, sym, ap, subst, ◌∙◌, arith, inl, inr, set, slice_get, get_or-set_same, get_or-set_other}
 use Rattle.std.proofs.lemmas.Bool.{cases_eq}
 use Rattle.std.proofs.lemmas.List.{length-set}
+use Rattle.std.proofs.lemmas.Option.{slice_get_within}
 use Rattle.std.specs.Bool.{OnTrue}
 use Rattle.std.specs.FinSet as sets
 use Rattle.std.specs.Ordering.{nat_cmp}
+use Rattle.ert_defs.specs.Timers.{timer_at}
 use Rattle.ert_defs.specs.declared.timer.Start.{Start}
 use Rattle.ert_timers.specs.Changes.{MayBecomeFree, LostRow, NextOf, picked, slot_for, kept}
 use Rattle.ert_timers.specs.Owners.{Joins, Thinned, FindsRow}
-use Rattle.ert_timers.specs.Parts.{AreFieldsFit, AreOwned, Part, slot_at, unused}
+use Rattle.ert_timers.specs.Parts.{AreFieldsFit, AreOwned, IsWritten, Part, all_slots, last_timer, slot_at, unused}
 use Rattle.ert_timers.specs.Slots.{Slot}
 use Rattle.ert_timers.specs.declared.part.Use.{Use}
 use mir.Val.{bool_byte}
-use Rattle.ert_timers.proofs.Fit.{fit_picked, taken_out}
+use Rattle.ert_timers.proofs.AllSlots.{all_set, read_at}
+use Rattle.ert_timers.proofs.Fit.{fit_picked, fit_same, taken_out}
 use Rattle.ert_wheel.specs.Rings.{Rings, Place, StandsIn, with_place}
-use Rattle.ert_wheel.specs.Rows.{key_in, key_of}
+use Rattle.ert_wheel.specs.Rows.{Held, key_in, key_of}
 use Rattle.ert_wheel.specs.declared.row.Key.{Key}
 use Rattle.ert_wheel.specs.declared.row.Row.{Row}
 use Rattle.ert_wheel.proofs.Collect.{key_low}
@@ -107,10 +110,10 @@ owned_kept slots keys owners new a k slot key are low wide joins =
 -- a timer is put in
 pub fit_kept : (p : Part) (free : FreeSet) (owners new : Rings) (k : ℕ) (start : Start) (next : Use)
     (fit : AreFieldsFit p.slots p.keys free owners p.arms p.expires p.orphans) → free.held ≡ p.free → MayBecomeFree p k
-    → p.arms < 9007199254740992 → start.dest < owners.homes → new.slots ≡ owners.slots → new.homes ≡ owners.homes
+    → p.arms < 9007199254740992 → start.dest < owners.homes → new.slots ≡ owners.slots → new.homes ≡ owners.homes → new.written ≡ owners.written
     → Joins new fit.chained.places k start.dest p.arms
     → let q = kept p k start next in AreFieldsFit q.slots q.keys free new q.arms q.expires q.orphans
-fit_kept p free owners new k start next fit same can few dest slots homes joins =
+fit_kept p free owners new k start next fit same can few dest slots homes written joins =
     let slot : Slot = slot_for next (slot_at p.slots k).above start in
     let key : Key = record { deadline = next.deadline; order = p.arms } in
     let wide : k < length p.keys = subst (λ n. k < n) (sym fit.wide) can.low in
@@ -122,6 +125,7 @@ fit_kept p free owners new k start next fit same can few dest slots homes joins 
       few_homes = omega (arith, homes, fit.few_homes);
       vacant = λ j is. get_or-set_other p.keys k j (Some key) None (other_free j is) ∙ fit.vacant j is;
       below = λ j is. subst (λ n. j < n) (sym (length-set p.slots k slot)) (fit.below j is);
+      unwritten = λ j high low. fit.unwritten j (omega (arith, written, high)) (subst (λ n. j < n) (length-set p.slots k slot) low);
       few_arms = omega (arith, few);
       tally = omega (arith, fit.tally, counts_more p.keys k key wide can.vacant);
       orders = λ j seen is.
@@ -143,6 +147,21 @@ fit_kept p free owners new k start next fit same can few dest slots homes joins 
     other_free j is here =
         let away : sets.contains free.held j ≡ false = ap (sets.contains free.held) here ∙ (ap (λ s. sets.contains s k) same ∙ can.away) in
         cc
+
+-- what is kept of the slots with that timer, as it is stored
+pub slots_kept : (values new : List Slot) (n m k : ℕ) (last used : Slot) (start : Start) (next : Use) → slice_get values k ≡ Some last → k < n → m ≡ n
+    → new ≡ set values k used → used ≡ slot_for next last.above start
+    → all_slots new m ≡ set (all_slots values n) k (slot_for next (slot_at (all_slots values n) k).above start)
+slots_kept values new n m k last used start next is low wide more with =
+    (λ i. all_slots (more i) (wide i))
+    ∙ (sym (all_set values n k used (slice_get_within values k last is))
+    ∙ ap (set (all_slots values n) k) (with ∙ ap (λ (s : Slot). slot_for next s.above start) (sym (read_at values n k last is low))))
+
+-- and how the timer is named
+pub named_kept : (w : ℕ) (slots kept : List Slot) (k above : ℕ) (start : Start) (next : Use) → k < length slots → kept ≡ set slots k (slot_for next above start)
+    → timer_at w k next.generation ≡ last_timer w kept k
+named_kept w slots kept k above start next low is =
+    ap (λ n. timer_at w k n) (sym (ap (λ (s : Slot). s.generation) (ap (λ ss. slot_at ss k) is ∙ get_or-set_same slots k (slot_for next above start) unused low)))
 
 -- slots without a row have left their chains
 pub owned_thinned : (slots : List Slot) (keys : List (Option Key)) (owners new : Rings) (a : ℕ) (left : ℕ → Option Place)
@@ -198,12 +217,37 @@ picked_free p free owners k fit same held = record {
   away = taken_out p.free k;
 }
 
-pub pick_fit : (p : Part) (free new : FreeSet) (owners : Rings) (o : Option ℕ) → AreFieldsFit p.slots p.keys free owners p.arms p.expires p.orphans
-    → IfNone o (new ≡ free) → IfSome o (λ k. new ≡ record free { held = sets.remove free.held k })
-    → AreFieldsFit p.slots p.keys new owners p.arms p.expires p.orphans
-pick_fit p free new owners None fit same taken =
-    subst (λ f. AreFieldsFit p.slots p.keys f owners p.arms p.expires p.orphans) (sym same) fit
-pick_fit p free new owners (Some k) fit same taken = fit_picked p.slots p.keys free new owners p.arms p.expires p.orphans k fit taken
+-- more of them are, and then more
+pub written_twice : (old mid new : Held Slot) (n m : ℕ) → IsWritten old mid n → IsWritten mid new m → IsWritten old new m
+written_twice old mid new n m one two = record {
+  more = omega (arith, one.more, two.more, ap (λ (r : Rings). r.written) one.owners);
+  keys = two.keys ∙ one.keys;
+  owners = two.owners ∙ ap (λ (r : Rings). let q : Rings = record r { written = m } in q) one.owners;
+  slots = λ k. two.slots k ∙ one.slots k;
+  passed = two.passed ∙ one.passed;
+}
+
+-- a part is seen as before then, but for the slots that are held free
+pub seen_written : (p : Part) (old new : Held Slot) (free : sets.FinSet nat_cmp) (written : ℕ) → IsWritten old new written → p.processes ≡ old.owners.homes
+    → p.slots ≡ all_slots old.values old.owners.slots → p.keys ≡ old.keys → p.passed ≡ old.passed
+    → (let q : Part = record p { processes = new.owners.homes; slots = all_slots new.values new.owners.slots; keys = new.keys; free = free; passed = new.passed } in q)
+    ≡ (let q : Part = record p { free = free } in q)
+seen_written p old new free written is homes slots keys passed = λ i. (let q : Part = record p {
+  processes = (ap (λ (r : Rings). r.homes) is.owners ∙ sym homes) i;
+  slots = (is.slots new.owners.slots ∙ (ap (λ (r : Rings). all_slots old.values r.slots) is.owners ∙ sym slots)) i;
+  keys = (is.keys ∙ sym keys) i;
+  free = free;
+  passed = (is.passed ∙ sym passed) i;
+} in q)
+
+-- and fits
+pub fit_written : (old wheel : Held Slot) (free new : FreeSet) (a x o k written : ℕ)
+    → AreFieldsFit (all_slots old.values old.owners.slots) old.keys free old.owners a x o → new ≡ record free { held = sets.remove free.held k }
+    → IsWritten old wheel written → k < written
+    → AreFieldsFit (all_slots wheel.values wheel.owners.slots) wheel.keys new wheel.owners a x o
+fit_written old wheel free new a x o k written fit taken is here =
+    fit_same (is.slots wheel.owners.slots ∙ ap (λ (r : Rings). all_slots old.values r.slots) is.owners) is.keys is.owners
+    (fit_picked (all_slots old.values old.owners.slots) old.keys free new old.owners a x o k written fit taken is.more here)
 
 pub pick_none : (s : sets.FinSet nat_cmp) (o : Option ℕ) → (IsNone o → s ≡ sets.empty)
     → IfNone o ((slot : ℕ) → sets.contains s slot ≡ false)
@@ -216,11 +260,6 @@ pub pick_taken : (p : Part) (free new : FreeSet) (o : Option ℕ) → free.held 
 pick_taken p free new None same taken = tt
 pick_taken p free new (Some k) same taken =
     ap (λ s. let q : Part = record p { free = s } in q) (ap (λ (f : FreeSet). f.held) taken ∙ ap (λ s. sets.remove s k) same)
-
--- where something is answered nothing is asked of no answer
-pub if_some : (o : Option ℕ) (P : Type 0) → IsSome o → IfNone o P
-if_some None P some = absurd cc
-if_some (Some k) P some = tt
 
 pub pick_usable : (p : Part) (free new : FreeSet) (owners : Rings) (o : Option ℕ) → AreFieldsFit p.slots p.keys free owners p.arms p.expires p.orphans
     → free.held ≡ p.free → IfSome o (λ k. sets.contains free.held k ≡ true)

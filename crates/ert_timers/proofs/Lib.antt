@@ -1,3 +1,4 @@
+pub mod AllSlots
 pub mod Rounding
 pub mod Later
 pub mod Rows

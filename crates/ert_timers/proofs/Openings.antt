@@ -1,7 +1,7 @@
 -- The part of a new desk.
 
 use Rattle.std.proofs.Common.{◌≡◌, ℕ, ◌<◌, ◌≤◌, cond, nat_lt, List, [], length, replicate, count_by, Option, Some, None, refl, sym, ap, subst, ◌∙◌, arith, inl, inr}
-use Rattle.std.proofs.lemmas.Bool.{cases_lt, ltb-true}
+use Rattle.std.proofs.lemmas.Bool.{cases_lt, lt-ltb, ltb-true}
 use Rattle.std.proofs.lemmas.List.{get_or-replicate, length-replicate}
 use Rattle.std.proofs.Math.ListN.{get_or-eq_default}
 use Rattle.std.proofs.lemmas.List.Folds.{sum_by-replicate}
@@ -51,6 +51,7 @@ fit_open n slots keys free owners few few_homes slots_are keys_are all every own
       few_homes = few_homes;
       vacant = λ k is. none k;
       below = λ k is. omega (arith, wide, ltb-true k n (sym (every k) ∙ is));
+      unwritten = λ k high low. every k ∙ lt-ltb k n (omega (arith, wide, low));
       few_arms = omega arith;
       tally = omega (arith, ap (count_by is_some) keys_are, no_keys n);
       orders = λ k key is. (let e : None ≡ Some key = sym (none k) ∙ is in absurd cc);

@@ -130,12 +130,19 @@ taken_last g h p timer stands wheel taken =
       | inl same ↦ same
       | inr other ↦ absurd (let no : true ≡ false = sym taken ∙ (ordered g h stands.legal timer.wheel timer.slot).free timer.generation other in cc)
     ] in
+    let named : timer ≡ last_timer p.number p.slots timer.slot =
+    ap (λ n. timer_at timer.wheel timer.slot n) (last ∙ (ap (λ w. s.last w timer.slot) wheel ∙ sym (stands.holds.lasts timer.slot low)))
+    ∙ ap (λ w. timer_at w timer.slot (slot_at p.slots timer.slot).generation) wheel in
     record {
       low = subst (λ n. timer.slot < n) (sym stands.holds.many) low;
-      named =
-          ap (λ n. timer_at timer.wheel timer.slot n) (last ∙ (ap (λ w. s.last w timer.slot) wheel ∙ sym (stands.holds.lasts timer.slot low)))
-          ∙ ap (λ w. timer_at w timer.slot (slot_at p.slots timer.slot).generation) wheel;
+      named = named;
+      used = inl (not_true (set.contains p.free timer.slot) (λ held.
+          let no : true ≡ false = sym taken ∙ (ap (λ t. is_taken (s.status t)) named ∙ stands.holds.free timer.slot held) in cc));
     }
+  where
+    not_true : (b : Bool) → (b ≡ true → ⊥) → b ≡ false
+    not_true true never = absurd (never refl)
+    not_true false never = refl
 
 -- what a pass cancelled was the last timer of its slot
 pub hit_last : (g : Settings) (v : View) (es : List Entry) (u : View) (p : Part) (timer : TimerRef) → PartStands g v.front p

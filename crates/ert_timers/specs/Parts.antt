@@ -1,9 +1,9 @@
 -- The timers of one scheduler: what its part keeps, and when the part stands for a history.
 
-use Rattle.std.specs.Prelude.{◌≡◌, ℕ, ◌+◌, ◌<◌, ◌≤◌, true, false, List, length, count_by, slice_index_or, Option, Some, None, refl}
+use Rattle.std.specs.Prelude.{◌≡◌, ℕ, ◌+◌, ◌<◌, ◌≤◌, true, false, List, map, length, count_by, slice_index_or, Option, Some, None, refl}
 use Rattle.std.specs.Coded.{Coded, code_by, coded×, coded_ℕ, coded_list, coded_option}
 use Rattle.std.specs.FinSet as set
-use Rattle.std.specs.List.{slice_get}
+use Rattle.std.specs.List.{range_with_len, slice_get}
 use Rattle.std.specs.Option.{is_some}
 use Rattle.std.specs.Ordering.{nat_cmp}
 use Rattle.ert_defs.specs.Legal.{Legal}
@@ -24,7 +24,7 @@ use Rattle.ert_table.specs.declared.view.View.{View}
 use Rattle.ert_timers.specs.Codes.{slot_code, key_code}
 use Rattle.ert_timers.specs.Slots.{Slot}
 use Rattle.ert_wheel.specs.Rings.{Rings, Place, AreChains, StandsIn}
-use Rattle.ert_wheel.specs.Rows.{key_in}
+use Rattle.ert_wheel.specs.Rows.{Held, key_in}
 use Rattle.ert_wheel.specs.declared.row.Key.{Key}
 use Rattle.ert_words.specs.Free.{FreeSet}
 use Rattle.ert_defs.specs.declared.settings.TheConstants.{MOST_SLOTS, MOST_PROCESSES}
@@ -71,6 +71,10 @@ unused = record { generation = 0; above = 0; dest = 0; msg = 0; kind = Wrapped }
 abbrev pub slot_at : List Slot → ℕ → Slot
 slot_at slots k = slice_index_or slots k unused
 
+-- what is kept of so many slots, by what is kept of those that are written: the others were never used
+unfoldable pub all_slots : List Slot → ℕ → List Slot
+all_slots written n = map (λ k. slot_at written k) (range_with_len 0 n)
+
 -- the last timer of a slot
 abbrev pub last_timer : ℕ → List Slot → ℕ → TimerRef
 last_timer w slots k = timer_at w k (slot_at slots k).generation
@@ -104,6 +108,8 @@ pub record AreFieldsFit (slots : List Slot) (keys : List (Option Key)) (free : F
   -- a slot that is held free has no row
   pub vacant : (k : ℕ) → set.contains free.held k ≡ true → key_in keys k ≡ None
   pub below : (k : ℕ) → set.contains free.held k ≡ true → k < length slots
+  -- and a slot that isn't written is held free
+  pub unwritten : (k : ℕ) → owners.written ≤ k → k < length slots → set.contains free.held k ≡ true
   -- the counts stay far below 2^64
   pub few_arms : armed ≤ 9007199254740992
   -- a timer that expired or was cancelled for an exit has no row any more
@@ -112,6 +118,14 @@ pub record AreFieldsFit (slots : List Slot) (keys : List (Option Key)) (free : F
   -- the rows of each process are in its chain
   pub dests : (k : ℕ) (key : Key) → key_in keys k ≡ Some key → (slot_at slots k).dest < owners.homes
   pub chained : AreOwned slots keys owners armed
+
+-- more slots of a wheel are written, so many in all, and nothing was kept of them: so all is seen as it was
+pub record IsWritten (old new : Held Slot) (written : ℕ) : Type 0 where
+  pub more : old.owners.written ≤ written
+  pub keys : new.keys ≡ old.keys
+  pub owners : new.owners ≡ record old.owners { written = written }
+  pub slots : (n : ℕ) → all_slots new.values n ≡ all_slots old.values n
+  pub passed : new.passed ≡ old.passed
 
 -- a timer whose row is held has this status: it is armed, or was cancelled by one who told the part nothing
 abbrev pub IsLive : Option Status → Type 0

@@ -9,7 +9,9 @@
 //! that process. Its order in the wheel is how many timers of the wheel were armed before it. A timer that is settled
 //! leaves the wheel, and its slot stays in the chain until it is used for another process, or until the process is
 //! swept. So a start for the process of the slot's last timer changes no chain of a process. The wheel holds what is
-//! kept of a slot, as the slot's value.
+//! kept of a slot, as the slot's value. A slot is written there when it is first taken, with some of those that come next;
+//! until then it is held free, and what is kept of it counts as that of a slot that was never used. So a slot that isn't held
+//! free is written, and no call on it tests that.
 //!
 //! **What others do.** Any thread may cancel a timer by one exchange on its word, and tells the part nothing.
 //! So a held timer may be settled already. An advance finds that out when its own exchange misses; a start

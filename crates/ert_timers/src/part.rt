@@ -67,7 +67,7 @@ pub struct Tally {
 }
 
 impl Model for WheelPart {
-    ghost use Rattle.ert_timers.specs.Parts.{Part, part_code, AreFieldsFit};
+    ghost use Rattle.ert_timers.specs.Parts.{Part, part_code, all_slots, AreFieldsFit};
     ghost use Rattle.ert_words.specs.Free.{free_set};
 
     ghost Value = { Part };
@@ -77,7 +77,7 @@ impl Model for WheelPart {
     ghost view = { λ p. record {
       number = p.number;
       processes = p.wheel.owners.homes;
-      slots = p.wheel.values;
+      slots = all_slots p.wheel.values p.wheel.owners.slots;
       keys = p.wheel.keys;
       free = (free_set p.free).held;
       arms = p.arms;
@@ -86,14 +86,15 @@ impl Model for WheelPart {
       passed = p.wheel.passed;
     } };
 
-    ghost invariant = { λ p. AreFieldsFit p.wheel.values p.wheel.keys (free_set p.free) p.wheel.owners p.arms p.expires p.orphans };
+    ghost invariant = { λ p. AreFieldsFit (all_slots p.wheel.values p.wheel.owners.slots) p.wheel.keys (free_set p.free) p.wheel.owners p.arms p.expires p.orphans };
 }
 
 impl WheelPart {
     ghost use Rattle.std.specs.Option.{is_some};
     ghost use Rattle.std.specs.Prelude.{◌≡◌, ◌<◌, ◌≤◌, IfOk, IfSome, ℕ, length, count_by, [], option_map};
     ghost use Rattle.ert_defs.specs.Settings.{IsChecked};
-    ghost use Rattle.ert_timers.specs.Parts.{PartStands, held_row};
+    ghost use Rattle.ert_timers.specs.Freeing.{IsInUse};
+    ghost use Rattle.ert_timers.specs.Parts.{PartStands, held_row, slot_at};
     ghost use Rattle.ert_timers.specs.Expiring.{AreDue};
     ghost use Rattle.ert_timers.specs.Changes.{NextOf, gone_on};
     ghost use Rattle.ert_timers.specs.NextDue.{IsNextHeld};
@@ -107,8 +108,7 @@ impl WheelPart {
         ensures stands { IfOk result (PartStands settings.now []) }
         ensures passed { IfOk result (λ part. part.passed ≡ 0) }
     {
-        let unused = Slot::new(0, 0, 0, 0, Kind::Wrapped);
-        let timers = Wheel::new(alloc, settings.slots, settings.processes, unused)?;
+        let timers = Wheel::new(alloc, settings.slots, settings.processes)?;
         let free = FreeSlots::new(alloc, settings.slots)?;
         let due = Vec::with_capacity(alloc, settings.slots as usize)?;
         Ok(WheelPart {
@@ -174,17 +174,32 @@ impl WheelPart {
         self.next_look = slot;
     }
 
+    /// What is kept of a slot, whether it is written or not.
+    fn kept_of(&self, slot: u32) -> Slot
+        requires { slot < length self.now.slots }
+        ensures { result ≡ slot_at self.now.slots slot }
+    {
+        if slot as usize >= self.wheel.written() {
+            return never_used();
+        }
+        self.wheel.value(slot)
+    }
+
     /// The row of a slot; None where the slot has none.
     pub(crate) fn row(&self, slot: u32) -> Option<Row>
         requires { slot < length self.now.slots }
         ensures { result ≡ option_map (row_at slot) (key_in self.now.keys slot) }
     {
+        if slot as usize >= self.wheel.written() {
+            return None;
+        }
         self.wheel.row(slot)
     }
 
     /// The timer of a row.
     pub(crate) fn timer(&self, row: Row) -> TimerRow
-        requires { row.slot < length self.now.slots }
+        requires low { row.slot < length self.now.slots }
+        requires used { IsInUse self.now row.slot }
         ensures { result ≡ held_row self.now.number self.now.slots row.slot (key_of row) }
     {
         let last = self.wheel.value(row.slot);
@@ -263,6 +278,13 @@ pub(crate) fn is_long(now: u64, deadline: u64) -> bool
     deadline.saturating_sub(now) >= LONG_WAIT
 }
 
+/// What is kept of a slot that was never used.
+fn never_used() -> Slot
+    ensures { result ≡ unused }
+{
+    Slot::new(0, 0, 0, 0, Kind::Wrapped)
+}
+
 /// A row of the chain of a process; None where it has none. Slots without a row that are met leave the chain.
 fn find_row(wheel: &mut Wheel<Slot>, process: u32) -> Option<Row>
     requires process { process < wheel.old.owners.homes }
@@ -271,6 +293,7 @@ fn find_row(wheel: &mut Wheel<Slot>, process: u32) -> Option<Row>
     ensures values { wheel.new.values ≡ wheel.old.values }
     ensures slots { wheel.new.owners.slots ≡ wheel.old.owners.slots }
     ensures homes { wheel.new.owners.homes ≡ wheel.old.owners.homes }
+    ensures written { wheel.new.owners.written ≡ wheel.old.owners.written }
     ensures passed { wheel.new.passed ≡ wheel.old.passed }
     ensures finds { (places : ℕ → Option Place) → AreChains wheel.old.owners places
         → FindsRow wheel.old.keys places process wheel.new.owners result }

@@ -1,31 +1,32 @@
 -- What each call on chains does, in the form in which the calls meet it.
 
-use Rattle.std.proofs.Common.{map, ◌≡◌, ◌↔◌, ℕ, ◌+◌, ◌<◌, ◌≤◌, ◌^◌, Bool, true, false, not, cond, List, Option, Some, None, length, get_or, sym, subst, ◌∙◌, ap, inl, inr, refl, arith}
+use Rattle.std.proofs.Common.{map, ◌≡◌, ◌↔◌, ℕ, ◌+◌, ◌-◌, ◌<◌, ◌≤◌, ◌^◌, Bool, true, false, not, cond, List, Option, Some, None, length, get_or, sym, subst, ◌∙◌, ap, inl, inr, refl, arith}
 use Rattle.std.proofs.lemmas.Bool.{cases_lt, lt-ltb, le-ltb, false≢true}
-use Rattle.std.proofs.lemmas.List.FromFn.{get_or-map-range_with_len, length-map-range_with_len}
+use Rattle.std.proofs.lemmas.List.FromFn.{get_or-map-range_with_len}
 use Rattle.std.specs.Bool.{IsTrue}
 use Rattle.std.specs.List.{range_with_len}
 use Rattle.std.specs.Option.{IsSome}
 use Rattle.ert_wheel.proofs.Parts.{IsSlot, IsHead, slot_is, head_is, node_is, placed_apart, put_chains, take_chains}
 use Rattle.ert_wheel.specs.Chained.{Shape, Spliced, Unspliced}
-use Rattle.ert_wheel.specs.Links.{next_at, prev_at, lone_link, no_link}
-use Rattle.ert_wheel.specs.Rings.{Rings, HasLinks, Place, order_of, shape, AreChains, MayTake, Puts, PutsInHome, GivesUpPlace, node_slot, Finds, FindsOldest}
+use Rattle.ert_wheel.proofs.Stored.{spliced_seen, stored_low, unspliced_seen, written_spliced, written_unspliced}
+use Rattle.ert_wheel.specs.Links.{next_at, prev_at, lone_link, no_link, seen_links, AreWritten}
+use Rattle.ert_wheel.specs.Rings.{Rings, rings, seen_rings, Place, order_of, shape, AreChains, MayPut, Puts, PutsInHome, GivesUpPlace, node_slot, Finds, FindsOldest}
 use Rattle.ert_wheel.specs.declared.links.Link.{Link}
 
 -- a slot is put in: `lent` is what the links are while they are written
-pub splices : (old : Rings) (slots homes : ℕ) (before lent after : List Link) (slot home : ℕ)
-    → record { slots = slots; homes = homes; links = before } ≡ old → lent ≡ before
+pub splices : (old : Rings) (slots homes written : ℕ) (before lent after : List Link) (slot home : ℕ)
+    → rings slots homes written before ≡ old → lent ≡ before
     → Spliced (next_at lent) (prev_at lent) (next_at after) (prev_at after) (slots + home) slot
     → Spliced (next_at old.links) (prev_at old.links) (next_at after) (prev_at after) (old.slots + home) slot
-splices old slots homes before lent after slot home is e spliced =
+splices old slots homes written before lent after slot home is e spliced =
     subst (λ (r : Rings). Spliced (next_at r.links) (prev_at r.links) (next_at after) (prev_at after) (r.slots + home) slot) is
     (subst (λ (l : List Link). Spliced (next_at l) (prev_at l) (next_at after) (prev_at after) (slots + home) slot) e spliced)
 
-pub puts : (old : Rings) (slots homes : ℕ) (before after : List Link) (slot home : ℕ)
-    → record { slots = slots; homes = homes; links = before } ≡ old → slot < old.slots → home < old.homes
+pub puts : (old : Rings) (slots homes written : ℕ) (before after : List Link) (slot home : ℕ)
+    → rings slots homes written before ≡ old → slot < old.slots → home < old.homes
     → Spliced (next_at old.links) (prev_at old.links) (next_at after) (prev_at after) (old.slots + home) slot
-    → PutsInHome old (record { slots = slots; homes = homes; links = after }) slot home
-puts old slots homes before after slot home is low in_range spliced =
+    → PutsInHome old (rings slots homes written after) slot home
+puts old slots homes written before after slot home is low in_range spliced =
     subst (λ (r : Rings). PutsInHome old r slot home) (sym (ap (λ (r : Rings). let n : Rings = record r { links = after } in n) is))
     (λ places order are out fits apart above. put_chains old places slot home order after
     (record { are = are; low = low; in_range = in_range; out = out; fits = fits; apart = apart; above = above })
@@ -37,21 +38,69 @@ puts_newest old new slot home puts places order are out fits above =
     puts places order are out fits (λ j p h e. absurd (omega (arith, above j p h))) (λ j p h at. above j p h)
 
 -- a slot is taken out
-pub unsplices : (old : Rings) (slots homes : ℕ) (before lent after : List Link) (slot : ℕ)
-    → record { slots = slots; homes = homes; links = before } ≡ old → lent ≡ before
+pub unsplices : (old : Rings) (slots homes written : ℕ) (before lent after : List Link) (slot : ℕ)
+    → rings slots homes written before ≡ old → lent ≡ before
     → Unspliced (next_at lent) (prev_at lent) (next_at after) (prev_at after) slot
     → Unspliced (next_at old.links) (prev_at old.links) (next_at after) (prev_at after) slot
-unsplices old slots homes before lent after slot is e unspliced =
+unsplices old slots homes written before lent after slot is e unspliced =
     subst (λ (r : Rings). Unspliced (next_at r.links) (prev_at r.links) (next_at after) (prev_at after) slot) is
     (subst (λ (l : List Link). Unspliced (next_at l) (prev_at l) (next_at after) (prev_at after) slot) e unspliced)
 
-pub takes : (old : Rings) (slots homes : ℕ) (before after : List Link) (slot : ℕ)
-    → record { slots = slots; homes = homes; links = before } ≡ old → slot < old.slots
+pub takes : (old : Rings) (slots homes written : ℕ) (before after : List Link) (slot : ℕ)
+    → rings slots homes written before ≡ old → slot < old.slots
     → Unspliced (next_at old.links) (prev_at old.links) (next_at after) (prev_at after) slot
-    → GivesUpPlace old (record { slots = slots; homes = homes; links = after }) slot
-takes old slots homes before after slot is low unspliced =
+    → GivesUpPlace old (rings slots homes written after) slot
+takes old slots homes written before after slot is low unspliced =
     subst (λ (r : Rings). GivesUpPlace old r slot) (sym (ap (λ (r : Rings). let n : Rings = record r { links = after } in n) is))
     (λ places are. take_chains old places slot after are low unspliced)
+
+-- a slot is put in where it is stored
+pub record IsPutIn (now : Rings) (slots homes cap : ℕ) (after : List Link) (slot home : ℕ) : Type 0 where
+  pub written : AreWritten slots homes after cap
+  pub spliced : Spliced (next_at now.links) (prev_at now.links) (next_at (seen_links slots homes after)) (prev_at (seen_links slots homes after)) (now.slots + home) slot
+  pub in_home : PutsInHome now (seen_rings slots homes after) slot home
+
+pub put_stored : (now : Rings) (slots homes cap : ℕ) (before lent after : List Link) (slot home : ℕ)
+    → seen_rings slots homes before ≡ now → MayPut now slot home → slot < now.written
+    → AreWritten slots homes before cap → lent ≡ before → length after ≡ length lent
+    → Spliced (next_at lent) (prev_at lent) (next_at after) (prev_at after) home (homes + slot) → IsPutIn now slots homes cap after slot home
+put_stored now slots homes cap before lent after slot home is may low w e long s =
+    let put : MayPut (seen_rings slots homes before) slot home = subst (λ (r : Rings). MayPut r slot home) (sym is) may in
+    let here : homes + slot < length before = stored_low slots homes before now slot is low in
+    let s' = subst (λ (l : List Link). Spliced (next_at l) (prev_at l) (next_at after) (prev_at after) home (homes + slot)) e s in
+    let long' : length after ≡ length before = long ∙ ap length e in
+    let spliced = splices now slots homes (length before - homes) (seen_links slots homes before) (seen_links slots homes before) (seen_links slots homes after) slot home is refl
+    (spliced_seen slots homes cap before after home slot w put.low put.in_range long' here s') in
+    record {
+      written = written_spliced slots homes cap before after home (homes + slot) w (omega (arith, w.heads, put.in_range)) here long' s';
+      spliced = spliced;
+      in_home = subst (λ n. PutsInHome now (rings slots homes (n - homes) (seen_links slots homes after)) slot home) (sym long')
+          (puts now slots homes (length before - homes) (seen_links slots homes before) (seen_links slots homes after) slot home is may.low may.in_range spliced);
+    }
+
+-- a slot is taken out where it is stored
+pub record IsTakenOut (now : Rings) (slots homes cap : ℕ) (after : List Link) (slot : ℕ) : Type 0 where
+  pub written : AreWritten slots homes after cap
+  pub unspliced : Unspliced (next_at now.links) (prev_at now.links) (next_at (seen_links slots homes after)) (prev_at (seen_links slots homes after)) slot
+  pub gives_up : GivesUpPlace now (seen_rings slots homes after) slot
+
+pub take_stored : (now : Rings) (slots homes cap : ℕ) (before lent after : List Link) (slot : ℕ)
+    → seen_rings slots homes before ≡ now → slot < now.slots → slot < now.written
+    → AreWritten slots homes before cap → lent ≡ before → length after ≡ length lent
+    → Unspliced (next_at lent) (prev_at lent) (next_at after) (prev_at after) (homes + slot) → IsTakenOut now slots homes cap after slot
+take_stored now slots homes cap before lent after slot is few low w e long s =
+    let few' : slot < slots = subst (λ (r : Rings). slot < r.slots) (sym is) few in
+    let here : homes + slot < length before = stored_low slots homes before now slot is low in
+    let s' = subst (λ (l : List Link). Unspliced (next_at l) (prev_at l) (next_at after) (prev_at after) (homes + slot)) e s in
+    let long' : length after ≡ length before = long ∙ ap length e in
+    let unspliced = unsplices now slots homes (length before - homes) (seen_links slots homes before) (seen_links slots homes before) (seen_links slots homes after) slot is refl
+    (unspliced_seen slots homes cap before after slot w few' long' here s') in
+    record {
+      written = written_unspliced slots homes cap before after (homes + slot) w here long' s';
+      unspliced = unspliced;
+      gives_up = subst (λ n. GivesUpPlace now (rings slots homes (n - homes) (seen_links slots homes after)) slot) (sym long')
+          (takes now slots homes (length before - homes) (seen_links slots homes before) (seen_links slots homes after) slot is few unspliced);
+    }
 
 -- a slot isn't alone just where it has a place
 pub is_placed : (r : Rings) (slot : ℕ) (lone_link : Bool) (places : ℕ → Option Place) → AreChains r places → slot < r.slots
@@ -64,28 +113,7 @@ is_placed r slot lone_link places are low tells = at lone_link (places slot) ref
     at true None none tells = (λ t. absurd (false≢true t), λ s. absurd (false≢true s))
     at true (Some place) has tells = absurd (placed_apart r places slot place are low has (tells.0 refl))
 
--- what comes before a slot is a node
-pub before_in_range : (r : Rings) (places : ℕ → Option Place) (slot : ℕ) → AreChains r places → slot < r.slots
-    → prev_at r.links slot < r.slots + r.homes
-before_in_range r places slot are low = at (places slot) refl
-  where
-    at : (o : Option Place) → places slot ≡ o → prev_at r.links slot < r.slots + r.homes
-    at None none = omega (arith, (are.alone slot low none).back)
-    at (Some place) has =
-        let s : IsSlot r.slots r.homes places slot place = slot_is r.slots r.homes places slot place low has in
-        elim (node_is r.slots r.homes places (prev_at r.links slot) (are.chained.before_on slot s.on))
-        [ inl (p, t) ↦ omega (arith, t.low) | inr t ↦ t.few ]
-
-pub before_low : (old : Rings) (slots homes : ℕ) (before lent : List Link) (slot : ℕ)
-    → record { slots = slots; homes = homes; links = before } ≡ old → lent ≡ before → MayTake old slot
-    → HasLinks (record { slots = slots; homes = homes; links = before }) → prev_at lent slot < length lent
-before_low old slots homes before lent slot is e may has =
-    let P : Rings → Type 0 = λ r. prev_at r.links slot < r.slots + r.homes in
-    let known : prev_at before slot < slots + homes =
-    subst P (sym is) (before_in_range old may.places slot may.are may.low) in
-    subst (λ (l : List Link). prev_at l slot < length l) (sym e) (omega (arith, has.len))
-
--- and so is what comes after it
+-- what comes after a slot is a node
 pub after_in_range : (r : Rings) (places : ℕ → Option Place) (slot : ℕ) → AreChains r places → slot < r.slots
     → next_at r.links slot < r.slots + r.homes
 after_in_range r places slot are low = at (places slot) refl
@@ -96,15 +124,6 @@ after_in_range r places slot are low = at (places slot) refl
         let s : IsSlot r.slots r.homes places slot place = slot_is r.slots r.homes places slot place low has in
         elim (node_is r.slots r.homes places (next_at r.links slot) (are.chained.after_on slot s.on))
         [ inl (p, t) ↦ omega (arith, t.low) | inr t ↦ t.few ]
-
-pub after_low : (old : Rings) (slots homes : ℕ) (before lent : List Link) (slot : ℕ)
-    → record { slots = slots; homes = homes; links = before } ≡ old → lent ≡ before → MayTake old slot
-    → HasLinks (record { slots = slots; homes = homes; links = before }) → next_at lent slot < length lent
-after_low old slots homes before lent slot is e may has =
-    let P : Rings → Type 0 = λ r. next_at r.links slot < r.slots + r.homes in
-    let known : next_at before slot < slots + homes =
-    subst P (sym is) (after_in_range old may.places slot may.are may.low) in
-    subst (λ (l : List Link). next_at l slot < length l) (sym e) (omega (arith, has.len))
 
 -- no slot of the chain is between a node and the next
 greatest_of : (r : Rings) (places : ℕ → Option Place) (x home bound : ℕ) → AreChains r places
@@ -167,14 +186,14 @@ older_at r slot low places place are has =
     let s : IsSlot r.slots r.homes places slot place = slot_is r.slots r.homes places slot place low has in
     finds r places slot place.home place.order are s.on s.at_home s.top
 
-pub finds_newest : (n : Rings) (slots homes : ℕ) (links lent : List Link) (home node : ℕ) (found : Option ℕ)
-    → record { slots = slots; homes = homes; links = links } ≡ n → lent ≡ links → home < n.homes
+pub finds_newest : (n : Rings) (slots homes written : ℕ) (links lent : List Link) (home node : ℕ) (found : Option ℕ)
+    → rings slots homes written links ≡ n → lent ≡ links → home < n.homes
     → node ≡ next_at lent (slots + home) → found ≡ node_slot n.slots node → (places : ℕ → Option Place)
     → AreChains n places → Finds n places home (2 ^ 64) found
-finds_newest n slots homes links lent home node found is same low read e places are =
+finds_newest n slots homes written links lent home node found is same low read e places are =
     let P : Rings → Type 0 = λ n. home < n.homes → found ≡ node_slot n.slots node → AreChains n places
     → Finds n places home (2 ^ 64) found in
-    let r : Rings = record { slots = slots; homes = homes; links = links } in
+    let r : Rings = rings slots homes written links in
     subst P is
     (λ low e are.
     let is_found : found ≡ node_slot slots (next_at links (slots + home)) =
@@ -182,15 +201,15 @@ finds_newest n slots homes links lent home node found is same low read e places 
     subst (λ (f : Option ℕ). Finds r places home (2 ^ 64) f) (sym is_found) (newest_at r home low places are))
     low e are
 
-pub finds_older : (n : Rings) (slots homes : ℕ) (links lent : List Link) (slot node : ℕ) (found : Option ℕ)
-    → record { slots = slots; homes = homes; links = links } ≡ n → lent ≡ links → slot < n.slots
+pub finds_older : (n : Rings) (slots homes written : ℕ) (links lent : List Link) (slot node : ℕ) (found : Option ℕ)
+    → rings slots homes written links ≡ n → lent ≡ links → slot < n.slots
     → node ≡ next_at lent slot → found ≡ node_slot n.slots node → (places : ℕ → Option Place)
     (place : Place) → AreChains n places → places slot ≡ Some place
     → Finds n places place.home place.order found
-finds_older n slots homes links lent slot node found is same low read e places place are in_place =
+finds_older n slots homes written links lent slot node found is same low read e places place are in_place =
     let P : Rings → Type 0 = λ n. slot < n.slots → found ≡ node_slot n.slots node → AreChains n places
     → Finds n places place.home place.order found in
-    let r : Rings = record { slots = slots; homes = homes; links = links } in
+    let r : Rings = rings slots homes written links in
     subst P is
     (λ low e are.
     let is_found : found ≡ node_slot slots (next_at links slot) =
@@ -258,14 +277,14 @@ newer_at r slot low places place are has =
     let s : IsSlot r.slots r.homes places slot place = slot_is r.slots r.homes places slot place low has in
     finds_back r slot places place.home (place.order + 1) are s.on s.at_home s.bound
 
-pub finds_oldest : (n : Rings) (slots homes : ℕ) (links lent : List Link) (home node : ℕ) (found : Option ℕ)
-    → record { slots = slots; homes = homes; links = links } ≡ n → lent ≡ links → home < n.homes
+pub finds_oldest : (n : Rings) (slots homes written : ℕ) (links lent : List Link) (home node : ℕ) (found : Option ℕ)
+    → rings slots homes written links ≡ n → lent ≡ links → home < n.homes
     → node ≡ prev_at lent (slots + home) → found ≡ node_slot n.slots node → (places : ℕ → Option Place)
     → AreChains n places → FindsOldest n places home 0 found
-finds_oldest n slots homes links lent home node found is same low read e places are =
+finds_oldest n slots homes written links lent home node found is same low read e places are =
     let P : Rings → Type 0 = λ n. home < n.homes → found ≡ node_slot n.slots node → AreChains n places
     → FindsOldest n places home 0 found in
-    let r : Rings = record { slots = slots; homes = homes; links = links } in
+    let r : Rings = rings slots homes written links in
     subst P is
     (λ low e are.
     let is_found : found ≡ node_slot slots (prev_at links (slots + home)) =
@@ -273,15 +292,15 @@ finds_oldest n slots homes links lent home node found is same low read e places 
     subst (λ (f : Option ℕ). FindsOldest r places home 0 f) (sym is_found) (oldest_at r home low places are))
     low e are
 
-pub finds_newer : (n : Rings) (slots homes : ℕ) (links lent : List Link) (slot node : ℕ) (found : Option ℕ)
-    → record { slots = slots; homes = homes; links = links } ≡ n → lent ≡ links → slot < n.slots
+pub finds_newer : (n : Rings) (slots homes written : ℕ) (links lent : List Link) (slot node : ℕ) (found : Option ℕ)
+    → rings slots homes written links ≡ n → lent ≡ links → slot < n.slots
     → node ≡ prev_at lent slot → found ≡ node_slot n.slots node → (places : ℕ → Option Place)
     (place : Place) → AreChains n places → places slot ≡ Some place
     → FindsOldest n places place.home (place.order + 1) found
-finds_newer n slots homes links lent slot node found is same low read e places place are in_place =
+finds_newer n slots homes written links lent slot node found is same low read e places place are in_place =
     let P : Rings → Type 0 = λ n. slot < n.slots → found ≡ node_slot n.slots node → AreChains n places
     → FindsOldest n places place.home (place.order + 1) found in
-    let r : Rings = record { slots = slots; homes = homes; links = links } in
+    let r : Rings = rings slots homes written links in
     subst P is
     (λ low e are.
     let is_found : found ≡ node_slot slots (prev_at links slot) =
@@ -301,7 +320,7 @@ only_heads slots homes x on =
 
 -- all chains empty
 pub empty_chains : (slots homes : ℕ)
-    → AreChains (record { slots = slots; homes = homes; links = map lone_link (range_with_len 0 (slots + homes)) }) (λ _. None)
+    → AreChains (rings slots homes 0 (map lone_link (range_with_len 0 (slots + homes)))) (λ _. None)
 empty_chains slots homes =
     let a : Shape = shape slots homes (λ _. None) in
     let links : List Link = map lone_link (range_with_len 0 (slots + homes)) in
@@ -329,12 +348,3 @@ empty_chains slots homes =
         back = ap (λ (l : Link). l.prev) (is j (omega arith));
       };
     }
-
--- there is a link for each
-pub has_links : (slots homes : ℕ) → slots ≤ 2 ^ 30 → homes ≤ 2 ^ 30
-    → HasLinks (record { slots = slots; homes = homes; links = map lone_link (range_with_len 0 (slots + homes)) })
-has_links slots homes few few_homes = record {
-  len = length-map-range_with_len lone_link 0 (slots + homes);
-  few = few;
-  few_homes = few_homes;
-}

@@ -6,7 +6,7 @@ use Rattle.std.proofs.lemmas.Bool.{cases_eq, cases_lt, eq-eqb, ne_eqb, and_right
 use Rattle.std.proofs.lemmas.Bool.Decides.{eqb_tells}
 use Rattle.std.proofs.lemmas.List.Elements.{All-push}
 use Rattle.std.proofs.lemmas.List.Sums.{sum_by_push}
-use Rattle.ert_wheel.proofs.Views.{place_is, held_in}
+use Rattle.ert_wheel.proofs.Views.{key_stored, place_is, held_in}
 use Rattle.ert_wheel.specs.Rings.{Rings, Place, AreChains, StandsIn, bound_of, order_of, Finds}
 use Rattle.ert_wheel.specs.Rows.{key_in, key_of, row_at, times, passing}
 use Rattle.ert_wheel.specs.Walks.{AreRows, is_due_in, MayCollect, Collects}
@@ -48,6 +48,13 @@ found chains keys home bucket bound (Some slot) f =
     let k : (k : Key) × (key_in keys slot ≡ Some k) × (record { home = home k; order = k.order } ≡ s.place) =
     place_is home (key_in keys slot) s.place s.has in
     record { key = k.0; has = k.1; at_home = ap (λ (p : Place). p.home) k.2 ∙ s.at_home }
+
+-- and so its key is stored
+pub stands_low : (chains : Rings) (stored : List Key) (home : Key → ℕ) (bucket slot : ℕ) (here : Option ℕ)
+    → IfSome here (InBucket (held_keys chains stored) home bucket) → here ≡ Some slot → slot < length stored
+stands_low chains stored home bucket slot here stands is =
+    let s : InBucket (held_keys chains stored) home bucket slot = subst (λ (o : Option ℕ). IfSome o (InBucket (held_keys chains stored) home bucket)) is stands in
+    key_stored chains stored slot s.key s.has
 
 -- no key passes a test that is false at it
 passing_none : (test : Key → Bool) (o : Option Key) → ((k : Key) → o ≡ Some k → test k ≡ false) → passing test o ≡ 0

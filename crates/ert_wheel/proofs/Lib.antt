@@ -4,6 +4,7 @@ mod Opening
 mod Reached
 mod Replacing
 mod Splice
+mod Stored
 mod Unsplice
 mod Writes
 pub mod Calls

@@ -89,7 +89,7 @@ walk_fits chains keys home bucket to next old now may w =
 -- so there is room for a row that is added
 pub walk_room : (chains : Rings) (keys : List Key) (home : Key → ℕ) (bucket to slot : ℕ) (here next : Option ℕ) (old now : List Row) (d : Key)
     → Turns chains keys home bucket to slot here next old now → (get_or keys slot d).deadline ≤ to
-    → length now + 1 ≤ length keys
+    → length now + 1 ≤ chains.slots
 walk_room chains keys home bucket to slot here next old now d t due =
     let fits : length (now ++ row_at slot (get_or keys slot d) ∷ []) ≤ length (held_keys chains keys) =
     walk_fits chains (held_keys chains keys) home bucket to next old (now ++ row_at slot (get_or keys slot d) ∷ []) t.may

@@ -1,6 +1,6 @@
 -- When the next row of a wheel may be due: that of the first bucket that has one.
 
-use Rattle.std.proofs.Common.{◌≡◌, ℕ, ◌-◌, ◌*◌, ◌/◌, ◌%◌, ◌<◌, ◌≤◌, ◌^◌, ◌⊎◌, max, suc, List, Option, Some, None, MatchOption, sym, ◌∙◌, ap, inl, inr, arith}
+use Rattle.std.proofs.Common.{◌≡◌, ℕ, ◌*◌, ◌/◌, ◌%◌, ◌<◌, ◌≤◌, ◌^◌, ◌⊎◌, max, suc, List, Option, Some, None, MatchOption, sym, ◌∙◌, ap, inl, inr, arith}
 use Rattle.std.proofs.Math.Nat.{div-mul-le_self, lt-div-mul-add, suc-mul, mul-le-mul_right}
 use Rattle.std.proofs.lemmas.Bool.{cases_eq, cases_lt}
 use Rattle.ert_wheel.proofs.Collect.{key_low}

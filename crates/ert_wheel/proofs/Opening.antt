@@ -8,7 +8,7 @@ use Rattle.std.proofs.lemmas.List.Folds.{sum_by-replicate}
 use Rattle.ert_wheel.proofs.Writes.{Sees}
 use Rattle.ert_wheel.specs.Rings.{Rings, Place, AreChains}
 use Rattle.ert_wheel.specs.Rows.{key_in}
-use Rattle.ert_wheel.specs.Wheels.{no_key, home_by, place_of, places}
+use Rattle.ert_wheel.specs.Wheels.{home_by, place_of, places}
 use Rattle.ert_wheel.specs.declared.row.Key.{Key}
 use Rattle.ert_wheel.specs.declared.row.TheConstants.{BUCKETS}
 
@@ -25,16 +25,12 @@ no_key_in n j =
 no_place : (home : Key → ℕ) (n j : ℕ) → places home (replicate n None) j ≡ None
 no_place home n j = ap (place_of home) (no_key_in n j)
 
-pub opened : (slots : ℕ) (stored : List Key) (chains : Rings) → stored ≡ replicate slots no_key
-    → chains.slots ≡ slots → chains.homes ≡ BUCKETS → AreChains chains (λ _. None)
+pub opened : (slots : ℕ) (stored : List Key) (chains : Rings) → chains.slots ≡ slots → chains.homes ≡ BUCKETS → AreChains chains (λ _. None)
     → slots < 2 ^ 32 → Sees 0 0 0 stored (replicate slots None) chains
-opened slots stored chains is low homes are few =
+opened slots stored chains low homes are few =
     let none : length (replicate {A = Option Key} slots None) ≡ slots = length-replicate {A = Option Key} slots None in
     record {
-      are_stored = record {
-        len = none ∙ sym (ap length is ∙ length-replicate slots no_key);
-        has = λ j key has. (let no : None ≡ Some key = sym (no_key_in slots j) ∙ has in cc);
-      };
+      are_stored = λ j key has. (let no : None ≡ Some key = sym (no_key_in slots j) ∙ has in cc);
       above = λ j key has. omega arith;
       wheel = record {
         slots = none ∙ sym low;

@@ -343,3 +343,7 @@ take_chains r places slot links are low unspliced = at (places slot) refl
     at : (o : Option Place) → places slot ≡ o → AreChains (record r { links = links }) (with_place places slot None)
     at None none = take_none r places slot links are low none unspliced
     at (Some place) has = take_placed r places slot place links are low has unspliced
+
+-- how many slots are written is nothing to the chains
+pub chains_written : (r : Rings) (written : ℕ) (places : ℕ → Option Place) → AreChains r places → AreChains (record r { written = written }) places
+chains_written r written places are = record { orders = are.orders; once = are.once; chained = are.chained; alone = are.alone }

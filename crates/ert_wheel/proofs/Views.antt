@@ -1,8 +1,9 @@
 -- A wheel's keys as they are held, and its chains after a key was written.
 
-use Rattle.std.proofs.Common.{◌≡◌, ◌≢◌, ◌⊎◌, ℕ, ◌+◌, ◌<◌, ◌≤◌, cond, List, Option, Some, None, length, get_or, set, count_by, true, sym, subst, ◌∙◌, ap, inl, inr, refl, arith, get_or-set_same, get_or-set_other}
+use Rattle.std.proofs.Common.{◌≡◌, ◌≢◌, ◌⊎◌, ℕ, ◌+◌, ◌<◌, ◌≤◌, cond, List, ◌++◌, Option, Some, None, length, get_or, set, slice_get, count_by, true, sym, subst, ◌∙◌, ap, inl, inr, refl, arith, get_or-set_same, get_or-set_other}
 use Rattle.std.proofs.lemmas.Bool.{cases_eq, cases_lt, eq-eqb, ne_eqb}
-use Rattle.std.proofs.lemmas.List.{get_or_default, length-set}
+use Rattle.std.proofs.lemmas.List.{get_or_append_left, length-append, length-set}
+use Rattle.std.proofs.lemmas.Option.{get_or_from_slice_get, slice_get_within, slice_get-get_or}
 use Rattle.std.proofs.lemmas.List.FromFn.{fill_by_all, get_or-map-range_with_len, length-map-range_with_len}
 use Rattle.std.proofs.lemmas.List.Sums.{sum_by-set}
 use Rattle.std.proofs.Math.ListN.{get_or-eq_default}
@@ -16,39 +17,38 @@ use Rattle.ert_wheel.specs.declared.links.Link.{Link}
 use Rattle.ert_wheel.specs.declared.row.Key.{Key}
 
 -- what a slot is seen as
-pub held_at : (chains : Rings) (stored : List Key) (slot : ℕ) → slot < length stored
+pub held_at : (chains : Rings) (stored : List Key) (slot : ℕ) → slot < chains.slots
     → key_in (held_keys chains stored) slot ≡ held_key chains.links stored slot
 held_at chains stored slot low =
-    get_or-map-range_with_len (held_key chains.links stored) 0 (length stored) slot slot None low (omega arith)
+    get_or-map-range_with_len (held_key chains.links stored) 0 chains.slots slot slot None low (omega arith)
 
-pub held_len : (chains : Rings) (stored : List Key) → length (held_keys chains stored) ≡ length stored
-held_len chains stored = length-map-range_with_len (held_key chains.links stored) 0 (length stored)
+pub held_len : (chains : Rings) (stored : List Key) → length (held_keys chains stored) ≡ chains.slots
+held_len chains stored = length-map-range_with_len (held_key chains.links stored) 0 chains.slots
 
 -- alone it has no key, and else the stored one
 pub key_alone : (links : List Link) (stored : List Key) (slot : ℕ) → next_at links slot ≡ slot
     → held_key links stored slot ≡ None
-key_alone links stored slot e =
-    ap (λ b. cond b None (Some (get_or stored slot no_key))) (eq-eqb (next_at links slot) slot e)
+key_alone links stored slot e = ap (λ b. cond b None (slice_get stored slot)) (eq-eqb (next_at links slot) slot e)
 
-pub key_apart : (links : List Link) (stored : List Key) (slot : ℕ) → next_at links slot ≢ slot
+key_kept : (links : List Link) (stored : List Key) (slot : ℕ) → next_at links slot ≢ slot → held_key links stored slot ≡ slice_get stored slot
+key_kept links stored slot ne = ap (λ b. cond b None (slice_get stored slot)) (ne_eqb (next_at links slot) slot ne)
+
+pub key_apart : (links : List Link) (stored : List Key) (slot : ℕ) → slot < length stored → next_at links slot ≢ slot
     → held_key links stored slot ≡ Some (get_or stored slot no_key)
-key_apart links stored slot ne =
-    ap (λ b. cond b None (Some (get_or stored slot no_key))) (ne_eqb (next_at links slot) slot ne)
+key_apart links stored slot low ne = key_kept links stored slot ne ∙ slice_get-get_or stored slot no_key low
 
 -- each key that is held is one that is stored
 pub held_in : (chains : Rings) (stored : List Key) (slot : ℕ) (d seen : Key)
     → key_in (held_keys chains stored) slot ≡ Some seen → (slot < length stored) × (seen ≡ get_or stored slot d)
 held_in chains stored slot d seen h =
-    elim (cases_lt slot (length stored)) [
+    elim (cases_lt slot chains.slots) [
       | inl low ↦
           let at : held_key chains.links stored slot ≡ Some seen = sym (held_at chains stored slot low) ∙ h in
           elim (cases_eq (next_at chains.links slot) slot) [
             | inl e ↦ let none : None ≡ Some seen = sym (key_alone chains.links stored slot e) ∙ at in cc
             | inr ne ↦
-                let some : Some (get_or stored slot no_key) ≡ Some seen =
-                sym (key_apart chains.links stored slot ne) ∙ at in
-                let same : get_or stored slot no_key ≡ seen = cc in
-                (low, sym same ∙ get_or_default stored slot no_key d low)
+                let some : slice_get stored slot ≡ Some seen = sym (key_kept chains.links stored slot ne) ∙ at in
+                (slice_get_within stored slot seen some, sym (get_or_from_slice_get stored slot seen d some))
           ]
       | inr high ↦
           let long : length (held_keys chains stored) ≤ slot = omega (arith, held_len chains stored) in
@@ -56,28 +56,27 @@ held_in chains stored slot d seen h =
           cc
     ]
 
--- the keys that are seen are those that are stored
-pub record AreStored (stored : List Key) (seen : List (Option Key)) : Type 0 where
-  pub len : length seen ≡ length stored
-  pub has : (slot : ℕ) (key : Key) → key_in seen slot ≡ Some key → key ≡ get_or stored slot no_key
+pub key_stored : (chains : Rings) (stored : List Key) (slot : ℕ) (seen : Key) → key_in (held_keys chains stored) slot ≡ Some seen → slot < length stored
+key_stored chains stored slot seen h = (held_in chains stored slot seen seen h).0
+
+-- each key that is seen is stored
+abbrev pub AreStored : List Key → List (Option Key) → Type 0
+AreStored stored seen = (slot : ℕ) (key : Key) → key_in seen slot ≡ Some key → slice_get stored slot ≡ Some key
 
 -- and a slot is alone just where it has none: so they are those that are held
 pub held_is : (chains : Rings) (home : Key → ℕ) (stored : List Key) (seen : List (Option Key))
     → length seen ≡ chains.slots → AreStored stored seen → AreChains chains (places home seen)
     → held_keys chains stored ≡ seen
 held_is chains home stored seen slots are_stored are =
-    sym (fill_by_all (held_key chains.links stored) seen (length stored) None are_stored.len
-    (λ slot low. at slot low (key_in seen slot) refl))
+    sym (fill_by_all (held_key chains.links stored) seen chains.slots None slots (λ slot low. at slot low (key_in seen slot) refl))
   where
-    at : (slot : ℕ) → slot < length stored → (o : Option Key) → key_in seen slot ≡ o
+    at : (slot : ℕ) → slot < chains.slots → (o : Option Key) → key_in seen slot ≡ o
         → key_in seen slot ≡ held_key chains.links stored slot
     at slot low None none =
-        none ∙ sym (key_alone chains.links stored slot
-        (are.alone slot (omega (arith, slots, are_stored.len)) (ap (place_of home) none)).forth)
+        none ∙ sym (key_alone chains.links stored slot (are.alone slot low (ap (place_of home) none)).forth)
     at slot low (Some key) has =
-        has ∙ ap (λ (k : Key). Some k) (are_stored.has slot key has)
-        ∙ sym (key_apart chains.links stored slot
-        (placed_apart chains (places home seen) slot _ are (omega (arith, slots, are_stored.len)) (ap (place_of home) has)))
+        has ∙ sym (key_kept chains.links stored slot
+        (placed_apart chains (places home seen) slot _ are low (ap (place_of home) has)) ∙ are_stored slot key has)
 
 -- who has a key after one was written
 pub key_set : (keys : List (Option Key)) (slot : ℕ) (new : Option Key) (j : ℕ) (key : Key) → slot < length keys
@@ -89,33 +88,38 @@ key_set keys slot new j key low has =
       | inr ne ↦ inr (ne, sym (get_or-set_other keys slot j new None ne) ∙ has)
     ]
 
--- what is held is stored, also after a key was written, and after one was given up
+-- what is held is stored, also after a key was written, after one was given up, and where more are stored
 pub stored_held : (chains : Rings) (stored : List Key) → AreStored stored (held_keys chains stored)
-stored_held chains stored = record {
-  len = held_len chains stored;
-  has = λ j k has. (held_in chains stored j no_key k has).1;
-}
+stored_held chains stored = λ j k has.
+    let h = held_in chains stored j k k has in
+    slice_get-get_or stored j k h.0 ∙ ap (λ (x : Key). Some x) (sym h.1)
 
 pub stored_set : (stored : List Key) (seen : List (Option Key)) (slot : ℕ) (key : Key) → AreStored stored seen
-    → slot < length seen → AreStored (set stored slot key) (set seen slot (Some key))
-stored_set stored seen slot key are low = record {
-  len = length-set seen slot (Some key) ∙ are.len ∙ sym (length-set stored slot key);
-  has = λ j k has. elim (key_set seen slot (Some key) j k low has) [
-    | inl (e, is) ↦
-        let same : key ≡ k = cc in
-        sym same ∙ sym (get_or-set_same stored slot key no_key (omega (arith, are.len)))
-        ∙ ap (λ x. get_or (set stored slot key) x no_key) (sym e)
-    | inr (ne, was) ↦ are.has j k was ∙ sym (get_or-set_other stored slot j key no_key ne)
-  ];
-}
+    → slot < length stored → slot < length seen → AreStored (set stored slot key) (set seen slot (Some key))
+stored_set stored seen slot key are written low = λ j k has. elim (key_set seen slot (Some key) j k low has) [
+  | inl (e, is) ↦
+      let same : key ≡ k = cc in
+      ap (slice_get (set stored slot key)) e
+      ∙ (slice_get-get_or (set stored slot key) slot no_key (omega (arith, length-set stored slot key))
+      ∙ ap (λ (x : Key). Some x) (get_or-set_same stored slot key no_key written ∙ same))
+  | inr (ne, was) ↦
+      let old : slice_get stored j ≡ Some k = are j k was in
+      let within : j < length stored = slice_get_within stored j k old in
+      slice_get-get_or (set stored slot key) j no_key (omega (arith, length-set stored slot key))
+      ∙ ap (λ (x : Key). Some x) (get_or-set_other stored slot j key no_key ne ∙ get_or_from_slice_get stored j k no_key old)
+]
 
 pub stored_less : (stored : List Key) (seen : List (Option Key)) (slot : ℕ) → AreStored stored seen → slot < length seen
     → AreStored stored (set seen slot None)
-stored_less stored seen slot are low = record {
-  len = length-set seen slot None ∙ are.len;
-  has = λ j k has. elim (key_set seen slot None j k low has)
-      [ inl (e, is) ↦ let none : None ≡ Some k = is in cc | inr (ne, was) ↦ are.has j k was ];
-}
+stored_less stored seen slot are low = λ j k has. elim (key_set seen slot None j k low has)
+    [ inl (e, is) ↦ let none : None ≡ Some k = is in cc | inr (ne, was) ↦ are j k was ]
+
+pub stored_more : (stored more : List Key) (seen : List (Option Key)) → AreStored stored seen → AreStored (stored ++ more) seen
+stored_more stored more seen are = λ j k has.
+    let old : slice_get stored j ≡ Some k = are j k has in
+    let within : j < length stored = slice_get_within stored j k old in
+    slice_get-get_or (stored ++ more) j no_key (omega (arith, length-append stored more))
+    ∙ ap (λ (x : Key). Some x) (get_or_append_left stored more no_key j within ∙ get_or_from_slice_get stored j k no_key old)
 
 -- the key of a place
 pub place_is : (home : Key → ℕ) (key : Option Key) (p : Place) → place_of home key ≡ Some p

@@ -1,18 +1,20 @@
 -- What each call that changes a wheel does, in the form in which the calls meet it.
 
-use Rattle.std.proofs.Common.{◌≡◌, ◌≢◌, ◌↔◌, ℕ, ◌+◌, ◌-◌, ◌<◌, ◌≤◌, ◌^◌, cond, count_by, true, false, nat_le, max, min, List, Option, Some, None, IfSome, map, length, get_or, set, sym, subst, ◌∙◌, ap, inl, inr, refl, arith}
+use Rattle.std.proofs.Common.{◌≡◌, ◌≢◌, ◌↔◌, ℕ, ◌+◌, ◌-◌, ◌<◌, ◌≤◌, ◌^◌, cond, count_by, true, false, nat_le, max, min, List, ◌++◌, Option, Some, None, IfSome, map, length, get_or, set, sym, subst, ◌∙◌, ap, inl, inr, refl, arith}
 use Rattle.std.proofs.lemmas.Bool.{true≢false}
 use Rattle.std.proofs.lemmas.Bool.Decides.{leb_tells}
 use Rattle.std.proofs.lemmas.List.{ext_get_or, get_or-map, length-map, length-set, set-get_or}
 use Rattle.std.proofs.lemmas.List.Sums.{count_by-le-length}
 use Rattle.std.specs.Bool.{IsTrue}
 use Rattle.std.specs.Option.{is_some, IsSome}
-use Rattle.ert_wheel.proofs.Views.{AreStored, held_at, key_alone, key_apart, held_is, key_set, stored_held, stored_set, stored_less, chains_set, counts_more, counts_less, counts_same, place_is}
+use Rattle.ert_wheel.proofs.Parts.{chains_written}
+use Rattle.ert_wheel.proofs.Views.{AreStored, held_at, held_len, key_stored, key_alone, key_apart, held_is, key_set, stored_held, stored_set, stored_less, stored_more, chains_set, counts_more, counts_less, counts_same, place_is}
+use Rattle.ert_wheel.specs.Kept.{KeptSlots, AreAlike}
 use Rattle.ert_wheel.specs.Links.{next_at}
 use Rattle.ert_wheel.specs.Rings.{Rings, Place, AreChains, with_place, MayPut, Puts, MayTake, GivesUpPlace, MovesSlot}
 use Rattle.ert_wheel.specs.Rows.{Held, key_in, times, due_count, left_at}
 use Rattle.ert_wheel.specs.Walks.{MayMoveOn}
-use Rattle.ert_wheel.specs.Wheels.{no_key, held_keys, home_by, place_of, places, IsWheel, IsWheelKept}
+use Rattle.ert_wheel.specs.Wheels.{no_key, held_keys, home_by, place_of, places, IsWheel, IsWheelKept, IsWheelAlike}
 use Rattle.ert_wheel.specs.declared.row.Key.{Key}
 use Rattle.ert_wheel.specs.declared.row.Row.{Row}
 use Rattle.ert_wheel.specs.declared.row.TheConstants.{NEVER, BUCKETS}
@@ -30,6 +32,50 @@ pub sees : {T : Type 0} {next count floor : ℕ} {stored : List Key} {chains own
 sees {T} {next = next} {count = count} {floor = floor} {stored = stored} {chains = chains} w is =
     subst (λ (h : Held T). Sees next count floor stored h.keys chains) is
     (record { wheel = w.wheel; above = w.above; are_stored = stored_held chains stored })
+
+-- where a slot that is written stands
+pub record IsLowIn (stored : List Key) (seen : List (Option Key)) (buckets owners : Rings) (slot : ℕ) : Type 0 where
+  pub low_key : slot < length seen
+  pub low_record : slot < length stored
+  pub low_bucket : slot < buckets.written
+  pub low_owner : slot < owners.written
+  pub is_slot : slot < owners.slots
+
+pub low_in : {T : Type 0} {next count floor : ℕ} {kept : KeptSlots T} {buckets owners : Rings} {values : List T} {passed : ℕ} {held : Held T} (slot : ℕ)
+    → IsWheelAlike next count floor kept buckets owners
+    → ◌≡◌ {A = Held T} (record { keys = held_keys buckets kept.keys; owners = owners; values = values; passed = passed }) held
+    → slot < held.owners.written → IsLowIn kept.keys held.keys buckets owners slot
+low_in {T} {kept = kept} {buckets = buckets} slot w is low =
+    let owned = ap (λ (h : Held T). h.owners.written) is in
+    let wide = ap (λ (h : Held T). length h.keys) is in
+    record {
+      low_key = omega (arith, low, owned, wide, held_len buckets kept.keys, w.alike.owned, w.alike.most);
+      low_record = omega (arith, low, owned, w.alike.owned, w.alike.records);
+      low_bucket = omega (arith, low, owned, w.alike.owned);
+      low_owner = omega (arith, low, owned);
+      is_slot = omega (arith, low, owned, w.alike.most_owned);
+    }
+
+-- a slot that has a row is written
+pub row_written : {T : Type 0} {next count floor : ℕ} {kept : KeptSlots T} {buckets owners : Rings} {values : List T} {passed : ℕ} {held : Held T} (slot : ℕ) (key : Key)
+    → IsWheelAlike next count floor kept buckets owners
+    → ◌≡◌ {A = Held T} (record { keys = held_keys buckets kept.keys; owners = owners; values = values; passed = passed }) held
+    → key_in held.keys slot ≡ Some key → slot < held.owners.written
+row_written {T} {kept = kept} {buckets = buckets} slot key w is has =
+    let low = key_stored buckets kept.keys slot key (ap (λ (h : Held T). key_in h.keys slot) is ∙ has) in
+    omega (arith, low, ap (λ (h : Held T). h.owners.written) is, w.alike.owned, w.alike.records)
+
+-- slots are written alike where no more are than before
+pub alike_after : {T : Type 0} {kept new : KeptSlots T} {buckets owners buckets' owners' : Rings} → AreAlike kept buckets owners
+    → length new.keys ≡ length kept.keys → new.room ≡ kept.room → buckets'.slots ≡ buckets.slots → buckets'.written ≡ buckets.written
+    → owners'.written ≡ owners.written → owners'.slots ≡ owners.slots → AreAlike new buckets' owners'
+alike_after a keys room slots written owned few = record {
+  records = omega (arith, a.records, keys, written);
+  owned = omega (arith, a.owned, owned, written);
+  most = omega (arith, a.most, slots, written);
+  most_owned = omega (arith, a.most_owned, owned, few);
+  room = omega (arith, a.room, room, slots);
+}
 
 -- the parts of what is held
 abbrev pub keys_of : {T : Type 0} → Held T → List (Option Key)
@@ -102,12 +148,12 @@ pub record CanStore (seen : List (Option Key)) (slot : ℕ) (key : Key) : Type 0
 
 -- the wheel with another row of a slot, or its first
 pub stored_row : {next count count' floor floor' : ℕ} {stored : List Key} {seen : List (Option Key)} {chains new : Rings} {slot : ℕ} {key : Key}
-    → Sees next count floor stored seen chains → CanStore seen slot key → new.slots ≡ chains.slots → new.homes ≡ chains.homes
+    → Sees next count floor stored seen chains → CanStore seen slot key → slot < length stored → new.slots ≡ chains.slots → new.homes ≡ chains.homes
     → floor' ≡ min floor key.deadline → count' ≡ count_by is_some (set seen slot (Some key))
     → AreChains new (with_place (places (home_by next) seen) slot (Some (record { home = home_by next key; order = key.order })))
     → Sees next count' floor' (set stored slot key) (set seen slot (Some key)) new
-stored_row {next = next} {stored = stored} {seen = seen} {new = new} {slot = slot} {key = key} s can slots homes low' counts are = record {
-  are_stored = stored_set stored seen slot key s.are_stored can.low;
+stored_row {next = next} {stored = stored} {seen = seen} {new = new} {slot = slot} {key = key} s can written slots homes low' counts are = record {
+  are_stored = stored_set stored seen slot key s.are_stored written can.low;
   above = λ j k has. elim (key_set seen slot (Some key) j k can.low has) [
     | inl (here, some) ↦ let same : key ≡ k = cc in omega (arith, ap (λ (x : Key). x.deadline) same)
     | inr (ne, was) ↦ omega (arith, s.above j k was)
@@ -128,39 +174,39 @@ stored_row {next = next} {stored = stored} {seen = seen} {new = new} {slot = slo
 
 -- the wheel with a row put in
 pub inserted : {next count floor floor' : ℕ} {stored : List Key} {seen : List (Option Key)} {chains new : Rings} {slot : ℕ} {key : Key} {home : ℕ}
-    → Sees next count floor stored seen chains → CanStore seen slot key → key_in seen slot ≡ None → home ≡ home_by next key
+    → Sees next count floor stored seen chains → CanStore seen slot key → slot < length stored → key_in seen slot ≡ None → home ≡ home_by next key
     → new.slots ≡ chains.slots → new.homes ≡ chains.homes → Puts chains new slot home → floor' ≡ min floor key.deadline
     → Sees next (count + 1) floor' (set stored slot key) (set seen slot (Some key)) new
-inserted {next = next} {seen = seen} {chains = chains} {new = new} {slot = slot} {key = key} s can vacant e slots homes puts low' =
+inserted {next = next} {seen = seen} {chains = chains} {new = new} {slot = slot} {key = key} s can written vacant e slots homes puts low' =
     let h : Key → ℕ = home_by next in
     let puts_key : Puts chains new slot (h key) = subst (λ (n : ℕ). Puts chains new slot n) e puts in
-    stored_row s can slots homes low' (ap (λ n. n + 1) s.wheel.counts ∙ sym (counts_more seen slot key can.low vacant))
+    stored_row s can written slots homes low' (ap (λ n. n + 1) s.wheel.counts ∙ sym (counts_more seen slot key can.low vacant))
     (puts_key (places h seen) key.order s.wheel.are (ap (place_of h) vacant) can.order (orders_below h seen key.order can.newest))
 
 -- the wheel with another row of a slot
 pub replaced : {next count floor floor' : ℕ} {stored : List Key} {seen : List (Option Key)} {chains new : Rings} {slot : ℕ} {key : Key} {home : ℕ}
-    → Sees next count floor stored seen chains → CanStore seen slot key → IsSome (key_in seen slot) → home ≡ home_by next key
+    → Sees next count floor stored seen chains → CanStore seen slot key → slot < length stored → IsSome (key_in seen slot) → home ≡ home_by next key
     → new.slots ≡ chains.slots → new.homes ≡ chains.homes → MovesSlot chains new slot home → floor' ≡ min floor key.deadline
     → Sees next count floor' (set stored slot key) (set seen slot (Some key)) new
-replaced {next = next} {seen = seen} {chains = chains} {new = new} {slot = slot} {key = key} s can held e slots homes moves low' =
+replaced {next = next} {seen = seen} {chains = chains} {new = new} {slot = slot} {key = key} s can written held e slots homes moves low' =
     let h : Key → ℕ = home_by next in
     let moves_key : MovesSlot chains new slot (h key) = subst (λ (n : ℕ). MovesSlot chains new slot n) e moves in
-    stored_row s can slots homes low' (s.wheel.counts ∙ sym (counts_same seen slot key can.low held))
+    stored_row s can written slots homes low' (s.wheel.counts ∙ sym (counts_same seen slot key can.low held))
     (moves_key (places h seen) key.order s.wheel.are can.order (orders_below h seen key.order can.newest))
 
 -- where a slot is alone it has no row, and else the one that is stored
 pub looks_alone : {next count floor : ℕ} {stored : List Key} {seen : List (Option Key)} {chains : Rings} {slot : ℕ}
     → Sees next count floor stored seen chains → slot < length seen → next_at chains.links slot ≡ slot → key_in seen slot ≡ None
 looks_alone {stored = stored} {chains = chains} {slot = slot} s low e =
-    ap (λ (ks : List (Option Key)). key_in ks slot) (sym (is_held s)) ∙ held_at chains stored slot (omega (arith, s.are_stored.len))
+    ap (λ (ks : List (Option Key)). key_in ks slot) (sym (is_held s)) ∙ held_at chains stored slot (omega (arith, s.wheel.slots))
     ∙ key_alone chains.links stored slot e
 
 pub looks_apart : {next count floor : ℕ} {stored : List Key} {seen : List (Option Key)} {chains : Rings} {slot : ℕ}
-    → Sees next count floor stored seen chains → slot < length seen → next_at chains.links slot ≢ slot
+    → Sees next count floor stored seen chains → slot < length seen → slot < length stored → next_at chains.links slot ≢ slot
     → key_in seen slot ≡ Some (get_or stored slot no_key)
-looks_apart {stored = stored} {chains = chains} {slot = slot} s low ne =
-    ap (λ (ks : List (Option Key)). key_in ks slot) (sym (is_held s)) ∙ held_at chains stored slot (omega (arith, s.are_stored.len))
-    ∙ key_apart chains.links stored slot ne
+looks_apart {stored = stored} {chains = chains} {slot = slot} s low written ne =
+    ap (λ (ks : List (Option Key)). key_in ks slot) (sym (is_held s)) ∙ held_at chains stored slot (omega (arith, s.wheel.slots))
+    ∙ key_apart chains.links stored slot written ne
 
 pub may_take : {next count floor : ℕ} {stored : List Key} {seen : List (Option Key)} {chains : Rings} {slot : ℕ}
     → Sees next count floor stored seen chains → slot < length seen → MayTake chains slot
@@ -244,6 +290,23 @@ moved to after s none low up fits slots homes are = record {
     counts = s.wheel.counts;
     low = s.wheel.low;
     are = are;
+  };
+}
+
+-- the wheel where more slots are written
+pub grown : {next count floor : ℕ} {stored : List Key} {seen : List (Option Key)} {chains : Rings} (more : List Key) (written : ℕ)
+    → Sees next count floor stored seen chains → Sees next count floor (stored ++ more) seen (record chains { written = written })
+grown {next = next} {stored = stored} {seen = seen} {chains = chains} more written s = record {
+  are_stored = stored_more stored more seen s.are_stored;
+  above = s.above;
+  wheel = record {
+    slots = s.wheel.slots;
+    few = s.wheel.few;
+    homes = s.wheel.homes;
+    time = s.wheel.time;
+    counts = s.wheel.counts;
+    low = s.wheel.low;
+    are = chains_written chains written (places (home_by next) seen) s.wheel.are;
   };
 }
 

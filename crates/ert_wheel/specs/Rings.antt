@@ -3,20 +3,24 @@
 use Rattle.std.specs.Prelude.{◌≡◌, ◌≢◌, ◌⊎◌, ℕ, ◌+◌, ◌-◌, ◌<◌, ◌≤◌, ◌^◌, List, Option, Some, None, nat_lt, nat_eq, length, if◌then◌else◌, IfSome}
 use Rattle.std.specs.Option.{is_some}
 use Rattle.ert_wheel.specs.Chained.{Shape, Chained, Alone}
-use Rattle.ert_wheel.specs.Links.{next_at, prev_at}
+use Rattle.ert_wheel.specs.Links.{next_at, prev_at, seen_links}
 use Rattle.ert_wheel.specs.declared.links.Link.{Link}
 
--- how many slots and homes there are, and the links of both: of each slot, and then of each home's head
+-- how many slots and homes there are, how many slots are written, and the links of all: of each slot, and then of each
+-- home's head
 pub record Rings : Type 0 where
   pub slots : ℕ
   pub homes : ℕ
+  pub written : ℕ
   pub links : List Link
 
--- there is a link for each, and their numbers fit
-pub record HasLinks (r : Rings) : Type 0 where
-  pub len : length r.links ≡ r.slots + r.homes
-  pub few : r.slots ≤ 2 ^ 30
-  pub few_homes : r.homes ≤ 2 ^ 30
+-- rings by their parts
+abbrev pub rings : ℕ → ℕ → ℕ → List Link → Rings
+rings slots homes written links = record { slots = slots; homes = homes; written = written; links = links }
+
+-- and as their links are stored: those of the heads, and then those of the slots that are written
+abbrev pub seen_rings : ℕ → ℕ → List Link → Rings
+seen_rings slots homes stored = rings slots homes (length stored - homes) (seen_links slots homes stored)
 
 -- the head of a home is on both sides of a slot: no other is in its chain
 pub record IsOnlyOf (r : Rings) (slot home : ℕ) : Type 0 where

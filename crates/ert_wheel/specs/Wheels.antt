@@ -1,8 +1,9 @@
 -- What a wheel keeps: keys by slot, and a chain of the rows of each bucket.
 
-use Rattle.std.specs.Prelude.{◌≡◌, ℕ, ◌<◌, ◌≤◌, ◌^◌, List, Option, Some, None, cond, nat_eq, map, max, length, count_by, option_map, slice_index_or}
-use Rattle.std.specs.List.{range_with_len}
+use Rattle.std.specs.Prelude.{◌≡◌, ℕ, ◌<◌, ◌≤◌, ◌^◌, List, Option, Some, None, cond, nat_eq, map, max, length, count_by, option_map}
+use Rattle.std.specs.List.{range_with_len, slice_get}
 use Rattle.std.specs.Option.{is_some}
+use Rattle.ert_wheel.specs.Kept.{KeptSlots, AreAlike}
 use Rattle.ert_wheel.specs.Levels.{home_at}
 use Rattle.ert_wheel.specs.Links.{next_at}
 use Rattle.ert_wheel.specs.Rings.{Rings, Place, AreChains}
@@ -17,11 +18,11 @@ no_key = record { deadline = 0; order = 0 }
 
 -- the key of a slot: none where the slot is alone in the ring of its bucket, and else the one that is stored
 abbrev pub held_key : List Link → List Key → ℕ → Option Key
-held_key links stored slot = cond (nat_eq (next_at links slot) slot) None (Some (slice_index_or stored slot no_key))
+held_key links stored slot = cond (nat_eq (next_at links slot) slot) None (slice_get stored slot)
 
 -- the keys that are held
 abbrev pub held_keys : Rings → List Key → List (Option Key)
-held_keys chains stored = map (held_key chains.links stored) (range_with_len 0 (length stored))
+held_keys chains stored = map (held_key chains.links stored) (range_with_len 0 chains.slots)
 
 -- the bucket of a time, seen from the next time: there are five levels
 abbrev pub bucket_of : ℕ → ℕ → ℕ
@@ -53,3 +54,8 @@ pub record IsWheel (next_time count : ℕ) (keys : List (Option Key)) (chains : 
 pub record IsWheelKept (next_time count floor : ℕ) (keys : List (Option Key)) (chains : Rings) : Type 0 where
   pub wheel : IsWheel next_time count keys chains
   pub above : (slot : ℕ) (key : Key) → key_in keys slot ≡ Some key → floor ≤ key.deadline
+
+-- and each slot that is written is so everywhere
+pub record IsWheelAlike {T : Type 0} (next_time count floor : ℕ) (kept : KeptSlots T) (buckets owners : Rings) : Type 0 where
+  pub rows : IsWheelKept next_time count floor (held_keys buckets kept.keys) buckets
+  pub alike : AreAlike kept buckets owners

@@ -1,7 +1,3 @@
-ghost use Rattle.std.specs.Prelude.{◌≡◌, IfOk, map};
-ghost use Rattle.std.specs.List.{range_with_len};
-ghost use Rattle.ert_wheel.specs.Wheels.{no_key};
-
 use crate::row::Key;
 use ert_defs::NoMemory;
 use std::alloc::Global;
@@ -15,32 +11,69 @@ struct Record<T> {
 }
 
 /// The key of each slot's last row, and a value of each slot.
+///
+/// There is room for all slots from the beginning, and the slots below a number are written.
 #[derive(Drop)]
 pub struct Kept<T> {
     records: Vec<Record<T>>,
 }
 
 impl<T> Model for Kept<T> {
-    ghost use Rattle.std.specs.Prelude.{map};
+    ghost use Rattle.std.specs.Prelude.{map, vec_capacity};
     ghost use Rattle.ert_wheel.specs.Kept.{KeptSlots, record_key, record_value};
 
     ghost Value = { KeptSlots T };
 
-    ghost view = { λ k. record { keys = map record_key k.records.items; values = map record_value k.records.items } };
+    ghost view = { λ k. record {
+      keys = map record_key k.records.items;
+      values = map record_value k.records.items;
+      room = vec_capacity k.records;
+    } };
 }
 
 impl<T: Copy> Kept<T> {
-    ghost use Rattle.std.specs.Prelude.{◌≡◌, ◌<◌, IfOk, Some, length, replicate, slice_index_or, slice_set};
+    ghost use Rattle.std.specs.Prelude.{◌≡◌, ◌-◌, ◌<◌, ◌≤◌, [], ◌++◌, IfOk, Some, length, replicate, slice_index_or, slice_set};
     ghost use Rattle.std.specs.List.{slice_get};
     ghost use Rattle.ert_wheel.specs.Wheels.{no_key};
 
-    /// So many slots, each with this value and without a row.
-    pub fn new(alloc: Global, slots: u32, value: T) -> Result<Kept<T>, NoMemory>
-        ensures keys { IfOk result (λ kept. kept.keys ≡ replicate slots no_key) }
-        ensures values { IfOk result (λ kept. kept.values ≡ replicate slots value) }
+    /// Room for so many slots, of which none is written. No call takes memory after this.
+    pub fn new(alloc: Global, slots: u32) -> Result<Kept<T>, NoMemory>
+        ensures keys { IfOk result (λ kept. kept.keys ≡ []) }
+        ensures values { IfOk result (λ kept. kept.values ≡ []) }
+        ensures room { IfOk result (λ kept. slots ≤ kept.room) }
     {
-        let records = same(alloc, slots, value)?;
+        let records = Vec::with_capacity(alloc, slots as usize)?;
         Ok(Kept { records })
+    }
+
+    /// How many slots are written.
+    #[inline]
+    pub fn len(&self) -> usize
+        ensures keys { result ≡ length self.now.keys }
+        ensures values { result ≡ length self.now.values }
+    {
+        self.records.len()
+    }
+
+    /// Writes slots up to so many, each with this value and without a row.
+    #[cold]
+    #[inline(never)]
+    pub fn write_up_to(&mut self, count: u32, value: T)
+        requires more { length self.old.keys ≤ count }
+        requires room { count ≤ self.old.room }
+        ensures keys { self.new.keys ≡ self.old.keys ++ replicate (count - length self.old.keys) no_key }
+        ensures values { self.new.values ≡ self.old.values ++ replicate (count - length self.old.keys) value }
+        ensures room { self.old.room ≤ self.new.room }
+    {
+        let none = Record {
+            key: Key {
+                deadline: 0,
+                order: 0,
+            },
+            value,
+        };
+        // There is room for them.
+        let _ = self.records.resize(count as usize, none);
     }
 
     /// The deadline of a slot's last row.
@@ -64,7 +97,7 @@ impl<T: Copy> Kept<T> {
     /// The value of a slot.
     #[inline]
     pub fn value(&self, slot: u32) -> T
-        requires { slot < length self.now.values }
+        requires { slot < length self.now.keys }
         ensures { slice_get self.now.values slot ≡ Some result }
     {
         self.records[slot as usize].value
@@ -76,21 +109,8 @@ impl<T: Copy> Kept<T> {
         requires { slot < length self.old.keys }
         ensures keys { self.new.keys ≡ slice_set self.old.keys slot key }
         ensures values { self.new.values ≡ slice_set self.old.values slot value }
+        ensures room { self.new.room ≡ self.old.room }
     {
         self.records[slot as usize] = Record { key, value };
     }
-}
-
-/// So many records without a row, each with this value.
-fn same<T: Copy>(alloc: Global, slots: u32, value: T) -> Result<Vec<Record<T>>, NoMemory>
-    ensures { IfOk result (λ records. records.items ≡ map (λ _. record { key = no_key; value = value }) (range_with_len 0 slots)) }
-{
-    let none = Record {
-        key: Key {
-            deadline: 0,
-            order: 0,
-        },
-        value,
-    };
-    Ok((0..slots).map(|_| none).collect(alloc)?)
 }

@@ -4,7 +4,14 @@
 //! **Chains** (`Chains`). A slot is in the chain of one home, or in none. A chain is a ring of links through its head. A
 //! slot in no chain is alone in a ring of its own. So putting a slot in writes four links, as does taking it out, with
 //! no case for an empty chain, a first or a last slot, or a slot in none. A chain runs from its newest slot to its
-//! oldest. The links stand in one vector, 8 bytes each: those of the slots, and behind them those of the heads.
+//! oldest. The links stand in one vector, 8 bytes each: those of the heads, and behind them those of the slots that are
+//! written.
+//!
+//! **Written slots.** The links and the record of a slot are written when it is first used, and with them those of the slots
+//! below it (`write_up_to`). There is room for all slots from the beginning, so this takes no memory. A call on a slot
+//! requires that it is written, so no use of a slot tests that; whoever takes a slot for the first time writes it before. A
+//! contract sees a slot that isn't written as one without a row and in no chain. So where slots are taken from the lowest on,
+//! memory is touched for no more of them than were ever in use.
 //!
 //! A wheel has two: the chains of the buckets, and beside these the chains of the owners, with as many heads as there
 //! are owners. What is read and written in one stays out of the caches' lines of the other: a cancel touches links of
@@ -72,7 +79,7 @@
 //!
 //! **At rest** a slot takes 32 bytes and its value: 16 of key and 16 of links; an owner 8 bytes for its head; and a wheel
 //! 17.5 KiB for the heads of its buckets, and 280 bytes for the marks. All is taken when the wheel is made, and no call
-//! takes memory after that.
+//! takes memory after that; what is written then are the heads and the marks.
 //!
 //! `due` gives the due rows and leaves them, so that the part above can settle and `remove` them one by
 //! one, and then tell by `pass` that nothing is left; `advance` does all three. `first_due` leaves its row too. What they answer is said

@@ -1,11 +1,10 @@
 //! The links of nodes in rings. Each write keeps to the nodes that it names.
+//!
+//! The nodes from a number on aren't written: each of these counts as alone in its ring.
 
-ghost use Rattle.std.specs.Prelude.{◌≡◌, ◌≢◌, ◌<◌, ℕ, length, map, IfOk};
-ghost use Rattle.std.specs.List.{range_with_len};
+ghost use Rattle.std.specs.Prelude.{◌≡◌, ◌≢◌, ◌<◌, ◌≤◌, ℕ, length, vec_capacity};
 ghost use Rattle.ert_wheel.specs.Chained.{Changed, Spliced, Unspliced};
-ghost use Rattle.ert_wheel.specs.Links.{next_at, prev_at, lone_link};
-
-use std::alloc::{AllocError, Global};
+ghost use Rattle.ert_wheel.specs.Links.{next_at, prev_at, node_link};
 
 /// The nodes after and before a node in its ring.
 #[derive(Clone, Copy)]
@@ -14,16 +13,22 @@ pub struct Link {
     pub prev: u32,
 }
 
-/// So many nodes, each alone in its ring.
-pub fn alone(alloc: Global, count: u32) -> Result<Vec<Link>, AllocError>
-    ensures { IfOk result (λ links. links.items ≡ map lone_link (range_with_len 0 count)) }
+/// Writes nodes up to so many, each alone in its ring.
+#[cold]
+#[inline(never)]
+pub fn add_alone(links: &mut Vec<Link>, count: u32)
+    requires room { count ≤ vec_capacity links.old }
+    requires more { length links.old.items ≤ count }
+    ensures count { length links.new.items ≡ count }
+    ensures same { (node : ℕ) → node_link links.new.items node ≡ node_link links.old.items node }
+    ensures capacity { vec_capacity links.new ≡ vec_capacity links.old }
 {
-    (0..count)
-        .map(|node| Link {
+    for node in links.len() as u32..count {
+        links.push_reserved(Link {
             next: node,
             prev: node,
-        })
-        .collect(alloc)
+        });
+    }
 }
 
 /// Puts a slot in behind a head.

@@ -32,11 +32,12 @@ impl MarkedChains {
     ghost use Rattle.ert_wheel.specs.Rings.{Place, AreChains, MayPut, Puts, PutsInHome, MayTake, GivesUpPlace, MovesSlot, Finds, FindsOldest};
     ghost use Rattle.ert_wheel.specs.declared.row.TheConstants.{BUCKETS};
 
-    /// All chains empty. No call takes memory after this.
+    /// All chains empty, and no slot written. No call takes memory after this.
     pub fn new(alloc: Global, slots: u32) -> Result<MarkedChains, NoMemory>
         requires { slots ≤ 2 ^ 30 }
         ensures slots { IfOk result (λ chains. chains.slots ≡ slots) }
         ensures homes { IfOk result (λ chains. chains.homes ≡ BUCKETS) }
+        ensures written { IfOk result (λ chains. chains.written ≡ 0) }
         ensures empty { IfOk result (λ chains. AreChains chains (λ _. None)) }
     {
         let chains = Chains::new(alloc, slots, BUCKETS)?;
@@ -54,14 +55,25 @@ impl MarkedChains {
         self.chains.slots()
     }
 
+    /// Writes slots up to so many, each in no chain.
+    pub fn write_up_to(&mut self, count: u32)
+        requires more { self.old.written ≤ count }
+        requires most { count ≤ self.old.slots }
+        ensures { self.new ≡ record self.old { written = count } }
+    {
+        self.chains.write_up_to(count);
+    }
+
     /// Puts a slot that is in no chain into that of a bucket, as its newest.
     ///
     /// The mark is written whether it stands or not: where timers come to buckets at random, a branch on it costs more.
     #[inline]
     pub fn put(&mut self, slot: u32, home: u32)
-        requires { MayPut self.old slot home }
+        requires may { MayPut self.old slot home }
+        requires written { slot < self.old.written }
         ensures slots { self.new.slots ≡ self.old.slots }
         ensures homes { self.new.homes ≡ self.old.homes }
+        ensures written { self.new.written ≡ self.old.written }
         ensures chains { Puts self.old self.new slot home }
         ensures in_home { PutsInHome self.old self.new slot home }
     {
@@ -72,9 +84,11 @@ impl MarkedChains {
     /// Takes a slot out of its chain, where it is in one.
     #[inline]
     pub fn take(&mut self, slot: u32)
-        requires { MayTake self.old slot }
+        requires may { MayTake self.old slot }
+        requires written { slot < self.old.written }
         ensures slots { self.new.slots ≡ self.old.slots }
         ensures homes { self.new.homes ≡ self.old.homes }
+        ensures written { self.new.written ≡ self.old.written }
         ensures chains { GivesUpPlace self.old self.new slot }
     {
         let only = self.chains.only_of(slot);
@@ -88,9 +102,11 @@ impl MarkedChains {
     #[inline]
     pub fn renew(&mut self, slot: u32, home: u32)
         requires slot { MayTake self.old slot }
+        requires written { slot < self.old.written }
         requires home { home < BUCKETS }
         ensures slots { self.new.slots ≡ self.old.slots }
         ensures homes { self.new.homes ≡ self.old.homes }
+        ensures written { self.new.written ≡ self.old.written }
         ensures chains { MovesSlot self.old self.new slot home }
     {
         if self.chains.is_newest(slot, home) {
@@ -103,7 +119,7 @@ impl MarkedChains {
     /// Whether a slot is alone in its ring: it is in no chain.
     #[inline]
     pub fn is_alone(&self, slot: u32) -> bool
-        requires { slot < self.now.slots }
+        requires { slot < self.now.written }
         ensures { IsTrue result ↔ (next_at self.now.links slot ≡ slot) }
     {
         self.chains.is_alone(slot)
@@ -145,7 +161,7 @@ impl MarkedChains {
     /// The slot that is next older than this one in its chain; None where there is none.
     #[inline]
     pub fn older(&self, slot: u32) -> Option<u32>
-        requires { slot < self.now.slots }
+        requires { slot < self.now.written }
         ensures { (places : ℕ → Option Place) (place : Place) → AreChains self.now places
             → places slot ≡ Some place → Finds self.now places place.home place.order result }
     {
@@ -155,7 +171,7 @@ impl MarkedChains {
     /// The slot that is next newer than this one in its chain; None where there is none.
     #[inline]
     pub fn newer(&self, slot: u32) -> Option<u32>
-        requires { slot < self.now.slots }
+        requires { slot < self.now.written }
         ensures { (places : ℕ → Option Place) (place : Place) → AreChains self.now places
             → places slot ≡ Some place → FindsOldest self.now places place.home (place.order + 1) result }
     {

@@ -1,6 +1,6 @@
 //! The oldest row of a bucket that is due.
 
-ghost use Rattle.std.specs.Prelude.{◌<◌, ℕ, MatchOption};
+ghost use Rattle.std.specs.Prelude.{◌≡◌, ◌<◌, ℕ, MatchOption, length};
 ghost use Rattle.ert_wheel.specs.FirstDue.{NoneDueIn, IsOldestDue};
 ghost use Rattle.ert_wheel.specs.NextDue.{MayWalk};
 ghost use Rattle.ert_wheel.specs.Rings.{AreChains};
@@ -23,6 +23,7 @@ pub fn oldest_due<T: Copy>(
 ) -> Option<Row>
     requires bucket { bucket < BUCKETS }
     requires may { MayWalk chains.now (held_keys chains.now kept.now.keys) }
+    requires kept { length kept.now.keys ≡ chains.now.written }
     ensures { (home : Key → ℕ)
         → AreChains chains.now (places home (held_keys chains.now kept.now.keys))
         → MatchOption result (NoneDueIn (held_keys chains.now kept.now.keys) home bucket to)

@@ -17,11 +17,15 @@ mod replacing;
 ///
 /// It has room for one row of each slot below a number that is fixed when it is made, and takes no
 /// memory after that. A contract sees it as the list of the slots' keys, with None for a slot without a
-/// row, as the list of their values, as the chains of the owners, and as the first time that wasn't passed. A slot has a
-/// value with a row or without, and may so be in an owner's chain.
+/// row, as the list of the values of those that are written, as the chains of the owners, and as the first time that wasn't
+/// passed.
 ///
-///     let mut wheel = Wheel::new(alloc, 64, 1, 0u64)?;
+/// The slots below a number are written, at first none (`write_up_to`). A slot that is written has a value with a row or
+/// without, and may so be in an owner's chain. One that isn't has no row, no value and no owner, and no call is made for it.
+///
+///     let mut wheel = Wheel::new(alloc, 64, 1)?;
 ///     let mut due = Vec::with_capacity(alloc, 64)?;
+///     wheel.write_up_to(4, 0u64);
 ///     wheel.insert(Row { deadline: 20, order: 0, slot: 3 }, 7);
 ///     wheel.advance(20, &mut due);        // gives that row, and takes it out
 #[derive(Drop)]
@@ -38,7 +42,7 @@ pub struct Wheel<T> {
 
 impl<T> Model for Wheel<T> {
     ghost use Rattle.ert_wheel.specs.Rows.{Held};
-    ghost use Rattle.ert_wheel.specs.Wheels.{held_keys, IsWheelKept};
+    ghost use Rattle.ert_wheel.specs.Wheels.{held_keys, IsWheelAlike};
 
     ghost Value = { Held T };
 
@@ -49,12 +53,12 @@ impl<T> Model for Wheel<T> {
       passed = w.next_time;
     } };
 
-    ghost invariant = { λ w. IsWheelKept w.next_time w.len w.floor (held_keys w.buckets w.kept.keys) w.buckets };
+    ghost invariant = { λ w. IsWheelAlike w.next_time w.len w.floor w.kept w.buckets w.owners };
 }
 
 impl<T: Copy> Wheel<T> {
-    ghost use Rattle.std.specs.Prelude.{◌≡◌, ◌↔◌, ◌+◌, ◌<◌, ◌≤◌, ◌^◌, ℕ, Option, Some, None, IsTrue, IsSome, IfSome, IfOk, MatchOption, All};
-    ghost use Rattle.std.specs.Prelude.{count_by, length, map, max, min, option_map, replicate, slice_set, vec_capacity};
+    ghost use Rattle.std.specs.Prelude.{◌≡◌, ◌↔◌, ◌+◌, ◌-◌, ◌<◌, ◌≤◌, ◌^◌, ℕ, Option, Some, None, IsTrue, IsSome, IfSome, IfOk, MatchOption, All};
+    ghost use Rattle.std.specs.Prelude.{[], ◌++◌, count_by, length, map, max, min, option_map, replicate, slice_set, vec_capacity};
     ghost use Rattle.std.specs.List.{slice_get};
     ghost use Rattle.std.specs.List.Sorted.{IsSortedBy};
     ghost use Rattle.std.specs.Option.{is_some};
@@ -63,19 +67,20 @@ impl<T: Copy> Wheel<T> {
     ghost use Rattle.ert_wheel.specs.Rows.{key_in, key_of, row_at, times, due_count, left_at, comes_before};
     ghost use Rattle.ert_wheel.specs.declared.row.TheConstants.{NEVER, LAST};
 
-    /// A wheel without rows, with room for one of each slot below `slots`, and with this value of each. The numbers of
+    /// A wheel without rows, with room for one of each slot below `slots`, of which none is written. The numbers of
     /// owners are below `owners`, and none has a slot.
-    pub fn new(alloc: Global, slots: u32, owners: u32, value: T) -> Result<Wheel<T>, NoMemory>
+    pub fn new(alloc: Global, slots: u32, owners: u32) -> Result<Wheel<T>, NoMemory>
         requires slots { slots ≤ 2 ^ 30 }
         requires owners { owners ≤ 2 ^ 30 }
         ensures keys { IfOk result (λ wheel. wheel.keys ≡ replicate slots None) }
         ensures slots { IfOk result (λ wheel. wheel.owners.slots ≡ slots) }
         ensures homes { IfOk result (λ wheel. wheel.owners.homes ≡ owners) }
         ensures unowned { IfOk result (λ wheel. AreChains wheel.owners (λ _. None)) }
-        ensures values { IfOk result (λ wheel. wheel.values ≡ replicate slots value) }
+        ensures written { IfOk result (λ wheel. wheel.owners.written ≡ 0) }
+        ensures values { IfOk result (λ wheel. wheel.values ≡ []) }
         ensures passed { IfOk result (λ wheel. wheel.passed ≡ 0) }
     {
-        let kept = Kept::new(alloc, slots, value)?;
+        let kept = Kept::new(alloc, slots)?;
         let buckets = MarkedChains::new(alloc, slots)?;
         let owners = Chains::new(alloc, slots, owners)?;
         Ok(Wheel {
@@ -104,7 +109,7 @@ impl<T: Copy> Wheel<T> {
 
     /// The row of a slot; None where it has none.
     pub fn row(&self, slot: u32) -> Option<Row>
-        requires { slot < length self.now.keys }
+        requires { slot < self.now.owners.written }
         ensures { result ≡ option_map (row_at slot) (key_in self.now.keys slot) }
     {
         if self.buckets.is_alone(slot) {
@@ -125,10 +130,36 @@ impl<T: Copy> Wheel<T> {
         self.buckets.slots()
     }
 
-    /// The value of a slot: that of the last row that was put in, or the one with which the wheel was made.
+    /// How many slots are written.
+    #[inline]
+    pub fn written(&self) -> usize
+        ensures written { result ≡ self.now.owners.written }
+        ensures values { result ≡ length self.now.values }
+    {
+        self.kept.len()
+    }
+
+    /// Writes slots up to so many, each with this value, without a row and without an owner. It takes no memory.
+    #[cold]
+    #[inline(never)]
+    pub fn write_up_to(&mut self, count: u32, value: T)
+        requires more { self.old.owners.written ≤ count }
+        requires most { count ≤ length self.old.keys }
+        requires owned { count ≤ self.old.owners.slots }
+        ensures keys { self.new.keys ≡ self.old.keys }
+        ensures owners { self.new.owners ≡ record self.old.owners { written = count } }
+        ensures values { self.new.values ≡ self.old.values ++ replicate (count - self.old.owners.written) value }
+        ensures passed { self.new.passed ≡ self.old.passed }
+    {
+        self.kept.write_up_to(count, value);
+        self.buckets.write_up_to(count);
+        self.owners.write_up_to(count);
+    }
+
+    /// The value of a slot: that of the last row that was put in, or the one with which it was written.
     #[inline]
     pub fn value(&self, slot: u32) -> T
-        requires { slot < length self.now.values }
+        requires { slot < self.now.owners.written }
         ensures { slice_get self.now.values slot ≡ Some result }
     {
         self.kept.value(slot)
@@ -140,7 +171,7 @@ impl<T: Copy> Wheel<T> {
     /// A row whose deadline was passed already is given by the next advance. A deadline is at most 2^45 - 2.
     #[inline]
     pub fn insert(&mut self, row: Row, value: T)
-        requires slot { row.slot < length self.old.keys }
+        requires slot { row.slot < self.old.owners.written }
         requires vacant { key_in self.old.keys row.slot ≡ None }
         requires deadline { row.deadline < NEVER }
         requires newest { (slot : ℕ) → IfSome (key_in self.old.keys slot) (λ key. key.order < row.order) }
@@ -164,7 +195,7 @@ impl<T: Copy> Wheel<T> {
     /// Takes the row of a slot out; false exactly where there is none.
     #[inline]
     pub fn remove(&mut self, slot: u32) -> bool
-        requires { slot < length self.old.keys }
+        requires { slot < self.old.owners.written }
         ensures found { IsTrue result ↔ IsSome (key_in self.old.keys slot) }
         ensures left { self.new.keys ≡ slice_set self.old.keys slot None }
         ensures owners { self.new.owners ≡ self.old.owners }
@@ -182,12 +213,14 @@ impl<T: Copy> Wheel<T> {
     /// Puts a slot that is in no owner's chain into that of an owner, as its newest.
     #[inline]
     pub fn own(&mut self, slot: u32, owner: u32)
-        requires { MayPut self.old.owners slot owner }
+        requires may { MayPut self.old.owners slot owner }
+        requires written { slot < self.old.owners.written }
         ensures keys { self.new.keys ≡ self.old.keys }
         ensures values { self.new.values ≡ self.old.values }
         ensures passed { self.new.passed ≡ self.old.passed }
         ensures slots { self.new.owners.slots ≡ self.old.owners.slots }
         ensures homes { self.new.owners.homes ≡ self.old.owners.homes }
+        ensures written { self.new.owners.written ≡ self.old.owners.written }
         ensures owned { Puts self.old.owners self.new.owners slot owner }
         ensures in_home { PutsInHome self.old.owners self.new.owners slot owner }
     {
@@ -197,12 +230,14 @@ impl<T: Copy> Wheel<T> {
     /// Takes a slot out of its owner's chain, where it is in one.
     #[inline]
     pub fn disown(&mut self, slot: u32)
-        requires { MayTake self.old.owners slot }
+        requires may { MayTake self.old.owners slot }
+        requires written { slot < self.old.owners.written }
         ensures keys { self.new.keys ≡ self.old.keys }
         ensures values { self.new.values ≡ self.old.values }
         ensures passed { self.new.passed ≡ self.old.passed }
         ensures slots { self.new.owners.slots ≡ self.old.owners.slots }
         ensures homes { self.new.owners.homes ≡ self.old.owners.homes }
+        ensures written { self.new.owners.written ≡ self.old.owners.written }
         ensures disowned { GivesUpPlace self.old.owners self.new.owners slot }
     {
         self.owners.take(slot);
@@ -211,7 +246,7 @@ impl<T: Copy> Wheel<T> {
     /// Whether a slot is in the chain of an owner.
     #[inline]
     pub fn is_owned(&self, slot: u32) -> bool
-        requires { slot < self.now.owners.slots }
+        requires { slot < self.now.owners.written }
         ensures { (places : ℕ → Option Place) → AreChains self.now.owners places
             → IsTrue result ↔ IsSome (places slot) }
     {
@@ -222,8 +257,9 @@ impl<T: Copy> Wheel<T> {
     #[inline]
     pub fn newest_owned(&self, owner: u32) -> Option<u32>
         requires { owner < self.now.owners.homes }
-        ensures { (places : ℕ → Option Place) → AreChains self.now.owners places
+        ensures finds { (places : ℕ → Option Place) → AreChains self.now.owners places
             → Finds self.now.owners places owner (2 ^ 64) result }
+        ensures written { IfSome result (λ slot. slot < self.now.owners.written) }
     {
         self.owners.newest(owner)
     }
@@ -234,6 +270,7 @@ impl<T: Copy> Wheel<T> {
         requires { length self.now.keys ≤ vec_capacity out.old }
         ensures each { (slot : ℕ) → times slot out.new.items ≡ due_count to (key_in self.now.keys slot) }
         ensures rows { All (λ row. key_in self.now.keys row.slot ≡ Some (key_of row)) out.new.items }
+        ensures written { All (λ row. row.slot < self.now.owners.written) out.new.items }
         ensures sorted { IsSortedBy comes_before out.new.items }
         ensures capacity { vec_capacity out.new ≡ vec_capacity out.old }
     {

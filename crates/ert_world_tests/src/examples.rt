@@ -110,8 +110,9 @@ fn a_pass_draws(rt: HostRuntime) -> Result<(), NoMemory> {
 
 /// The rows that are due at 20 milliseconds.
 fn due_rows(alloc: Global) -> Result<Vec<Row>, Fail> {
-    let mut wheel = Wheel::new(alloc, 64, 1, 0u64)?;
+    let mut wheel = Wheel::new(alloc, 64, 1)?;
     let mut due = Vec::with_capacity(alloc, 64)?;
+    wheel.write_up_to(4, 0u64);
     wheel.insert(
         Row {
             deadline: 20,

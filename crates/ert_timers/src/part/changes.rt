@@ -1,17 +1,21 @@
 //! How the small calls change what a part keeps.
 ghost use Rattle.std.specs.FinSet as set;
-ghost use Rattle.std.specs.Prelude.{◌≡◌, ◌≤◌, ◌<◌, ℕ, Option, Some, IfSome, IsSome, MatchBool, false, true, nat_lt};
+ghost use Rattle.std.specs.Prelude.{◌≡◌, ◌≤◌, ◌<◌, ℕ, Option, Some, IfSome, IsSome, MatchBool, false, true, nat_lt, length};
 ghost use Rattle.ert_defs.specs.Timers as timers;
 ghost use Rattle.ert_timers.specs.Changes as changes;
 ghost use Rattle.ert_timers.specs.Owners.{MayJoin, Joins};
+ghost use Rattle.ert_timers.specs.Parts.{IsWritten};
 ghost use Rattle.ert_wheel.specs.Rings.{Place, AreChains, MayTake, GivesUpPlace, StandsIn};
 ghost use Rattle.ert_words.specs.Free.{free_set, with_short, with_long, TakesLong, TakesNextSlot};
 
-use super::{Use, WheelPart, is_long};
+use super::{Use, WheelPart, is_long, never_used};
 use crate::slot::Slot;
 use ert_defs::{FIRST_LATER_GENERATION, Start, TimerRef, USES_OF_ROUND, use_of};
 use ert_wheel::{Row, Wheel};
 use ert_words::FreeSlots;
+
+/// How many slots are written at once, at the first use of the first of them: 3.5 KiB.
+const WRITTEN_AT_ONCE: u32 = 64;
 
 impl Slot {
     /// Whether it was used less often than a round allows.
@@ -72,7 +76,7 @@ impl WheelPart {
     ghost use Rattle.std.specs.Prelude.{◌≡◌, ◌↔◌, ◌<◌, ◌≤◌, IfSome, IfNone, IsSome, IsTrue, ℕ, false, true, length, None};
     ghost use Rattle.ert_timers.specs.Parts.{slot_at, last_timer};
     ghost use Rattle.ert_timers.specs.Changes.{MayBecomeFree, freed, picked, kept, dropped, let_go, given_back, reused, LostRow};
-    ghost use Rattle.ert_timers.specs.Freeing.{IsHeld, IsLetGo};
+    ghost use Rattle.ert_timers.specs.Freeing.{IsHeld, IsInUse, IsLetGo};
     ghost use Rattle.ert_wheel.specs.Rows.{key_in};
 
     /// Takes a slot out that is held free, for a timer that is started at a time with a deadline, both in
@@ -90,6 +94,7 @@ impl WheelPart {
         ensures usable { IfSome result (MayBecomeFree self.new) }
     {
         let slot = self.free.pick()?;
+        write(&mut self.wheel, slot);
         let above = self.wheel.value(slot).above();
         // Most waits are short, and one test tells that neither of both is long.
         if !is_long(now, above.max(deadline)) {
@@ -99,7 +104,9 @@ impl WheelPart {
         if is_long(now, above) == long {
             return Some(slot);
         }
-        exchange(&mut self.free, slot, long)
+        let other = exchange(&mut self.free, slot, long)?;
+        write(&mut self.wheel, other);
+        Some(other)
     }
 
     /// Whether a slot rests at a time in milliseconds after the start time.
@@ -107,7 +114,7 @@ impl WheelPart {
         requires { slot < length self.now.slots }
         ensures { result ≡ changes.is_resting (slot_at self.now.slots slot) now }
     {
-        self.wheel.value(slot).is_resting(now)
+        self.kept_of(slot).is_resting(now)
     }
 
     /// One above the greatest deadline of a slot's timers, in milliseconds after the start time; 0 where there
@@ -116,13 +123,14 @@ impl WheelPart {
         requires { slot < length self.now.slots }
         ensures { result ≡ (slot_at self.now.slots slot).above }
     {
-        self.wheel.value(slot).above()
+        self.kept_of(slot).above()
     }
 
     /// The next use of a slot that doesn't rest, for a timer that is started at a time with a deadline, both
     /// in milliseconds after the start time.
     pub(crate) fn next_use(&self, slot: u32, now: u64, deadline: u64) -> Use
         requires low { slot < length self.now.slots }
+        requires used { IsInUse self.now slot }
         requires now { now ≤ 8796093022207 }
         requires deadline { deadline ≤ 8796093022207 }
         ensures { result ≡ changes.next_use (slot_at self.now.slots slot).generation now deadline }
@@ -145,7 +153,8 @@ impl WheelPart {
     /// Drops the row of a slot, and tells whether there was one. The slot stays in the chain of its process: to take
     /// it out here would touch two more slots.
     pub(crate) fn drop_row(&mut self, slot: u32) -> bool
-        requires { slot < length self.old.slots }
+        requires low { slot < length self.old.slots }
+        requires used { IsInUse self.old slot }
         ensures found { IsTrue result ↔ IsSome (key_in self.old.keys slot) }
         ensures left { self.new ≡ dropped self.old slot }
         ensures lost { OnTrue result (LostRow self.new slot) }
@@ -167,6 +176,7 @@ impl WheelPart {
     fn leave(&mut self, slot: u32)
         requires low { slot < length self.old.slots }
         requires vacant { key_in self.old.keys slot ≡ None }
+        requires away { set.contains self.old.free slot ≡ false }
         ensures { self.new ≡ self.old }
     {
         self.wheel.disown(slot);
@@ -232,10 +242,37 @@ pub(super) fn has_uses(generation: u64) -> bool
     use_of(generation) < USES_OF_ROUND
 }
 
+/// Writes what is kept of a slot where that isn't written yet: so it is with one that is taken for the first time.
+#[inline(always)]
+fn write(wheel: &mut Wheel<Slot>, slot: u32)
+    requires low { slot < length wheel.old.keys }
+    requires same { length wheel.old.keys ≡ wheel.old.owners.slots }
+    ensures written { slot < wheel.new.owners.written }
+    ensures more { IsWritten wheel.old wheel.new wheel.new.owners.written }
+{
+    if slot as usize >= wheel.written() {
+        write_more(wheel, slot);
+    }
+}
+
+/// Writes a slot that isn't written, those below it, and some of those that come next.
+#[cold]
+#[inline(never)]
+fn write_more(wheel: &mut Wheel<Slot>, slot: u32)
+    requires low { slot < length wheel.old.keys }
+    requires same { length wheel.old.keys ≡ wheel.old.owners.slots }
+    requires high { wheel.old.owners.written ≤ slot }
+    ensures written { slot < wheel.new.owners.written }
+    ensures more { IsWritten wheel.old wheel.new wheel.new.owners.written }
+{
+    let count = slot.saturating_add(WRITTEN_AT_ONCE).min(wheel.slots());
+    wheel.write_up_to(count, never_used());
+}
+
 /// Whether a slot stands in the chain of a process, by what is kept of its last timer.
 #[inline]
 fn is_with(wheel: &Wheel<Slot>, slot: u32, last: Slot, process: u32) -> bool
-    requires { slot < wheel.now.owners.slots }
+    requires { slot < wheel.now.owners.written }
     ensures { (places : ℕ → Option Place) → AreChains wheel.now.owners places
         → ((place : Place) → places slot ≡ Some place → place.home ≡ last.dest)
         → result ≡ true → StandsIn places process slot }
@@ -248,11 +285,13 @@ fn is_with(wheel: &Wheel<Slot>, slot: u32, last: Slot, process: u32) -> bool
 pub(super) fn join(wheel: &mut Wheel<Slot>, slot: u32, process: u32, stays: bool)
     requires process { process < wheel.old.owners.homes }
     requires may { MayTake wheel.old.owners slot }
+    requires written { slot < wheel.old.owners.written }
     ensures keys { wheel.new.keys ≡ wheel.old.keys }
     ensures values { wheel.new.values ≡ wheel.old.values }
     ensures passed { wheel.new.passed ≡ wheel.old.passed }
     ensures slots { wheel.new.owners.slots ≡ wheel.old.owners.slots }
     ensures homes { wheel.new.owners.homes ≡ wheel.old.owners.homes }
+    ensures written { wheel.new.owners.written ≡ wheel.old.owners.written }
     ensures joins { (places : ℕ → Option Place) (bound : ℕ) → AreChains wheel.old.owners places
         → MayJoin places slot process bound stays → Joins wheel.new.owners places slot process bound }
 {
@@ -266,12 +305,14 @@ pub(super) fn join(wheel: &mut Wheel<Slot>, slot: u32, process: u32, stays: bool
 /// Takes a slot out of its chain, where it is in one. In a slot's first use it isn't, and then nothing is written.
 #[inline]
 fn take_out(wheel: &mut Wheel<Slot>, slot: u32)
-    requires { MayTake wheel.old.owners slot }
+    requires may { MayTake wheel.old.owners slot }
+    requires written { slot < wheel.old.owners.written }
     ensures keys { wheel.new.keys ≡ wheel.old.keys }
     ensures values { wheel.new.values ≡ wheel.old.values }
     ensures passed { wheel.new.passed ≡ wheel.old.passed }
     ensures slots { wheel.new.owners.slots ≡ wheel.old.owners.slots }
     ensures homes { wheel.new.owners.homes ≡ wheel.old.owners.homes }
+    ensures written { wheel.new.owners.written ≡ wheel.old.owners.written }
     ensures taken { GivesUpPlace wheel.old.owners wheel.new.owners slot }
 {
     if wheel.is_owned(slot) {

@@ -4,7 +4,7 @@ use crate::row::{Key, Row};
 use crate::walk::bucket;
 
 impl<T: Copy> Wheel<T> {
-    ghost use Rattle.std.specs.Prelude.{◌≡◌, ◌<◌, ℕ, Some, IfSome, IsSome, length, slice_set};
+    ghost use Rattle.std.specs.Prelude.{◌≡◌, ◌<◌, ℕ, Some, IfSome, IsSome, slice_set};
     ghost use Rattle.ert_wheel.specs.Rows.{key_in, key_of};
     ghost use Rattle.ert_wheel.specs.declared.row.TheConstants.{NEVER};
 
@@ -14,7 +14,7 @@ impl<T: Copy> Wheel<T> {
     /// Where the slot is the newest of the bucket to which the row belongs, no chain is written.
     #[inline(always)]
     pub fn replace(&mut self, row: Row, value: T)
-        requires slot { row.slot < length self.old.keys }
+        requires slot { row.slot < self.old.owners.written }
         requires held { IsSome (key_in self.old.keys row.slot) }
         requires deadline { row.deadline < NEVER }
         requires newest { (slot : ℕ) → IfSome (key_in self.old.keys slot) (λ key. key.order < row.order) }

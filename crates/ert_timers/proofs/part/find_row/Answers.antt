@@ -12,6 +12,7 @@ loop-slot-init c = record {
   slots_stay = refl;
   homes_stay = refl;
   passed_stays = refl;
+  written_stays = refl;
   thins = λ places are. (places, thinned_none c.args.wheel.now.owners c.args.wheel.now.keys places are);
 }
 
@@ -19,20 +20,12 @@ pub newest_owned-requires : goal.newest_owned-requires
 newest_owned-requires c = omega (arith, c.requires.process, c.loop-slot.invariant.homes_stay)
 
 pub row-requires : goal.row-requires
-row-requires c =
-    let t = c.loop-slot.invariant.thins c.requires.may.places c.requires.may.are in
-    omega (
-      arith,
-      (c.in-Some.ensures t.0 t.1.are).stands.0,
-      c.loop-slot.invariant.slots_stay,
-      c.requires.may.wide,
-      ap (λ (keys : List (Option Key)). length keys) c.loop-slot.invariant.keys_stay,
-    )
+row-requires c = c.in-Some.ensures.written
 
-pub disown-requires : goal.disown-requires
-disown-requires c =
+pub disown-requires-clause-may : goal.disown-requires-clause-may
+disown-requires-clause-may c =
     let t = c.loop-slot.invariant.thins c.requires.may.places c.requires.may.are in
-    record { places = t.0; are = t.1.are; low = (c.in-Some.ensures t.0 t.1.are).stands.0 }
+    record { places = t.0; are = t.1.are; low = (c.in-Some.ensures.finds t.0 t.1.are).stands.0 }
 
 pub loop-slot-preserved : goal.loop-slot-preserved
 loop-slot-preserved c = record {
@@ -41,6 +34,7 @@ loop-slot-preserved c = record {
   slots_stay = c.disown.ensures.slots ∙ c.loop-slot.invariant.slots_stay;
   homes_stay = c.disown.ensures.homes ∙ c.loop-slot.invariant.homes_stay;
   passed_stays = c.disown.ensures.passed ∙ c.loop-slot.invariant.passed_stays;
+  written_stays = c.disown.ensures.written ∙ c.loop-slot.invariant.written_stays;
   thins = λ places are.
       let t = c.loop-slot.invariant.thins places are in
       let keys = c.loop-slot.wheel.keys in
@@ -55,7 +49,7 @@ loop-slot-preserved c = record {
 pub loop-slot-smaller : goal.loop-slot-smaller
 loop-slot-smaller c =
     let t = c.loop-slot.invariant.thins c.requires.may.places c.requires.may.are in
-    let found = c.in-Some.ensures t.0 t.1.are in
+    let found = c.in-Some.ensures.finds t.0 t.1.are in
     linked_falls c.loop-slot.wheel.owners c.disown.new.self.owners t.0 c.in-Some.slot found.stands.1.place t.1.are
     (c.disown.ensures.disowned t.0 t.1.are) c.disown.ensures.slots found.stands.0 found.stands.1.has
 
@@ -64,7 +58,7 @@ returns-in-Some-row-clause-finds c = λ places are.
     let t = c.loop-slot.invariant.thins places are in
     subst (λ ks. FindsRow ks places c.args.process c.loop-slot.wheel.owners (Some c.in-Some-row.row)) c.loop-slot.invariant.keys_stay
     (finds_some c.loop-slot.wheel.owners c.loop-slot.wheel.keys places t.0 c.args.process _ c.in-Some.slot c.row.result c.in-Some-row.row t.1
-    (c.in-Some.ensures t.0 t.1.are) c.row.ensures c.in-Some-row.is)
+    (c.in-Some.ensures.finds t.0 t.1.are) c.row.ensures c.in-Some-row.is)
 
 pub returns-clause-finds : goal.returns-clause-finds
 returns-clause-finds c = λ places are.
@@ -73,4 +67,7 @@ returns-clause-finds c = λ places are.
     subst (λ ks. FindsRow ks places c.args.process c.loop-slot.wheel.owners None) keys
     (finds_none c.loop-slot.wheel.owners c.loop-slot.wheel.keys places t.0 c.args.process
     (ap (λ (ks : List (Option Key)). length ks) keys ∙ (c.requires.may.wide ∙ sym c.loop-slot.invariant.slots_stay)) t.1
-    (c.in_default.ensures t.0 t.1.are))
+    (c.in_default.ensures.finds t.0 t.1.are))
+
+pub disown-requires-clause-written : goal.disown-requires-clause-written
+disown-requires-clause-written c = c.in-Some.ensures.written

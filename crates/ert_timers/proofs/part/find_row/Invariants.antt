@@ -12,6 +12,7 @@ pub record Keeps {T : Type 0} (old new : Held T) : Type 0 where
   pub slots_stay : new.owners.slots ≡ old.owners.slots
   pub homes_stay : new.owners.homes ≡ old.owners.homes
   pub passed_stays : new.passed ≡ old.passed
+  pub written_stays : new.owners.written ≡ old.owners.written
   pub thins : (places : ℕ → Option Place) → AreChains old.owners places
       → (left : ℕ → Option Place) × Thinned new.owners new.keys places left
 

@@ -40,3 +40,10 @@ loop-next-preserved g c = λ home are.
 pub returns : goal.returns
 returns g c = λ home are.
     climb_ends (held_keys c.args.chains.now c.args.kept.now.keys) home c.args.bucket c.args.to c.loop-next.next c.in_default.is (c.loop-next.invariant home are)
+
+pub newer-next-requires : goal.newer-next-requires
+newer-next-requires g c =
+    let may = c.requires.may in
+    let low = (reads c.args.chains.now c.args.kept.now.keys may.home c.args.bucket c.args.to c.in-Some.slot c.loop-next.next no_key
+    (record { slots = may.slots; are = may.are; climbed = c.loop-next.invariant may.home may.are; is = c.in-Some.is })).low in
+    omega (arith, low, c.requires.kept)

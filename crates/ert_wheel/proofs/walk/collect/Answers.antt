@@ -1,5 +1,5 @@
 use Rattle.std.proofs.Common.{ℕ, List, [], ◌∷◌, ◌++◌, ap, refl, subst, sym, ◌∙◌, Option, arith}
-use Rattle.ert_wheel.proofs.Collect.{IsWalked, at_key, steps_fall, walk_starts, walk_adds, walk_leaves, walk_ends}
+use Rattle.ert_wheel.proofs.Collect.{IsWalked, at_key, stands_low, steps_fall, walk_starts, walk_adds, walk_leaves, walk_ends}
 use Rattle.ert_wheel.proofs.Lists.{walk_room}
 use Rattle.ert_wheel.proofs.walk.collect.Goals as goal
 use Rattle.ert_wheel.specs.Rows.{row_at}
@@ -67,3 +67,10 @@ key-deadline-requires g c =
     let may = c.requires.may in
     (at_key c.args.chains.now c.args.kept.now.keys may.home c.args.bucket c.in-Some.slot c.loop-next.next c.older-next.result no_key
     (record { slots = may.may.slots; are = may.may.are; stands = (c.loop-next.invariant.walks may.home may.may).stands; is = c.in-Some.is; older = c.older-next.ensures })).low
+
+pub older-next-requires : goal.older-next-requires
+older-next-requires g c =
+    let may = c.requires.may in
+    let low = stands_low c.args.chains.now c.args.kept.now.keys may.home c.args.bucket c.in-Some.slot c.loop-next.next
+    (c.loop-next.invariant.walks may.home may.may).stands c.in-Some.is in
+    omega (arith, low, c.requires.kept)

@@ -1,5 +1,5 @@
-use Rattle.std.proofs.Common.{ℕ, min, ap, ◌∙◌, subst, sym}
-use Rattle.ert_wheel.proofs.Collect.{at_key, steps_fall}
+use Rattle.std.proofs.Common.{ℕ, min, ap, ◌∙◌, subst, sym, arith}
+use Rattle.ert_wheel.proofs.Collect.{at_key, stands_low, steps_fall}
 use Rattle.ert_wheel.proofs.Least.{IsPassed, never_over, is_answered, passes_none, steps_on, passes_all}
 use Rattle.ert_wheel.proofs.walk.least_in.Goals as goal
 use Rattle.ert_wheel.specs.Wheels.{no_key, held_keys, places}
@@ -38,3 +38,10 @@ returns-then-has_seen-clause-all g c = never_over c.args.most c.has_seen.result 
 
 pub returns-clause-all : goal.returns-clause-all
 returns-clause-all g c = is_answered c.args.most c.loop-next.least
+
+pub older-next-requires : goal.older-next-requires
+older-next-requires g c =
+    let may = c.requires.may in
+    let low = stands_low c.args.chains.now c.args.kept.now.keys may.home c.args.bucket c.in-Some.slot c.loop-next.next
+    (c.loop-next.invariant may.home may.are).stands c.in-Some.is in
+    omega (arith, low, c.requires.kept)

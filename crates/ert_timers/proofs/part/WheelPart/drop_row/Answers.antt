@@ -1,35 +1,50 @@
-use Rattle.std.proofs.Common.{List, Option, refl, sym, subst}
+use Rattle.std.proofs.Common.{◌≡◌, ◌<◌, length, refl, sym, ap, subst, ◌∙◌}
 use Rattle.std.specs.Bool.{OnTrue}
-use Rattle.ert_timers.specs.Changes.{LostRow}
-use Rattle.ert_timers.specs.Parts.{AreFieldsFit, Part}
-use Rattle.ert_timers.specs.Slots.{Slot}
+use Rattle.ert_timers.specs.Changes.{LostRow, dropped}
+use Rattle.ert_timers.specs.Freeing.{IsInUse}
+use Rattle.ert_timers.specs.Parts.{Part, all_slots}
 use Rattle.ert_timers.specs.contracts.part.WheelPart.{the_view}
-use Rattle.ert_timers.proofs.Fit.{some_key, fit_removed, fit_lost}
+use Rattle.ert_timers.proofs.Fit.{some_key, fit_removed, fit_lost, fit_same, written_used}
 use Rattle.ert_timers.proofs.Keeping.{on_if}
 use Rattle.ert_words.specs.Free.{free_set}
 use Rattle.ert_timers.proofs.part.WheelPart.drop_row.Goals as goal
-use Rattle.ert_wheel.specs.Rings.{Rings}
+use Rattle.ert_timers.proofs.part.WheelPart.drop_row.Goals.{After-remove}
 use Rattle.ert_wheel.specs.Rows.{key_in}
-use Rattle.ert_wheel.specs.declared.row.Key.{Key}
+
+pub remove-requires : goal.remove-requires
+remove-requires c =
+    (written_used (the_view c.self.inside) (free_set c.self.inside.free) c.self.inside.wheel.owners c.args.slot c.self.invariant refl
+    (subst (λ (q : Part). c.args.slot < length q.slots) (sym c.self.view_is) c.requires.low) (subst (λ (q : Part). IsInUse q c.args.slot) (sym c.self.view_is) c.requires.used))
+
+-- the part is as it was but for the row
+left : (c : After-remove) → (let q : Part = record (the_view c.self.inside) {
+  processes = c.remove.new.self.owners.homes;
+  slots = all_slots c.remove.new.self.values c.remove.new.self.owners.slots;
+  keys = c.remove.new.self.keys;
+  passed = c.remove.new.self.passed;
+} in q) ≡ dropped (the_view c.self.inside) c.args.slot
+left c = λ i. (let q : Part = record (the_view c.self.inside) {
+  processes = (c.remove.ensures.owners i).homes;
+  slots = all_slots (c.remove.ensures.values i) (c.remove.ensures.owners i).slots;
+  keys = c.remove.ensures.left i;
+  passed = c.remove.ensures.passed i;
+} in q)
 
 pub invariant_of-self : goal.invariant_of-self
 invariant_of-self c =
     let p = c.self.inside in
-    let left = c.remove.new.self in
-    subst (λ (slots : List Slot). AreFieldsFit slots left.keys (free_set p.free) left.owners p.arms p.expires p.orphans) (sym c.remove.ensures.values)
-    (fit_removed p.wheel.values p.wheel.keys left.keys (free_set p.free) p.wheel.owners left.owners p.arms p.expires p.orphans
+    let new = c.remove.new.self in
+    fit_same (λ i. all_slots (c.remove.ensures.values i) (c.remove.ensures.owners i).slots) refl refl
+    (fit_removed (all_slots p.wheel.values p.wheel.owners.slots) p.wheel.keys new.keys (free_set p.free) p.wheel.owners new.owners p.arms p.expires p.orphans
     c.args.slot c.self.invariant c.remove.ensures.left c.remove.ensures.owners)
+
+pub returns-clause-left : goal.returns-clause-left
+returns-clause-left c = left c ∙ ap (λ (p : Part). dropped p c.args.slot) c.self.view_is
 
 pub returns-clause-lost : goal.returns-clause-lost
 returns-clause-lost c =
     let p = c.self.inside in
-    let left = c.remove.new.self in
-    let view : List Slot → List (Option Key) → Part = λ slots keys. record (the_view p) { slots = slots; keys = keys } in
-    subst (λ (owners : Rings). OnTrue c.remove.result (LostRow (record (view left.values left.keys) { processes = owners.homes; passed = left.passed }) c.args.slot))
-    (sym c.remove.ensures.owners)
-    (subst (λ passed. OnTrue c.remove.result (LostRow (record (view left.values left.keys) { passed = passed }) c.args.slot)) (sym c.remove.ensures.passed)
-    (on_if c.remove.result (LostRow (view left.values left.keys) c.args.slot) (λ hit.
+    subst (λ (q : Part). OnTrue c.remove.result (LostRow q c.args.slot)) (sym (left c))
+    (on_if c.remove.result (LostRow (dropped (the_view p) c.args.slot) c.args.slot) (λ hit.
     let has = some_key (key_in p.wheel.keys c.args.slot) (c.remove.ensures.found.0 hit) in
-    subst (λ slots. LostRow (view slots left.keys) c.args.slot) (sym c.remove.ensures.values)
-    (subst (λ keys. LostRow (view p.wheel.values keys) c.args.slot) (sym c.remove.ensures.left)
-    (fit_lost (the_view p) p.wheel.owners (free_set p.free) c.args.slot has.0 c.self.invariant refl has.1)))))
+    fit_lost (the_view p) p.wheel.owners (free_set p.free) c.args.slot has.0 c.self.invariant refl has.1))

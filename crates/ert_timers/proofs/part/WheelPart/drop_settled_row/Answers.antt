@@ -1,4 +1,4 @@
-use Rattle.std.proofs.Common.{◌≡◌, ◌<◌, Some, refl, sym, ap, subst, ◌∙◌}
+use Rattle.std.proofs.Common.{◌≡◌, ◌<◌, Some, None, inr, refl, sym, ap, subst, ◌∙◌}
 use Rattle.ert_defs.specs.Laws.{is_armed}
 use Rattle.ert_defs.specs.States.{state}
 use Rattle.ert_defs.specs.Timers.{Row}
@@ -47,7 +47,7 @@ forget-requires-clause-last c =
     let has = told_some (row_at k) (key_in p.keys k) c.row.result c.in-Some.row c.row.ensures c.in-Some.is in
     let last : c.timer.result.timer ≡ last_timer p.number p.slots k =
     ap (λ (r : Row). r.timer) c.timer.ensures ∙ ap (λ (r : WheelRow). last_timer p.number p.slots r.slot) (sym has.2) in
-    subst (λ (t : TimerRef). IsLast p t) (sym last) (record { low = c.requires.low; named = refl })
+    subst (λ (t : TimerRef). IsLast p t) (sym last) (record { low = c.requires.low; named = refl; used = inr (λ none. let no : Some has.0 ≡ None = sym has.1 ∙ none in cc) })
 
 pub forget-requires-clause-settled : goal.forget-requires-clause-settled
 forget-requires-clause-settled c = λ g named armed.
@@ -85,3 +85,9 @@ returns-in_default-clause-drops c =
     let p = c.args.self.now in
     drops_empty (settings_of c.args.desk.now) (front_of c.args.pass.now) p c.args.slot c.requires.stands
     (told_none (row_at c.args.slot) (key_in p.keys c.args.slot) c.row.result c.row.ensures c.in_default.is)
+
+pub timer-requires-clause-used : goal.timer-requires-clause-used
+timer-requires-clause-used c =
+    let p = c.args.self.now in
+    let has = told_some (row_at c.args.slot) (key_in p.keys c.args.slot) c.row.result c.in-Some.row c.row.ensures c.in-Some.is in
+    inr (λ none. let no : Some has.0 ≡ None = sym (ap (λ (r : WheelRow). key_in p.keys r.slot) (sym has.2) ∙ has.1) ∙ none in cc)

@@ -1,4 +1,4 @@
-use Rattle.std.proofs.Common.{true, false, sym, subst, append-nil, arith}
+use Rattle.std.proofs.Common.{◌≡◌, ◌∙◌, true, false, Some, None, inr, sym, subst, append-nil, arith}
 use Rattle.ert_defs.specs.States.{state}
 use Rattle.ert_defs.specs.Timers.{Row}
 use Rattle.ert_table.specs.Desks.{settings_of, view_of}
@@ -27,3 +27,6 @@ returns-clause-call c =
     c.push.new.self (view_of c.settle-hit.new.self) c.number.result c.timer-timer.result c.settle-hit.result true c.number.ensures c.timer-timer.ensures
     c.if-not-hit.false c.requires.stands c.requires.held c.requires.holds c.settle-hit.ensures.step c.settle-hit.ensures.settled c.let_go.ensures
     c.push.ensures.rows c.push.ensures.room
+
+pub timer-timer-requires-clause-used : goal.timer-timer-requires-clause-used
+timer-timer-requires-clause-used c = inr (λ none. let no : Some (key_of c.args.row) ≡ None = sym c.requires.held ∙ none in cc)

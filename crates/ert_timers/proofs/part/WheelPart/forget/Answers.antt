@@ -46,3 +46,6 @@ returns-else-drop_row-clause-loses c =
     none_key (key_in p.keys k) (λ is. let found : c.drop_row.result ≡ true = c.drop_row.ensures.found.1 is in cc) in
     subst (LosesRows p)
     (sym (c.drop_row.ensures.left ∙ ap (λ keys. let q : Part = record p { keys = keys } in q) (set_none p.keys k none))) (loses_none p)
+
+pub drop_row-requires-clause-used : goal.drop_row-requires-clause-used
+drop_row-requires-clause-used c = c.requires.last.used

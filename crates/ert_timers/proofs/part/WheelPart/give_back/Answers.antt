@@ -1,5 +1,5 @@
-use Rattle.std.proofs.Common.{◌<◌, ◌+◌, length, refl, sym, ap, subst, ◌∙◌, arith}
-use Rattle.ert_timers.specs.Parts.{Part, last_timer}
+use Rattle.std.proofs.Common.{◌<◌, ◌+◌, length, inr, refl, sym, ap, subst, ◌∙◌, arith}
+use Rattle.ert_timers.specs.Parts.{Part, all_slots, last_timer}
 use Rattle.ert_timers.proofs.Fit.{fit_counted, some_held}
 use Rattle.ert_timers.proofs.Keeping.{byte_low, lost_seen}
 use Rattle.ert_words.specs.Free.{free_set}
@@ -18,7 +18,7 @@ invariant_of-self c =
     let lost =
     lost_seen _ c.drop_row.new.self c.args.timer.slot c.drop_row.result (c.self.view_is ∙ c.leave.ensures) (c.drop_row.ensures.found.1 (some_held _ c.requires.row))
     c.drop_row.ensures.lost in
-    fit_counted p.wheel.values p.wheel.keys (free_set p.free) p.wheel.owners p.arms p.expires p.orphans p.expires (p.orphans + c.from.result) c.self.invariant
+    fit_counted (all_slots p.wheel.values p.wheel.owners.slots) p.wheel.keys (free_set p.free) p.wheel.owners p.arms p.expires p.orphans p.expires (p.orphans + c.from.result) c.self.invariant
     (omega (arith, lost.room, byte_low c.args.orphaned c.from.result c.from.ensures))
 
 pub leave-requires-clause-low : goal.leave-requires-clause-low
@@ -42,3 +42,11 @@ free_after-requires c =
       vacant = lost.vacant;
       away = lost.away;
     }
+
+pub drop_row-requires-clause-used : goal.drop_row-requires-clause-used
+drop_row-requires-clause-used c = inr c.requires.row
+
+pub leave-requires-clause-away : goal.leave-requires-clause-away
+leave-requires-clause-away c =
+    (lost_seen c.drop_row.new.self c.drop_row.new.self c.args.timer.slot c.drop_row.result refl
+    (c.drop_row.ensures.found.1 (some_held _ c.requires.row)) c.drop_row.ensures.lost).away

@@ -1,4 +1,4 @@
-use Rattle.std.proofs.Common.{◌<◌, length, None, sym, ap, subst, ◌∙◌, get_or-set_same}
+use Rattle.std.proofs.Common.{◌<◌, length, None, inl, sym, ap, subst, ◌∙◌, get_or-set_same}
 use Rattle.std.specs.FinSet as sets
 use Rattle.ert_table.specs.Desks.{settings_of, view_of}
 use Rattle.ert_timers.specs.Parts.{Part}
@@ -55,3 +55,6 @@ returns-then-is_resting-clause-call c =
     (probe_is g v c.args.by c.args.self.now.number c.number-wheel.result c.args.slot c.load_timer-shown.result u c.number-wheel.ensures
     c.load_timer-shown.ensures.step)
     (sym c.is_taken.ensures ∙ c.if-is_taken.false) c.drop_row.ensures.left (sym c.is_resting.ensures ∙ c.if-is_resting.true)
+
+pub drop_row-requires-clause-used : goal.drop_row-requires-clause-used
+drop_row-requires-clause-used c = inl c.requires.away

@@ -1,4 +1,4 @@
-use Rattle.std.proofs.Common.{refl, ap, ◌∙◌, arith}
+use Rattle.std.proofs.Common.{inl, refl, ap, ◌∙◌, arith}
 use Rattle.ert_table.specs.Desks.{settings_of, view_of}
 use Rattle.ert_timers.specs.Changes.{next_use}
 use Rattle.ert_timers.specs.Looking.{now_in}
@@ -127,3 +127,6 @@ pub returns-then-arms-ge-MOST_TIMERS-clause-stands : goal.returns-then-arms-ge-M
 returns-then-arms-ge-MOST_TIMERS-clause-stands c =
     ahead_stands (settings_of c.args.desk.now) (view_of c.args.pass.now) c.args.by c.args.start.now c.look_ahead.result
     (view_of c.look_ahead.new.pass) c.args.self.now c.requires.stands c.requires.holds c.look_ahead.ensures.looks
+
+pub next_use-next-requires-clause-used : goal.next_use-next-requires-clause-used
+next_use-next-requires-clause-used c = inl c.in-Some-take_slot.ensures.call.finds.away

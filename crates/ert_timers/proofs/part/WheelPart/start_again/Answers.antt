@@ -1,4 +1,4 @@
-use Rattle.std.proofs.Common.{Some, refl, sym, ap, subst, ◌∙◌}
+use Rattle.std.proofs.Common.{Some, inl, refl, sym, ap, subst, ◌∙◌}
 use Rattle.ert_table.specs.Desks.{settings_of, view_of, front_of}
 use Rattle.ert_timers.specs.Changes.{dropped, next_use}
 use Rattle.ert_timers.specs.Looking.{now_in}
@@ -98,3 +98,9 @@ returns-clause-rows c =
     c.end.new.self (now_in c.in-Some.ahead) (Some c.args.timer.slot) c.args.timer.slot c.next_use-next.result c.args.start.now c.arm_again-named.result
     (view_of c.look_as_forecast.new.pass) (view_of c.look_as_forecast.new.pass) (view_of c.arm_again-named.new.pass) (view_of c.end.new.pass)
     takes c.arm_again-named.ensures.call c.end.ensures.call
+
+pub next_use-next-requires-clause-used : goal.next_use-next-requires-clause-used
+next_use-next-requires-clause-used c = inl (c.can_renew.ensures c.if-not-can_renew.false).away
+
+pub drop_row-requires-clause-used : goal.drop_row-requires-clause-used
+drop_row-requires-clause-used c = c.requires.last.used

@@ -1,4 +1,4 @@
-use Rattle.std.proofs.Common.{◌≡◌, ◌<◌, ◌∙◌, count_by, sym, ap, subst, refl, arith}
+use Rattle.std.proofs.Common.{◌≡◌, ◌<◌, ◌∙◌, Some, None, inr, count_by, sym, ap, subst, refl, arith}
 use Rattle.std.specs.Option.{is_some}
 use Rattle.ert_table.specs.Desks.{settings_of, view_of}
 use Rattle.ert_defs.specs.States.{state}
@@ -7,6 +7,7 @@ use Rattle.ert_timers.specs.Parts.{HoldsCaller, Part, slot_at}
 use Rattle.ert_timers.proofs.Orphaned.{still_caller}
 use Rattle.ert_timers.proofs.Swept.{sweeps_none, sweeps_same, sweeps_more, all_swept, sweeps_all, next_held, fewer}
 use Rattle.ert_timers.proofs.part.WheelPart.sweep.Goals as goal
+use Rattle.ert_wheel.specs.Rows.{key_of}
 
 pub loop-row-init : goal.loop-row-init
 loop-row-init c = record {
@@ -83,3 +84,6 @@ pub returns-clause-loses : goal.returns-clause-loses
 returns-clause-loses c =
     (sweeps_same (settings_of c.args.desk.now) (view_of c.args.pass.now) c.args.by c.args.process c.args.self.now c.loop-row.self
     c.newest_of.new.self (view_of c.loop-row.pass) c.newest_of.ensures.part c.loop-row.invariant.call).loses
+
+pub timer-timer-requires-clause-used : goal.timer-timer-requires-clause-used
+timer-timer-requires-clause-used c = inr (λ none. let no : Some (key_of c.in-Some.row) ≡ None = sym c.in-Some.ensures.row.1 ∙ none in cc)

@@ -1,7 +1,28 @@
+use Rattle.std.proofs.Common.{◌≡◌, ◌+◌, ◌-◌, ◌<◌, ◌∙◌, List, length, refl, sym, ap, subst, arith}
 use Rattle.ert_wheel.proofs.Calls.{finds_newer}
+use Rattle.ert_wheel.proofs.Stored.{before_seen, found_seen, prev_few, stored_low}
 use Rattle.ert_wheel.proofs.chains.Chains.newer.Goals as goal
+use Rattle.ert_wheel.specs.Links.{prev_at, seen_links, stored_node}
+use Rattle.ert_wheel.specs.Rings.{Rings}
+use Rattle.ert_wheel.specs.declared.links.Link.{Link}
+
+pub prev_of-requires : goal.prev_of-requires
+prev_of-requires c =
+    let r = c.self.inside in
+    subst (λ (l : List Link). r.homes + c.args.slot < length l) (sym c.deref.ensures.value)
+    (stored_low r.slots r.homes r.links.items c.args.self.now c.args.slot c.self.view_is c.requires)
 
 pub returns : goal.returns
 returns c =
     let r = c.self.inside in
-    finds_newer c.args.self.now r.slots r.homes r.links.items c.deref.result.now c.args.slot c.prev_of.result c.slot_at.result c.self.view_is c.deref.ensures.value c.requires c.prev_of.ensures c.slot_at.ensures
+    let w = c.self.invariant in
+    let stored = r.links.items in
+    let here = stored_low r.slots r.homes stored c.args.self.now c.args.slot c.self.view_is c.requires in
+    let low : c.args.slot < c.args.self.now.slots = subst (λ (r : Rings). c.args.slot < r.slots) c.self.view_is (omega (arith, here, w.most)) in
+    let read : c.prev_of.result ≡ prev_at stored (r.homes + c.args.slot) =
+    c.prev_of.ensures ∙ ap (λ (l : List Link). prev_at l (r.homes + c.args.slot)) c.deref.ensures.value in
+    finds_newer c.args.self.now r.slots r.homes (length stored - r.homes) (seen_links r.slots r.homes stored) (seen_links r.slots r.homes stored) c.args.slot
+    (stored_node r.slots r.homes c.prev_of.result) c.slot_at.result c.self.view_is refl low
+    (ap (stored_node r.slots r.homes) read ∙ before_seen r.slots r.homes r.links.cap stored c.args.slot w here)
+    (found_seen c.args.self.now r.slots r.homes c.prev_of.result stored c.slot_at.result c.self.view_is
+    (omega (arith, read, prev_few r.slots r.homes r.links.cap stored c.args.slot w here)) c.slot_at.ensures)

@@ -1,7 +1,25 @@
+use Rattle.std.proofs.Common.{◌≡◌, ◌-◌, ◌<◌, ◌∙◌, List, length, refl, sym, ap, subst, arith}
 use Rattle.ert_wheel.proofs.Calls.{finds_oldest}
+use Rattle.ert_wheel.proofs.Stored.{last_seen, found_seen}
 use Rattle.ert_wheel.proofs.chains.Chains.oldest.Goals as goal
+use Rattle.ert_wheel.specs.Links.{prev_at, seen_links, stored_node}
+use Rattle.ert_wheel.specs.Rings.{Rings}
+use Rattle.ert_wheel.specs.declared.links.Link.{Link}
+
+pub prev_of-requires : goal.prev_of-requires
+prev_of-requires c =
+    let low = subst (λ (r : Rings). c.args.home < r.homes) (sym c.self.view_is) c.requires in
+    subst (λ (l : List Link). c.args.home < length l) (sym c.deref.ensures.value) (omega (arith, low, c.self.invariant.heads))
 
 pub returns : goal.returns
 returns c =
     let r = c.self.inside in
-    finds_oldest c.args.self.now r.slots r.homes r.links.items c.deref.result.now c.args.home c.prev_of.result c.slot_at.result c.self.view_is c.deref.ensures.value c.requires c.prev_of.ensures c.slot_at.ensures
+    let w = c.self.invariant in
+    let stored = r.links.items in
+    let low = subst (λ (r : Rings). c.args.home < r.homes) (sym c.self.view_is) c.requires in
+    let read : c.prev_of.result ≡ prev_at stored c.args.home = c.prev_of.ensures ∙ ap (λ (l : List Link). prev_at l c.args.home) c.deref.ensures.value in
+    finds_oldest c.args.self.now r.slots r.homes (length stored - r.homes) (seen_links r.slots r.homes stored) (seen_links r.slots r.homes stored) c.args.home
+    (stored_node r.slots r.homes c.prev_of.result) c.slot_at.result c.self.view_is refl c.requires
+    (ap (stored_node r.slots r.homes) read ∙ last_seen r.slots r.homes r.links.cap stored c.args.home w low)
+    (found_seen c.args.self.now r.slots r.homes c.prev_of.result stored c.slot_at.result c.self.view_is
+    (omega (arith, read, w.prev c.args.home (omega (arith, low, w.heads)), w.most)) c.slot_at.ensures)

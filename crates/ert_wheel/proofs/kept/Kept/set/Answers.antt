@@ -3,10 +3,10 @@ use Rattle.ert_wheel.proofs.KeptSlots.{kept_len, kept_set, kept_set_value}
 use Rattle.ert_wheel.proofs.kept.Kept.set.Goals as goal
 
 pub index_mut-requires : goal.index_mut-requires
-index_mut-requires g c = omega (arith, c.requires, c.self.inside.records.ok.0, kept_len _ _ c.self.view_is)
+index_mut-requires g c = omega (arith, c.requires, c.self.inside.records.ok.0, kept_len _ _ _ c.self.view_is)
 
 pub returns-clause-keys : goal.returns-clause-keys
-returns-clause-keys g c = kept_set _ _ _ _ c.self.view_is
+returns-clause-keys g c = kept_set _ _ _ _ _ c.self.view_is
 
 pub returns-clause-values : goal.returns-clause-values
-returns-clause-values g c = kept_set_value _ _ _ _ c.self.view_is
+returns-clause-values g c = kept_set_value _ _ _ _ _ c.self.view_is

@@ -25,7 +25,7 @@ loop-self-smaller g c =
       c.if-time-to.true,
       c.pass.ensures.passed,
       told.none_before row.slot row.key row.has,
-      (sees c.self.invariant c.self.view_is).wheel.low row.slot row.key row.has,
+      (sees c.self.invariant.rows c.self.view_is).wheel.low row.slot row.key row.has,
     )
 
 pub returns-then-time-to-2-clause-reached : goal.returns-then-time-to-2-clause-reached
@@ -35,14 +35,17 @@ returns-then-time-to-2-clause-reached g c =
 
 pub invariant_of-self : goal.invariant_of-self
 invariant_of-self g c = record {
-  wheel = c.self-2.invariant.wheel;
-  above = λ slot key has.
-      omega (
-        arith,
-        c.max-self-inside.ensures,
-        c.self-2.invariant.above slot key has,
-        c.loop-self.invariant.told.none_before slot key (subst (λ (ks : List (Option Key)). key_in ks slot ≡ Some key) (ap keys_of c.self-2.view_is) has),
-      );
+  alike = c.self-2.invariant.alike;
+  rows = record {
+    wheel = c.self-2.invariant.rows.wheel;
+    above = λ slot key has.
+        omega (
+          arith,
+          c.max-self-inside.ensures,
+          c.self-2.invariant.rows.above slot key has,
+          c.loop-self.invariant.told.none_before slot key (subst (λ (ks : List (Option Key)). key_in ks slot ≡ Some key) (ap keys_of c.self-2.view_is) has),
+        );
+  };
 }
 
 pub returns-clause-reached : goal.returns-clause-reached

@@ -1,14 +1,16 @@
-use Rattle.std.proofs.Common.{◌+◌, ap, ◌∙◌, arith}
+use Rattle.std.proofs.Common.{◌≡◌, ◌+◌, ◌<◌, Some, ap, ◌∙◌, arith}
+use Rattle.std.proofs.lemmas.List.Elements.{All-weaker}
 use Rattle.ert_wheel.proofs.Due.{seen_start, seen_skip, visit_may, visit_more, due_each, due_rows}
-use Rattle.ert_wheel.proofs.Writes.{sees}
-use Rattle.ert_wheel.proofs.Writes.{keys_of}
+use Rattle.ert_wheel.proofs.Writes.{sees, keys_of, row_written}
 use Rattle.ert_wheel.proofs.wheel.Wheel.due.Goals as goal
+use Rattle.ert_wheel.specs.Rows.{key_in, key_of}
 use Rattle.ert_wheel.specs.Wheels.{home_by, places}
+use Rattle.ert_wheel.specs.declared.row.Row.{Row}
 
 pub loop-home-init : goal.loop-home-init
 loop-home-init g c =
     let w = c.self.inside in
-    let wheel = (sees c.self.invariant c.self.view_is).wheel in
+    let wheel = (sees c.self.invariant.rows c.self.view_is).wheel in
     record {
       capacity_stays = c.clear.ensures.capacity;
       sees = seen_skip w.next_time w.len c.first_bucket.result c.visit_end-end.result c.first_used-home.result c.args.to c.args.self.now.keys w.buckets c.clear.new.self.items
@@ -18,23 +20,26 @@ loop-home-init g c =
 
 pub collect-requires-clause-room : goal.collect-requires-clause-room
 collect-requires-clause-room g c =
-    omega (arith, (sees c.self.invariant c.self.view_is).are_stored.len, c.requires, c.loop-home.invariant.capacity_stays)
+    omega (arith, (sees c.self.invariant.rows c.self.view_is).wheel.slots, c.requires, c.loop-home.invariant.capacity_stays)
 
 pub collect-requires-clause-may : goal.collect-requires-clause-may
 collect-requires-clause-may g c = record {
   home = home_by c.self.inside.next_time;
   may = visit_may
       (record {
-        wheel = (sees c.self.invariant c.self.view_is).wheel;
+        wheel = (sees c.self.invariant.rows c.self.view_is).wheel;
         seen = c.loop-home.invariant.sees;
         is = ap keys_of c.self.view_is;
       });
 }
 
+pub collect-requires-clause-kept : goal.collect-requires-clause-kept
+collect-requires-clause-kept g c = c.self.invariant.alike.records
+
 pub loop-home-preserved : goal.loop-home-preserved
 loop-home-preserved g c =
     let w = c.self.inside in
-    let wheel = (sees c.self.invariant c.self.view_is).wheel in
+    let wheel = (sees c.self.invariant.rows c.self.view_is).wheel in
     record {
       capacity_stays = c.collect.ensures.capacity ∙ c.loop-home.invariant.capacity_stays;
       sees = seen_skip w.next_time w.len (c.loop-home.home + 1) c.visit_end-end.result c.first_used-home-in-loop-home.result c.args.to c.args.self.now.keys w.buckets c.collect.new.rows.items
@@ -53,9 +58,14 @@ pub returns-clause-each : goal.returns-clause-each
 returns-clause-each g c =
     let w = c.self.inside in
     due_each w.next_time w.len c.visit_end-end.result c.args.to c.loop-home.home c.args.self.now.keys w.buckets
-    c.loop-home.out.items c.sort_unstable.new.self.items (sees c.self.invariant c.self.view_is).wheel c.visit_end-end.ensures.spans
+    c.loop-home.out.items c.sort_unstable.new.self.items (sees c.self.invariant.rows c.self.view_is).wheel c.visit_end-end.ensures.spans
     c.loop-home-test.false c.loop-home.invariant.sees c.sort_unstable.ensures.permutation
 
 pub returns-clause-rows : goal.returns-clause-rows
 returns-clause-rows g c =
     due_rows c.args.self.now.keys c.loop-home.out.items c.sort_unstable.new.self.items c.loop-home.invariant.sees.are_rows c.sort_unstable.ensures.permutation
+
+pub returns-clause-written : goal.returns-clause-written
+returns-clause-written g c =
+    All-weaker (λ (row : Row). key_in c.args.self.now.keys row.slot ≡ Some (key_of row)) (λ (row : Row). row.slot < c.args.self.now.owners.written)
+    (λ row has. row_written row.slot (key_of row) c.self.invariant c.self.view_is has) c.sort_unstable.new.self.items (returns-clause-rows g c)

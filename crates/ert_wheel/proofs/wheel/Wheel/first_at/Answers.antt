@@ -8,5 +8,8 @@ pub returns : goal.returns
 returns g c =
     let keys = c.args.self.now.keys in
     subst (λ (n : ℕ). MatchOption c.oldest_due.result (c.args.time ≤ n → NoRowDue keys c.args.time) (IsFirstRowDue keys c.args.time)) (ap passed_of c.self.view_is)
-    (sees_first c.args.time c.oldest_due.result c.self.inside.kept.keys (sees c.self.invariant c.self.view_is).wheel (ap keys_of c.self.view_is)
+    (sees_first c.args.time c.oldest_due.result c.self.inside.kept.keys (sees c.self.invariant.rows c.self.view_is).wheel (ap keys_of c.self.view_is)
     c.first_bucket.ensures.is c.requires c.oldest_due.ensures)
+
+pub oldest_due-requires-clause-kept : goal.oldest_due-requires-clause-kept
+oldest_due-requires-clause-kept g c = c.self.invariant.alike.records

@@ -2,4 +2,4 @@ use Rattle.ert_wheel.proofs.Writes.{sees}
 use Rattle.ert_wheel.proofs.wheel.Wheel.first_due.Goals as goal
 
 pub first_at-requires : goal.first_at-requires
-first_at-requires g c = λ slot key has. (sees c.self.invariant c.self.view_is).above slot key has
+first_at-requires g c = λ slot key has. (sees c.self.invariant.rows c.self.view_is).above slot key has

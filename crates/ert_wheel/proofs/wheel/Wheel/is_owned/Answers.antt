@@ -1,17 +1,17 @@
-use Rattle.std.proofs.Common.{◌↔◌, ◌<◌, not, ap, subst, sym, ℕ, Option}
+use Rattle.std.proofs.Common.{◌↔◌, not, ap, subst, ℕ, Option}
 use Rattle.std.specs.Bool.{IsTrue}
 use Rattle.std.specs.Option.{IsSome}
 use Rattle.ert_wheel.proofs.Calls.{is_placed}
-use Rattle.ert_wheel.proofs.Writes.{owners_of}
+use Rattle.ert_wheel.proofs.Writes.{low_in, owners_of}
 use Rattle.ert_wheel.proofs.wheel.Wheel.is_owned.Goals as goal
 use Rattle.ert_wheel.specs.Rings.{Rings, Place, AreChains}
 
 pub is_alone-requires : goal.is_alone-requires
-is_alone-requires g c = subst (λ (r : Rings). c.args.slot < r.slots) (sym (ap owners_of c.self.view_is)) c.requires
+is_alone-requires g c = (low_in c.args.slot c.self.invariant c.self.view_is c.requires).low_owner
 
 pub returns : goal.returns
 returns g c =
     subst (λ (r : Rings). (places : ℕ → Option Place) → AreChains r places → IsTrue (not c.is_alone.result) ↔ IsSome (places c.args.slot))
     (ap owners_of c.self.view_is)
     (λ places are. is_placed c.self.inside.owners c.args.slot c.is_alone.result places are
-    (subst (λ (r : Rings). c.args.slot < r.slots) (sym (ap owners_of c.self.view_is)) c.requires) c.is_alone.ensures)
+    (low_in c.args.slot c.self.invariant c.self.view_is c.requires).is_slot c.is_alone.ensures)

@@ -10,7 +10,7 @@ pub returns : goal.returns
 returns g c =
     let w = c.self.inside in
     let keys = c.args.self.now.keys in
-    let wheel = (sees c.self.invariant c.self.view_is).wheel in
+    let wheel = (sees c.self.invariant.rows c.self.view_is).wheel in
     let end = c.visit_end-end.result in
     let home = c.first_used-home.result in
     subst (λ (n : ℕ). MatchBool (nat_lt home end) (MayBeDue keys n c.args.to) (NoRowDue keys c.args.to)) (ap passed_of c.self.view_is)

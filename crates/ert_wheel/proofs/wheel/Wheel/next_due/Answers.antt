@@ -13,19 +13,19 @@ returns-then-is_empty g c = no_row c.args.self.now.keys (search rules)
 pub early_in-requires-clause-bucket : goal.early_in-requires-clause-bucket
 early_in-requires-clause-bucket g c =
     let some : count_by is_some c.args.self.now.keys ≢ 0 = λ none. (search (rules, none)) in
-    let f = first_is (sees c.self.invariant c.self.view_is).wheel c.first_bucket-first.ensures.is c.first_used-home.ensures.first in
+    let f = first_is (sees c.self.invariant.rows c.self.view_is).wheel c.first_bucket-first.ensures.is c.first_used-home.ensures.first in
     let low : c.first_used-home.result < BUCKETS = home_low f (has_row c.args.self.now.keys some) in
     low
 
 pub early_in-requires-clause-may : goal.early_in-requires-clause-may
 early_in-requires-clause-may g c =
-    may_walk c.self.inside.kept.keys (sees c.self.invariant c.self.view_is).wheel (ap keys_of c.self.view_is)
+    may_walk c.self.inside.kept.keys (sees c.self.invariant.rows c.self.view_is).wheel (ap keys_of c.self.view_is)
 
 pub returns-then-home-first : goal.returns-then-home-first
 returns-then-home-first g c =
     let keys = c.args.self.now.keys in
     let some : count_by is_some keys ≢ 0 = λ none. (search (rules, none)) in
-    let w = (sees c.self.invariant c.self.view_is).wheel in
+    let w = (sees c.self.invariant.rows c.self.view_is).wheel in
     let f = first_is w c.first_bucket-first.ensures.is c.first_used-home.ensures.first in
     subst (λ (n : ℕ). MatchOption c.early_in.result (NoRow keys) (IsNextDue keys n)) (ap passed_of c.self.view_is)
     (early_due c.early_in.result f c.if-home-first.true (has_row keys some)
@@ -35,7 +35,7 @@ pub returns-then-self : goal.returns-then-self
 returns-then-self g c =
     let keys = c.args.self.now.keys in
     let some : count_by is_some keys ≢ 0 = λ none. (search (rules, none)) in
-    let s = sees c.self.invariant c.self.view_is in
+    let s = sees c.self.invariant.rows c.self.view_is in
     let f = first_is s.wheel c.first_bucket-first.ensures.is c.first_used-home.ensures.first in
     let same : c.first_used-home.result ≡ c.first_bucket-first.result = omega (arith, c.if-home-first.false, c.first_used-home.ensures.up) in
     subst (λ (n : ℕ). IsNextDue keys n c.self.inside.next_time) (ap passed_of c.self.view_is)
@@ -44,20 +44,20 @@ returns-then-self g c =
 pub least_in-requires-clause-bucket : goal.least_in-requires-clause-bucket
 least_in-requires-clause-bucket g c =
     let some : count_by is_some c.args.self.now.keys ≢ 0 = λ none. (search (rules, none)) in
-    let f = first_is (sees c.self.invariant c.self.view_is).wheel c.first_bucket-first.ensures.is c.first_used-home.ensures.first in
+    let f = first_is (sees c.self.invariant.rows c.self.view_is).wheel c.first_bucket-first.ensures.is c.first_used-home.ensures.first in
     let low : c.first_used-home.result < BUCKETS = home_low f (has_row c.args.self.now.keys some) in
     low
 
 pub least_in-requires-clause-may : goal.least_in-requires-clause-may
 least_in-requires-clause-may g c =
-    may_walk c.self.inside.kept.keys (sees c.self.invariant c.self.view_is).wheel (ap keys_of c.self.view_is)
+    may_walk c.self.inside.kept.keys (sees c.self.invariant.rows c.self.view_is).wheel (ap keys_of c.self.view_is)
 
 pub returns : goal.returns
 returns g c =
     let keys = c.args.self.now.keys in
     let some : count_by is_some keys ≢ 0 = λ none. (search (rules, none)) in
     let row : HasSomeRow keys = has_row keys some in
-    let w = (sees c.self.invariant c.self.view_is).wheel in
+    let w = (sees c.self.invariant.rows c.self.view_is).wheel in
     let f = first_is w c.first_bucket-first.ensures.is c.first_used-home.ensures.first in
     answer_is (NoRow keys) c.least_in.result c.least_in.ensures.all c.least_in.ensures.least (λ least looked.
     let looks = visits_bucket c.self.inside.kept.keys w (ap keys_of c.self.view_is) looked in
@@ -67,3 +67,9 @@ returns g c =
       none_before = none_before_least f looks due;
       near = inl (due_at_of due);
     })
+
+pub early_in-requires-clause-kept : goal.early_in-requires-clause-kept
+early_in-requires-clause-kept g c = c.self.invariant.alike.records
+
+pub least_in-requires-clause-kept : goal.least_in-requires-clause-kept
+least_in-requires-clause-kept g c = c.self.invariant.alike.records

@@ -1,3 +1,4 @@
+use Rattle.std.proofs.Common.{inr}
 use Rattle.ert_table.specs.Desks.{settings_of}
 use Rattle.ert_world.proofs.Calls.{Has, has_at, parts_in, schedulers_at}
 use Rattle.ert_world.proofs.Listed.{kept_by}
@@ -17,7 +18,7 @@ pub forget-requires-clause-last : goal.forget-requires-clause-last
 forget-requires-clause-last c =
     let has = has_at c.deref.ensures c.self.view_is c.self.invariant.sound in
     let held = held_old c.args.self.now c.self.inside c.deref.result.now c.args.timer.wheel c.index_mut.result.now c.args.timer has c.index_mut.ensures.value c.requires.held in
-    record { low = held.low; named = held.named }
+    record { low = held.low; named = held.named; used = inr held.row }
 
 pub forget-requires-clause-settled : goal.forget-requires-clause-settled
 forget-requires-clause-settled c =

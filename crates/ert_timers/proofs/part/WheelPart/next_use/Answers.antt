@@ -1,0 +1,23 @@
+use Rattle.std.proofs.Common.{◌<◌, length, refl, sym, ap, subst, ◌∙◌, arith}
+use Rattle.ert_timers.specs.Freeing.{IsInUse}
+use Rattle.ert_timers.specs.Parts.{Part, slot_at}
+use Rattle.ert_timers.specs.contracts.part.WheelPart.{the_view}
+use Rattle.ert_timers.proofs.AllSlots.{all_len, read_at}
+use Rattle.ert_timers.proofs.Fit.{written_used}
+use Rattle.ert_words.specs.Free.{free_set}
+use Rattle.ert_timers.specs.Changes.{next_use}
+use Rattle.ert_timers.specs.Slots.{Slot}
+use Rattle.ert_timers.proofs.part.WheelPart.next_use.Goals as goal
+
+pub value-requires : goal.value-requires
+value-requires c =
+    (written_used (the_view c.self.inside) (free_set c.self.inside.free) c.self.inside.wheel.owners c.args.slot c.self.invariant refl
+    (subst (λ (q : Part). c.args.slot < length q.slots) (sym c.self.view_is) c.requires.low) (subst (λ (q : Part). IsInUse q c.args.slot) (sym c.self.view_is) c.requires.used))
+
+pub returns : goal.returns
+returns c =
+    let w = c.self.inside.wheel in
+    let low = subst (λ (p : Part). c.args.slot < length p.slots) (sym c.self.view_is) c.requires.low in
+    let read = sym (ap (λ (p : Part). slot_at p.slots c.args.slot) c.self.view_is)
+    ∙ read_at w.values w.owners.slots c.args.slot c.value.result c.value.ensures (omega (arith, low, all_len w.values w.owners.slots)) in
+    c.next_use.ensures ∙ ap (λ (s : Slot). next_use s.generation c.args.now c.args.deadline) (sym read)
