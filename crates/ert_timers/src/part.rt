@@ -33,6 +33,8 @@ pub struct Use {
 pub struct WheelPart {
     /// The number of the scheduler and of its wheel.
     number: u32,
+    /// From which slot on a start looks that knows of none that is free.
+    next_look: u32,
     /// The timers that are held as armed, and for each process the chain of the slots whose timers go to it. A slot
     /// without such a timer stays in its chain until it is used for another process, or until the chain is swept.
     wheel: Wheel<Slot>,
@@ -43,12 +45,13 @@ pub struct WheelPart {
     /// How many expired, and how many were cancelled because their destination had exited.
     expires: u64,
     orphans: u64,
-    /// From which slot on a start looks that knows of none that is free.
-    next_look: u32,
     /// The due rows of an advance, kept for the next one.
     due: Vec<Row>,
     alloc: Global,
 }
+
+// The place of a part in a vector of parts is one shift.
+const _: () = prove!(size_of::<WheelPart>() == 512);
 
 /// How many timers of a wheel there were.
 #[derive(Clone, Copy, Debug, PartialEq, Eq)]
@@ -110,12 +113,12 @@ impl WheelPart {
         let due = Vec::with_capacity(alloc, settings.slots as usize)?;
         Ok(WheelPart {
             number: wheel,
+            next_look: 0,
             wheel: timers,
             free,
             arms: 0,
             expires: 0,
             orphans: 0,
-            next_look: 0,
             due,
             alloc,
         })
