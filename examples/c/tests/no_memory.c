@@ -1,6 +1,6 @@
 /*
- * Out of memory: each allocation fails in turn. Linked with --wrap=malloc and --wrap=realloc; the address
- * sanitizer tells at the end whether anything was lost.
+ * Out of memory: each allocation fails in turn, and where there is room in a mailbox none is made. Linked with
+ * --wrap=malloc and --wrap=realloc; the address sanitizer tells at the end whether anything was lost.
  */
 #include <inttypes.h>
 #include <stdio.h>

@@ -1,5 +1,5 @@
-/* Restarts, counts, turns with a bound, the processes with mail, and cancels of all timers of a process: each answer, and
- * what stays as it was. What is expected stands in ertime.h. */
+/* Restarts, counts, turns with a bound, the processes with mail, the room of mailboxes, and cancels of all timers of a
+ * process: each answer, and what stays as it was. What is expected stands in ertime.h. */
 #include <inttypes.h>
 #include <stdio.h>
 #include <stdlib.h>
