@@ -2,7 +2,7 @@
 ghost use Rattle.std.specs.Prelude.{◌<◌};
 
 use crate::tests::service_calls::is_process;
-use crate::tests::trials::{Told, Trial, try_out};
+use crate::tests::trials::{Trial, try_out};
 use ert_defs::{Kind, Mail, Mode, NoMemory, Reading, Settings, Start, When};
 use ert_effects::{StartErr, Taken};
 use ert_locks::DeskName;
@@ -85,8 +85,8 @@ pub(crate) fn first_timer<L: DeskName, R: Wait + Abort>(
 
 #[test]
 fn a_seat_starts_and_cancels(rt: HostRuntime) -> Result<(), NoMemory> {
-    let (_, told) = try_out(&rt, rt.alloc(), &SETTINGS, &Trial::FirstTimer)?;
-    assert!(rt; matches!(told, Told::Left(Some(50))));
+    let (_, left) = try_out(&rt, rt.alloc(), &SETTINGS, &Trial::FirstTimer)?;
+    assert!(rt; left == Some(50));
     Ok(())
 }
 
