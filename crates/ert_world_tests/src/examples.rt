@@ -66,12 +66,11 @@ fn start_and_cancel<L: DeskName, R: Wait>(
     Ok(session.cancel_timer(timer))
 }
 
-/// The first caller starts a timer of scheduler 0 for process 0, and cancels it.
+/// A caller starts a timer of scheduler 0 for process 0, and cancels it.
 pub(crate) fn first_timer<L: DeskName, R: Wait + Abort>(
-    rt: &R,
-    callers: &mut [CallerSession<L, R>],
+    session: &mut CallerSession<L, R>,
 ) -> Option<u64> {
-    let session = callers.first_mut().expect(rt, "a caller");
+    let rt = session.rt;
     let start = Start {
         when: When::After(50),
         dest: 0,

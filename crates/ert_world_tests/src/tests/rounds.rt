@@ -55,11 +55,10 @@ fn use_session<L: DeskName, R: Wait + Abort>(
 /// A caller uses every slot as often as a round has uses, until all rest. When they have rested, it is told the time,
 /// and two callers use them at once.
 pub(crate) fn use_service<L: DeskName + Send + Sync, R: Threads + Wait + Abort + Sync>(
-    rt: &R,
-    callers: &mut [CallerSession<L, R>],
+    first: &mut CallerSession<L, R>,
+    second: &mut CallerSession<L, R>,
 ) -> u64 {
-    let (first, others) = callers.split_first_mut().expect(rt, "two callers");
-    let second = others.first_mut().expect(rt, "two callers");
+    let rt = first.rt;
     let (whole, _) = use_session(first, 1_048_573);
     same(rt, 0, &whole, &1_048_572);
     let reading = Reading {

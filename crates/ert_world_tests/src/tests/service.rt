@@ -150,12 +150,9 @@ const CALLS: [Call; 19] = [
 
 /// Makes each call by the one caller and the one scheduler.
 pub(crate) fn each_call<L: DeskName, R: Wait + Abort>(
-    rt: &R,
-    scheds: &mut [SchedSession<L, R>],
-    callers: &mut [CallerSession<L, R>],
+    sched: &mut SchedSession<L, R>,
+    caller: &mut CallerSession<L, R>,
 ) {
-    let sched = scheds.first_mut().expect(rt, "a scheduler");
-    let caller = callers.first_mut().expect(rt, "a caller");
     for (at, call) in CALLS.iter().enumerate() {
         call_one(caller, sched, at, call);
     }

@@ -9,8 +9,8 @@ use crate::tests::rounds::use_service;
 use crate::tests::service::each_call;
 use crate::tests::service_calls::{are_callers, are_scheds};
 use ert_defs::{NoMemory, Settings};
-use ert_locks::DeskName;
-use ert_service::{CallerSession, Opened, SchedSession, Service, Session};
+use ert_locks::{CallerSeat, DeskName, SchedSeat};
+use ert_service::{Opened, Service, Session};
 use ert_world::{Parts, World};
 use std::alloc::{AllocError, Global};
 use std::marker::Brand;
@@ -53,57 +53,42 @@ fn try_on<L: DeskName + Send + Sync, R: Threads + Wait + Abort + Sync>(
     let Opened {
         rest,
         service,
-        scheds,
-        callers,
+        mut scheds,
+        mut callers,
     } = Service::<L>::open(alloc, parts)?;
-    let mut scheds = sessions_of(rt, alloc, &service, scheds)?;
-    let mut callers = sessions_of(rt, alloc, &service, callers)?;
-    let told = do_trial(rt, &mut scheds, &mut callers, trial);
-    let scheds = seats_of(alloc, scheds)?;
-    let callers = seats_of(alloc, callers)?;
+    let told = do_trial(rt, &service, &mut scheds, &mut callers, trial)?;
     are_scheds(rt, &service, &scheds);
     are_callers(rt, &service, &callers);
     Ok((service.close(rest, scheds, callers), told))
 }
 
-/// A session for each seat.
-fn sessions_of<'a, L: DeskName, R: Wait, S: Drop>(
-    rt: &'a R,
-    alloc: Global,
-    service: &'a Service<L>,
-    seats: Vec<S>,
-) -> Result<Vec<Session<'a, L, R, S>>, AllocError> {
-    let mut sessions = Vec::new(alloc);
-    for seat in seats {
-        sessions.push(Session { service, rt, seat })?;
-    }
-    Ok(sessions)
-}
-
-/// The seats of the sessions.
-fn seats_of<L: DeskName, R: Wait, S: Drop>(
-    alloc: Global,
-    sessions: Vec<Session<L, R, S>>,
-) -> Result<Vec<S>, AllocError> {
-    let mut seats = Vec::new(alloc);
-    for session in sessions {
-        seats.push(session.seat)?;
-    }
-    Ok(seats)
-}
-
+/// Does it by the last caller, with the one before it or the last scheduler where it takes two. The seats come back.
 fn do_trial<L: DeskName + Send + Sync, R: Threads + Wait + Abort + Sync>(
     rt: &R,
-    scheds: &mut [SchedSession<L, R>],
-    callers: &mut [CallerSession<L, R>],
+    service: &Service<L>,
+    scheds: &mut Vec<SchedSeat<L>>,
+    callers: &mut Vec<CallerSeat<L>>,
     trial: &Trial,
-) -> Option<u64> {
-    match *trial {
-        Trial::FirstTimer => first_timer(rt, callers),
+) -> Result<Option<u64>, AllocError> {
+    let seat = callers.pop().expect(rt, "a caller");
+    let mut caller = Session { service, rt, seat };
+    let told = match *trial {
+        Trial::FirstTimer => first_timer(&mut caller),
         Trial::EachCall => {
-            each_call(rt, scheds, callers);
+            let seat = scheds.pop().expect(rt, "a scheduler");
+            let mut sched = Session { service, rt, seat };
+            each_call(&mut sched, &mut caller);
+            scheds.push(sched.seat)?;
             None
         }
-        Trial::Rounds => Some(use_service(rt, callers)),
-    }
+        Trial::Rounds => {
+            let seat = callers.pop().expect(rt, "two callers");
+            let mut first = Session { service, rt, seat };
+            let started = use_service(&mut first, &mut caller);
+            callers.push(first.seat)?;
+            Some(started)
+        }
+    };
+    callers.push(caller.seat)?;
+    Ok(told)
 }
