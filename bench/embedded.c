@@ -7,8 +7,12 @@
 
 #include "ertime.h"
 
+/* Of how many runs the least counts. */
+#ifndef RUNS
+#define RUNS 7
+#endif
+
 enum {
-    RUNS = 7,
     CALLS = 1000000,
     LOOKS = 2000,
     USES = 200000,

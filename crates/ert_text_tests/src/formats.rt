@@ -1,51 +1,10 @@
-//! Scenarios of format 2, and values of format 1 that are migrated to it.
+//! Values of format 1 that are migrated to format 2. What is read of scenarios is told by the rows of `examples/messages`.
 
-use crate::frames::{OPS_2, gives};
-use ert_defs::When;
-use ert_scenario::{Op, migrate, read_scenario};
+use ert_scenario::{migrate, read_scenario};
 use serde_json::Value;
 use std::alloc::Global;
 use std::process::Abort;
 use std::test::Fail;
-
-const OPS_TEXT: &str = r#"["send_after",1,0,"rel",3,0,55],
-    ["start",2,0,"rel",4,0,66],
-    ["cancel_async",2,0,false],
-    ["read_async",2,0,true],
-    ["cancel_quiet",2]"#;
-
-const OPS: [Op; 5] = [
-    Op::SendAfter {
-        label: 1,
-        wheel: 0,
-        when: When::After(3),
-        dest: 0,
-        msg: 55,
-    },
-    Op::Start {
-        label: 2,
-        wheel: 0,
-        when: When::After(4),
-        dest: 0,
-        msg: 66,
-    },
-    Op::CancelAsync {
-        label: 2,
-        process: 0,
-        info: false,
-    },
-    Op::ReadAsync {
-        label: 2,
-        process: 0,
-        info: true,
-    },
-    Op::CancelQuiet { label: 2 },
-];
-
-#[test]
-fn accepts_ops(rt: HostRuntime) {
-    gives(&rt, rt.alloc(), OPS_2, OPS_TEXT, &OPS);
-}
 
 /// A text of format 1, without the space between its fields, is migrated to this one, which says the same.
 fn becomes(rt: &impl Abort, alloc: Global, race: bool, text: &str, want: &str) -> Result<(), Fail> {

@@ -1,20 +1,13 @@
-//! Tests of scenarios of both formats, with and without a race, read or made from a seed; of races, over gates that
-//! choose which of two steps comes first; and of the whole program over streams in memory, of which a call fails.
+//! Tests of scenarios that are migrated or made from a seed; of races, over gates that choose which of two steps comes first;
+//! and of the whole program over streams in memory, of which a call fails. What is read of a scenario, and what is written of
+//! it, is told by the rows of `examples/messages`.
 #![tactic(auto)]
 
 #[cfg(test)]
 mod formats;
 #[cfg(test)]
-mod frames;
-#[cfg(test)]
 mod made;
-#[cfg(test)]
-mod ops;
 #[cfg(test)]
 mod program;
 #[cfg(test)]
-mod races;
-#[cfg(test)]
 mod reports;
-#[cfg(test)]
-mod scenario;

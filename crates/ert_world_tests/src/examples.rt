@@ -2,7 +2,7 @@
 ghost use Rattle.std.specs.Prelude.{◌<◌};
 
 use crate::tests::service_calls::is_process;
-use crate::tests::trials::{Told, Trial, try_out};
+use crate::tests::trials::{Trial, try_out};
 use ert_defs::{Kind, Mail, Mode, NoMemory, Reading, Settings, Start, When};
 use ert_effects::{StartErr, Taken};
 use ert_locks::DeskName;
@@ -66,12 +66,11 @@ fn start_and_cancel<L: DeskName, R: Wait>(
     Ok(session.cancel_timer(timer))
 }
 
-/// The first caller starts a timer of scheduler 0 for process 0, and cancels it.
+/// A caller starts a timer of scheduler 0 for process 0, and cancels it.
 pub(crate) fn first_timer<L: DeskName, R: Wait + Abort>(
-    rt: &R,
-    callers: &mut [CallerSession<L, R>],
+    session: &mut CallerSession<L, R>,
 ) -> Option<u64> {
-    let session = callers.first_mut().expect(rt, "a caller");
+    let rt = session.rt;
     let start = Start {
         when: When::After(50),
         dest: 0,
@@ -85,8 +84,8 @@ pub(crate) fn first_timer<L: DeskName, R: Wait + Abort>(
 
 #[test]
 fn a_seat_starts_and_cancels(rt: HostRuntime) -> Result<(), NoMemory> {
-    let (_, told) = try_out(&rt, rt.alloc(), &SETTINGS, &Trial::FirstTimer)?;
-    assert!(rt; matches!(told, Told::Left(Some(50))));
+    let (_, left) = try_out(&rt, rt.alloc(), &SETTINGS, &Trial::FirstTimer)?;
+    assert!(rt; left == Some(50));
     Ok(())
 }
 

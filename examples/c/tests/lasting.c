@@ -324,7 +324,46 @@ static void rest(void) {
     IS(ert_seat_close(&seat), ERT_OK);
 }
 
+/* A start for process 0, and which slot it takes. */
+static ert_timer taken(int64_t wait, uint32_t slot, uint64_t generation) {
+    ert_start s = {.when = wait};
+    ert_timer timer;
+    IS(ert_world_start(&world, 0, &s, &timer), ERT_OK);
+    IS(timer.slot, slot);
+    IS(timer.generation, generation);
+    return timer;
+}
+
+/*
+ * A slot that had a long wait is taken by the next long one, and by a short one only if no other is free. The slot of an
+ * expired timer is taken until its message is delivered, and then by the next start.
+ */
+static void which(void) {
+    ert_settings settings = {.size = sizeof settings, .schedulers = 1, .processes = 1, .slots = 8, .callers = 2};
+    ert_advanced advanced;
+    ert_delivered delivered;
+    uint64_t left;
+    now = 0;
+    IS(ert_world_open(&world, &settings), ERT_OK);
+    IS(ert_seat_open(&seat, &world), ERT_OK);
+    ert_timer timer = taken(7200000, 1, 1);
+    IS(ert_world_cancel(&world, &timer, &left), ERT_OK);
+    IS(left, 7200000);
+    taken(1, 0, 1);
+    taken(7200000, 1, 2);
+    tick(1);
+    IS(ert_world_advance(&world, 0, &advanced), ERT_OK);
+    IS(advanced.expired, 1);
+    taken(1, 2, 1);
+    IS(ert_world_deliver(&world, 0, &delivered), ERT_OK);
+    IS(delivered.put, 1);
+    taken(1, 0, 2);
+    IS(ert_world_close(&world), ERT_OK);
+    IS(ert_seat_close(&seat), ERT_OK);
+}
+
 int main(void) {
+    which();
     rest();
     live(1, 1000000);
     live(2, 1500000);

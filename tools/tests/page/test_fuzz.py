@@ -13,7 +13,7 @@ from types import ModuleType
 
 from tests.served import TOP, Playground
 
-COUNT = 1000
+COUNT = 250
 SEED = 1
 
 

@@ -1,5 +1,6 @@
+//! The clocks of the machine. A clock in memory is what `ert_text_tests` runs the program over.
 use ert_defs::Reading;
-use ert_io::{Failed, HostClock, MemClock, OsClock};
+use ert_io::{Failed, HostClock, OsClock};
 use std::io;
 use std::process::Abort;
 use std::time::{Clock, Duration};
@@ -44,14 +45,6 @@ impl Clock for Still {
     }
 }
 
-/// Reads a clock once for each of these answers.
-fn reads<C: OsClock>(rt: &impl Abort, clock: &mut C, wanted: &[Result<Reading, Failed>]) {
-    for (step, want) in wanted.iter().enumerate() {
-        let got = clock.read();
-        assert!(rt; got == *want, "reading {step}: {got:?}, not {want:?}");
-    }
-}
-
 #[test]
 fn monotonic_time_counts_from_the_making(rt: HostRuntime) {
     let last = Reading {
@@ -67,19 +60,7 @@ fn monotonic_time_counts_from_the_making(rt: HostRuntime) {
             monotonic,
             since_1970,
         };
-        reads(&rt, &mut HostClock::new(&still), &[want]);
+        let got = HostClock::new(&still).read();
+        assert!(rt; got == want, "{got:?}, not {want:?}");
     }
-}
-
-#[test]
-fn readings_from_memory(rt: HostRuntime) {
-    let first = Reading { mono: 5, sys: -7 };
-    let second = Reading { mono: 3, sys: 9 };
-    let readings = [first, second].to_vec(rt.alloc());
-    let fails = [2].to_vec(rt.alloc());
-    let readings = readings.expect(&rt, "there is memory");
-    let fails = fails.expect(&rt, "there is memory");
-    let mut clock = MemClock::new(readings, fails);
-    let want = [Ok(first), Err(Failed), Ok(second), Err(Failed)];
-    reads(&rt, &mut clock, &want);
 }

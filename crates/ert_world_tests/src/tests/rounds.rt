@@ -2,10 +2,10 @@
 //! `examples/c/tests/lasting.c`.
 
 use crate::tests::compare::same;
-use crate::tests::service_calls::{start, turn_all};
+use crate::tests::service_calls::start;
 use crate::tests::settings::SMALL;
-use crate::tests::trials::{Told, Trial, try_out};
-use crate::tests::workers::NO_TURN;
+use crate::tests::trials::{Trial, try_out};
+use crate::tests::world_calls::{is_alone, is_scheduler};
 use ert_defs::{Kind, NoMemory, Reading, Settings, Start, TimerRef, When};
 use ert_locks::DeskName;
 use ert_service::CallerSession;
@@ -55,11 +55,10 @@ fn use_session<L: DeskName, R: Wait + Abort>(
 /// A caller uses every slot as often as a round has uses, until all rest. When they have rested, it is told the time,
 /// and two callers use them at once.
 pub(crate) fn use_service<L: DeskName + Send + Sync, R: Threads + Wait + Abort + Sync>(
-    rt: &R,
-    callers: &mut [CallerSession<L, R>],
+    first: &mut CallerSession<L, R>,
+    second: &mut CallerSession<L, R>,
 ) -> u64 {
-    let (first, others) = callers.split_first_mut().expect(rt, "two callers");
-    let second = others.first_mut().expect(rt, "two callers");
+    let rt = first.rt;
     let (whole, _) = use_session(first, 1_048_573);
     same(rt, 0, &whole, &1_048_572);
     let reading = Reading {
@@ -87,11 +86,11 @@ fn is_later(rt: &impl Abort, first: Option<TimerRef>) {
 /// Two threads, whose starts find slots of a later round, and whose cancels find their timers.
 #[test]
 fn a_service_lasts(rt: HostRuntime) -> Result<(), NoMemory> {
-    let (mut world, told) = try_out(&rt, rt.alloc(), &FOUR_SLOTS, &Trial::Rounds)?;
-    let mut turned = NO_TURN;
-    turn_all(&rt, &mut world, &mut turned)?;
+    let (mut world, started) = try_out(&rt, rt.alloc(), &FOUR_SLOTS, &Trial::Rounds)?;
+    is_scheduler(&rt, &world, 0);
+    let turned = world.turn(0)?;
     same(&rt, 0, &turned.expired, &0);
-    let cancelled = world.counts().cancelled;
-    assert!(rt; matches!(told, Told::Started(started) if started == cancelled));
+    is_alone(&rt, &world);
+    same(&rt, 1, &Some(world.counts().cancelled), &started);
     Ok(())
 }

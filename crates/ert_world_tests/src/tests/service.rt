@@ -1,10 +1,10 @@
 //! Each call of a service once, on one thread.
 
 use crate::tests::compare::same;
-use crate::tests::service_calls::{ask, is_process, start, turn_all};
+use crate::tests::service_calls::{ask, is_process, start};
 use crate::tests::settings::SMALL;
 use crate::tests::trials::{Trial, try_out};
-use crate::tests::workers::NO_TURN;
+use crate::tests::world_calls::is_alone;
 use ert_clock::Moved;
 use ert_defs::{
     Kind, Mail, Mode, NoMemory, OffsetState, Reading, RequestKind, Settings, Start, TimerRef, When,
@@ -150,12 +150,9 @@ const CALLS: [Call; 19] = [
 
 /// Makes each call by the one caller and the one scheduler.
 pub(crate) fn each_call<L: DeskName, R: Wait + Abort>(
-    rt: &R,
-    scheds: &mut [SchedSession<L, R>],
-    callers: &mut [CallerSession<L, R>],
+    sched: &mut SchedSession<L, R>,
+    caller: &mut CallerSession<L, R>,
 ) {
-    let sched = scheds.first_mut().expect(rt, "a scheduler");
-    let caller = callers.first_mut().expect(rt, "a caller");
     for (at, call) in CALLS.iter().enumerate() {
         call_one(caller, sched, at, call);
     }
@@ -163,10 +160,9 @@ pub(crate) fn each_call<L: DeskName, R: Wait + Abort>(
 
 #[test]
 fn each_call_of_a_service(rt: HostRuntime) -> Result<(), NoMemory> {
-    let (mut world, _) = try_out(&rt, rt.alloc(), &SETTINGS, &Trial::EachCall)?;
+    let (world, _) = try_out(&rt, rt.alloc(), &SETTINGS, &Trial::EachCall)?;
     same(&rt, 0, &world.published(), &5_000_000);
-    let mut turned = NO_TURN;
-    turn_all(&rt, &mut world, &mut turned)?;
+    is_alone(&rt, &world);
     let counts = Counts {
         armed: 0,
         expired: 0,

@@ -1,13 +1,11 @@
 //! Calls of a service, where what a caller has to know is looked up first.
-ghost use Rattle.std.specs.Prelude.{◌≡◌, ◌<◌, OnOk};
+ghost use Rattle.std.specs.Prelude.{◌<◌};
 ghost use Rattle.ert_service.specs.Joining.{AreNumbered};
 
-use crate::tests::workers::add;
 use ert_defs::{NoMemory, Request, RequestKind, Start, TimerRef};
-use ert_effects::{StartErr, Turned};
+use ert_effects::StartErr;
 use ert_locks::{CallerSeat, DeskName, SchedSeat};
 use ert_service::{CallerSession, Service};
-use ert_world::World;
 use std::process::Abort;
 use std::sync::Wait;
 
@@ -77,16 +75,4 @@ pub(crate) fn are_scheds<L: DeskName>(
     for (at, seat) in seats.iter().enumerate() {
         assert!(rt; seat.part.wheel as usize == at);
     }
-}
-
-/// A turn of every scheduler, added to what their turns did before.
-pub(crate) fn turn_all(rt: &impl Abort, world: &mut World, all: &mut Turned) -> Result<(), NoMemory>
-    ensures { OnOk result (world.new.next ≡ 1) }
-{
-    for sched in 0..world.settings().schedulers {
-        let turned = world.turn(sched)?;
-        add(all, &turned);
-    }
-    assert!(rt; world.seats() == 0);
-    Ok(())
 }

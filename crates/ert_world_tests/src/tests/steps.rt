@@ -1,6 +1,4 @@
 //! Steps of a test: calls of a world of one scheduler, each with the answer that is wanted.
-ghost use Rattle.std.specs.Prelude.{◌≡◌};
-
 use crate::tests::compare::same;
 use crate::tests::world_calls::{is_process, is_scheduler};
 use ert_clock::{ClockErr, Moved};
@@ -9,52 +7,35 @@ use ert_effects::StartErr;
 use ert_world::World;
 use std::process::Abort;
 
-/// One scheduler of one slot, and two processes, by OS system time alone.
+/// One scheduler of two slots, and two processes, by OS system time alone.
 pub(crate) const SETTINGS: Settings = Settings {
     mode: Mode::Single,
     correction: false,
     start: 0,
     schedulers: 1,
     processes: 2,
-    slots: 1,
+    slots: 2,
     callers: 1,
     first: Reading { mono: 0, sys: 0 },
-};
-
-pub(crate) const EIGHT_SLOTS: Settings = Settings {
-    slots: 8,
-    ..SETTINGS
 };
 
 /// A call, and last what it has to answer.
 pub(crate) enum Step {
     Tick(Reading, Result<Moved, ClockErr>),
     Finalize(Reading, Result<(OffsetState, Moved), ClockErr>),
-    Monotonic(i64),
-    Offset(i64, OffsetState),
     /// When, for which process, and with which message.
     Start(When, u32, u64, Result<TimerRef, StartErr>),
     Read(TimerRef, Option<u64>),
     Cancel(TimerRef, Option<u64>),
-    IsAlive(u32, bool),
     MarkExit(u32, bool),
     Exit(u32, bool),
     /// To which millisecond, and how many timers expired.
     Advance(u64, u32),
-    /// How many messages were put, and how many thrown away.
-    Deliver(u32, u32),
     /// A cancel of which the wheel is told nothing, as by a thread that doesn't hold it.
     CancelAlone(TimerRef, Option<u64>),
     /// How many timers of the wheel were armed, how many expired, how many were cancelled by an exit, and how many
     /// it holds.
     Counts([u64; 4]),
-}
-
-/// A world gave out no seat.
-pub(crate) fn is_alone(rt: &impl Abort, world: &World)
-    ensures { world.now.next ≡ 1 }
-{
-    assert!(rt; world.seats() == 0);
 }
 
 /// Makes one step, of which a message tells the number.
@@ -63,8 +44,6 @@ pub(crate) fn make(rt: &impl Abort, world: &mut World, at: usize, one: &Step) {
         Step::CancelAlone(..) | Step::Counts(_) => panic!(rt; "step {at} takes a world apart"),
         Step::Tick(reading, want) => same(rt, at, &world.tick(reading, false), &want),
         Step::Finalize(reading, want) => same(rt, at, &world.finalize(reading), &want),
-        Step::Monotonic(want) => same(rt, at, &world.monotonic_time(), &want),
-        Step::Offset(offset, state) => same(rt, at, &world.time_offset(), &(offset, state)),
         Step::Start(when, dest, msg, want) => {
             is_scheduler(rt, world, 0);
             is_process(rt, world, dest);
@@ -78,10 +57,6 @@ pub(crate) fn make(rt: &impl Abort, world: &mut World, at: usize, one: &Step) {
         }
         Step::Read(timer, want) => same(rt, at, &world.read_timer(timer), &want),
         Step::Cancel(timer, want) => same(rt, at, &world.cancel_timer(timer), &want),
-        Step::IsAlive(process, want) => {
-            is_process(rt, world, process);
-            same(rt, at, &world.is_alive(process), &want);
-        }
         Step::MarkExit(process, want) => {
             is_process(rt, world, process);
             same(rt, at, &world.mark_exit(process), &want);
@@ -93,10 +68,6 @@ pub(crate) fn make(rt: &impl Abort, world: &mut World, at: usize, one: &Step) {
         Step::Advance(to, expired) => {
             is_scheduler(rt, world, 0);
             same(rt, at, &world.advance(0), &Ok((to, expired)));
-        }
-        Step::Deliver(put, dropped) => {
-            is_scheduler(rt, world, 0);
-            same(rt, at, &world.deliver(0), &Ok((put, dropped)));
         }
     }
 }

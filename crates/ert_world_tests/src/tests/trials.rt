@@ -5,15 +5,12 @@ ghost use Rattle.ert_world.specs.Parts.{parts_of};
 ghost use Rattle.ert_world.specs.Worlds.{AreFit};
 
 use crate::examples::first_timer;
-use crate::tests::crossing::cross;
 use crate::tests::rounds::use_service;
 use crate::tests::service::each_call;
 use crate::tests::service_calls::{are_callers, are_scheds};
-use crate::tests::workers::Answers;
 use ert_defs::{NoMemory, Settings};
-use ert_effects::Turned;
-use ert_locks::DeskName;
-use ert_service::{CallerSession, Opened, SchedSession, Service, Session};
+use ert_locks::{CallerSeat, DeskName, SchedSeat};
+use ert_service::{Opened, Service, Session};
 use ert_world::{Parts, World};
 use std::alloc::{AllocError, Global};
 use std::marker::Brand;
@@ -29,29 +26,16 @@ pub(crate) enum Trial {
     EachCall,
     /// Uses each slot more often than a round has uses.
     Rounds,
-    /// Lets all callers and schedulers work at once.
-    Crossing,
 }
 
-/// What it was told by the way.
-#[derive(Drop)]
-pub(crate) enum Told {
-    Nothing,
-    /// What was left of the timer.
-    Left(Option<u64>),
-    /// How many timers were started.
-    Started(u64),
-    /// What each caller was answered, and what the turns of each scheduler did.
-    Crossed(Vec<Answers>, Vec<Turned>),
-}
-
-/// Opens a service with these settings, does that, and closes it.
+/// Opens a service with these settings, does that, and closes it. The number is what was left of the timer, or how many were
+/// started.
 pub(crate) fn try_out<R: Threads + Wait + Abort + Sync>(
     rt: &R,
     alloc: Global,
     settings: &Settings,
     trial: &Trial,
-) -> Result<(World, Told), NoMemory> {
+) -> Result<(World, Option<u64>), NoMemory> {
     assert!(rt; settings.check().is_ok());
     let parts = World::open(alloc, settings)?.into_parts();
     try_on::<Brand, R>(rt, alloc, parts, trial)
@@ -62,69 +46,49 @@ fn try_on<L: DeskName + Send + Sync, R: Threads + Wait + Abort + Sync>(
     alloc: Global,
     parts: Parts,
     trial: &Trial,
-) -> Result<(World, Told), NoMemory>
+) -> Result<(World, Option<u64>), NoMemory>
     requires desk { IsDesk L.table L.settings (arc_value parts.desk) }
     requires fit { AreFit (arc_value parts.desk) parts.pass 1 (parts_of parts.keeper parts.wheels.items parts.inboxes.items parts.mails.items parts.scheds.items) }
 {
     let Opened {
         rest,
         service,
-        scheds,
-        callers,
+        mut scheds,
+        mut callers,
     } = Service::<L>::open(alloc, parts)?;
-    let mut scheds = sessions_of(rt, alloc, &service, scheds)?;
-    let mut callers = sessions_of(rt, alloc, &service, callers)?;
-    let told = do_trial(rt, alloc, &mut scheds, &mut callers, trial)?;
-    let scheds = seats_of(alloc, scheds)?;
-    let callers = seats_of(alloc, callers)?;
+    let told = do_trial(rt, &service, &mut scheds, &mut callers, trial)?;
     are_scheds(rt, &service, &scheds);
     are_callers(rt, &service, &callers);
     Ok((service.close(rest, scheds, callers), told))
 }
 
-/// A session for each seat.
-fn sessions_of<'a, L: DeskName, R: Wait, S: Drop>(
-    rt: &'a R,
-    alloc: Global,
-    service: &'a Service<L>,
-    seats: Vec<S>,
-) -> Result<Vec<Session<'a, L, R, S>>, AllocError> {
-    let mut sessions = Vec::new(alloc);
-    for seat in seats {
-        sessions.push(Session { service, rt, seat })?;
-    }
-    Ok(sessions)
-}
-
-/// The seats of the sessions.
-fn seats_of<L: DeskName, R: Wait, S: Drop>(
-    alloc: Global,
-    sessions: Vec<Session<L, R, S>>,
-) -> Result<Vec<S>, AllocError> {
-    let mut seats = Vec::new(alloc);
-    for session in sessions {
-        seats.push(session.seat)?;
-    }
-    Ok(seats)
-}
-
+/// Does it by the last caller, with the one before it or the last scheduler where it takes two. The seats come back.
 fn do_trial<L: DeskName + Send + Sync, R: Threads + Wait + Abort + Sync>(
     rt: &R,
-    alloc: Global,
-    scheds: &mut [SchedSession<L, R>],
-    callers: &mut [CallerSession<L, R>],
+    service: &Service<L>,
+    scheds: &mut Vec<SchedSeat<L>>,
+    callers: &mut Vec<CallerSeat<L>>,
     trial: &Trial,
-) -> Result<Told, NoMemory> {
-    match *trial {
-        Trial::FirstTimer => Ok(Told::Left(first_timer(rt, callers))),
+) -> Result<Option<u64>, AllocError> {
+    let seat = callers.pop().expect(rt, "a caller");
+    let mut caller = Session { service, rt, seat };
+    let told = match *trial {
+        Trial::FirstTimer => first_timer(&mut caller),
         Trial::EachCall => {
-            each_call(rt, scheds, callers);
-            Ok(Told::Nothing)
+            let seat = scheds.pop().expect(rt, "a scheduler");
+            let mut sched = Session { service, rt, seat };
+            each_call(&mut sched, &mut caller);
+            scheds.push(sched.seat)?;
+            None
         }
-        Trial::Rounds => Ok(Told::Started(use_service(rt, callers))),
-        Trial::Crossing => {
-            let (answers, turned) = cross(rt, alloc, scheds, callers)?;
-            Ok(Told::Crossed(answers, turned))
+        Trial::Rounds => {
+            let seat = callers.pop().expect(rt, "two callers");
+            let mut first = Session { service, rt, seat };
+            let started = use_service(&mut first, &mut caller);
+            callers.push(first.seat)?;
+            Some(started)
         }
-    }
+    };
+    callers.push(caller.seat)?;
+    Ok(told)
 }

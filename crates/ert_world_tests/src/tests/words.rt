@@ -1,10 +1,8 @@
-//! Words that were computed by hand from the table of fields, and each public call once.
+//! Words that were computed by hand from the table of fields. In which order slots are taken is shown by
+//! `examples/c/tests/lasting.c`.
 
 use ert_defs::Status;
-use ert_words::{
-    FreeSlots, Turns, offset_of, offset_word, time_of, time_word, timer_of, timer_word,
-};
-use std::test::Fail;
+use ert_words::{offset_of, offset_word, time_of, time_word, timer_of, timer_word};
 
 /// The last time, counted from the start.
 const LAST: i64 = 8_796_093_022_207_000_000;
@@ -74,36 +72,4 @@ fn timers_are_packed(rt: HostRuntime) {
         );
     }
     assert!(rt; timer_of(0).is_none());
-}
-
-/// A slot comes back from the stack on which it was put, and then the least ones that were never taken.
-#[test]
-fn free_slots_have_two_stacks(rt: HostRuntime) -> Result<(), Fail> {
-    let mut free = FreeSlots::new(rt.alloc(), 3)?;
-    let slot = free.pick().ok_or("none held")?;
-    free.put_long(slot);
-    let long = free.pick_long().ok_or("none held")?;
-    free.put(long);
-    let short = free.pick();
-    let others = (free.pick(), free.pick(), free.pick());
-    assert!(rt; long == slot && short == Some(slot), "{long} {short:?}");
-    assert!(rt;
-        slot == 0 && matches!(others, (Some(1), Some(2), None)),
-        "{slot} {others:?}"
-    );
-    Ok(())
-}
-
-/// One that is put in comes after those that wait already.
-#[test]
-fn turns_come_in_order(rt: HostRuntime) -> Result<(), Fail> {
-    let mut turns = Turns::new(rt.alloc(), 2)?;
-    let first = turns.pick_first().ok_or("none waits")?;
-    turns.put(first);
-    let others = (turns.pick_first(), turns.pick_first(), turns.pick_first());
-    assert!(rt;
-        first == 0 && matches!(others, (Some(1), Some(0), None)),
-        "{first} {others:?}"
-    );
-    Ok(())
 }

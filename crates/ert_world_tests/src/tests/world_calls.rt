@@ -1,5 +1,5 @@
 //! What a caller has to know of a world, looked up.
-ghost use Rattle.std.specs.Prelude.{◌<◌};
+ghost use Rattle.std.specs.Prelude.{◌≡◌, ◌<◌};
 
 use ert_world::World;
 use std::process::Abort;
@@ -14,4 +14,11 @@ pub(crate) fn is_scheduler(rt: &impl Abort, world: &World, sched: u32)
     ensures { sched < world.now.settings.schedulers }
 {
     assert!(rt; sched < world.settings().schedulers);
+}
+
+/// A world gave out no seat.
+pub(crate) fn is_alone(rt: &impl Abort, world: &World)
+    ensures { world.now.next ≡ 1 }
+{
+    assert!(rt; world.seats() == 0);
 }

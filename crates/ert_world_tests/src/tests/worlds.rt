@@ -1,8 +1,9 @@
 //! Worlds on which the steps of a table are made.
 use crate::tests::compare::same;
-use crate::tests::steps::{Step, is_alone, make};
+use crate::tests::steps::{SETTINGS, Step, make};
+use crate::tests::world_calls::is_alone;
 use ert_calls::cancel_timer;
-use ert_defs::{Actor, NoMemory, Settings, TimerRef};
+use ert_defs::{Actor, NoMemory, TimerRef};
 use ert_table::Words;
 use ert_timers::Tally;
 use ert_world::World;
@@ -10,14 +11,8 @@ use std::alloc::Global;
 use std::process::Abort;
 use std::sync::Arc;
 
-/// A world that was just opened.
-pub(crate) fn open(rt: &impl Abort, alloc: Global, settings: &Settings) -> Result<World, NoMemory> {
-    assert!(rt; settings.check().is_ok());
-    World::open(alloc, settings)
-}
-
 /// Ends a world, and gives the words of its desk.
-pub(crate) fn close(rt: &impl Abort, alloc: Global, world: World) -> Result<Words, NoMemory> {
+fn close(rt: &impl Abort, alloc: Global, world: World) -> Result<Words, NoMemory> {
     is_alone(rt, &world);
     let (desk, pass) = world.into_desk();
     let Ok(desk) = Arc::try_unwrap(desk) else {
@@ -27,13 +22,10 @@ pub(crate) fn close(rt: &impl Abort, alloc: Global, world: World) -> Result<Word
 }
 
 /// Opens a world, makes each step, and closes it. The words of its desk are left.
-pub(crate) fn make_all(
-    rt: &impl Abort,
-    alloc: Global,
-    settings: &Settings,
-    steps: &[Step],
-) -> Result<Words, NoMemory> {
-    close(rt, alloc, run(rt, open(rt, alloc, settings)?, steps))
+pub(crate) fn make_all(rt: &impl Abort, alloc: Global, steps: &[Step]) -> Result<Words, NoMemory> {
+    assert!(rt; SETTINGS.check().is_ok());
+    let world = World::open(alloc, &SETTINGS)?;
+    close(rt, alloc, run(rt, world, steps))
 }
 
 /// A desk was left with the words of this time and offset, and of each timer and process.
@@ -50,7 +42,7 @@ pub(crate) fn are_left(
 }
 
 /// Makes each step.
-pub(crate) fn run(rt: &impl Abort, world: World, steps: &[Step]) -> World {
+fn run(rt: &impl Abort, world: World, steps: &[Step]) -> World {
     let mut now = world;
     for (at, one) in steps.iter().enumerate() {
         now = next(rt, now, at, one);
