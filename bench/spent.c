@@ -5,8 +5,9 @@
  *     spent LIBRARY TIMERS         LIBRARY is ertime or C
  *
  * Each phase is a function of its own, which callgrind is told to count. A call of plain C has the border of the
- * library's, and is inlined whole but for that.
+ * library's (CALLED of floor.c).
  */
+#define CALLED
 #define main floor_main
 #include "floor.c"
 #undef main
@@ -15,7 +16,6 @@
 #include <string.h>
 
 #define APART __attribute__((noinline))
-#define WHOLE __attribute__((noinline, flatten))
 
 static ert_world world;
 static ert_timer *names_at;
@@ -40,36 +40,6 @@ static void open_world(uint32_t count) {
     must(ert_world_open(&world, &settings));
 }
 
-WHOLE void c_start(uint32_t wheel, uint64_t wait, Timer *timer) {
-    *timer = start(wheel, wait);
-}
-
-WHOLE void c_cancel(const Timer *timer, uint64_t *left) {
-    *left = cancel(*timer);
-}
-
-WHOLE void c_tick(uint64_t now) {
-    tick(now);
-}
-
-WHOLE uint32_t c_advance(uint32_t wheel) {
-    return advance(wheel);
-}
-
-WHOLE void c_deliver(uint32_t wheel) {
-    deliver(wheel);
-}
-
-WHOLE uint32_t c_take_all(void) {
-    return take_all();
-}
-
-static uint32_t next_wheel(void) {
-    uint32_t wheel = turn;
-    turn = wheel + 1 < wheel_count ? wheel + 1 : 0;
-    return wheel;
-}
-
 static void ertime_start_all(uint32_t count, uint32_t later) {
     for (uint32_t i = 0; i < count; i++) {
         ert_start how = {.when = waits_at[i] + later};
@@ -77,9 +47,9 @@ static void ertime_start_all(uint32_t count, uint32_t later) {
     }
 }
 
-static void c_start_all(uint32_t count, uint32_t later) {
+static void plain_start_all(uint32_t count, uint32_t later) {
     for (uint32_t i = 0; i < count; i++) {
-        c_start(next_wheel(), waits_at[i] + later, &timers_at[i]);
+        start_in_turn(waits_at[i] + later, &timers_at[i]);
     }
 }
 
@@ -130,30 +100,29 @@ APART void ertime_idle(uint32_t count) {
 }
 
 APART void plain_start(uint32_t count) {
-    c_start_all(count, 0);
+    plain_start_all(count, 0);
     __asm__ volatile("");
 }
 
 APART void plain_start_again(uint32_t count) {
-    c_start_all(count, 0);
+    plain_start_all(count, 0);
     __asm__ volatile("" ::: "memory");
 }
 
 APART void plain_cancel(uint32_t count) {
-    uint64_t left;
     for (uint32_t i = 0; i < count; i++) {
-        c_cancel(&timers_at[i], &left);
+        must_cancel(&timers_at[i]);
     }
 }
 
 APART void plain_expire(uint32_t count) {
     uint32_t taken = 0;
     for (uint64_t now = 1; now <= SPREAD; now++) {
-        c_tick(now * MILLISECOND);
+        tick(now * MILLISECOND);
         for (uint32_t wheel = 0; wheel < wheel_count; wheel++) {
-            if (c_advance(wheel) > 0) {
-                c_deliver(wheel);
-                taken += c_take_all();
+            if (advance(wheel) > 0) {
+                deliver(wheel);
+                taken += take_all();
             }
         }
     }
@@ -162,8 +131,8 @@ APART void plain_expire(uint32_t count) {
 
 APART void plain_idle(uint32_t count) {
     for (uint32_t i = 0; i < count; i++) {
-        c_tick(i * MICROSECOND);
-        expect(c_advance(next_wheel()) == 0);
+        tick(i * MICROSECOND);
+        expect(advance(next_wheel()) == 0);
     }
 }
 
@@ -205,11 +174,11 @@ static void run_plain(uint32_t count) {
     plain_start_again(count);
     close_rig();
     open_rig(count);
-    c_start_all(count, 0);
+    plain_start_all(count, 0);
     plain_expire(count);
     close_rig();
     open_rig(count);
-    c_start_all(count, TIMEOUT);
+    plain_start_all(count, TIMEOUT);
     plain_idle(count);
     close_rig();
 }
