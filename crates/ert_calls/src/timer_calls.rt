@@ -49,11 +49,18 @@ pub fn cancel_timer(desk: &Desk, pass: &mut Pass, by: Actor, timer: TimerRef) ->
     ensures call { IsMadeTellingLeft (settings_of desk.now) (view_of pass.old) by timer result (Cancels (settings_of desk.now) by timer result) (view_of pass.new) }
 {
     let now = look(desk, pass, by);
-    if !timer.is_in_range(desk.settings()) {
+    let settings = desk.settings();
+    // All that hangs on the time alone is reckoned before the exchange, behind which the time would be read again.
+    let up = rounded_up(settings, now);
+    // The word is on its way from memory while the generation is tested.
+    if timer.wheel < settings.schedulers && timer.slot < settings.slots {
+        desk.touch(timer.wheel, timer.slot);
+    }
+    if !timer.is_in_range(settings) {
         return None;
     }
     let deadline = pass.cancel(desk, by, timer)?;
-    Some(left(desk.settings(), deadline, now))
+    Some(deadline.saturating_sub(up))
 }
 
 /// The whole milliseconds from a time to a deadline; 0 where the deadline has passed.

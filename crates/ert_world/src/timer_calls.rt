@@ -3,7 +3,7 @@
 use crate::chains::exit;
 use crate::world::{CALLER, World};
 use ert_calls::{cancel_timer, is_alive, mark_exit, read_timer};
-use ert_defs::{Actor, Start, TimerRef};
+use ert_defs::{Actor, Start, TimerRef, USES_OF_ROUND};
 use ert_effects::Room;
 use ert_timers::StartErr;
 
@@ -42,6 +42,30 @@ impl World {
     /// reference names no timer that is armed. Its wheel holds no row of a timer that was cancelled so.
     #[inline(always)]
     pub fn cancel_timer(&mut self, timer: TimerRef) -> Option<u64>
+        ensures call { Goes self.old (By self.old (λ g. Cancels g (Caller 0) timer result)) self.new }
+        ensures forgotten { OnSome result (HasForgotten self.new timer) }
+    {
+        // Few timers are of a later round. Of all others the generation is the use of the round itself.
+        if timer.generation <= USES_OF_ROUND {
+            self.cancel_by_name(timer)
+        } else {
+            self.cancel_of_later_round(timer)
+        }
+    }
+
+    /// The same for a timer of a later round of its slot.
+    #[cold]
+    #[inline(never)]
+    fn cancel_of_later_round(&mut self, timer: TimerRef) -> Option<u64>
+        ensures call { Goes self.old (By self.old (λ g. Cancels g (Caller 0) timer result)) self.new }
+        ensures forgotten { OnSome result (HasForgotten self.new timer) }
+    {
+        self.cancel_by_name(timer)
+    }
+
+    /// The same for any timer.
+    #[inline(always)]
+    fn cancel_by_name(&mut self, timer: TimerRef) -> Option<u64>
         ensures call { Goes self.old (By self.old (λ g. Cancels g (Caller 0) timer result)) self.new }
         ensures forgotten { OnSome result (HasForgotten self.new timer) }
     {

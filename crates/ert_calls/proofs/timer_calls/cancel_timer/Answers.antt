@@ -1,8 +1,8 @@
-use Rattle.std.proofs.Common.{◌≡◌, ◌∙◌, ℕ, Some, None, option_map, sym, ap, rules, FitsSigned, w64, to_z, of_z, to_z-of_z}
-use Rattle.ert_defs.specs.Milliseconds.{left}
+use Rattle.std.proofs.Common.{◌≡◌, ◌∙◌, ℕ, Some, None, option_map, sym, ap, rules, ℤ, pos, ◌-ℤ◌, FitsSigned, w64, to_z, of_z, to_z-of_z}
+use Rattle.ert_defs.specs.Milliseconds.{left, up}
 use Rattle.ert_defs.specs.declared.settings.Settings.{Settings}
 use Rattle.ert_table.specs.Desks.{settings_of, view_of}
-use Rattle.ert_calls.proofs.Timings.{cancels_none, cancels_all}
+use Rattle.ert_calls.proofs.Timings.{cancels_none, cancels_all, natural_sub}
 use Rattle.ert_calls.proofs.timer_calls.cancel_timer.Goals as goal
 
 pub returns-then-not-is_in_range-clause-call : goal.returns-then-not-is_in_range-clause-call
@@ -23,11 +23,13 @@ returns-clause-call c =
     let g = settings_of c.args.desk.now in
     let deadline = c.in_ok-deadline.deadline in
     let fits : FitsSigned w64 c.look-now.result = search rules in
-    let told : c.left.result ≡ left g deadline c.look-now.result =
-    simp to_z-of_z at (c.left.ensures
-    ∙ ap (λ (s : Settings). left s deadline (to_z w64 (of_z w64 c.look-now.result))) c.settings-2.ensures) in
+    let rounded : pos c.rounded_up-up.result ≡ up g c.look-now.result =
+    simp to_z-of_z at (c.rounded_up-up.ensures
+    ∙ ap (λ (s : Settings). up s (to_z w64 (of_z w64 c.look-now.result))) c.settings-settings.ensures) in
+    let told : c.saturating_sub.result ≡ left g deadline c.look-now.result =
+    c.saturating_sub.ensures ∙ sym (natural_sub _ deadline c.rounded_up-up.result (ap (λ (x : ℤ). pos deadline -ℤ x) (sym rounded))) in
     let some : c.cancel.result ≡ Some deadline = search rules in
     cancels_all g (view_of c.args.pass.now) c.args.by c.args.timer c.look-now.result (view_of c.look-now.new.pass)
-    c.cancel.result (Some c.left.result) (view_of c.cancel.new.self)
+    c.cancel.result (Some c.saturating_sub.result) (view_of c.cancel.new.self)
     (ap (λ (n : ℕ). Some n) told ∙ sym (ap (option_map (λ (d : ℕ). left g d c.look-now.result)) some))
     c.requires.held (search rules) c.look-now.ensures.step c.cancel.ensures.steps

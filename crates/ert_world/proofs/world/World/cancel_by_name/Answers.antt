@@ -6,7 +6,7 @@ use Rattle.ert_timers.specs.Parts.{Part}
 use Rattle.ert_world.proofs.Calls.{has_at, parts_in}
 use Rattle.ert_world.proofs.Listed.{kept_by}
 use Rattle.ert_world.proofs.CancelCalls.{cancel_called, cancelled_none, cancelled_some, does_cancel_at, gone_set, settled_then, stands_then}
-use Rattle.ert_world.proofs.world.World.cancel_timer.Goals as goal
+use Rattle.ert_world.proofs.world.World.cancel_by_name.Goals as goal
 
 pub invariant_of-self : goal.invariant_of-self
 invariant_of-self c =
