@@ -25,6 +25,7 @@ pub record HasCounts (g : Settings) : Type 0 where
   pub slots_low : 1 ≤ g.slots
   pub slots_high : g.slots ≤ MOST_SLOTS
   pub slots_in_all : (g.schedulers * g.slots) ≤ MOST_SLOTS_IN_ALL
+  pub looks_low : 1 ≤ g.looks
   pub callers_low : 1 ≤ g.callers
   pub callers_high : g.callers ≤ MOST_CALLERS
 
@@ -50,6 +51,7 @@ any_settings = record {
   schedulers = 0;
   processes = 0;
   slots = 0;
+  looks = 0;
   callers = 0;
   first = record { mono = pos 0; sys = pos 0 };
 }

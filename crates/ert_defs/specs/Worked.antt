@@ -29,6 +29,7 @@ small mode = record {
   schedulers = 1;
   processes = 1;
   slots = 1;
+  looks = 1;
   callers = 1;
   first = record { mono = pos 0; sys = pos 0 };
 }

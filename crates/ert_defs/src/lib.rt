@@ -24,7 +24,7 @@ pub use memory::NoMemory;
 pub use monitors::{has_monitor, notify_monitors, remove_monitor};
 pub use settings::{
     MOST_CALLERS, MOST_CHAINS, MOST_PROCESSES, MOST_SCHEDULERS, MOST_SLOTS, MOST_SLOTS_IN_ALL,
-    Mode, OffsetState, Reading, Settings, SettingsFault,
+    Mode, OffsetState, Reading, SCENARIO_LOOKS, Settings, SettingsFault,
 };
 pub use timer::{
     FIRST_LATER_GENERATION, Kind, Start, Status, TimerRef, TimerRow, USES_OF_ROUND, When, use_of,

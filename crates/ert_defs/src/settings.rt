@@ -27,6 +27,10 @@ pub const MOST_SLOTS_IN_ALL: u64 = 67_108_864;
 /// The most callers (profile): one, and one more for each scheduler.
 pub const MOST_CALLERS: u32 = 1_025;
 
+/// How many slots a start of a scenario looks at that knows of none that is free (profile): more than a scenario has
+/// ops, so that a wheel is full where a start of a scenario is refused, and a scenario has one transcript.
+pub const SCENARIO_LOOKS: u32 = 131_072;
+
 /// The time warp modes (ERTS User's Guide, "Time Warp Modes").
 #[derive(Clone, Copy, Debug, PartialEq, Eq)]
 pub enum Mode {
@@ -96,6 +100,9 @@ pub struct Settings {
     pub processes: u32,
     /// Timer slots of each scheduler, 1 to `MOST_SLOTS`; at most `MOST_SLOTS_IN_ALL` of all schedulers.
     pub slots: u32,
+    /// How many slots of its wheel a start looks at that knows of none that is free, 1 or more; it looks at all where
+    /// there are fewer.
+    pub looks: u32,
     /// 1 to `MOST_CALLERS`.
     pub callers: u32,
     /// The reading that the clock opens with.
@@ -109,7 +116,7 @@ pub enum SettingsFault {
     Start,
     /// The first reading isn't valid.
     First,
-    /// A number of schedulers, processes, slots or callers is outside its limits.
+    /// A number of schedulers, processes, slots, looks or callers is outside its limits.
     Count,
 }
 
@@ -159,6 +166,7 @@ impl Settings {
             && 1 <= self.slots
             && self.slots <= MOST_SLOTS
             && slots <= MOST_SLOTS_IN_ALL
+            && 1 <= self.looks
             && 1 <= self.callers
             && self.callers <= MOST_CALLERS
     }

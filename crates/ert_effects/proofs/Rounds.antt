@@ -18,7 +18,7 @@ taken_many by w now s slot (suc n) es taken =
     ap length taken.2 ∙ ap suc later
 
 -- as many as the round has slots
-pub round_many : (by w now : ℕ) (s : State) {slots : ℕ} (round : Round slots) (es : List Entry) → IsRoundTaken by w now s round es
+pub round_many : (by w now : ℕ) (s : State) {slots looks : ℕ} (round : Round slots looks) (es : List Entry) → IsRoundTaken by w now s round es
     → length es ≡ round.ahead + round.behind
 round_many by w now s round es taken =
     omega (
@@ -59,7 +59,7 @@ first_of_two by w now s k (suc n) m slot found first second rest one other is =
     same_look by w now s k slot one.0 found heads one.3
 
 -- the first slot that was looked at was taken, or rests
-pub round_first : (by w now : ℕ) (s : State) {slots : ℕ} (round : Round slots) (slot : ℕ) (found : Option Status) (es rest : List Entry)
+pub round_first : (by w now : ℕ) (s : State) {slots looks : ℕ} (round : Round slots looks) (slot : ℕ) (found : Option Status) (es rest : List Entry)
     → IsRoundTaken by w now s round es → es ≡ probe_entry (Caller by) w slot found ∷ rest → (is_taken found ≡ true) ⊎ Rests s now w slot
 round_first by w now s round slot found es rest taken is =
     first_of_two by w now s round.from round.ahead round.behind slot found taken.first taken.second rest taken.onward taken.around

@@ -73,7 +73,7 @@ probes-append by wheel [] fs one other = other
 probes-append by wheel (e ∷ es) fs one other = (one.0, one.1, one.2, probes-append by wheel es fs one.3 other)
 
 -- and so were those of a round
-pub round_probes : (by wheel now : ℕ) (s : State) {slots : ℕ} (round : Round slots) (es : List Entry) → IsRoundTaken by wheel now s round es
+pub round_probes : (by wheel now : ℕ) (s : State) {slots looks : ℕ} (round : Round slots looks) (es : List Entry) → IsRoundTaken by wheel now s round es
     → AreProbes (Caller by) wheel es
 round_probes by wheel now s round es taken =
     subst (AreProbes (Caller by) wheel) (sym taken.entries)

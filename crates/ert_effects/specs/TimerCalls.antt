@@ -15,7 +15,6 @@ use Rattle.ert_defs.specs.declared.timer.Start.{Start}
 use Rattle.ert_defs.specs.declared.timer.Status.{Status}
 use Rattle.ert_defs.specs.declared.timer.Status.TheVariants.{Armed}
 use Rattle.ert_defs.specs.declared.timer.TimerRef.{TimerRef}
-use Rattle.ert_effects.specs.declared.answers.TheConstants.{MOST_LOOKS}
 use Rattle.ert_effects.specs.declared.answers.StartErr.{StartErr}
 use Rattle.ert_effects.specs.declared.answers.StartErr.TheVariants.{BadArg, Full, NoMemory}
 
@@ -96,22 +95,22 @@ AreTaken by wheel now s slot (suc n) es =
     × ((is_taken found ≡ true) ⊎ Rests s now wheel slot) × AreTaken by wheel now s (suc slot) n later
 
 -- the slots that a start looks at where it knows of none that is free: some from one on, and some from the first on, of
--- which each comes before that one. These are `MOST_LOOKS` slots, or all where there are fewer
-pub record Round (slots : ℕ) : Type 0 where
+-- which each comes before that one. These are as many slots as a start looks at, or all where there are fewer
+pub record Round (slots looks : ℕ) : Type 0 where
   pub from : ℕ
   pub ahead : ℕ
   pub behind : ℕ
   pub within : from + ahead ≤ slots
   pub apart : behind ≤ from
-  pub all : slots ≤ MOST_LOOKS → ahead + behind ≡ slots
-  pub many : MOST_LOOKS ≤ slots → ahead + behind ≡ MOST_LOOKS
+  pub all : slots ≤ looks → ahead + behind ≡ slots
+  pub many : looks ≤ slots → ahead + behind ≡ looks
 
 -- a slot is one of them
-abbrev pub IsInRound : {slots : ℕ} → Round slots → ℕ → Type 0
+abbrev pub IsInRound : {slots looks : ℕ} → Round slots looks → ℕ → Type 0
 IsInRound round k = ((round.from ≤ k) × (k < round.from + round.ahead)) ⊎ (k < round.behind)
 
 -- they were looked at, and each was taken or rests
-pub record IsRoundTaken (by wheel now : ℕ) (s : State) {slots : ℕ} (round : Round slots) (es : List Entry) : Type 0 where
+pub record IsRoundTaken (by wheel now : ℕ) (s : State) {slots looks : ℕ} (round : Round slots looks) (es : List Entry) : Type 0 where
   pub first : List Entry
   pub second : List Entry
   pub onward : AreTaken by wheel now s round.from round.ahead first
@@ -123,7 +122,7 @@ pub record IsWheelFull (g : Settings) (by wheel : ℕ) (start : Start) (s : Stat
   pub now : ℤ
   pub probes : List Entry
   pub accepted : deadline_of g start now ≢ None
-  pub are_taken : ((round : Round g.slots) × IsRoundTaken by wheel (natural (down g now)) s round probes)
+  pub are_taken : ((round : Round g.slots g.looks) × IsRoundTaken by wheel (natural (down g now)) s round probes)
       ⊎ ((length (s.rows wheel) ≡ 9007199254740992) × (probes ≡ []))
   pub entries : es ≡ look_entry (Caller by) now ∷ probes
 

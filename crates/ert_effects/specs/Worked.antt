@@ -73,6 +73,7 @@ two = record {
   schedulers = 2;
   processes = 2;
   slots = 1;
+  looks = 1;
   callers = 1;
   first = record { mono = pos 0; sys = pos 0 };
 }

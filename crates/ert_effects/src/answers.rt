@@ -2,18 +2,15 @@
 
 use ert_defs::{Mail, NoMemory};
 
-/// How many slots a start looks at, at most (profile).
-pub const MOST_LOOKS: u32 = 131_072;
-
 /// Why a timer wasn't started. No timer changed.
 #[derive(Clone, Copy, Debug, PartialEq, Eq)]
 pub enum StartErr {
     /// The time is negative, or the deadline is outside 0 to 8796093022207 milliseconds after the start time
     /// of the service (`erlang` module reference, `start_timer`). This is tested first.
     BadArg,
-    /// `MOST_LOOKS` slots of the wheel were looked at, or all where there are fewer, and each was taken or rests: it was
-    /// used 262,143 times in its round, and the deadline of one of its timers hasn't passed. Or the wheel has had 2^53
-    /// timers.
+    /// As many slots of the wheel as the settings' `looks` were looked at, or all where there are fewer, and each was
+    /// taken or rests: it was used 262,143 times in its round, and the deadline of one of its timers hasn't passed. Or
+    /// the wheel has had 2^53 timers.
     Full,
     NoMemory,
 }

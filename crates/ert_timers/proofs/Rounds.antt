@@ -122,7 +122,7 @@ full-same q r now k (x ∷ founds) slots same full = (
 )
 
 -- the slots of a round were looked at
-pub looks_around : (g : Settings) (v : View) (by now : ℕ) (p q r : Part) (round : Round (length p.slots)) (u w : View)
+pub looks_around : (g : Settings) (v : View) (by now : ℕ) (p q r : Part) (round : Round (length p.slots) g.looks) (u w : View)
     → ((k : ℕ) → sets.contains p.free k ≡ false) → LooksAtSome g v by now p q round.from (round.from + round.ahead) u
     → LooksAtSome g u by now q r 0 round.behind w → LooksAround g v by now p r w
 looks_around g v by now p q r round u w none first second =
@@ -165,7 +165,7 @@ pub are_probes : (by w k : ℕ) (founds : List (Option Status)) → AreProbes (C
 are_probes by w k [] = tt
 are_probes by w k (found ∷ founds) = (k, found, refl, are_probes by w (k + 1) founds)
 
-pub round_are_probes : (by now w : ℕ) (q : Part) {slots : ℕ} (round : Round slots) (probes : List Entry) → FindsRound by now w q round probes
+pub round_are_probes : (by now w : ℕ) (q : Part) {slots looks : ℕ} (round : Round slots looks) (probes : List Entry) → FindsRound by now w q round probes
     → AreProbes (Caller by) w probes
 round_are_probes by now w q round probes finds =
     subst (AreProbes (Caller by) w) (sym finds.probes_are)

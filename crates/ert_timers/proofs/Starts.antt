@@ -90,8 +90,8 @@ are_taken by w now s q k (suc n) (found ∷ founds) many none lasts aboves full 
     one (inr rests) = inr (rests_by s w k now (slot_at q.slots k) (lasts k (omega arith)) (aboves k (omega arith)) rests)
 
 -- a round of as many slots
-abbrev round_of : (n m : ℕ) → n ≡ m → Round n → Round m
-round_of n m same round = record {
+abbrev round_of : (n m looks : ℕ) → n ≡ m → Round n looks → Round m looks
+round_of n m looks same round = record {
   from = round.from;
   ahead = round.ahead;
   behind = round.behind;
@@ -109,7 +109,7 @@ is_full g v by p q start ahead a slot u x stands has none looks takes =
     let all = subst (λ s. TakesSlot g u by (now_in a) p q s x) none takes in
     let is = is_ahead g v by start ahead a u looks has in
     let s : State = state g v.front in
-    let round : Round g.slots = round_of (length p.slots) g.slots stands.holds.many all.finds.round in
+    let round : Round g.slots g.looks = round_of (length p.slots) g.slots g.looks stands.holds.many all.finds.round in
     let lasts : (j : ℕ) → j < g.slots → (slot_at q.slots j).generation ≡ s.last p.number j = λ j low.
     ap (λ ss. (slot_at ss j).generation) all.slots ∙ stands.holds.lasts j low in
     let aboves : (j : ℕ) → j < g.slots → (slot_at q.slots j).above ≡ s.above p.number j = λ j low.

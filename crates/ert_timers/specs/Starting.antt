@@ -113,7 +113,7 @@ pub record LooksAtSome (g : Settings) (v : View) (by now : ℕ) (p q : Part) (fr
   pub loses : LosesRows p q
 
 -- the slots of a round were found so
-pub record FindsRound (by now wheel : ℕ) (q : Part) {slots : ℕ} (round : Round slots) (probes : List Entry) : Type 0 where
+pub record FindsRound (by now wheel : ℕ) (q : Part) {slots looks : ℕ} (round : Round slots looks) (probes : List Entry) : Type 0 where
   pub ahead : List (Option Status)
   pub behind : List (Option Status)
   pub many_ahead : length ahead ≡ round.ahead
@@ -124,7 +124,7 @@ pub record FindsRound (by now wheel : ℕ) (q : Part) {slots : ℕ} (round : Rou
 
 -- the slots of a round were looked at, where none was held free
 pub record LooksAround (g : Settings) (v : View) (by now : ℕ) (p q : Part) (u : View) : Type 0 where
-  pub round : Round (length p.slots)
+  pub round : Round (length p.slots) g.looks
   pub probes : List Entry
   pub finds : FindsRound by now p.number q round probes
   pub call : TakesPlace g v probes u
@@ -138,15 +138,15 @@ pub record LooksAround (g : Settings) (v : View) (by now : ℕ) (p q : Part) (u 
   pub loses : LosesRows p q
 
 -- no slot is held free after looks at a round
-pub record FindsNone (by now : ℕ) (p q : Part) (probes : List Entry) : Type 0 where
-  pub round : Round (length p.slots)
+pub record FindsNone (looks by now : ℕ) (p q : Part) (probes : List Entry) : Type 0 where
+  pub round : Round (length p.slots) looks
   pub finds : FindsRound by now p.number q round probes
   pub none : (j : ℕ) → set.contains q.free j ≡ false
 
 -- a slot that can take a timer is found, or none is after looks at a round
-abbrev pub FindsSlot : ℕ → ℕ → Part → Part → Option ℕ → List Entry → Type 0
-FindsSlot by now p q (Some slot) probes = MayBecomeFree q slot
-FindsSlot by now p q None probes = FindsNone by now p q probes
+abbrev pub FindsSlot : ℕ → ℕ → ℕ → Part → Part → Option ℕ → List Entry → Type 0
+FindsSlot looks by now p q (Some slot) probes = MayBecomeFree q slot
+FindsSlot looks by now p q None probes = FindsNone looks by now p q probes
 
 -- slots were looked at, and one that can take a timer was found, or none
 pub record TakesSlot (g : Settings) (v : View) (by now : ℕ) (p q : Part) (slot : Option ℕ) (u : View) : Type 0 where
@@ -157,7 +157,7 @@ pub record TakesSlot (g : Settings) (v : View) (by now : ℕ) (p q : Part) (slot
   pub number : q.number ≡ p.number
   pub slots : q.slots ≡ p.slots
   pub arms : q.arms ≡ p.arms
-  pub finds : FindsSlot by now p q slot probes
+  pub finds : FindsSlot g.looks by now p q slot probes
   pub usable : IfSome slot (λ k. is_taken ((state g u.front).status (last_timer q.number q.slots k)) ≡ false)
   pub rested : IfSome slot (λ k. (turned (uses_at (state g u.front) q.number k)).since ≤ now)
   pub look : (state g u.front).looked (Caller by) ≡ (state g v.front).looked (Caller by)

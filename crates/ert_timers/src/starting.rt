@@ -6,7 +6,7 @@ ghost use Rattle.ert_timers.specs.Starting.{status_shown};
 use crate::looking::{Ahead, look_ahead};
 use crate::part::{Use, WheelPart};
 use ert_defs::{Actor, Start, Status, TimerRef};
-use ert_effects::{MOST_LOOKS, StartErr};
+use ert_effects::StartErr;
 use ert_table::{Desk, Pass, Settle, TimerCarry};
 
 /// How many timers a wheel can have.
@@ -30,8 +30,8 @@ impl WheelPart {
     /// Starts a timer for a caller (`erlang` module reference, `start_timer`), by the time that the call
     /// itself looks up.
     ///
-    /// Where no slot is known to be free, `MOST_LOOKS` slots are looked at, or all where there are fewer, from where the
-    /// last such look stopped, round and round. It is `Full` only where each of them is taken or rests, or where the
+    /// Where no slot is known to be free, as many as the settings' `looks` are looked at, or all where there are fewer,
+    /// from where the last such look stopped, round and round. It is `Full` only where each of them is taken or rests, or where the
     /// wheel has had 2^53 timers. Known to be free are the slots whose timer a caller cancelled that held the part, or
     /// was delivered or dropped, and whose round has uses left. So a look finds none but those whose timer somebody
     /// cancelled that didn't hold the part, and those whose rest has just ended: of these a start of a wheel with more
@@ -88,8 +88,8 @@ impl WheelPart {
         self.pick(ahead.up, ahead.deadline)
     }
 
-    /// Looks at `MOST_LOOKS` slots, or at all where there are fewer, where none is held free, and holds those free that
-    /// can take a timer at a time in milliseconds.
+    /// Looks at as many slots as the settings' `looks`, or at all where there are fewer, where none is held free, and
+    /// holds those free that can take a timer at a time in milliseconds.
     #[cold]
     #[inline(never)]
     fn look_around(&mut self, desk: &Desk, pass: &mut Pass, by: u32, now: u64)
@@ -102,7 +102,7 @@ impl WheelPart {
         ensures call { LooksAround (settings_of desk.now) (view_of pass.old) by now self.old self.new (view_of pass.new) }
     {
         let from = self.next_look();
-        let (ahead, behind) = round(self.slot_count(), from);
+        let (ahead, behind) = round(self.slot_count(), from, desk.settings().looks);
         self.look_at_some(desk, pass, by, now, from, from + ahead);
         self.look_at_some(desk, pass, by, now, 0, behind);
         self.set_next_look(if behind == 0 { from + ahead } else { behind });
@@ -258,24 +258,20 @@ impl WheelPart {
     }
 }
 
-/// How many slots a start looks at from one on, and how many then from the first on: `MOST_LOOKS` in all, or all.
-fn round(slots: u32, from: u32) -> (u32, u32)
+/// How many slots a start looks at from one on, and how many then from the first on: so many in all, or all slots.
+fn round(slots: u32, from: u32, looks: u32) -> (u32, u32)
     requires { from ≤ slots }
     ensures within { from + result.0 ≤ slots }
     ensures apart { result.1 ≤ from }
-    ensures all { slots ≤ MOST_LOOKS → result.0 + result.1 ≡ slots }
-    ensures many { MOST_LOOKS ≤ slots → result.0 + result.1 ≡ MOST_LOOKS }
+    ensures all { slots ≤ looks → result.0 + result.1 ≡ slots }
+    ensures many { looks ≤ slots → result.0 + result.1 ≡ looks }
 {
-    let looks = if slots <= MOST_LOOKS {
-        slots
-    } else {
-        MOST_LOOKS
-    };
+    let count = if slots <= looks { slots } else { looks };
     let left = slots - from;
-    if looks <= left {
-        (looks, 0)
+    if count <= left {
+        (count, 0)
     } else {
-        (left, looks - left)
+        (left, count - left)
     }
 }
 

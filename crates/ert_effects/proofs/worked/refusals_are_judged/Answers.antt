@@ -6,7 +6,7 @@ use Rattle.ert_defs.specs.declared.timer.Status.TheVariants.{Armed, Cancelled}
 use Rattle.ert_effects.proofs.worked.refusals_are_judged.Goals as goal
 
 -- the only slot
-abbrev only : Round 1
+abbrev only : Round 1 1
 only = record {
   from = 0;
   ahead = 1;
@@ -14,11 +14,11 @@ only = record {
   within = omega arith;
   apart = omega arith;
   all = λ few. refl;
-  many = λ many. absurd (omega (arith, many));
+  many = λ many. refl;
 }
 
 -- a round has a slot
-some : (round : Round 1) → round.ahead + round.behind ≡ 1
+some : (round : Round 1 1) → round.ahead + round.behind ≡ 1
 some round = round.all (omega arith)
 
 pub returns-clause-full : goal.returns-clause-full

@@ -18,7 +18,7 @@ look_at_some-requires-2-clause-past c =
 pub returns-clause-call : goal.returns-clause-call
 returns-clause-call c =
     let many : c.slot_count.result ≡ length c.args.self.now.slots = c.slot_count.ensures in
-    let here : Round (length c.args.self.now.slots) = record {
+    let here : Round (length c.args.self.now.slots) (settings_of c.args.desk.now).looks = record {
       from = c.next_look-from.result;
       ahead = c.round-ahead.result.0;
       behind = c.round-ahead.result.1;
