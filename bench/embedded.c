@@ -53,6 +53,7 @@ static void open_with(uint32_t slots, uint32_t processes, uint32_t mode) {
         .processes = processes,
         .slots = slots,
         .callers = 2,
+        .looks = 64,
     };
     reading = settings.first;
     must(ert_world_open(&world, &settings));

@@ -30,6 +30,7 @@ static void open_world(void) {
         .processes = 1,
         .slots = SLOTS,
         .callers = 1,
+        .looks = 64,
     };
     reading = settings.first;
     must(ert_world_open(&world, &settings));

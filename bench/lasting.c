@@ -29,7 +29,7 @@ static void must(int32_t status, int32_t wanted, uint64_t done) {
 
 int main(int count, char **words) {
     uint64_t timers = count > 1 ? strtoull(words[1], NULL, 10) : 10000000;
-    ert_settings settings = {.size = sizeof settings, .schedulers = 1, .processes = 1, .slots = 4, .callers = 1};
+    ert_settings settings = {.size = sizeof settings, .schedulers = 1, .processes = 1, .slots = 4, .callers = 1, .looks = 64};
     ert_world world = ERT_INIT;
     static ert_timer old[OLD_NAMES];
     uint64_t olds = 0, done = 0, left;

@@ -66,6 +66,7 @@ int main(int count, char **words) {
         .processes = numbers[1],
         .slots = numbers[2],
         .callers = numbers[3],
+        .looks = 64,
     };
     int32_t status = ert_world_open(&world, &settings);
     if (status != ERT_OK) {

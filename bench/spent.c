@@ -34,6 +34,7 @@ static void open_world(uint32_t count) {
         .processes = PROCESSES,
         .slots = SLOTS,
         .callers = 1,
+        .looks = 64,
     };
     wheel_count = settings.schedulers;
     turn = 0;

@@ -56,6 +56,7 @@ static void open_service(const struct measurement *what) {
         .processes = PROCESSES,
         .slots = slots_for(what->timers),
         .callers = 1,
+        .looks = 64,
     };
     int32_t status = ert_world_open(&world, &settings);
     if (status == ERT_BAD_COUNT) {

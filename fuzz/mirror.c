@@ -118,6 +118,20 @@ uint32_t mirror_room(const Mirror *mirror, uint32_t sched) {
     return mirror->settings.slots - taken;
 }
 
+bool mirror_may_miss(const Mirror *mirror, uint32_t sched) {
+    uint32_t unseen = 0;
+    for (uint32_t i = 0; i < mirror->started; i++) {
+        const Timer *timer = &mirror->timers[i];
+        bool last = timer->unseen && timer->name.wheel == sched;
+        for (uint32_t j = i + 1; j < mirror->started && last; j++) {
+            const ert_timer *later = &mirror->timers[j].name;
+            last = later->wheel != sched || later->slot != timer->name.slot;
+        }
+        unseen += last;
+    }
+    return mirror->settings.looks < mirror->settings.slots && mirror_room(mirror, sched) <= unseen;
+}
+
 int32_t mirror_start(const Mirror *mirror, uint32_t sched, const ert_start *start) {
     if (sched >= mirror->settings.schedulers || start->dest >= mirror->settings.processes) {
         return ERT_RANGE;
@@ -143,7 +157,7 @@ void mirror_started(Mirror *mirror, uint32_t sched, const ert_start *start, cons
             mirror_fail("a slot is taken twice", name->slot, i);
         }
     }
-    Timer timer = {*name, (uint64_t)deadline_of(mirror, start), start->msg, start->dest, start->bare != 0, false, ARMED};
+    Timer timer = {*name, (uint64_t)deadline_of(mirror, start), start->msg, start->dest, start->bare != 0, false, false, ARMED};
     timer.fate = mirror->processes[start->dest].exited ? GONE : ARMED;
     mirror->timers[mirror->started++] = timer;
 }
@@ -172,7 +186,7 @@ int32_t mirror_cancel(Mirror *mirror, const ert_timer *name, bool by_seat, uint6
     if (status == ERT_OK) {
         Timer *timer = armed(mirror, name);
         timer->fate = GONE;
-        timer->by_seat = by_seat;
+        timer->by_seat = timer->unseen = by_seat;
     }
     return status;
 }

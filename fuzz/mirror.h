@@ -23,6 +23,7 @@ typedef struct {
     uint32_t dest;
     bool bare;
     bool by_seat; /* a seat cancelled it, and no advance has passed it: the wheel may hold its row */
+    bool unseen;  /* a seat cancelled it: the wheel may not know that its slot is free */
     Fate fate;
 } Timer;
 
@@ -78,6 +79,9 @@ int32_t mirror_start(const Mirror *mirror, uint32_t sched, const ert_start *star
 void mirror_started(Mirror *mirror, uint32_t sched, const ert_start *start, const ert_timer *name);
 
 uint32_t mirror_room(const Mirror *mirror, uint32_t sched);
+/* Whether a start may be refused though there is room: it looks at fewer slots than there are, and a seat has cancelled
+ * the last timer of each free one. */
+bool mirror_may_miss(const Mirror *mirror, uint32_t sched);
 int32_t mirror_read(const Mirror *mirror, const ert_timer *name, uint64_t *left);
 int32_t mirror_cancel(Mirror *mirror, const ert_timer *name, bool by_seat, uint64_t *left);
 /* The status of a restart; where it is ERT_OK, the timer is cancelled and `mirror_started` takes the new name. */

@@ -93,7 +93,7 @@ uint32_t ert_version(void);
 #define ERT_BAD_START (-6)   /* the start time is not a multiple of 1,000,000, or outside -2^58 to 2^58 */
 #define ERT_BAD_READING (-7) /* `mono` is negative, or 2^62 (146 years) or more; or `sys` is not between -2^61 and 2^61,
                                 that is 1896-12-06 to 2043-01-25 */
-#define ERT_BAD_COUNT (-8)   /* schedulers, processes, slots or callers are outside their limits */
+#define ERT_BAD_COUNT (-8)   /* schedulers, processes, slots, callers or looks are outside their limits */
 #define ERT_OFFSET_WIDE (-9) /* the time offset would leave -2^62 to 2^62 */
 #define ERT_RANGE (-10)      /* there is no such process or scheduler */
 #define ERT_BAD_TIME (-11)   /* no timer can be due then */
@@ -186,6 +186,10 @@ typedef struct {
                             and processes is at most 67,108,864 */
     uint32_t slots;      /* timer slots of each wheel, 1 to 16,777,216; at most 67,108,864 in all */
     uint32_t callers;    /* 1 to 1,025: caller 0 makes the calls through ert_world, and each other one can get a seat */
+    uint32_t looks;      /* 1 or more: how many slots a start looks at that knows of none that is free; 64 is enough for
+                            most programs. It looks from where the last such look stopped, at some 2 ns each, and is
+                            refused (ERT_FULL) unless it finds a slot that another thread's cancel has freed, or whose
+                            wait has ended. Slots that the wheel's own thread has freed are always known */
     int64_t start;       /* monotonic time at the opening: a multiple of 1,000,000 from -2^58 to 2^58 */
     ert_reading first;   /* the reading that the clock opens with */
 } ert_settings;
@@ -193,8 +197,8 @@ typedef struct {
 /*
  * Fills settings with the recommended ones: plain timers on the monotonic clock, for one event loop.
  *
- * Multi time warp mode with time correction, one scheduler, one process, 1,024 slots, no seats, monotonic time 0 at
- * the opening. `first` is a reading of the clocks. Every field is set, so that none is left to chance: change those
+ * Multi time warp mode with time correction, one scheduler, one process, 1,024 slots, no seats, 64 looks, monotonic
+ * time 0 at the opening. `first` is a reading of the clocks. Every field is set, so that none is left to chance: change those
  * that you want otherwise, and then call ert_world_open. It is in the header, and calls nothing.
  */
 static inline void ert_settings_init(ert_settings *settings, const ert_reading *first) {
@@ -205,6 +209,7 @@ static inline void ert_settings_init(ert_settings *settings, const ert_reading *
     settings->processes = 1;
     settings->slots = 1024;
     settings->callers = 1;
+    settings->looks = 64;
     settings->start = 0;
     settings->first = *first;
 }
@@ -458,10 +463,10 @@ int32_t ert_world_time_offset(ert_world *world, ert_offset *offset);
  * ERT_BAD_TIME: `when` is negative, or the deadline outside 0 to 8,796,093,022,207 milliseconds after the
  * start time. ERT_FULL: no slot of the wheel is available. A slot that was used 262,143 times is unavailable until
  * the deadlines of these timers have passed; ert_world_ready tells when. (Or the wheel has had 2^53 timers.) On a wheel
- * of more than 131,072 slots it means that none of 131,072 slots is available: another one may be, but only if a seat
- * has cancelled its timer, or the deadlines have just passed for which it waited. The next starts look at the others.
- * ERT_CLOSED. No memory. Constant work if a slot is known to be free; otherwise 131,072 slots of the wheel are looked at,
- * or all if there are fewer: less than half a millisecond.
+ * of more slots than `looks` of the settings it means that none is available of as many as that: another one may be, but
+ * only if a seat has cancelled its timer, or the deadlines have just passed for which it waited. The next starts look at
+ * the others. ERT_CLOSED. No memory. Constant work if a slot is known to be free; otherwise `looks` slots of the wheel
+ * are looked at, or all if there are fewer, at some 2 ns each.
  */
 int32_t ert_world_start(ert_world *world, uint32_t sched, const ert_start *start, ert_timer *timer);
 
@@ -1047,9 +1052,9 @@ int32_t ert_shard_time_offset(ert_shard *shard, ert_offset *offset);
  *
  * Writes the timer's name to `timer`. ERT_RANGE: the process `dest` is not of the shard. ERT_BAD_TIME: `when` is negative,
  * or the deadline outside 0 to 8,796,093,022,207 milliseconds after the start time. ERT_FULL: no slot of the wheel is
- * available, of 131,072 that are looked at if there are more (the others by the next starts): one whose timer another
- * shard has cancelled is found so. ERT_CLOSED. No memory. Constant work if a slot is known to be free; otherwise 131,072
- * slots of the wheel are looked at, or all if there are fewer.
+ * available, of as many as `looks` of the settings if there are more (the next starts look at the others): one whose
+ * timer another shard has cancelled is found so. ERT_CLOSED. No memory. Constant work if a slot is known to be free;
+ * otherwise `looks` slots of the wheel are looked at, or all if there are fewer.
  */
 int32_t ert_shard_start(ert_shard *shard, const ert_start *start, ert_timer *timer);
 

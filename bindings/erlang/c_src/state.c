@@ -115,6 +115,7 @@ ERL_NIF_TERM nif_open(ErlNifEnv *env, int argc, const ERL_NIF_TERM argv[]) {
         .processes = PROCESSES,
         .slots = (slots + wheels - 1) / wheels,
         .callers = 1,
+        .looks = 64, /* no other thread cancels timers, so that few looks are needed */
         .start = start,
         .first = {mono, sys},
     };

@@ -64,6 +64,7 @@ pub struct ert_settings {
     pub processes: u32,
     pub slots: u32,
     pub callers: u32,
+    pub looks: u32,
     pub start: i64,
     pub first: ert_reading,
 }

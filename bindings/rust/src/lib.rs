@@ -45,7 +45,7 @@ pub enum Error {
     BadStart,
     /// `mono` is not from 0 to below 2^62, or `sys` not between -2^61 and 2^61.
     BadReading,
-    /// A number of schedulers, processes, slots or callers is outside its limits.
+    /// A number of schedulers, processes, slots, looks or callers is outside its limits.
     BadCount,
     /// The time offset would leave its limits.
     OffsetWide,
@@ -152,6 +152,10 @@ pub struct Settings {
     pub processes: u32,
     /// Timer slots of each scheduler, 1 to 16,777,216; at most 67,108,864 of all.
     pub slots: u32,
+    /// How many slots of its wheel a start looks at that knows of none that is free, 1 or more, at some 2 nanoseconds
+    /// each. Unless it finds one that another thread's cancel has freed, or whose wait has ended, it is refused
+    /// ([`Error::Full`]). Slots that the wheel's own thread has freed are always known.
+    pub looks: u32,
     /// How many seats the service can give out, 1,024 at most.
     pub seats: u32,
     pub first: Reading,
@@ -159,8 +163,8 @@ pub struct Settings {
 
 impl Settings {
     /// The recommended settings, as `ert_settings_init` of C has them: timers go as the monotonic clock does, whatever
-    /// happens to the system clock (multi time warp with time correction). One scheduler, one process, 1,024 slots, no
-    /// seat, and monotonic time from 0.
+    /// happens to the system clock (multi time warp with time correction). One scheduler, one process, 1,024 slots, 64
+    /// looks, no seat, and monotonic time from 0.
     pub fn new(first: Reading) -> Settings {
         Settings {
             mode: Mode::Multi,
@@ -169,6 +173,7 @@ impl Settings {
             schedulers: 1,
             processes: 1,
             slots: 1_024,
+            looks: 64,
             seats: 0,
             first,
         }
@@ -183,6 +188,7 @@ impl Settings {
             processes: self.processes,
             slots: self.slots,
             callers,
+            looks: self.looks,
             start: self.start,
             first: self.first,
         }

@@ -32,6 +32,7 @@ settings_as c mode = record {
   schedulers = c.schedulers;
   processes = c.processes;
   slots = c.slots;
+  looks = c.looks;
   callers = c.callers;
   first = reading_as c.first;
 }

@@ -27,6 +27,8 @@ pub struct ErtSettings {
     pub processes: u32,
     pub slots: u32,
     pub callers: u32,
+    /// How many slots of its wheel a start looks at that knows of none that is free.
+    pub looks: u32,
     /// Monotonic time at the opening, in nanoseconds.
     pub start: i64,
     pub first: ErtReading,
@@ -75,6 +77,7 @@ impl ErtSettings {
             schedulers: self.schedulers,
             processes: self.processes,
             slots: self.slots,
+            looks: self.looks,
             callers: self.callers,
             first: self.first.read(),
         }

@@ -239,7 +239,7 @@ started a b w start timer deadline goes lone legal_b due =
 
 -- what a start that is refused with Full found
 abbrev FoundFull : Settings → ℕ → ℤ → State → List Entry → Type 0
-FoundFull g w now s probes = ((round : Round g.slots) × IsRoundTaken 0 w (natural (down g now)) s round probes) ⊎ ((length (s.rows w) ≡ 9007199254740992) × (probes ≡ []))
+FoundFull g w now s probes = ((round : Round g.slots g.looks) × IsRoundTaken 0 w (natural (down g now)) s round probes) ⊎ ((length (s.rows w) ≡ 9007199254740992) × (probes ≡ []))
 
 taken_all : (g : Settings) (s : State) (w : ℕ) (now : ℤ) (probes : List Entry) → LegalFrom g s (look_entry (Caller 0) now ∷ probes)
     → FoundFull g w now s probes → IsFull g s w

@@ -207,7 +207,7 @@ full_both g s t now w slot (suc n) m es fs same legal taken more k is =
     ]
 
 -- the same of a round
-pub full_round : (g : Settings) (s t : State) (now w : ℕ) (round : Round g.slots) (es : List Entry) → ((k : ℕ) → uses_at t w k ≡ uses_at s w k)
+pub full_round : (g : Settings) (s t : State) (now w : ℕ) (round : Round g.slots g.looks) (es : List Entry) → ((k : ℕ) → uses_at t w k ≡ uses_at s w k)
     → LegalFrom g t es → IsRoundTaken 0 w now s round es → (k : ℕ) → IsInRound round k → SlotFull t.status now w k (uses_at t w k)
 full_round g s t now w round es same legal taken k within =
     full_both g s t now w round.from round.ahead round.behind taken.first taken.second same

@@ -64,7 +64,7 @@ pub record Unmoved (old new : Interval) : Type 0 where
 -- each slot of a wheel that a start looks at is taken, or rests at the time; or the wheel has had 2^53 timers
 abbrev pub IsFull : Settings → State → ℕ → Type 0
 IsFull g s w =
-    ((round : Round g.slots) × ((k : ℕ) → IsInRound round k → (is_taken (s.status (timer_at w k (s.last w k))) ≡ true) ⊎ Rests s (natural (down g s.clock.now)) w k))
+    ((round : Round g.slots g.looks) × ((k : ℕ) → IsInRound round k → (is_taken (s.status (timer_at w k (s.last w k))) ≡ true) ⊎ Rests s (natural (down g s.clock.now)) w k))
     ⊎ (length (s.rows w) ≡ 9007199254740992)
 
 -- the state of an interval after a turn of its wheel that went on with it

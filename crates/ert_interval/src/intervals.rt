@@ -14,7 +14,7 @@ pub enum IntervalErr {
     /// The period is 0, or the first deadline is outside its limits: 0 to 8796093022207 milliseconds after
     /// the start time.
     BadArg,
-    /// Each slot of the wheel that was looked at is taken or rests (`ert_effects::MOST_LOOKS`), or the wheel has had 2^53
+    /// Each slot of the wheel that was looked at is taken or rests (`Settings::looks`), or the wheel has had 2^53
     /// timers.
     Full,
     NoMemory,

@@ -155,7 +155,7 @@ last_high true false n last generation low high = omega arith
 last_high false c n last generation low high = omega arith
 
 -- it is one more than the last of its slot, of which there were as many as ops at most
-next_timer : (g : Settings) (n : ℕ) (ls : Labels) (t : TimerRef) (start : Start) (s c : State) → n < 131072 → Meets g n ls s c
+next_timer : (g : Settings) (n : ℕ) (ls : Labels) (t : TimerRef) (start : Start) (s c : State) → n ≤ 100000 → Meets g n ls s c
     → Can g s (arm_entry 0 t start) → t.generation ≡ s.last t.wheel t.slot + 1
 next_timer g n ls t start s c few h can =
     one_more (uses_at s t.wheel t.slot) _ can.known.wanted t.generation
@@ -178,7 +178,7 @@ rows_more n rows more true true few one = one
 rows_more n rows more true false few one = omega (arith, few)
 rows_more n rows more false c few one = omega (arith, few)
 
-pub is_new : (g : Settings) (n : ℕ) (ls : Labels) (l : ℕ) (t : TimerRef) (start : Start) (s c : State) → n < 131072 → IsFreeLabel l ls → Meets g n ls s c
+pub is_new : (g : Settings) (n : ℕ) (ls : Labels) (l : ℕ) (t : TimerRef) (start : Start) (s c : State) → n ≤ 100000 → IsFreeLabel l ls → Meets g n ls s c
     → Can g s (arm_entry 0 t start) → IsNew g ls l t
 is_new g n ls l t start s c few free h can =
     let next : t.generation ≡ s.last t.wheel t.slot + 1 = next_timer g n ls t start s c few h can in
@@ -191,7 +191,7 @@ is_new g n ls l t start s c few free h can =
       new = new_timer s.last t ls next h.used;
     }
 
-pub meets_armed : (g : Settings) (n : ℕ) (ls : Labels) (l : ℕ) (t : TimerRef) (start : Start) (s c : State) → n < 131072 → IsFreeLabel l ls
+pub meets_armed : (g : Settings) (n : ℕ) (ls : Labels) (l : ℕ) (t : TimerRef) (start : Start) (s c : State) → n ≤ 100000 → IsFreeLabel l ls
     → Meets g n ls s c → Can g s (arm_entry 0 t start)
     → Meets g (suc n) (bind ls l t) (next g s (arm_entry 0 t start)) (next g c (arm_entry 0 (timer_at t.wheel l 1) start))
 meets_armed g n ls l t start s c few free h can =

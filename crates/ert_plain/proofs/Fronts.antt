@@ -80,11 +80,11 @@ are_first list n are = record {
 }
 
 pub first_lines : LawOfFronts
-first_lines g list n entries replies labels are legal runs =
+first_lines g list n entries replies labels are many legal runs =
     let lines : List ℕ = lines_of [] (take n list) replies in
     let text : List ℕ = lines ++ end_line (state g entries).clock.now in
     let told : AreDone g [] [] (take n list) replies labels (state g entries) (opening g) =
-    done g (take n list) text (are_first list n are) (record { entries = entries; replies = replies; labels = labels; legal = legal; runs = runs; reads = refl }) in
+    done g (take n list) text (are_first list n are) (omega (arith, few_first list n, many)) (record { entries = entries; replies = replies; labels = labels; legal = legal; runs = runs; reads = refl }) in
     let part : HasFront g (opening g) [] list n = has_front g (opening g) [] list n in
     let last = ap end_line (ap (λ (k : Clock). k.now) told.shows.clock) in
     let same : lines ≡ part.front =

@@ -6,7 +6,6 @@ use Rattle.std.proofs.Common.{◌≡◌, ◌≢◌, ◌⊎◌, ℕ, ℤ, zero, s
 use Rattle.std.proofs.lemmas.Bool.Decides.{nat_tests}
 use Rattle.std.proofs.lemmas.Bool.{cases_eq, cases_lt}
 use Rattle.ert_effects.proofs.Told.{round_probes}
-use Rattle.ert_effects.specs.declared.answers.TheConstants.{MOST_LOOKS}
 use Rattle.ert_effects.specs.TimerCalls.{AreTaken, Round, IsInRound, IsRoundTaken, Rests, IsBadArg, IsWheelFull}
 use Rattle.ert_defs.proofs.ExpiredTimers.{cond_same}
 use Rattle.ert_defs.specs.Actors.{has_actor}
@@ -131,7 +130,7 @@ both_taken g w now s z k (suc n) m es fs same first legal are more j is =
     ]
 
 -- the same of a round
-round_taken : (g : Settings) (w now : ℕ) (s z : State) (round : Round g.slots) (es : List Entry) → AreSame w s z
+round_taken : (g : Settings) (w now : ℕ) (s z : State) (round : Round g.slots g.looks) (es : List Entry) → AreSame w s z
     → ((j : ℕ) → (turned (uses_at s w j)).since ≡ 0) → LegalFrom g z es → IsRoundTaken 0 w now s round es → (j : ℕ) → IsInRound round j
     → is_taken (s.status (timer_at w j (s.last w j))) ≡ true
 round_taken g w now s z round es same first legal are j within =
@@ -139,14 +138,14 @@ round_taken g w now s z round es same first legal are j within =
     are.onward are.around j within
 
 -- where fewer timers were started than a start looks at slots, a round has all slots
-has_all : (g : Settings) (s : State) (w n : ℕ) (round : Round g.slots) → IsKept s → length (s.rows w) ≤ n → n < 131072
+has_all : (g : Settings) (s : State) (w n : ℕ) (round : Round g.slots g.looks) → IsKept s → length (s.rows w) ≤ n → n < g.looks
     → ((j : ℕ) → IsInRound round j → is_taken (s.status (timer_at w j (s.last w j))) ≡ true) → (j : ℕ) → j < g.slots → IsInRound round j
-has_all g s w n round kept some few taken j low = elim (cases_lt g.slots MOST_LOOKS) [
+has_all g s w n round kept some few taken j low = elim (cases_lt g.slots g.looks) [
   | inl small ↦
       let all : round.ahead + round.behind ≡ g.slots = round.all (omega (arith, small)) in
       at all
   | inr large ↦
-      let many : round.ahead + round.behind ≡ MOST_LOOKS = round.many large in
+      let many : round.ahead + round.behind ≡ g.looks = round.many large in
       let used : round.ahead + round.behind ≤ length (s.rows w) = as_many s w round.from round.ahead round.behind kept round.apart
       (λ k below. taken k (inr below)) (λ k above below. taken k (inl (above, below))) in
       absurd (omega (arith, many, used, some, few))
@@ -158,16 +157,16 @@ has_all g s w n round kept some few taken j low = elim (cases_lt g.slots MOST_LO
       | inr above ↦ inl (above, omega (arith, all, low, round.apart))
     ]
 
-pub full_done : (g : Settings) (n : ℕ) (ls : Labels) (l w : ℕ) (start : Start) (s c : State) (es : List Entry) → n < 131072 → Meets g n ls s c
+pub full_done : (g : Settings) (n : ℕ) (ls : Labels) (l w : ℕ) (start : Start) (s c : State) (es : List Entry) → n ≤ 100000 → n < g.looks → Meets g n ls s c
     → LegalFrom g s es → IsWheelFull g 0 w start s es → line_of (label_of ls) (full start.kind) ≡ line_of slot_of (full start.kind)
     → IsRefused g n ls l w start s c (full start.kind) es
-full_done g n ls l w start s c es few h legal does plain =
+full_done g n ls l w start s c es few looked_at h legal does plain =
     let lawful = subst (λ (x : List Entry). LegalFrom g s x) does.entries legal in
     let time : does.now ≡ c.clock.now = lawful.0.found ∙ ap (λ (k : Clock). k.now) h.shows.clock in
     let looked : State = next g s (look_entry (Caller 0) does.now) in
     let due : deadline_of g start c.clock.now ≢ None = λ none.
     does.accepted (ap (λ (x : ℤ). deadline_of g start x) time ∙ none) in
-    let are : (round : Round g.slots) × IsRoundTaken 0 w (natural (down g does.now)) s round does.probes = elim does.are_taken [
+    let are : (round : Round g.slots g.looks) × IsRoundTaken 0 w (natural (down g does.now)) s round does.probes = elim does.are_taken [
       | inl are ↦ are
       | inr many ↦ absurd (omega (arith, many.0, h.few w, few))
     ] in
@@ -176,7 +175,7 @@ full_done g n ls l w start s c es few h legal does plain =
     let seen : (j : ℕ) → IsInRound are.0 j → is_taken (s.status (timer_at w j (s.last w j))) ≡ true =
     round_taken g w (natural (down g does.now)) s looked are.0 does.probes (record { status = λ r. refl; last = λ i. refl }) first lawful.1 are.1 in
     let taken : taken_slots s.status (s.rows w) ≡ g.slots =
-    all_taken g ls s c w h.kept h.shows (λ j lt. seen j (has_all g s w n are.0 h.kept (h.few w) few seen j lt)) in
+    all_taken g ls s c w h.kept h.shows (λ j lt. seen j (has_all g s w n are.0 h.kept (h.few w) looked_at seen j lt)) in
     let all : taken_slots c.status (c.rows w) ≡ g.slots =
     sym (count_pairs is_taken (IsName g ls) s.status c.status h.shows.status (s.rows w) (c.rows w) (h.shows.rows w)) ∙ taken in
     let look = meets_next g n ls (as_look does.now) (Caller 0) None s c h lawful.0 in

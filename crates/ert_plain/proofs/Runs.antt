@@ -46,60 +46,60 @@ IsFreeFor (ops.Start l w when p msg) ls = IsFreeLabel l ls
 IsFreeFor (ops.SendAfter l w when p msg) ls = IsFreeLabel l ls
 IsFreeFor _ ls = Unit {0}
 
-pub op_agrees : (g : Settings) (n : ℕ) (ls cl : Labels) (h m : List Entry) (c : State) (op : Op) (reply : Reply) → n < 131072
-    → IsFreeFor op ls → IsFreeFor op cl → Agrees g n ls cl (state g h) c → LegalFrom g (state g h) m
+pub op_agrees : (g : Settings) (n : ℕ) (ls cl : Labels) (h m : List Entry) (c : State) (op : Op) (reply : Reply) → n ≤ 100000
+    → n < g.looks → IsFreeFor op ls → IsFreeFor op cl → Agrees g n ls cl (state g h) c → LegalFrom g (state g h) m
     → Calls g (alone g) 0 ls op reply h m → IsAgreed g n ls cl (state g h) c op reply m
-op_agrees g n ls cl h m c (ops.Start l w when p msg) reply few free other a legal does =
-    start_op g n ls cl h m c l w when p msg reply few free other a legal does
-op_agrees g n ls cl h m c (ops.SendAfter l w when p msg) reply few free other a legal does =
-    send_after_op g n ls cl h m c l w when p msg reply few free other a legal does
-op_agrees g n ls cl h m c (ops.Tick mono sys) reply few free other a legal does =
+op_agrees g n ls cl h m c (ops.Start l w when p msg) reply few many free other a legal does =
+    start_op g n ls cl h m c l w when p msg reply few many free other a legal does
+op_agrees g n ls cl h m c (ops.SendAfter l w when p msg) reply few many free other a legal does =
+    send_after_op g n ls cl h m c l w when p msg reply few many free other a legal does
+op_agrees g n ls cl h m c (ops.Tick mono sys) reply few many free other a legal does =
     agreed g n ls cl (state g h) c (ops.Tick mono sys) reply m refl refl a.names (tick_op g n ls h m c mono sys reply a.meets legal does)
-op_agrees g n ls cl h m c (ops.Check mono sys) reply few free other a legal does =
+op_agrees g n ls cl h m c (ops.Check mono sys) reply few many free other a legal does =
     agreed g n ls cl (state g h) c (ops.Check mono sys) reply m refl refl a.names (check_op g n ls h m c mono sys reply a.meets legal does)
-op_agrees g n ls cl h m c (ops.Finalize mono sys) reply few free other a legal does =
+op_agrees g n ls cl h m c (ops.Finalize mono sys) reply few many free other a legal does =
     agreed g n ls cl (state g h) c (ops.Finalize mono sys) reply m refl refl a.names (finalize_op g n ls h m c mono sys reply a.meets legal does)
-op_agrees g n ls cl h m c (ops.Notify p) reply few free other a legal does =
+op_agrees g n ls cl h m c (ops.Notify p) reply few many free other a legal does =
     agreed g n ls cl (state g h) c (ops.Notify p) reply m refl refl a.names (notify_op g n ls h m c p reply a.meets legal does)
-op_agrees g n ls cl h m c ops.Time reply few free other a legal does =
+op_agrees g n ls cl h m c ops.Time reply few many free other a legal does =
     agreed g n ls cl (state g h) c ops.Time reply m refl refl a.names (time_op g n ls h m c reply a.meets legal does)
-op_agrees g n ls cl h m c ops.System reply few free other a legal does =
+op_agrees g n ls cl h m c ops.System reply few many free other a legal does =
     agreed g n ls cl (state g h) c ops.System reply m refl refl a.names (system_op g n ls h m c reply a.meets legal does)
-op_agrees g n ls cl h m c ops.Offset reply few free other a legal does =
+op_agrees g n ls cl h m c ops.Offset reply few many free other a legal does =
     agreed g n ls cl (state g h) c ops.Offset reply m refl refl a.names (offset_op g n ls h m c reply a.meets legal does)
-op_agrees g n ls cl h m c ops.Info reply few free other a legal does =
+op_agrees g n ls cl h m c ops.Info reply few many free other a legal does =
     agreed g n ls cl (state g h) c ops.Info reply m refl refl a.names (info_op g n ls h m c reply a.meets legal does)
-op_agrees g n ls cl h m c (ops.Convert time from to) reply few free other a legal does =
+op_agrees g n ls cl h m c (ops.Convert time from to) reply few many free other a legal does =
     agreed g n ls cl (state g h) c (ops.Convert time from to) reply m refl refl a.names (converts_done g n ls (state g h) c time from to reply m a.meets does)
-op_agrees g n ls cl h m c (ops.Cancel l) reply few free other a legal does =
+op_agrees g n ls cl h m c (ops.Cancel l) reply few many free other a legal does =
     agreed g n ls cl (state g h) c (ops.Cancel l) reply m refl refl a.names (cancel_op g n ls cl h m c l reply (a.names l) a.meets legal does)
-op_agrees g n ls cl h m c (ops.CancelQuiet l) reply few free other a legal does =
+op_agrees g n ls cl h m c (ops.CancelQuiet l) reply few many free other a legal does =
     agreed g n ls cl (state g h) c (ops.CancelQuiet l) reply m refl refl a.names (cancel_quiet_op g n ls cl h m c l reply (a.names l) a.meets legal does)
-op_agrees g n ls cl h m c (ops.Read l) reply few free other a legal does =
+op_agrees g n ls cl h m c (ops.Read l) reply few many free other a legal does =
     agreed g n ls cl (state g h) c (ops.Read l) reply m refl refl a.names (read_op g n ls cl h m c l reply (a.names l) a.meets legal does)
-op_agrees g n ls cl h m c (ops.CancelAsync l p info) reply few free other a legal does =
+op_agrees g n ls cl h m c (ops.CancelAsync l p info) reply few many free other a legal does =
     agreed g n ls cl (state g h) c (ops.CancelAsync l p info) reply m refl refl a.names
     (cancel_async_op g n ls cl h m c l p info reply (a.names l) a.meets legal does)
-op_agrees g n ls cl h m c (ops.ReadAsync l p info) reply few free other a legal does =
+op_agrees g n ls cl h m c (ops.ReadAsync l p info) reply few many free other a legal does =
     agreed g n ls cl (state g h) c (ops.ReadAsync l p info) reply m refl refl a.names
     (read_async_op g n ls cl h m c l p info reply (a.names l) a.meets legal does)
-op_agrees g n ls cl h m c (ops.Serve w) reply few free other a legal does =
+op_agrees g n ls cl h m c (ops.Serve w) reply few many free other a legal does =
     agreed g n ls cl (state g h) c (ops.Serve w) reply m refl refl a.names (serve_an_op g n ls h m c w reply a.meets legal does)
-op_agrees g n ls cl h m c (ops.Advance w) reply few free other a legal does =
+op_agrees g n ls cl h m c (ops.Advance w) reply few many free other a legal does =
     agreed g n ls cl (state g h) c (ops.Advance w) reply m refl refl a.names (advance_an_op g n ls h m c w reply a.meets legal does)
-op_agrees g n ls cl h m c (ops.Deliver w) reply few free other a legal does =
+op_agrees g n ls cl h m c (ops.Deliver w) reply few many free other a legal does =
     agreed g n ls cl (state g h) c (ops.Deliver w) reply m refl refl a.names (deliver_an_op g n ls h m c w reply a.meets legal does)
-op_agrees g n ls cl h m c (ops.Turn w) reply few free other a legal does =
+op_agrees g n ls cl h m c (ops.Turn w) reply few many free other a legal does =
     agreed g n ls cl (state g h) c (ops.Turn w) reply m refl refl a.names (turn_an_op g n ls h m c w reply a.meets legal does)
-op_agrees g n ls cl h m c (ops.Receive p) reply few free other a legal does =
+op_agrees g n ls cl h m c (ops.Receive p) reply few many free other a legal does =
     agreed g n ls cl (state g h) c (ops.Receive p) reply m refl refl a.names (receive_op g n ls h m c p reply a.meets legal does)
-op_agrees g n ls cl h m c (ops.Exit p) reply few free other a legal does =
+op_agrees g n ls cl h m c (ops.Exit p) reply few many free other a legal does =
     agreed g n ls cl (state g h) c (ops.Exit p) reply m refl refl a.names (exit_op g n ls h m c p reply a.meets legal does)
-op_agrees g n ls cl h m c (ops.Alive p) reply few free other a legal does =
+op_agrees g n ls cl h m c (ops.Alive p) reply few many free other a legal does =
     agreed g n ls cl (state g h) c (ops.Alive p) reply m refl refl a.names (alive_op g n ls h m c p reply a.meets legal does)
-op_agrees g n ls cl h m c (ops.Monitor p) reply few free other a legal does =
+op_agrees g n ls cl h m c (ops.Monitor p) reply few many free other a legal does =
     agreed g n ls cl (state g h) c (ops.Monitor p) reply m refl refl a.names (monitor_op g n ls h m c p reply a.meets legal does)
-op_agrees g n ls cl h m c (ops.Demonitor p k) reply few free other a legal does =
+op_agrees g n ls cl h m c (ops.Demonitor p k) reply few many free other a legal does =
     agreed g n ls cl (state g h) c (ops.Demonitor p k) reply m refl refl a.names (demonitor_op g n ls h m c p k reply a.meets legal does)
 
 -- the labels of the ops to come are free
@@ -156,30 +156,30 @@ pub record AreDone (g : Settings) (ls cl : Labels) (list : List Op) (rs : List R
   pub shows : Shows (IsName g after) s (plain_after g c cl list)
 
 lines_agree : (g : Settings) (n : ℕ) (ls cl : Labels) (list : List Op) (rs : List Reply) (after : Labels) (h m : List Entry) (c : State)
-    → n + length list ≤ 100000 → Apart (labels_in list) → AreFree (labels_in list) ls → AreFree (labels_in list) cl
+    → n + length list ≤ 100000 → n + length list ≤ g.looks → Apart (labels_in list) → AreFree (labels_in list) ls → AreFree (labels_in list) cl
     → Agrees g n ls cl (state g h) c → LegalFrom g (state g h) m → Script g (alone g) 0 ls list rs after h m
     → AreDone g ls cl list rs after (state g (h ++ m)) c
-lines_agree g n ls cl [] rs after h m c few apart free other agrees legal runs =
+lines_agree g n ls cl [] rs after h m c few many apart free other agrees legal runs =
     let same : state g (h ++ m) ≡ state g h = state-append g h m ∙ ap (λ (e : List Entry). run g (state g h) e) runs.2 in
     record {
       text = ap end_line (ap (λ (z : State). z.clock.now) same ∙ ap (λ (k : Clock). k.now) agrees.meets.shows.clock);
       shows = subst (λ (x : Labels). Shows (IsName g x) (state g (h ++ m)) c) (sym runs.1)
           (subst (λ (z : State). Shows (IsName g ls) z c) (sym same) agrees.meets.shows);
     }
-lines_agree g n ls cl (op ∷ list) rs after h m c few apart free other agrees legal runs =
+lines_agree g n ls cl (op ∷ list) rs after h m c few many apart free other agrees legal runs =
     let piece : List Entry = runs.0 in
     let later : List Entry = runs.1 in
     let reply : Reply = runs.2 in
     let others : List Reply = runs.3 in
     let joined : m ≡ piece ++ later = runs.4 in
     let count : length (op ∷ list) ≡ suc (length list) = refl in
-    let one = op_agrees g n ls cl h piece c op reply (omega arith) (free_first op list ls free) (free_first op list cl other) agrees
+    let one = op_agrees g n ls cl h piece c op reply (omega arith) (omega arith) (free_first op list ls free) (free_first op list cl other) agrees
     (legal_before g h m piece later joined legal) runs.6 in
     let labels : Labels = labels_after ls op reply in
     let d : State = run g c (op_piece g c cl op).entries in
     let here = subst (λ (z : State). Agrees g (suc n) labels (labels_after cl op (op_piece g c cl op).reply) z d) (sym (state-append g h piece)) one.agrees in
     let rest = lines_agree g (suc n) labels (labels_after cl op (op_piece g c cl op).reply) list others after (h ++ piece) later d
-    (omega arith) (apart_later op list apart) (free_later op reply list ls apart free) (free_later op (op_piece g c cl op).reply list cl apart other)
+    (omega arith) (omega arith) (apart_later op list apart) (free_later op reply list ls apart free) (free_later op (op_piece g c cl op).reply list cl apart other)
     here (legal_after g h m piece later joined legal) runs.7 in
     let whole : (h ++ piece) ++ later ≡ h ++ m = append_assoc h piece later ∙ ap (λ (e : List Entry). h ++ e) (sym joined) in
     let all = subst (λ (e : List Entry). AreDone g labels (labels_after cl op (op_piece g c cl op).reply) list others after (state g e) d) whole rest in
@@ -220,17 +220,17 @@ opened g = record {
 }
 
 -- a script run from the opening on
-pub done : (g : Settings) (list : List Op) (text : List ℕ) → AreOps list → (t : IsTranscript g list text)
+pub done : (g : Settings) (list : List Op) (text : List ℕ) → AreOps list → length list ≤ g.looks → (t : IsTranscript g list text)
     → AreDone g [] [] list t.replies t.labels (state g t.entries) (opening g)
-done g list text are t =
-    lines_agree g 0 [] [] list t.replies t.labels [] t.entries (opening g) (omega (arith, are.few)) are.apart (none_free (labels_in list))
+done g list text are many t =
+    lines_agree g 0 [] [] list t.replies t.labels [] t.entries (opening g) (omega (arith, are.few)) (omega (arith, many)) are.apart (none_free (labels_in list))
     (none_free (labels_in list)) (opened g) t.legal t.runs
 
 pub one_text : LawOfOneText
-one_text g list text are t = t.reads ∙ (done g list text are t).text
+one_text g list text are many t = t.reads ∙ (done g list text are many t).text
 
 pub one_transcript : LawOfOneTranscript
-one_transcript g list text other are t s = one_text g list text are t ∙ sym (one_text g list other are s)
+one_transcript g list text other are many t s = one_text g list text are many t ∙ sym (one_text g list other are many s)
 
 -- and as many timers have each status
 
@@ -253,5 +253,5 @@ same_counts R g s c h =
     cc
 
 pub counts_agree : LawOfPlainCounts
-counts_agree g list text are t =
-    same_counts (IsName g t.labels) g (state g t.entries) (plain_after g (opening g) [] list) (done g list text are t).shows
+counts_agree g list text are many t =
+    same_counts (IsName g t.labels) g (state g t.entries) (plain_after g (opening g) [] list) (done g list text are many t).shows

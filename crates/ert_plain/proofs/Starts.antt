@@ -61,7 +61,7 @@ pub record AreStarted (g : Settings) (n : ℕ) (ls : Labels) (l w : ℕ) (start 
 abbrev rest_of : TimerRef → Start → Bool → List Entry → List Entry
 rest_of t start was closing = arm_entry 0 t start ∷ (mark_entry (Caller 0) start.dest false was ∷ closing)
 
-armed_meet : (g : Settings) (n : ℕ) (ls : Labels) (l : ℕ) (t : TimerRef) (start : Start) (was : Bool) (closing : List Entry) (s c : State) → n < 131072
+armed_meet : (g : Settings) (n : ℕ) (ls : Labels) (l : ℕ) (t : TimerRef) (start : Start) (was : Bool) (closing : List Entry) (s c : State) → n ≤ 100000
     → IsFreeLabel l ls → Closes was 0 t closing → LegalFrom g s (rest_of t start was closing) → Meets g n ls s c
     → Meets g (suc n) (bind ls l t) (run g s (rest_of t start was closing)) (run g c (arm_entries (timer_at t.wheel l 1) start (c.exited start.dest)))
 armed_meet g n ls l t start was closing s c few free closes legal h =
@@ -77,7 +77,7 @@ armed_meet g n ls l t start was closing s c few free closes legal h =
     subst (λ (b : Bool). Meets g (suc n) (bind ls l t) (run g s (rest_of t start was closing)) (run g c (arm_entries m start b))) exited closed
 
 started_here : (g : Settings) (n : ℕ) (ls : Labels) (l : ℕ) (start : Start) (t : TimerRef) (now : ℤ) (probes closing : List Entry) (was : Bool) (s c : State)
-    → n < 131072 → IsFreeLabel l ls → Meets g n ls s c → AreProbes (Caller 0) t.wheel probes → Closes was 0 t closing
+    → n ≤ 100000 → IsFreeLabel l ls → Meets g n ls s c → AreProbes (Caller 0) t.wheel probes → Closes was 0 t closing
     → LegalFrom g s (look_entry (Caller 0) now ∷ (probes ++ rest_of t start was closing))
     → AreStarted g n ls l t.wheel start t s c (look_entry (Caller 0) now ∷ (probes ++ rest_of t start was closing))
 started_here g n ls l start t now probes closing was s c few free h are closes legal =
@@ -108,7 +108,7 @@ started_here g n ls l start t now probes closing was s c few free h are closes l
           (subst (λ (x : ℤ). P x (run g probed rest)) time armed);
     }
 
-pub start_done : (g : Settings) (n : ℕ) (ls : Labels) (l w : ℕ) (start : Start) (t : TimerRef) (s c : State) (es : List Entry) → n < 131072 → IsFreeLabel l ls
+pub start_done : (g : Settings) (n : ℕ) (ls : Labels) (l w : ℕ) (start : Start) (t : TimerRef) (s c : State) (es : List Entry) → n ≤ 100000 → IsFreeLabel l ls
     → Meets g n ls s c → LegalFrom g s es → IsStarted g 0 w start t s es → AreStarted g n ls l w start t s c es
 start_done g n ls l w start t s c es few free h legal does =
     let lawful = subst (λ (x : List Entry). LegalFrom g s x) does.entries legal in

@@ -68,10 +68,10 @@ started_agrees g n ls cl l w start t s c es piece free other names does =
     (new_name g ls l t does.new.some does.new.in_range does.new.free does.new.new) in
     record { meets = does.meets; names = names_bound g ls cl l t (timer_at w l 1) free other named names }
 
-pub start_op : (g : Settings) (n : ℕ) (ls cl : Labels) (h m : List Entry) (c : State) (l w : ℕ) (when : When) (p msg : ℕ) (reply : Reply) → n < 131072
-    → IsFreeLabel l ls → IsFreeLabel l cl → Agrees g n ls cl (state g h) c → LegalFrom g (state g h) m
+pub start_op : (g : Settings) (n : ℕ) (ls cl : Labels) (h m : List Entry) (c : State) (l w : ℕ) (when : When) (p msg : ℕ) (reply : Reply) → n ≤ 100000
+    → n < g.looks → IsFreeLabel l ls → IsFreeLabel l cl → Agrees g n ls cl (state g h) c → LegalFrom g (state g h) m
     → Calls g (alone g) 0 ls (ops.Start l w when p msg) reply h m → IsAgreed g n ls cl (state g h) c (ops.Start l w when p msg) reply m
-start_op g n ls cl h m c l w when p msg (StartOk t) few free other agrees legal does =
+start_op g n ls cl h m c l w when p msg (StartOk t) few many free other agrees legal does =
     let start : Start = start_for_op when p msg Wrapped in
     let one = start_done g n ls l w start t (state g h) c m few free agrees.meets legal does in
     let P : Piece → Type 0 = λ x.
@@ -80,20 +80,20 @@ start_op g n ls cl h m c l w when p msg (StartOk t) few free other agrees legal 
       line = ap (λ (x : Piece). line_of slot_of x.reply) (sym one.piece);
       agrees = subst P (sym one.piece) (started_agrees g n ls cl l w start t (state g h) c m (start_now g c l w start) free other agrees.names one);
     }
-start_op g n ls cl h m c l w when p msg StartBadArg few free other agrees legal does =
+start_op g n ls cl h m c l w when p msg StartBadArg few many free other agrees legal does =
     let one = bad_arg_done g n ls l w (start_for_op when p msg Wrapped) (state g h) c m agrees.meets legal does refl in
     agreed g n ls cl (state g h) c (ops.Start l w when p msg) StartBadArg m refl
     (ap (λ (r : Reply). labels_after cl (ops.Start l w when p msg) r) one.replies) agrees.names one.done
-start_op g n ls cl h m c l w when p msg StartFull few free other agrees legal does =
-    let one = full_done g n ls l w (start_for_op when p msg Wrapped) (state g h) c m few agrees.meets legal does refl in
+start_op g n ls cl h m c l w when p msg StartFull few many free other agrees legal does =
+    let one = full_done g n ls l w (start_for_op when p msg Wrapped) (state g h) c m few many agrees.meets legal does refl in
     agreed g n ls cl (state g h) c (ops.Start l w when p msg) StartFull m refl
     (ap (λ (r : Reply). labels_after cl (ops.Start l w when p msg) r) one.replies) agrees.names one.done
-start_op g n ls cl h m c l w when p msg _ few free other agrees legal does = absurd does
+start_op g n ls cl h m c l w when p msg _ few many free other agrees legal does = absurd does
 
-pub send_after_op : (g : Settings) (n : ℕ) (ls cl : Labels) (h m : List Entry) (c : State) (l w : ℕ) (when : When) (p msg : ℕ) (reply : Reply) → n < 131072
-    → IsFreeLabel l ls → IsFreeLabel l cl → Agrees g n ls cl (state g h) c → LegalFrom g (state g h) m
+pub send_after_op : (g : Settings) (n : ℕ) (ls cl : Labels) (h m : List Entry) (c : State) (l w : ℕ) (when : When) (p msg : ℕ) (reply : Reply) → n ≤ 100000
+    → n < g.looks → IsFreeLabel l ls → IsFreeLabel l cl → Agrees g n ls cl (state g h) c → LegalFrom g (state g h) m
     → Calls g (alone g) 0 ls (ops.SendAfter l w when p msg) reply h m → IsAgreed g n ls cl (state g h) c (ops.SendAfter l w when p msg) reply m
-send_after_op g n ls cl h m c l w when p msg (SendAfterOk t) few free other agrees legal does =
+send_after_op g n ls cl h m c l w when p msg (SendAfterOk t) few many free other agrees legal does =
     let start : Start = start_for_op when p msg Bare in
     let one = start_done g n ls l w start t (state g h) c m few free agrees.meets legal does in
     let P : Piece → Type 0 = λ x.
@@ -102,12 +102,12 @@ send_after_op g n ls cl h m c l w when p msg (SendAfterOk t) few free other agre
       line = ap (λ (x : Piece). line_of slot_of x.reply) (sym one.piece);
       agrees = subst P (sym one.piece) (started_agrees g n ls cl l w start t (state g h) c m (start_now g c l w start) free other agrees.names one);
     }
-send_after_op g n ls cl h m c l w when p msg SendAfterBadArg few free other agrees legal does =
+send_after_op g n ls cl h m c l w when p msg SendAfterBadArg few many free other agrees legal does =
     let one = bad_arg_done g n ls l w (start_for_op when p msg Bare) (state g h) c m agrees.meets legal does refl in
     agreed g n ls cl (state g h) c (ops.SendAfter l w when p msg) SendAfterBadArg m refl
     (ap (λ (r : Reply). labels_after cl (ops.SendAfter l w when p msg) r) one.replies) agrees.names one.done
-send_after_op g n ls cl h m c l w when p msg SendAfterFull few free other agrees legal does =
-    let one = full_done g n ls l w (start_for_op when p msg Bare) (state g h) c m few agrees.meets legal does refl in
+send_after_op g n ls cl h m c l w when p msg SendAfterFull few many free other agrees legal does =
+    let one = full_done g n ls l w (start_for_op when p msg Bare) (state g h) c m few many agrees.meets legal does refl in
     agreed g n ls cl (state g h) c (ops.SendAfter l w when p msg) SendAfterFull m refl
     (ap (λ (r : Reply). labels_after cl (ops.SendAfter l w when p msg) r) one.replies) agrees.names one.done
-send_after_op g n ls cl h m c l w when p msg _ few free other agrees legal does = absurd does
+send_after_op g n ls cl h m c l w when p msg _ few many free other agrees legal does = absurd does

@@ -4,8 +4,9 @@
 ghost use Rattle.ert_plain.specs.Laws.{LawOfOneText, LawOfOneTranscript, LawOfPlainCounts, LawOfFronts};
 
 /// What a script run of a list of ops prints is what the plain service prints, whatever slots its starts
-/// took and whatever was looked at in between. So settings and ops have one transcript, and each script run
-/// leaves as many timers of each status.
+/// took and whatever was looked at in between, where a start looks at as many slots as there are ops
+/// (`Settings::looks`). So settings and ops have one transcript, and each script run leaves as many timers of
+/// each status.
 pub fn one_transcript()
     ensures text { LawOfOneText }
     ensures one { LawOfOneTranscript }

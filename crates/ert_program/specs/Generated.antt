@@ -3,6 +3,7 @@
 use Rattle.std.specs.Prelude.{ℕ, pos, false, None}
 use Rattle.ert_defs.specs.declared.settings.Mode.TheVariants.{Multi}
 use Rattle.ert_defs.specs.declared.settings.Settings.{Settings}
+use Rattle.ert_defs.specs.declared.settings.TheConstants.{SCENARIO_LOOKS}
 use Rattle.ert_scenario.specs.Scenarios.{Plan}
 use Rattle.ert_program.specs.Steps.{next_ops, first}
 
@@ -15,6 +16,7 @@ generated_settings = record {
   schedulers = 4;
   processes = 8;
   slots = 4096;
+  looks = SCENARIO_LOOKS;
   callers = 1;
   first = record { mono = pos 0; sys = pos 0 };
 }

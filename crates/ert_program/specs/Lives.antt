@@ -10,6 +10,7 @@ use Rattle.ert_defs.specs.declared.entry.Entry.{Entry}
 use Rattle.ert_defs.specs.declared.settings.Mode.TheVariants.{No}
 use Rattle.ert_defs.specs.declared.settings.Reading.{Reading}
 use Rattle.ert_defs.specs.declared.settings.Settings.{Settings}
+use Rattle.ert_defs.specs.declared.settings.TheConstants.{SCENARIO_LOOKS}
 use Rattle.ert_io.specs.Faults.{Rose}
 use Rattle.ert_io.specs.Told.{took, TakesFront}
 use Rattle.ert_ops.specs.declared.op.Op.{Op}
@@ -34,7 +35,7 @@ AreValid (r ∷ rs) = IsValid r × AreValid rs
 
 -- the settings of the service that the first reading opens
 abbrev pub live_settings : Reading → Settings
-live_settings r = record { mode = No; correction = true; start = pos 0; schedulers = 1; processes = 1; slots = 1; callers = 1; first = r }
+live_settings r = record { mode = No; correction = true; start = pos 0; schedulers = 1; processes = 1; slots = 1; looks = SCENARIO_LOOKS; callers = 1; first = r }
 
 -- the ops for the readings after the first: a tick, and then both times are looked up
 abbrev pub live_ops : List Reading → List Op

@@ -4,7 +4,7 @@ ghost use Rattle.ert_program.specs.Generated.{generated};
 ghost use Rattle.ert_program.specs.Steps.{next_ops, first};
 
 use crate::generator::Generator;
-use ert_defs::{Mode, NoMemory, Reading, Settings};
+use ert_defs::{Mode, NoMemory, Reading, SCENARIO_LOOKS, Settings};
 use ert_ops::Op;
 use ert_scenario::Scenario;
 use std::alloc::{AllocError, Global};
@@ -16,6 +16,7 @@ const SETTINGS: Settings = Settings {
     schedulers: 4,
     processes: 8,
     slots: 4_096,
+    looks: SCENARIO_LOOKS,
     callers: 1,
     first: Reading { mono: 0, sys: 0 },
 };

@@ -9,7 +9,7 @@ ghost use Rattle.ert_program.specs.Lives.{live_settings, TakesReadings, live_par
 ghost use Rattle.ert_program.specs.Streams.{clock_stream_of, output_of};
 
 use crate::ending::{EndStatus, Ended};
-use ert_defs::{Mode, NoMemory, Reading, Settings};
+use ert_defs::{Mode, NoMemory, Reading, SCENARIO_LOOKS, Settings};
 use ert_io::{OsClock, Sink};
 use ert_script::{history_stands, tick, write_end, write_page};
 use ert_world::World;
@@ -106,6 +106,7 @@ fn live_settings(first: Reading) -> Settings
         schedulers: 1,
         processes: 1,
         slots: 1,
+        looks: SCENARIO_LOOKS,
         callers: 1,
         first,
     }

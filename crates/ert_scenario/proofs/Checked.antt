@@ -55,6 +55,7 @@ pub record IsSmall (g : Settings) : Type 0 where
   pub slots_low : 1 ≤ g.slots
   pub slots_high : g.slots ≤ MOST_SLOTS
   pub slots_in_all : (g.schedulers * g.slots) ≤ MOST_SLOTS_IN_ALL
+  pub looks_low : 1 ≤ g.looks
   pub callers_low : 1 ≤ g.callers
   pub callers_high : g.callers ≤ MOST_CALLERS
 
@@ -73,6 +74,7 @@ small_fits g h = record {
   slots_low = h.slots_low;
   slots_high = omega (arith, h.slots_high);
   slots_in_all = omega (arith, h.slots_in_all);
+  looks_low = h.looks_low;
   callers_low = h.callers_low;
   callers_high = omega (arith, h.callers_high);
 }
@@ -89,20 +91,22 @@ Decides-counts g =
       slots_low = p.1.1.0.0;
       slots_high = p.1.1.0.1;
       slots_in_all = p.1.1.1.0;
-      callers_low = p.1.1.1.1.0;
-      callers_high = p.1.1.1.1.1;
+      looks_low = p.1.1.1.1.0;
+      callers_low = p.1.1.1.1.1.0;
+      callers_high = p.1.1.1.1.1.1;
     })
     (λ h. (
       (h.schedulers_low, h.schedulers_high),
       (
         (h.processes_low, h.processes_high),
-        ((h.slots_low, h.slots_high), (h.slots_in_all, (h.callers_low, h.callers_high))),
+        ((h.slots_low, h.slots_high), (h.slots_in_all, (h.looks_low, (h.callers_low, h.callers_high)))),
       ),
     ))
     (Decides-and _ _ (within 1 g.schedulers MOST_SCHEDULERS)
     (Decides-and _ _ (within 1 g.processes MOST_PROCESSES)
     (Decides-and _ _ (within 1 g.slots MOST_SLOTS)
-    (Decides-and _ _ (Decides-nat_le _ _) (within 1 g.callers MOST_CALLERS)))))
+    (Decides-and _ _ (Decides-nat_le _ _)
+    (Decides-and _ _ (Decides-nat_le _ _) (within 1 g.callers MOST_CALLERS))))))
 
 pub Decides-checked : (g : Settings) → Decides (is_checked g) (IsChecked g × IsSmall g)
 unfolding is_checked

@@ -6,6 +6,7 @@ use Rattle.std.proofs.lemmas.List.Elements.{All-nil, All-cons, All-head, All-tai
 use Rattle.serde_json.specs.Data.{Data}
 use Rattle.ert_defs.specs.Settings.{IsChecked}
 use Rattle.ert_defs.specs.declared.settings.Settings.{Settings}
+use Rattle.ert_defs.specs.declared.settings.TheConstants.{SCENARIO_LOOKS}
 use Rattle.ert_ops.specs.Labels.{AreOps}
 use Rattle.ert_ops.specs.Races.{Race, IsRace, MayDo, MayDoAll, IsCallersOp, lists_of as race_parts, ops_in}
 use Rattle.ert_ops.specs.Ranges.{AreOpsInRange}
@@ -47,26 +48,30 @@ whole g labels (Err fault ∷ raws) k h = absurd (cc)
 
 -- ---- the settings
 
-valid_settings : (race : Bool) (d : Data) (g : Settings) → settings_from race d ≡ Ok g → IsChecked g
+-- a service can be opened with settings, and a start looks at as many slots as one of a scenario does
+abbrev FitsScenarios : Settings → Type 0
+FitsScenarios g = IsChecked g × (g.looks ≡ SCENARIO_LOOKS)
+
+valid_settings : (race : Bool) (d : Data) (g : Settings) → settings_from race d ≡ Ok g → FitsScenarios g
 unfolding settings_from
 valid_settings race d g h =
     let f = follows (head_of race d) _ g h in
     let fits = in_range_parts (is_checked (settings_with f.read)) (settings_with f.read) g f.then in
-    subst IsChecked fits.1 ((Decides-checked (settings_with f.read)).0 fits.0).0
+    subst FitsScenarios fits.1 (((Decides-checked (settings_with f.read)).0 fits.0).0, refl)
 
-valid_top : (race : Bool) (d : Data) (top : Top) → top_of race d ≡ Ok top → IsChecked top.settings
+valid_top : (race : Bool) (d : Data) (top : Top) → top_of race d ≡ Ok top → FitsScenarios top.settings
 unfolding top_of
 valid_top false d top h =
     let f = follows (settings_from false d) _ top h in
     let made : Ok (record { settings = f.read; turns = 0 }) ≡ Ok top = f.then in
     let same : record { settings = f.read; turns = 0 } ≡ top = cc in
-    subst IsChecked (ap (λ (t : Top). t.settings) same) (valid_settings false d f.read f.was)
+    subst FitsScenarios (ap (λ (t : Top). t.settings) same) (valid_settings false d f.read f.was)
 valid_top true d top h =
     let f = follows (read_both (settings_from true d) (field (codes "race") race_turns d)) _ top h in
     let parts = both_ok (settings_from true d) (field (codes "race") race_turns d) f.read f.was in
     let made : Ok (record { settings = f.read.0; turns = f.read.1 }) ≡ Ok top = f.then in
     let same : record { settings = f.read.0; turns = f.read.1 } ≡ top = cc in
-    subst IsChecked (ap (λ (t : Top). t.settings) same) (valid_settings true d f.read.0 parts.first)
+    subst FitsScenarios (ap (λ (t : Top). t.settings) same) (valid_settings true d f.read.0 parts.first)
 
 with_more : (g : Settings) (lists : ℕ) → lists ≤ 16 → IsChecked g → IsChecked (with_callers (1 + lists) g)
 with_more g lists few h = record {
@@ -81,6 +86,7 @@ with_more g lists few h = record {
     slots_low = h.counts.slots_low;
     slots_high = h.counts.slots_high;
     slots_in_all = h.counts.slots_in_all;
+    looks_low = h.counts.looks_low;
     callers_low = omega arith;
     callers_high = omega arith;
   };
@@ -146,6 +152,7 @@ maybe_race g ops format turns (Some race) few fits labels = race_valid g ops for
 -- what holds of settings, ops and race
 pub record IsValidPlan (plan : Plan) : Type 0 where
   pub settings : IsChecked plan.settings
+  pub looks : plan.settings.looks ≡ SCENARIO_LOOKS
   pub ops : AreOpsInRange plan.settings plan.ops
   pub labels : AreOps plan.ops
   pub race : IfSome plan.race (IsValidRace plan.settings plan.ops)
@@ -177,16 +184,17 @@ tested_plan race d plan h =
       few = subst (λ (xs : List (FoundOrFault Op)). AreFew (length xs) (list_count all.lists.race) a.top.turns) opened a.few;
     }
 
-valid_parts : (g : Settings) (format : Format) (lists : OpValues) (top : Top) (flat : List Op) → IsChecked top.settings → list_count lists.race ≤ 16 → top.turns ≤ 10000
+valid_parts : (g : Settings) (format : Format) (lists : OpValues) (top : Top) (flat : List Op) → FitsScenarios top.settings → list_count lists.race ≤ 16 → top.turns ≤ 10000
     → flat ≡ (planned format lists top).ops ++ race_ops (planned format lists top).race → AreOpsInRange top.settings flat → AreOps flat
     → IsValidPlan (planned format lists top)
-valid_parts g format lists top flat checked few turns is fits labels =
+valid_parts g format lists top flat opens few turns is fits labels =
     let ops = (planned format lists top).ops in
     let race = race_ops (planned format lists top).race in
     let in_all : AreOpsInRange top.settings (ops ++ race) = subst (AreOpsInRange top.settings) is fits in
     let labels_in_all : AreOps (ops ++ race) = subst AreOps is labels in
     record {
-      settings = with_more top.settings (list_count lists.race) few checked;
+      settings = with_more top.settings (list_count lists.race) few opens.0;
+      looks = opens.1;
       ops = all_in_range top.settings (1 + list_count lists.race) ops (range_front top.settings ops race in_all);
       labels = ops_front ops race labels_in_all;
       race = maybe_race top.settings ops format top.turns lists.race turns (range_back top.settings ops race in_all) labels_in_all;

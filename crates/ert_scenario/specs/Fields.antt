@@ -9,6 +9,7 @@ use Rattle.ert_defs.specs.declared.settings.Mode.{Mode}
 use Rattle.ert_defs.specs.declared.settings.Mode.TheVariants.{No, Single, Multi}
 use Rattle.ert_defs.specs.declared.settings.Reading.{Reading}
 use Rattle.ert_defs.specs.declared.settings.Settings.{Settings}
+use Rattle.ert_defs.specs.declared.settings.TheConstants.{SCENARIO_LOOKS}
 use Rattle.ert_scenario.specs.Kinds.{FoundOrFault, ◌>>=◌, read_both, of_kind, if_in_range, integer, word, non_negative, boolean, text, called, or_absent, listed_reading}
 use Rattle.ert_scenario.specs.Ranges.{is_checked}
 use Rattle.ert_scenario.specs.declared.fault.Fault.TheVariants.{Shape}
@@ -106,6 +107,7 @@ settings_with head = record {
   schedulers = head.sizes.schedulers;
   processes = head.sizes.processes;
   slots = head.sizes.slots;
+  looks = SCENARIO_LOOKS;
   callers = 1;
   first = head.clock.first;
 }

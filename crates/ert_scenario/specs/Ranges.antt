@@ -25,7 +25,8 @@ has_counts g = (nat_le 1 g.schedulers && nat_le g.schedulers MOST_SCHEDULERS)
     && ((nat_le 1 g.processes && nat_le g.processes MOST_PROCESSES)
     && ((nat_le 1 g.slots && nat_le g.slots MOST_SLOTS)
     && (nat_le (g.schedulers * g.slots) MOST_SLOTS_IN_ALL
-    && (nat_le 1 g.callers && nat_le g.callers MOST_CALLERS))))
+    && (nat_le 1 g.looks
+    && (nat_le 1 g.callers && nat_le g.callers MOST_CALLERS)))))
 
 -- whether a scenario can have the settings
 unfoldable pub is_checked : Settings → Bool

@@ -13,7 +13,7 @@ ghost use Rattle.ert_scenario.specs.Ranges.{has_counts, is_checked};
 use crate::fault::Fault;
 use crate::kinds::{boolean, both, count_of, in_range, integer, present, reading, text, word};
 use crate::limits::{MOST_CALLERS, MOST_PROCESSES, MOST_SCHEDULERS, MOST_SLOTS, MOST_SLOTS_IN_ALL};
-use ert_defs::{Mode, Reading, Settings};
+use ert_defs::{Mode, Reading, SCENARIO_LOOKS, Settings};
 use serde_json::{Map, Value};
 
 /// What stands at place 0 beside the lists of ops.
@@ -284,6 +284,7 @@ fn settings_with(head: Head) -> Settings
         schedulers: head.sizes.schedulers,
         processes: head.sizes.processes,
         slots: head.sizes.slots,
+        looks: SCENARIO_LOOKS,
         callers: 1,
         first: head.clock.first,
     }
@@ -311,6 +312,7 @@ fn is_small(settings: &Settings) -> bool
         && 1 <= settings.slots
         && settings.slots <= MOST_SLOTS
         && slots <= MOST_SLOTS_IN_ALL as u64
+        && 1 <= settings.looks
         && 1 <= settings.callers
         && settings.callers <= MOST_CALLERS
 }

@@ -17,6 +17,7 @@ ghost use Rattle.ert_scenario.specs.Scenarios.{Plan, IsValue, IsScenario, HasRef
 ghost use Rattle.ert_scenario.specs.declared.scenario.ScenarioErr.{ScenarioErr as Refusal};
 
 use crate::scenario::ScenarioErr;
+use ert_defs::SCENARIO_LOOKS;
 
 /// Bytes are a scenario or have a refusal, never both, and at most one of each: with `some_verdict`,
 /// exactly one of all. So it is where a race is wanted, and where none is.
@@ -35,13 +36,16 @@ pub fn some_verdict()
         → ((plan : Plan) × IsScenario race bytes plan) ⊎ ((e : Refusal) × HasRefusal race bytes e) }
 {}
 
-/// What holds of every scenario: a service can be opened with its settings, the arguments of its ops are in
-/// range there, no two starts have one label, and there are at most 100,000 ops. It has a race exactly where
-/// one is wanted: its threads may do their ops, no two starts of all lists have one label, the list of the
-/// clock's thread has such ops alone as that thread does, and those of callers such as callers do.
+/// What holds of every scenario: a service can be opened with its settings, where a start looks at
+/// `SCENARIO_LOOKS` slots, the arguments of its ops are in range there, no two starts have one label, and there
+/// are at most 100,000 ops. It has a race exactly where one is wanted: its threads may do their ops, no two
+/// starts of all lists have one label, the list of the clock's thread has such ops alone as that thread does,
+/// and those of callers such as callers do.
 pub fn scenarios_are_valid()
     ensures settings { (race : Bool) (bytes : List ℕ) (plan : Plan)
         → IsScenario race bytes plan → IsChecked plan.settings }
+    ensures looks { (race : Bool) (bytes : List ℕ) (plan : Plan)
+        → IsScenario race bytes plan → plan.settings.looks ≡ SCENARIO_LOOKS }
     ensures ops { (race : Bool) (bytes : List ℕ) (plan : Plan)
         → IsScenario race bytes plan → AreOpsInRange plan.settings plan.ops }
     ensures labels { (race : Bool) (bytes : List ℕ) (plan : Plan)

@@ -24,8 +24,9 @@ impl<'a, L: DeskName, R: Wait> CallerSession<'a, L, R> {
     /// Starts a timer on a wheel (`erlang` module reference, `start_timer` and `send_after`).
     ///
     /// BadArg comes where the start has no deadline at the time of the call, and Full where each slot of the
-    /// wheel that was looked at is taken or rests (`MOST_LOOKS` of `ert_effects`), or the wheel has had 2^53 timers. A timer for a process that has exited is started
-    /// and cancelled at once, so that it is settled when the call returns. No memory is taken.
+    /// wheel that was looked at is taken or rests (`Settings::looks`), or the wheel has had 2^53 timers. A timer for a
+    /// process that has exited is started and cancelled at once, so that it is settled when the call returns.
+    /// No memory is taken.
     pub fn start(&mut self, wheel: u32, start: &Start) -> Result<TimerRef, StartErr>
         requires wheel { wheel < L.settings.schedulers }
         requires dest { start.now.dest < L.settings.processes }

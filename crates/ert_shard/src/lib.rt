@@ -17,7 +17,7 @@
 //! | `Hub::tick`, `finalize` | the clock, with caller 0 | takes a reading; finalizes the offset | constant |
 //! | `monotonic_time`, `time_offset`, `system_time` | caller 0 or the shard's | reads the clock | constant |
 //! | `cancel_timer`, `read_timer`, `is_alive` | caller 0 or the shard's | cancels or reads a timer of any wheel; looks whether a process has exited | constant |
-//! | `Shard::start` | the shard's caller | starts a timer for a process of the shard | constant where a slot is known to be free, else 131,072 slots of the wheel at most |
+//! | `Shard::start` | the shard's caller | starts a timer for a process of the shard | constant where a slot is known to be free, else the settings' `looks` at most |
 //! | `Shard::restart` | the shard's caller | gives an armed timer of any wheel a new deadline, on the shard's wheel | as a cancel and a start |
 //! | `Shard::exit` | the shard's caller | lets a process exit, and cancels its timers | those timers |
 //! | `Shard::ask` | the shard's caller | asks the shard's scheduler to cancel or to read a timer of any wheel | constant |

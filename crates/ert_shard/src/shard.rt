@@ -113,8 +113,8 @@ impl Shard {
     /// `send_after`).
     ///
     /// BadArg comes where the start has no deadline at the time of the call, and Full where each slot of the wheel
-    /// that was looked at is taken or rests (`MOST_LOOKS` of `ert_effects`), or the wheel has had 2^53 timers. A timer for a process that has exited is started and
-    /// cancelled at once. No memory is taken.
+    /// that was looked at is taken or rests (`Settings::looks`), or the wheel has had 2^53 timers. A timer for a process
+    /// that has exited is started and cancelled at once. No memory is taken.
     #[inline(always)]
     pub fn start(&mut self, start: &Start) -> Result<TimerRef, StartErr>
         requires { IsHome self.old.share start.now.dest }

@@ -1,10 +1,11 @@
 -- The formats of events, entries and settings.
 
-use Rattle.std.proofs.Common.{◌≡◌, List, [], ◌∷◌, ◌++◌, Some, refl}
+use Rattle.std.proofs.Common.{◌≡◌, ℕ, List, [], ◌∷◌, ◌++◌, Some, refl, sym, ap}
 use Rattle.std.specs.Prelude.{codes}
 use Rattle.ert_defs.specs.declared.entry.Event.{Event}
 use Rattle.ert_defs.specs.declared.entry.Event.TheVariants.{Tick, Shift, Look, Off, Arm, Probe, Peek, Cancel, Expire, Orphan, Deliver, Drop, Mark, Advanced, Ask, Pick, Answer, Take, Unwatch, Watch, Tell}
 use Rattle.ert_defs.specs.declared.settings.Settings.{Settings}
+use Rattle.ert_defs.specs.declared.settings.TheConstants.{SCENARIO_LOOKS}
 use Rattle.ert_spelling.specs.Entries.{event_words, entry_words, settings_words}
 use Rattle.ert_spelling.specs.Events.{read_tick, read_shift, read_look, read_off, read_arm, read_probe, read_peek, read_cancel, read_expire, read_orphan, read_deliver, read_drop, read_mark, read_advanced, read_ask, read_pick, read_answer, read_take, read_unwatch, read_watch, read_tell, event_rows, read_event, read_one_entry, read_fields, read_later_fields, settings_rows, read_settings}
 use Rattle.ert_spelling.specs.Fits.{FitsEvent, FitsEntry, FitsSettings}
@@ -242,7 +243,7 @@ fields =
     then-gives mode _ _ (λ m _. then-gives truth _ _ (λ c _. then-gives integer _ _ (λ start f1.
     then-gives small _ _ (λ schedulers f2. then-gives small _ _ (λ processes f3.
     then-gives small _ _ (λ slots f4. then-gives small _ _ (λ callers f5. then-gives reading _ _ (λ first f6.
-    done-gives _ _ refl (record { start = f1; schedulers = f2; processes = f3; slots = f4; callers = f5; first = f6 })))))))))
+    done-gives _ _ refl (record { start = f1; schedulers = f2; processes = f3; slots = f4; looks = refl; callers = f5; first = f6 })))))))))
 
 settings-again : (g : Settings) (rest : List Word) → FitsSettings g → read_settings (settings_words g ++ rest) ≡ Some (g, rest)
 unfolding read_settings read_fields read_later_fields
@@ -250,7 +251,10 @@ settings-again g rest f = choice-again settings_rows (codes "settings") _ _ refl
     then-again mode _ g.mode _ _ tt (then-again truth _ g.correction _ _ tt (
     then-again integer _ g.start _ _ f.start (then-again small _ g.schedulers _ _ f.schedulers (
     then-again small _ g.processes _ _ f.processes (then-again small _ g.slots _ _ f.slots (
-    then-again small _ g.callers _ _ f.callers (then-again reading _ g.first rest _ f.first refl))))))))
+    then-again small _ g.callers _ _ f.callers (then-again reading _ g.first rest _ f.first same))))))))
+  where
+    same : Some (record g { looks = SCENARIO_LOOKS }, rest) ≡ Some (g, rest)
+    same = ap (λ (n : ℕ). Some (record g { looks = n }, rest)) (sym f.looks)
 
 pub settings : IsFormat settings_words FitsSettings read_settings
 unfolding read_settings

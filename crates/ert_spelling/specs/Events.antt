@@ -6,6 +6,7 @@ use Rattle.ert_defs.specs.declared.entry.Event.{Event}
 use Rattle.ert_defs.specs.declared.entry.Event.TheVariants.{Tick, Shift, Look, Off, Arm, Probe, Peek, Cancel, Expire, Orphan, Deliver, Drop, Mark, Advanced, Ask, Pick, Answer, Take, Unwatch, Watch, Tell}
 use Rattle.ert_defs.specs.declared.settings.Mode.{Mode}
 use Rattle.ert_defs.specs.declared.settings.Settings.{Settings}
+use Rattle.ert_defs.specs.declared.settings.TheConstants.{SCENARIO_LOOKS}
 use Rattle.ert_spelling.specs.Parts.{Word}
 use Rattle.ert_spelling.specs.Readers.{Reader, ◌>>=◌, done, choice, optional}
 use Rattle.ert_spelling.specs.Reading.{read_small, read_natural, read_integer, read_bool, read_mode, read_state, read_act, read_status, read_actor, read_with, read_reading, read_timer, read_start, read_request, read_left, read_mail}
@@ -200,7 +201,7 @@ read_one_entry = do
   event ← read_event
   done (record { by = by; with = with; event = event })
 
--- the fields of settings after these
+-- the fields of settings after these; the looks are those of scenarios, since no rule of a history speaks of them
 unfoldable pub read_later_fields : Mode → Bool → ℤ → ℕ → Reader Settings
 read_later_fields mode correction start schedulers = do
   processes ← read_small
@@ -214,6 +215,7 @@ read_later_fields mode correction start schedulers = do
     schedulers = schedulers;
     processes = processes;
     slots = slots;
+    looks = SCENARIO_LOOKS;
     callers = callers;
     first = first;
   })

@@ -1,6 +1,6 @@
 -- The ranges of the numbers in settings and entries: those of their types in the code.
 
-use Rattle.std.specs.Prelude.{ℕ, ℤ, ◌^◌, ◌<◌, Option, FitsSigned, IfSome}
+use Rattle.std.specs.Prelude.{◌≡◌, ℕ, ℤ, ◌^◌, ◌<◌, Option, FitsSigned, IfSome}
 use Rattle.std.specs.Int.{w64}
 use Rattle.ert_defs.specs.declared.entry.Actor.{Actor}
 use Rattle.ert_defs.specs.declared.entry.Actor.TheVariants.{Keeper, Wheel, Inbox, Sched, MailOf, Caller}
@@ -12,6 +12,7 @@ use Rattle.ert_defs.specs.declared.mail.Mail.TheVariants.{Timeout, Bare as BareM
 use Rattle.ert_defs.specs.declared.mail.Request.{Request}
 use Rattle.ert_defs.specs.declared.settings.Reading.{Reading}
 use Rattle.ert_defs.specs.declared.settings.Settings.{Settings}
+use Rattle.ert_defs.specs.declared.settings.TheConstants.{SCENARIO_LOOKS}
 use Rattle.ert_defs.specs.declared.timer.Start.{Start}
 use Rattle.ert_defs.specs.declared.timer.TimerRef.{TimerRef}
 use Rattle.ert_defs.specs.declared.timer.When.{When}
@@ -101,11 +102,12 @@ pub record FitsEntry (e : Entry) : Type 0 where
   pub with : IfSome e.with FitsActor
   pub event : FitsEvent e.event
 
--- settings
+-- settings; their looks stand in no line, and are those of scenarios
 pub record FitsSettings (g : Settings) : Type 0 where
   pub start : FitsInt g.start
   pub schedulers : Fits32 g.schedulers
   pub processes : Fits32 g.processes
   pub slots : Fits32 g.slots
+  pub looks : g.looks ≡ SCENARIO_LOOKS
   pub callers : Fits32 g.callers
   pub first : FitsReading g.first

@@ -8,7 +8,7 @@ ghost use Rattle.ert_spelling.specs.Events.{read_fields, read_later_fields, read
 
 use crate::numbers::{integer, small};
 use crate::words::{Words, next_text, truth};
-use ert_defs::{Act, Mode, OffsetState, Reading, Settings};
+use ert_defs::{Act, Mode, OffsetState, Reading, SCENARIO_LOOKS, Settings};
 
 /// The settings that a line is.
 #[tactic(auto, using(crate::proofs::Splits::something_left), unfolding(crate::specs::Events::read_settings))]
@@ -37,7 +37,8 @@ fn fields(words: Words) -> Option<(Settings, Words)>
     later_fields(mode, correction, start, schedulers, words)
 }
 
-/// The fields of settings after these.
+/// The fields of settings after these. The looks stand in no line, since no rule of a history speaks of them: they are
+/// those of scenarios.
 #[tactic(auto, unfolding(crate::specs::Events::read_later_fields))]
 fn later_fields(
     mode: Mode,
@@ -60,6 +61,7 @@ fn later_fields(
             schedulers,
             processes,
             slots,
+            looks: SCENARIO_LOOKS,
             callers,
             first,
         },

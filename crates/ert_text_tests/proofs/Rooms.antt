@@ -12,22 +12,22 @@ use Rattle.ert_program.proofs.InMemory.{OneScenario, read_whole}
 use Rattle.ert_program.specs.Inputs.{DidAll, MayWriteOfPlan}
 use Rattle.ert_program.specs.Runs.{RunOf, InputFits}
 
--- the ops of a scenario have labels of their own
+-- the ops of a scenario have labels of their own, and a start looks at as many slots as there are ops
 abbrev pub AllOps : Type 0
-AllOps = (race : Bool) (bytes : List ℕ) (plan : Plan) → IsScenario race bytes plan → AreOps plan.ops
+AllOps = (race : Bool) (bytes : List ℕ) (plan : Plan) → IsScenario race bytes plan → AreOps plan.ops × (length plan.ops ≤ plan.settings.looks)
 
 -- what may be written of a plan is no longer than a transcript of it
-no_longer : (plan : Plan) (text whole : List ℕ) → AreOps plan.ops → IsTranscript plan.settings plan.ops whole → MayWriteOfPlan RunOf plan text → length text ≤ length whole
+no_longer : (plan : Plan) (text whole : List ℕ) → AreOps plan.ops × (length plan.ops ≤ plan.settings.looks) → IsTranscript plan.settings plan.ops whole → MayWriteOfPlan RunOf plan text → length text ≤ length whole
 no_longer plan text whole are is (inl begins) =
-    let front = first_lines plan.settings plan.ops begins.done begins.entries begins.replies begins.labels are begins.legal begins.runs in
+    let front = first_lines plan.settings plan.ops begins.done begins.entries begins.replies begins.labels are.0 are.1 begins.legal begins.runs in
     let lines : List ℕ = lines_of [] (take begins.done plan.ops) begins.replies in
-    let all : whole ≡ lines ++ front.0 = one_text plan.settings plan.ops whole are is ∙ sym front.1 in
+    let all : whole ≡ lines ++ front.0 = one_text plan.settings plan.ops whole are.0 are.1 is ∙ sym front.1 in
     let long : length whole ≡ length lines + length front.0 = ap (λ (t : List ℕ). length t) all ∙ length-append lines front.0 in
     let same : length text ≡ length lines = ap (λ (t : List ℕ). length t) begins.reads in
     omega arith
 no_longer plan text whole are is (inr ran) =
     let ran_is : IsTranscript plan.settings plan.ops text = ran.1.is in
-    let same : text ≡ whole = one_text plan.settings plan.ops text are ran_is ∙ sym (one_text plan.settings plan.ops whole are is) in
+    let same : text ≡ whole = one_text plan.settings plan.ops text are.0 are.1 ran_is ∙ sym (one_text plan.settings plan.ops whole are.0 are.1 is) in
     let long : length text ≡ length whole = ap (λ (t : List ℕ). length t) same in
     omega arith
 

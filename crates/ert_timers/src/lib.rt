@@ -26,10 +26,10 @@
 //! reference ever names two timers. A slot's round is the first exactly where its last generation is below
 //! 2^43, so nothing is kept of when it began.
 //!
-//! A slot that rests isn't held free. Where a start finds no slot held free it looks at `MOST_LOOKS` slots, or at all
-//! where there are fewer, from where the last such look stopped, round and round, and holds those free that have rested
-//! by the time of its look. It answers `Full` where each of them is taken or rests, or where the wheel has had 2^53
-//! timers, which bounds all counts.
+//! A slot that rests isn't held free. Where a start finds no slot held free it looks at as many slots as the settings'
+//! `looks`, or at all where there are fewer, from where the last such look stopped, round and round, and holds those free
+//! that have rested by the time of its look. It answers `Full` where each of them is taken or rests, or where the wheel
+//! has had 2^53 timers, which bounds all counts.
 //!
 //! How long a slot rests depends on the longest wait of its round. So the slots that are held free stand on two stacks,
 //! one of them for those that have had a long wait. One that is freed goes to the other, since nothing of it is read then.
@@ -44,7 +44,7 @@
 //!
 //! | call | what it does | work |
 //! |---|---|---|
-//! | `start` | looks at the time, stores the word of a free slot, asks whether the destination has exited | constant; `MOST_LOOKS` slots at most where none is held free |
+//! | `start` | looks at the time, stores the word of a free slot, asks whether the destination has exited | constant; where none is held free the settings' `looks` at most, or all slots where there are fewer |
 //! | `start_again` | starts a timer in the place of one that was settled just before, whose slot takes it at once | as `start` |
 //! | `advance` | looks at the time, and tries each due timer in order of deadline and then of start | the due timers and the buckets that are visited |
 //! | `advance_some` | does so with so many timers at most, and tells whether more are due | the timers that it tries, one bucket where a window begins, and late timers (`ert_wheel`, `Wheel::first_due`) |

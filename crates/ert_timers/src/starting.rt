@@ -31,12 +31,12 @@ impl WheelPart {
     /// itself looks up.
     ///
     /// Where no slot is known to be free, as many as the settings' `looks` are looked at, or all where there are fewer,
-    /// from where the last such look stopped, round and round. It is `Full` only where each of them is taken or rests, or where the
-    /// wheel has had 2^53 timers. Known to be free are the slots whose timer a caller cancelled that held the part, or
-    /// was delivered or dropped, and whose round has uses left. So a look finds none but those whose timer somebody
-    /// cancelled that didn't hold the part, and those whose rest has just ended: of these a start of a wheel with more
-    /// slots may see none, and the next ones go on. A timer for a process that has exited is started, and cancelled at
-    /// once. No memory is taken.
+    /// from where the last such look stopped, round and round. It is `Full` only where each of them is taken or rests,
+    /// or where the wheel has had 2^53 timers. Known to be free are the slots whose timer a caller cancelled that held
+    /// the part, or was delivered or dropped, and whose round has uses left. So a look finds none but those whose timer
+    /// somebody cancelled that didn't hold the part, and those whose rest has just ended: of these a start of a wheel
+    /// with more slots may see none, and the next ones go on. A timer for a process that has exited is started, and
+    /// cancelled at once. No memory is taken.
     #[inline(always)]
     pub fn start(
         &mut self,

@@ -4,6 +4,7 @@
 use Rattle.std.specs.Prelude.{ℕ, pos, false, List, [], ◌∷◌}
 use Rattle.ert_defs.specs.declared.settings.Mode.TheVariants.{No}
 use Rattle.ert_defs.specs.declared.settings.Settings.{Settings}
+use Rattle.ert_defs.specs.declared.settings.TheConstants.{SCENARIO_LOOKS}
 use Rattle.ert_defs.specs.declared.timer.When.TheVariants.{After}
 use Rattle.ert_ops.specs.declared.op.Op.{Op}
 use Rattle.ert_ops.specs.declared.op.Op.TheVariants.{Start, Cancel}
@@ -27,6 +28,7 @@ plain = record {
   schedulers = 1;
   processes = 1;
   slots = 1024;
+  looks = SCENARIO_LOOKS;
   callers = 1;
   first = record { mono = pos 0; sys = pos 0 };
 }

@@ -15,7 +15,7 @@
 //! | `meet` | | lets the world and a seat learn what the other knows | constant |
 //! | `tick`, `finalize` | the clock, with caller 0 | takes a reading; finalizes the offset | constant |
 //! | `monotonic_time`, `time_offset`, `system_time` | caller 0 or a seat | reads the clock | constant |
-//! | `start` | caller 0 | starts a timer on a wheel | constant where a slot is known to be free, else 131,072 slots of the wheel at most |
+//! | `start` | caller 0 | starts a timer on a wheel | constant where a slot is known to be free, else the settings' `looks` at most |
 //! | `room` | caller 0 | looks how many slots of a wheel can take a timer | each slot of the wheel |
 //! | `cancel_timer` | caller 0 or a seat | cancels a timer; the world's also lets its wheel forget it | constant |
 //! | `restart` | caller 0 | cancels an armed timer and starts one on its wheel | as `cancel_timer` and `start` |

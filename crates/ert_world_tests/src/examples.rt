@@ -22,6 +22,7 @@ pub(crate) const SETTINGS: Settings = Settings {
     schedulers: 1,
     processes: 1,
     slots: 64,
+    looks: 64,
     callers: 1,
     first: Reading { mono: 0, sys: 0 },
 };

@@ -35,6 +35,7 @@ static const ert_settings plain = {
     .processes = 3,
     .slots = 2,
     .callers = 1,
+    .looks = 64,
     .start = 0,
     .first = {1000 * MILLISECOND, 5000 * MILLISECOND},
 };
@@ -112,6 +113,7 @@ static void bad_settings(void) {
     s = plain, s.slots = 16777217, refuse(s, ERT_BAD_COUNT);
     s = plain, s.schedulers = 5, s.slots = 16777216, refuse(s, ERT_BAD_COUNT);
     s = plain, s.callers = 1026, refuse(s, ERT_BAD_COUNT);
+    s = plain, s.looks = 0, refuse(s, ERT_BAD_COUNT);
 }
 
 static void open_twice(void) {
@@ -381,6 +383,39 @@ static void monitor_calls(void) {
     IS(ert_world_close(&w), ERT_OK);
 }
 
+/*
+ * A start that knows of no free slot looks at so many as the settings say, from where the last such look stopped: so it
+ * is refused until the looks come to the slot whose timer a seat has cancelled. What the world cancels is known at once.
+ */
+static void few_looks(void) {
+    ert_world w = ERT_INIT;
+    ert_seat seat = ERT_INIT;
+    ert_settings settings = plain;
+    ert_start start = {.when = 50};
+    ert_timer timers[4], timer;
+    uint64_t left;
+    settings.slots = 4;
+    settings.callers = 2;
+    settings.looks = 1;
+    IS(ert_world_open(&w, &settings), ERT_OK);
+    IS(ert_seat_open(&seat, &w), ERT_OK);
+    for (uint32_t i = 0; i < 4; i++) {
+        IS(ert_world_start(&w, 0, &start, &timers[i]), ERT_OK);
+        IS(timers[i].slot, i);
+    }
+    IS(ert_world_start(&w, 0, &start, &timer), ERT_FULL);
+    IS(ert_seat_cancel(&seat, &timers[2], &left), ERT_OK);
+    IS(ert_world_start(&w, 0, &start, &timer), ERT_FULL);
+    IS(ert_world_start(&w, 0, &start, &timer), ERT_OK);
+    IS(timer.slot, 2);
+    IS(ert_world_start(&w, 0, &start, &timer), ERT_FULL);
+    IS(ert_world_cancel(&w, &timers[1], &left), ERT_OK);
+    IS(ert_world_start(&w, 0, &start, &timer), ERT_OK);
+    IS(timer.slot, 1);
+    IS(ert_world_close(&w), ERT_OK);
+    IS(ert_seat_close(&seat), ERT_OK);
+}
+
 static void seat_calls(void) {
     ert_world w = ERT_INIT;
     ert_seat a = ERT_INIT, b = ERT_INIT, c = ERT_INIT;
@@ -469,6 +504,7 @@ int main(void) {
     request_calls();
     process_calls();
     monitor_calls();
+    few_looks();
     seat_calls();
     if (failed != 0) {
         return EXIT_FAILURE;

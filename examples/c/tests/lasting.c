@@ -220,7 +220,7 @@ static int by_number(const void *a, const void *b) {
 
 /* So many timers: half are cancelled at once, and the others stay until they are due or are cancelled later. */
 static void live(uint32_t of_slots, uint32_t timers) {
-    ert_settings settings = {.size = sizeof settings, .schedulers = 1, .processes = 1, .slots = of_slots, .callers = 2};
+    ert_settings settings = {.size = sizeof settings, .schedulers = 1, .processes = 1, .slots = of_slots, .callers = 2, .looks = 64};
     slots = of_slots;
     now = 0;
     olds = 0;
@@ -281,7 +281,7 @@ static void live(uint32_t of_slots, uint32_t timers) {
 
 /* A slot that has had its uses rests until the last deadline has passed: full until then, and not an instant longer. */
 static void rest(void) {
-    ert_settings settings = {.size = sizeof settings, .schedulers = 1, .processes = 1, .slots = 1, .callers = 2};
+    ert_settings settings = {.size = sizeof settings, .schedulers = 1, .processes = 1, .slots = 1, .callers = 2, .looks = 64};
     ert_start week = {.when = 604800000}, soon = {.when = 1};
     ert_timer first, timer, later;
     uint64_t left;
@@ -339,7 +339,7 @@ static ert_timer taken(int64_t wait, uint32_t slot, uint64_t generation) {
  * expired timer is taken until its message is delivered, and then by the next start.
  */
 static void which(void) {
-    ert_settings settings = {.size = sizeof settings, .schedulers = 1, .processes = 1, .slots = 8, .callers = 2};
+    ert_settings settings = {.size = sizeof settings, .schedulers = 1, .processes = 1, .slots = 8, .callers = 2, .looks = 64};
     ert_advanced advanced;
     ert_delivered delivered;
     uint64_t left;

@@ -43,6 +43,7 @@ static const ert_settings settings = {
     .processes = 2,
     .slots = 3,
     .callers = 2,
+    .looks = 64,
 };
 
 /* After ERT_NO_MEMORY the call can be made again. */

@@ -27,6 +27,7 @@ static const ert_settings plain = {
     .processes = 5,
     .slots = 2,
     .callers = 4,
+    .looks = 64,
     .start = 0,
     .first = {1000 * MILLISECOND, 5000 * MILLISECOND},
 };

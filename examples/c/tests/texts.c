@@ -109,6 +109,7 @@ static void recommended(void) {
     IS(settings.mode, ERT_MULTI_WARP);
     IS(settings.correction, 1);
     IS(settings.slots, 1024);
+    IS(settings.looks, 64);
     IS(settings.start, 0);
     IS(ert_world_open(&world, &settings), ERT_OK);
     IS(ert_world_monotonic_time(&world, &time), ERT_OK);

@@ -38,6 +38,7 @@ static void open_at(int64_t milliseconds) {
         .processes = 1,
         .slots = SLOTS,
         .callers = 1,
+        .looks = 64,
     };
     ert_turned turned;
     IS(ert_world_open(&world, &settings), ERT_OK);

@@ -18,6 +18,7 @@ pub(crate) const SETTINGS: Settings = Settings {
     schedulers: 2,
     processes: 4,
     slots: 64,
+    looks: 64,
     callers: 4,
     first: Reading { mono: 0, sys: 0 },
 };

@@ -8,6 +8,9 @@ use Rattle.ert_scenario.proofs.laws.scenarios_are_valid.Goals as goal
 pub returns-clause-settings : goal.returns-clause-settings
 returns-clause-settings c race bytes plan h = (valid race h.0 plan h.2).settings
 
+pub returns-clause-looks : goal.returns-clause-looks
+returns-clause-looks c race bytes plan h = (valid race h.0 plan h.2).looks
+
 pub returns-clause-ops : goal.returns-clause-ops
 returns-clause-ops c race bytes plan h = (valid race h.0 plan h.2).ops
 
