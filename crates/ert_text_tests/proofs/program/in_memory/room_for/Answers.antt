@@ -9,6 +9,6 @@ returns c =
     let how : c.run-ended.result.status ≡ Done = search rules in
     room_told c.args.text.now c.bytes.result.now _ _ _ _ _ c.one_verdict.ensures.one_scenario c.one_verdict.ensures.never_both
     (λ race bytes plan is.
-        let are = c.scenarios_are_valid.ensures.labels race bytes plan is in
-        (are, omega (arith, are.few, c.scenarios_are_valid.ensures.looks race bytes plan is)))
+    let are = c.scenarios_are_valid.ensures.labels race bytes plan is in
+    (are, omega (arith, are.few, c.scenarios_are_valid.ensures.looks race bytes plan is)))
     (c.new-input.ensures.left ∙ ap (λ xs. Some xs) text) c.new-output.ensures.taken c.bytes.ensures (c.run-ended.ensures.ends.done how)
