@@ -1,3 +1,4 @@
 pub mod Looks
+pub mod Named
 pub mod Steps
 pub mod Timings

@@ -1,5 +1,5 @@
-ghost use Rattle.std.specs.Prelude.{◌≡◌};
-ghost use Rattle.ert_defs.specs.Legal.{names_timer};
+ghost use Rattle.std.specs.Prelude.{◌≡◌, ◌↔◌, IsTrue};
+ghost use Rattle.ert_defs.specs.Legal.{IsSlot, is_generation, names_timer};
 ghost use Rattle.ert_defs.specs.Timers as timers;
 
 use crate::settings::Settings;
@@ -30,10 +30,21 @@ impl TimerRef {
     pub fn is_in_range(&self, settings: &Settings) -> bool
         ensures { result ≡ names_timer settings.now self.now }
     {
-        self.wheel < settings.schedulers
-            && self.slot < settings.slots
-            && 1 <= use_of(self.generation)
-            && use_of(self.generation) <= USES_OF_ROUND
+        self.has_slot(settings) && self.has_generation()
+    }
+
+    /// Whether it names a slot: its wheel and its slot are in range.
+    pub fn has_slot(&self, settings: &Settings) -> bool
+        ensures { IsTrue result ↔ IsSlot settings.now self.now.wheel self.now.slot }
+    {
+        self.wheel < settings.schedulers && self.slot < settings.slots
+    }
+
+    /// Whether its generation is one that a timer can have.
+    pub fn has_generation(&self) -> bool
+        ensures { result ≡ is_generation self.now.generation }
+    {
+        1 <= use_of(self.generation) && use_of(self.generation) <= USES_OF_ROUND
     }
 }
 
