@@ -89,6 +89,7 @@
 
 mod chains;
 mod kept;
+mod keys;
 mod laws;
 mod links;
 mod marked;
@@ -99,5 +100,5 @@ mod walk;
 mod wheel;
 
 pub use laws::answers_come_closer;
-pub use row::{BUCKETS, Key, Row};
+pub use row::{BUCKETS, HeldRow, Key, Row};
 pub use wheel::Wheel;
