@@ -7,7 +7,7 @@ use Rattle.ert_wheel.proofs.Looking.{InBucket, key_low, told_alone}
 use Rattle.ert_wheel.proofs.Views.{place_is, held_in}
 use Rattle.ert_wheel.specs.FirstDue.{NoneDueIn, IsOldestDue}
 use Rattle.ert_wheel.specs.Rings.{Rings, Place, AreChains, StandsIn, order_of, FindsOldest}
-use Rattle.ert_wheel.specs.Rows.{key_in, row_in, told_at}
+use Rattle.ert_wheel.specs.Rows.{key_in, row_told, told_at}
 use Rattle.ert_wheel.specs.Wheels.{no_key, held_keys, place_of, places}
 use Rattle.ert_wheel.specs.declared.row.Key.{Key}
 use Rattle.ert_wheel.specs.declared.row.Row.{Row}
@@ -87,7 +87,7 @@ reads chains stored home bucket to slot here d t =
 -- its row is the oldest where it is due
 pub climb_finds : (chains : Rings) (stored : List Key) (home : Key → ℕ) (bucket to slot : ℕ) (here : Option ℕ) (d : Key)
     → Climbs chains stored home bucket to slot here → (get_or stored slot d).deadline ≤ to
-    → IsOldestDue (held_keys chains stored) home bucket to (row_in (held_keys chains stored) (told_at slot (get_or stored slot d)))
+    → IsOldestDue (held_keys chains stored) home bucket to (row_told (held_keys chains stored) (told_at slot (get_or stored slot d)))
 climb_finds chains stored home bucket to slot here d t due =
     let r = reads chains stored home bucket to slot here d t in
     subst (λ (row : Row). IsOldestDue (held_keys chains stored) home bucket to row)

@@ -1,6 +1,6 @@
 -- Rows of different slots are at most as many as slots.
 
-use Rattle.std.proofs.Common.{◌≡◌, ℕ, ◌+◌, ◌<◌, ◌≤◌, Bool, true, false, ◌&&◌, cond, nat_eq, nat_le, eqb, List, Option, Some, None, [], ◌∷◌, ◌++◌, length, length-append, get_or, map, sym, ap, inl, inr, refl, arith}
+use Rattle.std.proofs.Common.{◌≡◌, ℕ, ◌+◌, ◌<◌, ◌≤◌, Bool, true, false, ◌&&◌, cond, nat_eq, eqb, List, Option, Some, None, [], ◌∷◌, length, map, sym, ap, inl, inr, refl, arith}
 use Rattle.std.proofs.lemmas.Bool.{eqb-true, or_cases}
 use Rattle.std.proofs.lemmas.Bool.Decides.{eqb_tells}
 use Rattle.std.proofs.lemmas.List.{length-map}

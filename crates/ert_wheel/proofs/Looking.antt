@@ -5,7 +5,7 @@ use Rattle.std.proofs.Math.ListN.{get_or-eq_default}
 use Rattle.std.proofs.lemmas.Bool.{cases_lt}
 use Rattle.ert_wheel.proofs.Views.{key_stored, place_is, held_in}
 use Rattle.ert_wheel.specs.Rings.{Rings, Place, AreChains, StandsIn, bound_of, order_of, Finds}
-use Rattle.ert_wheel.specs.Rows.{key_in, order_of_key, row_at, row_in, told_at}
+use Rattle.ert_wheel.specs.Rows.{key_in, order_of_key, row_at, row_told, told_at}
 use Rattle.ert_wheel.specs.Wheels.{no_key, held_keys, place_of, places}
 use Rattle.ert_wheel.specs.declared.row.Key.{Key}
 use Rattle.ert_wheel.specs.declared.row.Row.{Row}
@@ -94,7 +94,7 @@ steps_fall chains stored home bucket slot here next t =
     omega (arith, a.follows.down, bound_same (λ _. 0) home keys next)
 
 -- a row that is told alone has the order of its key
-pub told_alone : (keys : List (Option Key)) (slot : ℕ) (key : Key) → key_in keys slot ≡ Some key → row_in keys (told_at slot key) ≡ row_at slot key
+pub told_alone : (keys : List (Option Key)) (slot : ℕ) (key : Key) → key_in keys slot ≡ Some key → row_told keys (told_at slot key) ≡ row_at slot key
 told_alone keys slot key has = ap (λ (o : Option Key). with_order o) has
   where
     with_order : Option Key → Row

@@ -32,12 +32,12 @@ order_of_key None = 0
 order_of_key (Some key) = key.order
 
 -- the row that is told, with its order by the keys
-abbrev pub row_in : List (Option Key) → HeldRow → Row
-row_in keys told = record { deadline = told.deadline; order = order_of_key (key_in keys told.slot); slot = told.slot }
+abbrev pub row_told : List (Option Key) → HeldRow → Row
+row_told keys told = record { deadline = told.deadline; order = order_of_key (key_in keys told.slot); slot = told.slot }
 
 -- the rows that are told, with their orders
-abbrev pub rows_in : List (Option Key) → List HeldRow → List Row
-rows_in keys told = map (row_in keys) told
+abbrev pub rows_told : List (Option Key) → List HeldRow → List Row
+rows_told keys told = map (row_told keys) told
 
 -- how the row of a slot is told by its key, where it is told alone
 abbrev pub told_at : ℕ → Key → HeldRow

@@ -11,6 +11,9 @@ struct Record<T> {
     value: T,
 }
 
+// Beside a value of 24 bytes two records are as long as a line of the caches.
+const _: () = prove!(size_of::<Record<[u64; 3]>>() == 32);
+
 /// The deadline of each slot's last row, and a value of each slot. No order is stored: it is known to proofs alone.
 ///
 /// There is room for all slots from the beginning, and the slots below a number are written.

@@ -12,6 +12,8 @@ pub struct Keys {
     pub ghost list: { List Key },
 }
 
+const _: () = prove!(size_of::<Keys>() == 0);
+
 impl Model for Keys {
     ghost also_owns = { λ _. ftrue };
 }

@@ -4,7 +4,7 @@ ghost use Rattle.std.specs.Prelude.{◌≡◌, ◌<◌, ℕ, MatchOption, length
 ghost use Rattle.ert_wheel.specs.FirstDue.{NoneDueIn, IsOldestDue};
 ghost use Rattle.ert_wheel.specs.NextDue.{MayWalk};
 ghost use Rattle.ert_wheel.specs.Rings.{AreChains};
-ghost use Rattle.ert_wheel.specs.Rows.{row_in};
+ghost use Rattle.ert_wheel.specs.Rows.{row_told};
 ghost use Rattle.ert_wheel.specs.Wheels.{held_keys, places};
 ghost use Rattle.ert_wheel.specs.declared.row.Key.{Key};
 ghost use Rattle.ert_wheel.specs.declared.row.TheConstants.{BUCKETS};
@@ -28,7 +28,7 @@ pub fn oldest_due<T: Copy>(
     ensures { (home : Key → ℕ)
         → AreChains chains.now (places home (held_keys chains.now kept.now.keys))
         → MatchOption result (NoneDueIn (held_keys chains.now kept.now.keys) home bucket to)
-        (λ row. IsOldestDue (held_keys chains.now kept.now.keys) home bucket to (row_in (held_keys chains.now kept.now.keys) row)) }
+        (λ row. IsOldestDue (held_keys chains.now kept.now.keys) home bucket to (row_told (held_keys chains.now kept.now.keys) row)) }
 {
     let mut next = chains.oldest(bucket);
     while let Some(slot) = next {

@@ -64,7 +64,7 @@ impl<T: Copy> Wheel<T> {
     ghost use Rattle.std.specs.Option.{is_some};
     ghost use Rattle.ert_wheel.specs.NextDue.{NoRow, IsNextDue};
     ghost use Rattle.ert_wheel.specs.Rings.{Place, AreChains, MayPut, Puts, PutsInHome, MayTake, GivesUpPlace, Finds};
-    ghost use Rattle.ert_wheel.specs.Rows.{key_in, key_of, rows_in, told_at, times, due_count, left_at, comes_before};
+    ghost use Rattle.ert_wheel.specs.Rows.{key_in, key_of, rows_told, told_at, times, due_count, left_at, comes_before};
     ghost use Rattle.ert_wheel.specs.declared.row.TheConstants.{NEVER, LAST};
 
     /// A wheel without rows, with room for one of each slot below `slots`, of which none is written. The numbers of
@@ -262,10 +262,10 @@ impl<T: Copy> Wheel<T> {
     /// which is cleared first and has room for one row of each slot.
     pub fn due(&self, to: u64, out: &mut Vec<HeldRow>)
         requires { length self.now.keys ≤ vec_capacity out.old }
-        ensures each { (slot : ℕ) → times slot (rows_in self.now.keys out.new.items) ≡ due_count to (key_in self.now.keys slot) }
-        ensures rows { All (λ row. key_in self.now.keys row.slot ≡ Some (key_of row)) (rows_in self.now.keys out.new.items) }
+        ensures each { (slot : ℕ) → times slot (rows_told self.now.keys out.new.items) ≡ due_count to (key_in self.now.keys slot) }
+        ensures rows { All (λ row. key_in self.now.keys row.slot ≡ Some (key_of row)) (rows_told self.now.keys out.new.items) }
         ensures written { All (λ row. row.slot < self.now.owners.written) out.new.items }
-        ensures sorted { IsSortedBy comes_before (rows_in self.now.keys out.new.items) }
+        ensures sorted { IsSortedBy comes_before (rows_told self.now.keys out.new.items) }
         ensures capacity { vec_capacity out.new ≡ vec_capacity out.old }
     {
         out.clear();
@@ -326,9 +326,9 @@ impl<T: Copy> Wheel<T> {
     /// Takes the rows with a deadline at most `to` out, and writes them into `out` as `due` does.
     pub fn advance(&mut self, to: u64, out: &mut Vec<HeldRow>)
         requires { length self.old.keys ≤ vec_capacity out.old }
-        ensures each { (slot : ℕ) → times slot (rows_in self.old.keys out.new.items) ≡ due_count to (key_in self.old.keys slot) }
-        ensures rows { All (λ row. key_in self.old.keys row.slot ≡ Some (key_of row)) (rows_in self.old.keys out.new.items) }
-        ensures sorted { IsSortedBy comes_before (rows_in self.old.keys out.new.items) }
+        ensures each { (slot : ℕ) → times slot (rows_told self.old.keys out.new.items) ≡ due_count to (key_in self.old.keys slot) }
+        ensures rows { All (λ row. key_in self.old.keys row.slot ≡ Some (key_of row)) (rows_told self.old.keys out.new.items) }
+        ensures sorted { IsSortedBy comes_before (rows_told self.old.keys out.new.items) }
         ensures capacity { vec_capacity out.new ≡ vec_capacity out.old }
         ensures left { self.new.keys ≡ map (left_at to) self.old.keys }
         ensures owners { self.new.owners ≡ self.old.owners }

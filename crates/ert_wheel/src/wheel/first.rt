@@ -10,7 +10,7 @@ impl<T: Copy> Wheel<T> {
     ghost use Rattle.std.specs.Prelude.{◌≡◌, ◌≤◌, MatchBool, MatchOption, max};
     ghost use Rattle.ert_wheel.specs.FirstDue.{NoRowDue, IsFirstRowDue, IsReached, MayBeDue};
     ghost use Rattle.ert_wheel.specs.NextDue.{NoneBefore};
-    ghost use Rattle.ert_wheel.specs.Rows.{row_in};
+    ghost use Rattle.ert_wheel.specs.Rows.{row_told};
 
     /// Whether a row may be due at `to`: one stands in a bucket that an advance up to `to` looks at. False comes only where
     /// none is due by then.
@@ -34,7 +34,7 @@ impl<T: Copy> Wheel<T> {
     /// Else the work is constant, but where rows were put in late since time moved on. Then it looks at the rows of the next
     /// time's bucket that are older than the first, and at all of them where a row is the first with its deadline.
     pub fn first_due(&mut self, to: u64) -> Option<HeldRow>
-        ensures first { MatchOption result (NoRowDue self.old.keys to) (λ row. IsFirstRowDue self.old.keys to (row_in self.old.keys row)) }
+        ensures first { MatchOption result (NoRowDue self.old.keys to) (λ row. IsFirstRowDue self.old.keys to (row_told self.old.keys row)) }
         ensures keys { self.new.keys ≡ self.old.keys }
         ensures owners { self.new.owners ≡ self.old.owners }
         ensures values { self.new.values ≡ self.old.values }
@@ -56,7 +56,7 @@ impl<T: Copy> Wheel<T> {
     #[inline]
     fn first_at(&self, time: u64) -> Option<HeldRow>
         requires { NoneBefore self.now.keys time }
-        ensures { MatchOption result (time ≤ self.now.passed → NoRowDue self.now.keys time) (λ row. IsFirstRowDue self.now.keys time (row_in self.now.keys row)) }
+        ensures { MatchOption result (time ≤ self.now.passed → NoRowDue self.now.keys time) (λ row. IsFirstRowDue self.now.keys time (row_told self.now.keys row)) }
     {
         oldest_due(
             &self.buckets,

@@ -2,7 +2,7 @@ use Rattle.std.proofs.Common.{subst, sym, arith}
 use Rattle.ert_wheel.proofs.Climbing.{climb_starts, reads, climb_finds, climbs_on, climb_falls, climb_ends}
 use Rattle.ert_wheel.proofs.oldest.oldest_due.Goals as goal
 use Rattle.ert_wheel.specs.FirstDue.{IsOldestDue}
-use Rattle.ert_wheel.specs.Rows.{row_in}
+use Rattle.ert_wheel.specs.Rows.{row_told}
 use Rattle.ert_wheel.specs.Wheels.{no_key, held_keys, places}
 
 pub loop-next-init : goal.loop-next-init
@@ -19,7 +19,7 @@ deadline-deadline-requires g c =
 pub returns-then-deadline-to : goal.returns-then-deadline-to
 returns-then-deadline-to g c = λ home are.
     let keys = held_keys c.args.chains.now c.args.kept.now.keys in
-    subst (λ n. IsOldestDue keys home c.args.bucket c.args.to (row_in keys (record { deadline = n; rank = 0; slot = c.in-Some.slot }))) (sym c.deadline-deadline.ensures)
+    subst (λ n. IsOldestDue keys home c.args.bucket c.args.to (row_told keys (record { deadline = n; rank = 0; slot = c.in-Some.slot }))) (sym c.deadline-deadline.ensures)
     (climb_finds c.args.chains.now c.args.kept.now.keys home c.args.bucket c.args.to c.in-Some.slot c.loop-next.next no_key
     (record { slots = c.requires.may.slots; are = are; climbed = c.loop-next.invariant home are; is = c.in-Some.is })
     (omega (arith, c.if-deadline-to.true, c.deadline-deadline.ensures)))

@@ -1,6 +1,6 @@
 use Rattle.std.proofs.Common.{◌<◌, List, [], ◌∷◌, ◌++◌, get_or, ap, refl, subst, sym, ◌∙◌, rules, arith}
 use Rattle.ert_wheel.proofs.Collect.{reads_here}
-use Rattle.ert_wheel.proofs.Ranks.{IsCollecting, collect_starts, collect_ends, collect_room, collected_few, told_next, turn_adds, turn_falls, turn_leaves}
+use Rattle.ert_wheel.proofs.Ranks.{IsCollecting, collect_starts, collect_ends, collect_room, collected_few, turn_adds, turn_falls, turn_leaves}
 use Rattle.ert_wheel.proofs.walk.collect.Goals as goal
 use Rattle.ert_wheel.specs.Wheels.{no_key, held_keys, places}
 use Rattle.ert_wheel.specs.declared.row.HeldRow.{HeldRow}

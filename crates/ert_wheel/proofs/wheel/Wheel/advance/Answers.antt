@@ -2,7 +2,7 @@ use Rattle.std.proofs.Common.{List, ap, max, min, subst, ◌+◌, ◌∙◌}
 use Rattle.std.proofs.lemmas.List.{take_all}
 use Rattle.ert_wheel.proofs.Writes.{TakesOut, taken_out}
 use Rattle.ert_wheel.proofs.wheel.Wheel.advance.Goals as goal
-use Rattle.ert_wheel.specs.Rows.{rows_in}
+use Rattle.ert_wheel.specs.Rows.{rows_told}
 use Rattle.ert_wheel.specs.declared.row.HeldRow.{HeldRow}
 use Rattle.ert_wheel.specs.declared.row.TheConstants.{LAST}
 
@@ -10,8 +10,8 @@ pub returns-clause-left : goal.returns-clause-left
 returns-clause-left g c =
     let rows = c.deref-row-items.result.now in
     c.pass.ensures.keys
-    ∙ taken_out c.args.to c.args.self.now c.loop-row.self (rows_in c.args.self.now.keys c.due.new.out.items)
-    (subst (λ (done : List HeldRow). TakesOut c.args.self.now c.loop-row.self (rows_in c.args.self.now.keys done))
+    ∙ taken_out c.args.to c.args.self.now c.loop-row.self (rows_told c.args.self.now.keys c.due.new.out.items)
+    (subst (λ (done : List HeldRow). TakesOut c.args.self.now c.loop-row.self (rows_told c.args.self.now.keys done))
     (take_all c.loop-row.row-index rows c.loop-row-test.false ∙ c.deref-row-items.ensures.value) c.loop-row.invariant)
     c.due.ensures.each
 

@@ -3,7 +3,7 @@ use Rattle.std.specs.List.Sorted.{IsSortedBy}
 use Rattle.ert_wheel.proofs.Due.{seen_start, seen_skip, visit_may, visit_more, due_each, due_rows, due_sorted, ranks_before, told_each}
 use Rattle.ert_wheel.proofs.Writes.{sees, keys_of, row_written}
 use Rattle.ert_wheel.proofs.wheel.Wheel.due.Goals as goal
-use Rattle.ert_wheel.specs.Rows.{key_in, key_of, row_in}
+use Rattle.ert_wheel.specs.Rows.{key_in, key_of, row_told}
 use Rattle.ert_wheel.specs.Wheels.{home_by, places}
 use Rattle.ert_wheel.specs.declared.row.HeldRow.{HeldRow}
 use Rattle.ert_wheel.specs.declared.row.Row.{Row}
@@ -71,7 +71,7 @@ returns-clause-written g c = λ k d low.
     let keys = c.args.self.now.keys in
     let new = c.sort_unstable.new.self.items in
     let row : HeldRow = get_or new k d in
-    row_written row.slot (key_of (row_in keys row)) c.self.invariant c.self.view_is
+    row_written row.slot (key_of (row_told keys row)) c.self.invariant c.self.view_is
     (told_each (λ (row : Row). key_in keys row.slot ≡ Some (key_of row)) keys new (returns-clause-rows g c) k d low)
 
 pub returns-clause-sorted : goal.returns-clause-sorted

@@ -3,7 +3,6 @@ use Rattle.std.proofs.lemmas.Bool.{true≢false}
 use Rattle.ert_wheel.proofs.Writes.{sees, low_in, looks_alone, looks_apart}
 use Rattle.ert_wheel.proofs.wheel.Wheel.row.Goals as goal
 use Rattle.ert_wheel.specs.Rows.{told_at}
-use Rattle.ert_wheel.specs.declared.row.Key.{Key}
 
 pub is_alone-requires : goal.is_alone-requires
 is_alone-requires g c = (low_in c.args.slot c.self.invariant c.self.view_is c.requires).low_bucket
