@@ -21,7 +21,7 @@ use Rattle.ert_timers.proofs.Passing.{loses_none, loses_then, same_last}
 use Rattle.ert_timers.proofs.Tried.{held_found}
 use Rattle.ert_wheel.specs.Rows.{key_in}
 use Rattle.ert_wheel.specs.declared.row.Key.{Key}
-use Rattle.ert_wheel.proofs.Collect.{key_low}
+use Rattle.ert_wheel.proofs.Looking.{key_low}
 
 pub armed_is : (x : Option Status) → is_armed x ≡ true → x ≡ Some Armed
 armed_is None is = absurd cc

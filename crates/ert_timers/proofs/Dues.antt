@@ -4,6 +4,7 @@ use Rattle.std.proofs.Common.{◌≡◌, ◌≢◌, ℕ, zero, suc, ◌+◌, ◌
 use Rattle.std.proofs.lemmas.Bool.{cases_eq, cases_lt, le-leb, leb-true, ltb-true}
 use Rattle.std.proofs.lemmas.Bool.Decides.{nat_tests, leb_tells}
 use Rattle.std.proofs.lemmas.Int.{ints}
+use Rattle.std.proofs.lemmas.List.{get_or-map, length-map}
 use Rattle.std.proofs.lemmas.List.Elements.{All-head, All-tail, All-cons, All-nil}
 use Rattle.std.specs.Bool.{OnTrue}
 use Rattle.std.specs.List.{slice_get}
@@ -23,10 +24,11 @@ use Rattle.ert_timers.specs.Changes.{let_go}
 use Rattle.ert_timers.specs.Expiring.{AreDue, IsReady, timer_of}
 use Rattle.ert_timers.specs.Parts.{Part, PartStands, last_timer}
 use Rattle.ert_wheel.specs.FirstDue.{NoRowDue, IsFirstRowDue, MayBeDue}
-use Rattle.ert_wheel.specs.Rows.{key_in, key_of, times, due_count, comes_before, row_at}
+use Rattle.ert_wheel.specs.Rows.{key_in, key_of, order_of_key, row_told, rows_told, times, due_count, comes_before, row_at}
 use Rattle.ert_wheel.specs.declared.row.Key.{Key}
+use Rattle.ert_wheel.specs.declared.row.HeldRow.{HeldRow}
 use Rattle.ert_wheel.specs.declared.row.Row.{Row as WheelRow}
-use Rattle.ert_wheel.proofs.Collect.{key_low}
+use Rattle.ert_wheel.proofs.Looking.{key_low}
 use Rattle.ert_wheel.proofs.Lists.{times-cons}
 
 -- a list is what stands before a place, what stands at it, and what stands behind
@@ -297,3 +299,21 @@ no_row [] zero high = refl
 no_row [] (suc n) high = refl
 no_row (r ∷ due) zero high = absurd (omega (arith, high))
 no_row (r ∷ due) (suc n) high = no_row due n (omega (arith, high))
+
+-- of the rows that are told the next one comes first, and none is left at the end
+pub next_told : (keys : List (Option Key)) (told : List HeldRow) (n : ℕ) (d : HeldRow) → n < length told
+    → drop n (rows_told keys told) ≡ row_told keys (get_or told n d) ∷ drop (n + 1) (rows_told keys told)
+next_told keys told n d low =
+    next_row (rows_told keys told) n (row_told keys d) (omega (arith, low, length-map told (row_told keys)))
+    ∙ ap (λ row. row ∷ drop (n + 1) (rows_told keys told)) (get_or-map (row_told keys) told n d (row_told keys d) low)
+
+pub none_told : (keys : List (Option Key)) (told : List HeldRow) (n : ℕ) → length told ≤ n → drop n (rows_told keys told) ≡ []
+none_told keys told n high = no_row (rows_told keys told) n (omega (arith, high, length-map told (row_told keys)))
+
+-- a row that is told has the order that it had, as long as it is held
+pub row_stays : (was now : List (Option Key)) (told : HeldRow) → key_in now told.slot ≡ Some (key_of (row_told was told))
+    → row_told now told ≡ row_told was told
+row_stays was now told held = ap with_order held
+  where
+    with_order : Option Key → WheelRow
+    with_order o = record { deadline = told.deadline; order = order_of_key o; slot = told.slot }

@@ -15,7 +15,7 @@ use Rattle.ert_timers.proofs.Rows.{key_left}
 use Rattle.ert_wheel.specs.Rings.{Rings, MayTake}
 use Rattle.ert_wheel.specs.Rows.{key_in}
 use Rattle.ert_wheel.specs.declared.row.Key.{Key}
-use Rattle.ert_wheel.proofs.Collect.{key_low}
+use Rattle.ert_wheel.proofs.Looking.{key_low}
 use Rattle.ert_wheel.proofs.Parts.{chains_written}
 use Rattle.ert_wheel.proofs.Views.{counts_less}
 use Rattle.ert_words.specs.Free.{FreeSet}

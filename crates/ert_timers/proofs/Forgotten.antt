@@ -14,7 +14,7 @@ use Rattle.ert_timers.proofs.Rows.{key_left, rows_dropped}
 use Rattle.ert_timers.proofs.Standing.{holds_back, holds_with, takes_none}
 use Rattle.ert_wheel.specs.Rows.{key_in}
 use Rattle.ert_wheel.specs.declared.row.Key.{Key}
-use Rattle.ert_wheel.proofs.Collect.{key_low}
+use Rattle.ert_wheel.proofs.Looking.{key_low}
 
 same_state : (w : ℕ) (s : State) → IsLater w s s
 same_state w s = record { rows = refl; last = λ k. refl; uses = λ k. refl; armed = λ r on is. is; free = λ r on none. none }

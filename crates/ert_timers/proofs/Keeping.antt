@@ -21,7 +21,7 @@ use Rattle.ert_wheel.specs.Rings.{Rings, Place, StandsIn, with_place}
 use Rattle.ert_wheel.specs.Rows.{Held, key_in, key_of}
 use Rattle.ert_wheel.specs.declared.row.Key.{Key}
 use Rattle.ert_wheel.specs.declared.row.Row.{Row}
-use Rattle.ert_wheel.proofs.Collect.{key_low}
+use Rattle.ert_wheel.proofs.Looking.{key_low}
 use Rattle.ert_wheel.proofs.Parts.{with_place_here, with_place_there}
 use Rattle.ert_wheel.proofs.Views.{counts_more}
 use Rattle.ert_words.specs.Free.{FreeSet}

@@ -29,7 +29,7 @@ use Rattle.ert_timers.proofs.Standing.{count_same, holds_back, takes_none, stand
 use Rattle.ert_timers.proofs.Tried.{count_more, held_found, self, stands_gone, two_slots}
 use Rattle.ert_wheel.specs.Rows.{key_in}
 use Rattle.ert_wheel.specs.declared.row.Key.{Key}
-use Rattle.ert_wheel.proofs.Collect.{key_low}
+use Rattle.ert_wheel.proofs.Looking.{key_low}
 
 -- the part once the slot of a timer that takes it no more is held free
 pub back : (g : Settings) (v : View) (e : Entry) (u : View) (p : Part) (k : ℕ) (key : Key) (hit : Bool) → PartStands g v.front p

@@ -5,12 +5,14 @@ use Rattle.std.proofs.lemmas.Bool.{cases_eq, eq-eqb, ne_eqb}
 use Rattle.std.specs.Bool.{IsTrue}
 use Rattle.std.specs.Option.{IsSome}
 use Rattle.ert_timers.specs.Owners.{MayJoin, Joins, Thinned, IsIn, FindsRow}
+use Rattle.ert_wheel.proofs.Looking.{told_alone}
 use Rattle.ert_wheel.proofs.Parts.{IsSlot, slot_is, with_place_here, with_place_there, kept_place}
 use Rattle.ert_wheel.specs.Chained.{Shape}
 use Rattle.ert_wheel.specs.Links.{next_at}
 use Rattle.ert_wheel.specs.Rings.{Rings, Place, AreChains, StandsIn, Finds, MayTake, GivesUpPlace, MayPut, Puts, shape, with_place}
-use Rattle.ert_wheel.specs.Rows.{key_in, row_at}
+use Rattle.ert_wheel.specs.Rows.{key_in, row_at, row_told, told_at}
 use Rattle.ert_wheel.specs.declared.row.Key.{Key}
+use Rattle.ert_wheel.specs.declared.row.HeldRow.{HeldRow}
 use Rattle.ert_wheel.specs.declared.row.Row.{Row}
 
 -- how many slots aren't alone
@@ -193,14 +195,20 @@ thinned_more owners new keys places left k t none takes = record {
 }
 
 -- a row is found
-row_in : (keys : List (Option Key)) (left : ℕ → Option Place) (process k : ℕ) (o : Option Key) (found : Option Row) (row : Row)
+in_chain : (keys : List (Option Key)) (left : ℕ → Option Place) (process k : ℕ) (o : Option Key) (found : Option Row) (row : Row)
     → found ≡ option_map (row_at k) o → found ≡ Some row → key_in keys k ≡ o → StandsIn left process k
     → IsIn keys left process (Some row)
-row_in keys left process k None found row told is has stands = absurd cc
-row_in keys left process k (Some key) found row told is has stands =
+in_chain keys left process k None found row told is has stands = absurd cc
+in_chain keys left process k (Some key) found row told is has stands =
     let e : Some (row_at k key) ≡ Some row = sym told ∙ is in
     let same : row_at k key ≡ row = cc in
     subst (λ (r : Row). IsIn keys left process (Some r)) same (has, stands)
+
+-- a row that is told is that of its key
+pub told_row : (keys : List (Option Key)) (k : ℕ) (o : Option Key) (found : Option HeldRow) → key_in keys k ≡ o → found ≡ option_map (told_at k) o
+    → option_map (row_told keys) found ≡ option_map (row_at k) o
+told_row keys k None found has told = ap (option_map (row_told keys)) told
+told_row keys k (Some key) found has told = ap (option_map (row_told keys)) told ∙ ap (λ (row : Row). Some row) (told_alone keys k key has)
 
 pub finds_some : (owners : Rings) (keys : List (Option Key)) (places left : ℕ → Option Place) (process bound k : ℕ)
     (found : Option Row) (row : Row) → Thinned owners keys places left → Finds owners left process bound (Some k)
@@ -208,7 +216,7 @@ pub finds_some : (owners : Rings) (keys : List (Option Key)) (places left : ℕ 
 finds_some owners keys places left process bound k found row t finds told is = record {
   left = left;
   thinned = t;
-  is = row_in keys left process k (key_in keys k) found row told is refl finds.stands.1;
+  is = in_chain keys left process k (key_in keys k) found row told is refl finds.stands.1;
 }
 
 -- none is left

@@ -10,7 +10,7 @@ use Rattle.ert_timers.specs.Parts.{Part, last_timer}
 use Rattle.ert_timers.specs.Freeing.{IsHeld}
 use Rattle.ert_timers.specs.Passed.{HasPassed, HoldsEach, HoldsNone, LosesRows}
 use Rattle.ert_timers.proofs.Rows.{key_left}
-use Rattle.ert_wheel.proofs.Collect.{key_low}
+use Rattle.ert_wheel.proofs.Looking.{key_low}
 use Rattle.ert_wheel.specs.Rows.{key_in}
 use Rattle.ert_wheel.specs.declared.row.Key.{Key}
 

@@ -30,7 +30,7 @@ use Rattle.ert_timers.proofs.Passing.{loses_none, loses_row, loses_then, none_mo
 use Rattle.ert_timers.proofs.Tried.{held_found}
 use Rattle.ert_wheel.specs.Rows.{key_of}
 use Rattle.ert_wheel.specs.declared.row.Row.{Row as WheelRow}
-use Rattle.ert_wheel.proofs.Collect.{key_low}
+use Rattle.ert_wheel.proofs.Looking.{key_low}
 use Rattle.ert_wheel.proofs.Views.{counts_less}
 
 -- none was tried yet

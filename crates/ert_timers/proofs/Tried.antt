@@ -39,7 +39,7 @@ use Rattle.ert_timers.specs.Trying.{expired_after}
 use Rattle.ert_wheel.specs.Rows.{key_in, key_of}
 use Rattle.ert_wheel.specs.declared.row.Key.{Key}
 use Rattle.ert_wheel.specs.declared.row.Row.{Row as WheelRow}
-use Rattle.ert_wheel.proofs.Collect.{key_low}
+use Rattle.ert_wheel.proofs.Looking.{key_low}
 
 -- where no two rows have one reference, that of a row finds it
 row_of_place : (rows : List Row) (n : ℕ) (row : Row) → AllPairs Differ rows → slice_get rows n ≡ Some row → row_of rows row.timer ≡ Some row

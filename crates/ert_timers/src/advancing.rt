@@ -6,7 +6,7 @@ use crate::looking::look_down;
 use crate::part::WheelPart;
 use ert_defs::{Actor, NoMemory};
 use ert_table::{Desk, Pass, Settle, TimeCarry};
-use ert_wheel::Row;
+use ert_wheel::HeldRow;
 
 impl WheelPart {
     ghost use Rattle.std.specs.Prelude.{◌≡◌, ◌<◌, ◌≤◌, IfOk, Some, length};
@@ -17,7 +17,7 @@ impl WheelPart {
     ghost use Rattle.ert_timers.specs.Expiring.{Expires, ExpiresSome, IsReady, IsTried, IsAdvanced};
     ghost use Rattle.ert_timers.specs.Parts.{HoldsSched, PartStands, last_timer};
     ghost use Rattle.ert_timers.specs.Passed.{HasPassed, LosesRows};
-    ghost use Rattle.ert_wheel.specs.Rows.{key_in, key_of};
+    ghost use Rattle.ert_wheel.specs.Rows.{key_in, key_of, row_told, rows_told};
 
     /// Lets every timer expire whose deadline has come, by the time that the call itself looks up. Their
     /// timers are added to `expired`, in order of deadline and then of start. The answer is that time, in whole
@@ -85,16 +85,16 @@ impl WheelPart {
         desk: &Desk,
         pass: &mut Pass,
         to: u64,
-        due: &[Row],
+        due: &[HeldRow],
         expired: &mut ExpiredList,
     )
         requires belongs { Belongs desk.now pass.old }
         requires holds { HoldsSched (view_of pass.old) self.old.number }
-        requires ready { IsReady (settings_of desk.now) (front_of pass.old) self.old to due.now }
+        requires ready { IsReady (settings_of desk.now) (front_of pass.old) self.old to (rows_told self.old.keys due.now) }
         requires room { length due.now ≤ expired.old.room }
         requires few { to ≤ 8796093022207 }
         ensures belongs { Belongs desk.now pass.new }
-        ensures call { ExpiresSome (settings_of desk.now) (view_of pass.old) self.old self.new to due.now (length due.now)
+        ensures call { ExpiresSome (settings_of desk.now) (view_of pass.old) self.old self.new to (rows_told self.old.keys due.now) (length due.now)
             expired.old expired.new (view_of pass.new) }
         ensures on { to < self.new.passed }
     {
@@ -110,19 +110,19 @@ impl WheelPart {
         &mut self,
         desk: &Desk,
         pass: &mut Pass,
-        row: Row,
+        row: HeldRow,
         expired: &mut ExpiredList,
     )
         requires belongs { Belongs desk.now pass.old }
         requires holds { HoldsSched (view_of pass.old) self.old.number }
         requires stands { PartStands (settings_of desk.now) (front_of pass.old) self.old }
-        requires held { key_in self.old.keys row.slot ≡ Some (key_of row) }
+        requires held { key_in self.old.keys row.slot ≡ Some (key_of (row_told self.old.keys row)) }
         requires low { row.slot < length self.old.slots }
         requires first { IsNext (settings_of desk.now) (state (settings_of desk.now) (front_of pass.old)) (Sched self.old.number)
             (last_timer self.old.number self.old.slots row.slot) }
         requires room { 0 < expired.old.room }
         ensures belongs { Belongs desk.now pass.new }
-        ensures call { Expires (settings_of desk.now) (view_of pass.old) self.old self.new row expired.old expired.new (view_of pass.new) }
+        ensures call { Expires (settings_of desk.now) (view_of pass.old) self.old self.new (row_told self.old.keys row) expired.old expired.new (view_of pass.new) }
     {
         let timer = self.timer(row);
         let sched = Actor::Sched(self.number());

@@ -1,12 +1,13 @@
-ghost use Rattle.std.specs.Prelude.{◌≡◌, ◌↔◌, ◌<◌, ◌≤◌, ◌-◌, ℕ, IfOk, IsTrue, Option, replicate};
+ghost use Rattle.std.specs.Prelude.{◌≡◌, ◌↔◌, ◌<◌, ◌≤◌, ◌-◌, ℕ, IfOk, IsTrue, Option, option_map, replicate};
 ghost use Rattle.ert_timers.specs.Owners.{MayThin, FindsRow};
 ghost use Rattle.ert_timers.specs.Parts.{unused};
 ghost use Rattle.ert_wheel.specs.Rings.{Place, AreChains};
+ghost use Rattle.ert_wheel.specs.Rows.{row_told};
 
 use crate::expired_list::ExpiredList;
 use crate::slot::Slot;
 use ert_defs::{Kind, NoMemory, Settings, TimerRef, TimerRow};
-use ert_wheel::{Row, Wheel};
+use ert_wheel::{HeldRow, Wheel};
 use ert_words::FreeSlots;
 use std::alloc::Global;
 use std::marker::Model;
@@ -46,7 +47,7 @@ pub struct WheelPart {
     expires: u64,
     orphans: u64,
     /// The due rows of an advance, kept for the next one.
-    due: Vec<Row>,
+    due: Vec<HeldRow>,
     alloc: Global,
 }
 
@@ -98,7 +99,7 @@ impl WheelPart {
     ghost use Rattle.ert_timers.specs.Expiring.{AreDue};
     ghost use Rattle.ert_timers.specs.Changes.{NextOf, gone_on};
     ghost use Rattle.ert_timers.specs.NextDue.{IsNextHeld};
-    ghost use Rattle.ert_wheel.specs.Rows.{key_in, key_of, row_at};
+    ghost use Rattle.ert_wheel.specs.Rows.{key_in, key_of, row_told, rows_told, told_at};
 
     /// The part of a wheel of a desk that has just been opened. It has no timer.
     pub fn open(alloc: Global, settings: &Settings, wheel: u32) -> Result<WheelPart, NoMemory>
@@ -186,9 +187,9 @@ impl WheelPart {
     }
 
     /// The row of a slot; None where the slot has none.
-    pub(crate) fn row(&self, slot: u32) -> Option<Row>
+    pub(crate) fn row(&self, slot: u32) -> Option<HeldRow>
         requires { slot < length self.now.slots }
-        ensures { result ≡ option_map (row_at slot) (key_in self.now.keys slot) }
+        ensures { result ≡ option_map (told_at slot) (key_in self.now.keys slot) }
     {
         if slot as usize >= self.wheel.written() {
             return None;
@@ -197,10 +198,10 @@ impl WheelPart {
     }
 
     /// The timer of a row.
-    pub(crate) fn timer(&self, row: Row) -> TimerRow
+    pub(crate) fn timer(&self, row: HeldRow) -> TimerRow
         requires low { row.slot < length self.now.slots }
         requires used { IsInUse self.now row.slot }
-        ensures { result ≡ held_row self.now.number self.now.slots row.slot (key_of row) }
+        ensures { result ≡ held_row self.now.number self.now.slots row.slot (key_of (row_told self.now.keys row)) }
     {
         let last = self.wheel.value(row.slot);
         TimerRow {
@@ -218,10 +219,10 @@ impl WheelPart {
 
     /// The row of a process whose slot came into its chain last; None where the process has none. Slots that come before it
     /// in the chain have no row any more, and leave it.
-    pub(crate) fn newest_of(&mut self, process: u32) -> Option<Row>
+    pub(crate) fn newest_of(&mut self, process: u32) -> Option<HeldRow>
         requires { process < self.old.processes }
         ensures part { self.new ≡ self.old }
-        ensures row { NextOf self.new process result }
+        ensures row { NextOf self.new process (option_map (row_told self.new.keys) result) }
     {
         find_row(&mut self.wheel, process)
     }
@@ -233,9 +234,9 @@ impl WheelPart {
         &mut self,
         to: u64,
         expired: &mut ExpiredList,
-    ) -> Result<Vec<Row>, NoMemory>
+    ) -> Result<Vec<HeldRow>, NoMemory>
         ensures part { self.new ≡ self.old }
-        ensures due { IfOk result (λ due. AreDue self.old to due.items) }
+        ensures due { IfOk result (λ due. AreDue self.old to (rows_told self.old.keys due.items)) }
         ensures expired { expired.new.rows ≡ expired.old.rows }
         ensures room { IfOk result (λ due. length due.items ≤ expired.new.room) }
     {
@@ -263,7 +264,7 @@ impl WheelPart {
     }
 
     /// Keeps the vector of an advance for the next one.
-    pub(crate) fn keep_list(&mut self, due: Vec<Row>)
+    pub(crate) fn keep_list(&mut self, due: Vec<HeldRow>)
         ensures { self.new ≡ self.old }
     {
         self.due = due;
@@ -286,7 +287,7 @@ fn never_used() -> Slot
 }
 
 /// A row of the chain of a process; None where it has none. Slots without a row that are met leave the chain.
-fn find_row(wheel: &mut Wheel<Slot>, process: u32) -> Option<Row>
+fn find_row(wheel: &mut Wheel<Slot>, process: u32) -> Option<HeldRow>
     requires process { process < wheel.old.owners.homes }
     requires may { MayThin wheel.old.owners wheel.old.keys }
     ensures keys { wheel.new.keys ≡ wheel.old.keys }
@@ -296,7 +297,7 @@ fn find_row(wheel: &mut Wheel<Slot>, process: u32) -> Option<Row>
     ensures written { wheel.new.owners.written ≡ wheel.old.owners.written }
     ensures passed { wheel.new.passed ≡ wheel.old.passed }
     ensures finds { (places : ℕ → Option Place) → AreChains wheel.old.owners places
-        → FindsRow wheel.old.keys places process wheel.new.owners result }
+        → FindsRow wheel.old.keys places process wheel.new.owners (option_map (row_told wheel.old.keys) result) }
 {
     while let Some(slot) = wheel.newest_owned(process) {
         if let Some(row) = wheel.row(slot) {

@@ -13,7 +13,7 @@ const ABOVE: u64 = 1 << 20;
 
 /// What is kept of a slot: its last timer, and one above the greatest deadline of all its timers.
 ///
-/// Three small fields are packed into one, so it has 24 bytes. With a slot's deadline and order beside it that makes 40.
+/// Three small fields are packed into one, so it has 24 bytes. With a slot's deadline beside it that makes 32.
 #[derive(Clone, Copy)]
 pub struct Slot {
     generation: u64,

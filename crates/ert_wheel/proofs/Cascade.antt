@@ -2,7 +2,7 @@
 
 use Rattle.std.proofs.Common.{◌≡◌, ◌≢◌, ◌⊎◌, ℕ, ◌+◌, ◌<◌, ◌≤◌, ◌/◌, ◌&&◌, cond, max, nat_eq, nat_lt, List, Option, Some, None, length, sym, subst, ◌∙◌, ap, inl, inr, refl, arith}
 use Rattle.std.proofs.lemmas.Bool.{cases_eq, cases_lt, eq-eqb, ne_eqb, lt-ltb, le-ltb, and_right}
-use Rattle.ert_wheel.proofs.Collect.{key_low}
+use Rattle.ert_wheel.proofs.Looking.{key_low}
 use Rattle.ert_wheel.proofs.Levels.{home_stays, home_stays_near, home_falls, home_next, home_far}
 use Rattle.ert_wheel.proofs.Parts.{with_place_here, with_place_there}
 use Rattle.ert_wheel.proofs.Views.{place_is}

@@ -3,13 +3,14 @@
 use Rattle.std.proofs.Common.{◌≡◌, ◌≢◌, ℕ, ◌+◌, ◌-◌, ◌<◌, ◌≤◌, ◌^◌, List, Option, Some, None, IfSome, length, get_or, sym, subst, ◌∙◌, ap, inl, inr, refl, arith}
 use Rattle.std.proofs.lemmas.Bool.{cases_lt}
 use Rattle.ert_wheel.proofs.Cascading.{orders_left}
-use Rattle.ert_wheel.proofs.Collect.{InBucket, key_low}
+use Rattle.ert_wheel.proofs.Looking.{InBucket, key_low, told_alone}
 use Rattle.ert_wheel.proofs.Views.{place_is, held_in}
 use Rattle.ert_wheel.specs.FirstDue.{NoneDueIn, IsOldestDue}
 use Rattle.ert_wheel.specs.Rings.{Rings, Place, AreChains, StandsIn, order_of, FindsOldest}
-use Rattle.ert_wheel.specs.Rows.{key_in, row_at}
+use Rattle.ert_wheel.specs.Rows.{key_in, row_told, told_at}
 use Rattle.ert_wheel.specs.Wheels.{no_key, held_keys, place_of, places}
 use Rattle.ert_wheel.specs.declared.row.Key.{Key}
+use Rattle.ert_wheel.specs.declared.row.Row.{Row}
 
 -- the slot that comes next is there, and its order is at most this
 abbrev pub IsLow : (ℕ → Option Place) → Option ℕ → ℕ → Type 0
@@ -86,10 +87,12 @@ reads chains stored home bucket to slot here d t =
 -- its row is the oldest where it is due
 pub climb_finds : (chains : Rings) (stored : List Key) (home : Key → ℕ) (bucket to slot : ℕ) (here : Option ℕ) (d : Key)
     → Climbs chains stored home bucket to slot here → (get_or stored slot d).deadline ≤ to
-    → IsOldestDue (held_keys chains stored) home bucket to (row_at slot (get_or stored slot d))
+    → IsOldestDue (held_keys chains stored) home bucket to (row_told (held_keys chains stored) (told_at slot (get_or stored slot d)))
 climb_finds chains stored home bucket to slot here d t due =
     let r = reads chains stored home bucket to slot here d t in
-    record { held = r.has; at_home = r.at_home; due = due; oldest = r.later }
+    subst (λ (row : Row). IsOldestDue (held_keys chains stored) home bucket to row)
+    (sym (told_alone (held_keys chains stored) slot (get_or stored slot d) r.has))
+    (record { held = r.has; at_home = r.at_home; due = due; oldest = r.later })
 
 -- and else the walk goes on
 pub climbs_on : (chains : Rings) (stored : List Key) (home : Key → ℕ) (bucket to slot : ℕ) (here next : Option ℕ) (d : Key)

@@ -4,7 +4,7 @@ use Rattle.std.proofs.Common.{◌≡◌, ◌≢◌, ℕ, ◌+◌, ◌*◌, ◌/�
 use Rattle.std.proofs.lemmas.Bool.{cases_eq, cases_lt}
 use Rattle.std.proofs.lemmas.List.Sums.{sum_by-cons}
 use Rattle.std.specs.Option.{is_some, IsSome}
-use Rattle.ert_wheel.proofs.Collect.{InBucket, Steps, key_low, found, at_key}
+use Rattle.ert_wheel.proofs.Looking.{InBucket, Steps, key_low, found, at_key}
 use Rattle.ert_wheel.proofs.Views.{held_in}
 use Rattle.ert_wheel.specs.NextDue.{MayWalk, NoRow, HasSomeRow, IsDueIn, IsLeastIn, BeginsIn, IsEarlyIn}
 use Rattle.ert_wheel.specs.Rings.{Rings, Place, AreChains, bound_of, order_of, Finds}

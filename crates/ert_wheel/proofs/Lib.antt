@@ -1,4 +1,5 @@
 mod Due
+mod Fieldless
 mod KeptSlots
 mod Opening
 mod Reached
@@ -17,9 +18,11 @@ pub mod Following
 pub mod LevelBits
 pub mod Levels
 pub mod Lists
+pub mod Looking
 pub mod MarkBits
 pub mod Least
 pub mod NextDue
 pub mod Parts
+pub mod Ranks
 pub mod Reaching
 pub mod Views

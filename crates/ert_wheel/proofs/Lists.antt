@@ -1,6 +1,6 @@
 -- Rows of different slots are at most as many as slots.
 
-use Rattle.std.proofs.Common.{◌≡◌, ℕ, ◌+◌, ◌<◌, ◌≤◌, Bool, true, false, ◌&&◌, cond, nat_eq, nat_le, eqb, List, Option, Some, None, [], ◌∷◌, ◌++◌, length, length-append, get_or, map, sym, ap, inl, inr, refl, arith}
+use Rattle.std.proofs.Common.{◌≡◌, ℕ, ◌+◌, ◌<◌, ◌≤◌, Bool, true, false, ◌&&◌, cond, nat_eq, eqb, List, Option, Some, None, [], ◌∷◌, length, map, sym, ap, inl, inr, refl, arith}
 use Rattle.std.proofs.lemmas.Bool.{eqb-true, or_cases}
 use Rattle.std.proofs.lemmas.Bool.Decides.{eqb_tells}
 use Rattle.std.proofs.lemmas.List.{length-map}
@@ -8,12 +8,9 @@ use Rattle.std.proofs.lemmas.List.Elements.{All-head, All-tail}
 use Rattle.std.proofs.lemmas.List.Sums.{sum_by-cons}
 use Rattle.std.proofs.lemmas.Map.Steps.{length-le_from_distinct_below}
 use Rattle.std.specs.List.{IsDistinct, AllByRecursion, list_any}
-use Rattle.ert_wheel.proofs.Collect.{key_low, IsWalked, Turns, walk_adds}
-use Rattle.ert_wheel.proofs.Views.{held_len}
-use Rattle.ert_wheel.specs.Rings.{Rings, bound_of}
-use Rattle.ert_wheel.specs.Rows.{key_in, key_of, row_at, times, passing}
-use Rattle.ert_wheel.specs.Walks.{AreRows, is_due_in, MayCollect}
-use Rattle.ert_wheel.specs.Wheels.{held_keys, places}
+use Rattle.ert_wheel.proofs.Looking.{key_low}
+use Rattle.ert_wheel.specs.Rows.{key_in, key_of, times, passing}
+use Rattle.ert_wheel.specs.Walks.{AreRows}
 use Rattle.ert_wheel.specs.declared.row.Key.{Key}
 use Rattle.ert_wheel.specs.declared.row.Row.{Row}
 
@@ -69,29 +66,8 @@ few_rows keys rows are once =
     omega (arith, length-map rows (λ (row : Row). row.slot))
 
 -- a stronger test passes less often
-passing_both : (a b : Key → Bool) (o : Option Key) → passing (λ key. a key && b key) o ≤ passing a o
+pub passing_both : (a b : Key → Bool) (o : Option Key) → passing (λ key. a key && b key) o ≤ passing a o
 passing_both a b None = omega arith
 passing_both a b (Some key) =
     elim (a key) as (λ c. cond (c && b key) 1 0 ≤ cond c 1 0)
     [ true ↦ elim (b key) as (λ c. cond c 1 0 ≤ 1) [ true ↦ omega arith | false ↦ omega arith ] | false ↦ omega arith ]
-
--- in a walk no row stands twice
-walk_fits : (chains : Rings) (keys : List (Option Key)) (home : Key → ℕ) (bucket to : ℕ) (next : Option ℕ) (old now : List Row)
-    → MayCollect chains keys home bucket to old → IsWalked keys home bucket to next old now → length now ≤ length keys
-walk_fits chains keys home bucket to next old now may w =
-    few_rows keys now w.are_rows (λ j. omega (
-      arith,
-      w.each j,
-      may.once j,
-      passing_both (is_due_in home bucket to) (λ key. nat_le (bound_of (places home keys) next) key.order) (key_in keys j),
-    ))
-
--- so there is room for a row that is added
-pub walk_room : (chains : Rings) (keys : List Key) (home : Key → ℕ) (bucket to slot : ℕ) (here next : Option ℕ) (old now : List Row) (d : Key)
-    → Turns chains keys home bucket to slot here next old now → (get_or keys slot d).deadline ≤ to
-    → length now + 1 ≤ chains.slots
-walk_room chains keys home bucket to slot here next old now d t due =
-    let fits : length (now ++ row_at slot (get_or keys slot d) ∷ []) ≤ length (held_keys chains keys) =
-    walk_fits chains (held_keys chains keys) home bucket to next old (now ++ row_at slot (get_or keys slot d) ∷ []) t.may
-    (walk_adds chains keys home bucket to slot here next old now d t due) in
-    omega (arith, length-append now (row_at slot (get_or keys slot d) ∷ []), held_len chains keys)

@@ -3,7 +3,7 @@
 use Rattle.std.proofs.Common.{◌≡◌, ℕ, ◌*◌, ◌/◌, ◌%◌, ◌<◌, ◌≤◌, ◌^◌, ◌⊎◌, max, suc, List, Option, Some, None, MatchOption, sym, ◌∙◌, ap, inl, inr, arith}
 use Rattle.std.proofs.Math.Nat.{div-mul-le_self, lt-div-mul-add, suc-mul, mul-le-mul_right}
 use Rattle.std.proofs.lemmas.Bool.{cases_eq, cases_lt}
-use Rattle.ert_wheel.proofs.Collect.{key_low}
+use Rattle.ert_wheel.proofs.Looking.{key_low}
 use Rattle.ert_wheel.proofs.LevelBits.{bucket_low, pos512}
 use Rattle.ert_wheel.proofs.Levels.{home_up, home_next, home_near, window_of, one_window, later_window}
 use Rattle.ert_wheel.proofs.Views.{place_is}

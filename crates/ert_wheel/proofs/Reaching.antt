@@ -6,8 +6,9 @@ use Rattle.std.proofs.lemmas.Bool.Decides.{nat_tests}
 use Rattle.ert_wheel.specs.FirstDue.{NoRowDue, IsFirstRowDue, IsReached, NoneDueIn, IsOldestDue}
 use Rattle.ert_wheel.specs.NextDue.{NoRow, NoneBefore, IsNextDue}
 use Rattle.ert_wheel.specs.Rings.{Rings, AreChains}
-use Rattle.ert_wheel.specs.Rows.{key_of, row_at, comes_before}
+use Rattle.ert_wheel.specs.Rows.{key_of, row_at, row_told, comes_before}
 use Rattle.ert_wheel.specs.Wheels.{held_keys, bucket_of, home_by, places, IsWheel}
+use Rattle.ert_wheel.specs.declared.row.HeldRow.{HeldRow}
 use Rattle.ert_wheel.specs.declared.row.Key.{Key}
 use Rattle.ert_wheel.specs.declared.row.Row.{Row}
 
@@ -42,21 +43,22 @@ first_none next time bucket keys is none on = λ slot key has.
           none slot key has (ap (bucket_of next) m ∙ sym is)
     ]
 
-first_told : (next time bucket : ℕ) (keys : List (Option Key)) (answer : Option Row) → bucket ≡ bucket_of next next → NoneBefore keys time
-    → MatchOption answer (NoneDueIn keys (home_by next) bucket time) (IsOldestDue keys (home_by next) bucket time)
-    → MatchOption answer (time ≤ next → NoRowDue keys time) (IsFirstRowDue keys time)
+first_told : (next time bucket : ℕ) (keys : List (Option Key)) (answer : Option HeldRow) → bucket ≡ bucket_of next next → NoneBefore keys time
+    → MatchOption answer (NoneDueIn keys (home_by next) bucket time) (λ row. IsOldestDue keys (home_by next) bucket time (row_told keys row))
+    → MatchOption answer (time ≤ next → NoRowDue keys time) (λ row. IsFirstRowDue keys time (row_told keys row))
 first_told next time bucket keys None is none told = first_none next time bucket keys is told
-first_told next time bucket keys (Some row) is none told = first_found next time bucket keys row none told
+first_told next time bucket keys (Some row) is none told = first_found next time bucket keys (row_told keys row) none told
 
 -- what is told of the bucket of the next time is told of all
-pub sees_first : {next count bucket : ℕ} {keys : List (Option Key)} {chains : Rings} (time : ℕ) (answer : Option Row) (lent : List Key)
+pub sees_first : {next count bucket : ℕ} {keys : List (Option Key)} {chains : Rings} (time : ℕ) (answer : Option HeldRow) (lent : List Key)
     → IsWheel next count keys chains → held_keys chains lent ≡ keys → bucket ≡ bucket_of next next → NoneBefore keys time
     → ((home : Key → ℕ) → AreChains chains (places home (held_keys chains lent))
-    → MatchOption answer (NoneDueIn (held_keys chains lent) home bucket time) (IsOldestDue (held_keys chains lent) home bucket time))
-    → MatchOption answer (time ≤ next → NoRowDue keys time) (IsFirstRowDue keys time)
+    → MatchOption answer (NoneDueIn (held_keys chains lent) home bucket time)
+    (λ row. IsOldestDue (held_keys chains lent) home bucket time (row_told (held_keys chains lent) row)))
+    → MatchOption answer (time ≤ next → NoRowDue keys time) (λ row. IsFirstRowDue keys time (row_told keys row))
 sees_first {next = next} {bucket = bucket} {keys = keys} {chains = chains} time answer lent w is at none looks =
     first_told next time bucket keys answer at none
-    (subst (λ (ks : List (Option Key)). MatchOption answer (NoneDueIn ks (home_by next) bucket time) (IsOldestDue ks (home_by next) bucket time)) is
+    (subst (λ (ks : List (Option Key)). MatchOption answer (NoneDueIn ks (home_by next) bucket time) (λ row. IsOldestDue ks (home_by next) bucket time (row_told ks row))) is
     (looks (home_by next) (subst (λ (ks : List (Option Key)). AreChains chains (places (home_by next) ks)) (sym is) w.are)))
 
 -- without a row none is due, and none is that is due later

@@ -1,8 +1,9 @@
 -- A wheel as its user sees it: the key of each slot that has a row, and the chains of the owners.
 
-use Rattle.std.specs.Prelude.{ℕ, Bool, ◌||◌, ◌&&◌, List, Option, Some, None, cond, nat_lt, nat_le, nat_eq, count_by, slice_index_or}
+use Rattle.std.specs.Prelude.{ℕ, Bool, ◌||◌, ◌&&◌, List, Option, Some, None, cond, map, nat_lt, nat_le, nat_eq, count_by, slice_index_or}
 use Rattle.ert_wheel.specs.Rings.{Rings}
 use Rattle.ert_wheel.specs.declared.row.Key.{Key}
+use Rattle.ert_wheel.specs.declared.row.HeldRow.{HeldRow}
 use Rattle.ert_wheel.specs.declared.row.Row.{Row}
 
 -- what a wheel holds: by slot the key of its row, for each owner a chain of slots, by slot a value, and the first time
@@ -24,6 +25,23 @@ key_of row = record { deadline = row.deadline; order = row.order }
 -- the row of a slot by its key
 abbrev pub row_at : ℕ → Key → Row
 row_at slot key = record { deadline = key.deadline; order = key.order; slot = slot }
+
+-- the order of a key, and 0 of none
+abbrev pub order_of_key : Option Key → ℕ
+order_of_key None = 0
+order_of_key (Some key) = key.order
+
+-- the row that is told, with its order by the keys
+abbrev pub row_told : List (Option Key) → HeldRow → Row
+row_told keys told = record { deadline = told.deadline; order = order_of_key (key_in keys told.slot); slot = told.slot }
+
+-- the rows that are told, with their orders
+abbrev pub rows_told : List (Option Key) → List HeldRow → List Row
+rows_told keys told = map (row_told keys) told
+
+-- how the row of a slot is told by its key, where it is told alone
+abbrev pub told_at : ℕ → Key → HeldRow
+told_at slot key = record { deadline = key.deadline; rank = 0; slot = slot }
 
 -- how often a slot stands in a list of rows
 abbrev pub times : ℕ → List Row → ℕ

@@ -1,39 +1,47 @@
-use crate::row::Key;
+use crate::keys::Keys;
+use crate::row::Row;
 use ert_defs::NoMemory;
 use std::alloc::Global;
 use std::marker::Model;
 
-/// What is kept of a slot: the key of its last row, and the value beside it.
+/// What is kept of a slot: the deadline of its last row, in milliseconds, and the value beside it.
 #[derive(Clone, Copy)]
 struct Record<T> {
-    key: Key,
+    deadline: u64,
     value: T,
 }
 
-/// The key of each slot's last row, and a value of each slot.
+// Beside a value of 24 bytes two records are as long as a line of the caches.
+const _: () = prove!(size_of::<Record<[u64; 3]>>() == 32);
+
+/// The deadline of each slot's last row, and a value of each slot. No order is stored: it is known to proofs alone.
 ///
 /// There is room for all slots from the beginning, and the slots below a number are written.
 #[derive(Drop)]
 pub struct Kept<T> {
     records: Vec<Record<T>>,
+    keys: Keys,
 }
 
 impl<T> Model for Kept<T> {
     ghost use Rattle.std.specs.Prelude.{map, vec_capacity};
-    ghost use Rattle.ert_wheel.specs.Kept.{KeptSlots, record_key, record_value};
+    ghost use Rattle.ert_wheel.specs.Kept.{KeptSlots, record_value, AreDeadlines};
 
     ghost Value = { KeptSlots T };
 
     ghost view = { λ k. record {
-      keys = map record_key k.records.items;
+      keys = k.keys.list;
       values = map record_value k.records.items;
       room = vec_capacity k.records;
     } };
+
+    ghost invariant = { λ k. AreDeadlines k.records.items k.keys.list };
 }
 
 impl<T: Copy> Kept<T> {
     ghost use Rattle.std.specs.Prelude.{◌≡◌, ◌-◌, ◌<◌, ◌≤◌, [], ◌++◌, IfOk, Some, length, replicate, slice_index_or, slice_set};
     ghost use Rattle.std.specs.List.{slice_get};
+    ghost use Rattle.ert_wheel.specs.Rows.{key_of};
     ghost use Rattle.ert_wheel.specs.Wheels.{no_key};
 
     /// Room for so many slots, of which none is written. No call takes memory after this.
@@ -43,7 +51,10 @@ impl<T: Copy> Kept<T> {
         ensures room { IfOk result (λ kept. slots ≤ kept.room) }
     {
         let records = Vec::with_capacity(alloc, slots as usize)?;
-        Ok(Kept { records })
+        Ok(Kept {
+            records,
+            keys: Keys::new(),
+        })
     }
 
     /// How many slots are written.
@@ -65,15 +76,10 @@ impl<T: Copy> Kept<T> {
         ensures values { self.new.values ≡ self.old.values ++ replicate (count - length self.old.keys) value }
         ensures room { self.old.room ≤ self.new.room }
     {
-        let none = Record {
-            key: Key {
-                deadline: 0,
-                order: 0,
-            },
-            value,
-        };
+        let none = Record { deadline: 0, value };
         // There is room for them.
         let _ = self.records.resize(count as usize, none);
+        self.keys = self.keys.up_to(&count);
     }
 
     /// The deadline of a slot's last row.
@@ -82,16 +88,7 @@ impl<T: Copy> Kept<T> {
         requires { slot < length self.now.keys }
         ensures { result ≡ (slice_index_or self.now.keys slot no_key).deadline }
     {
-        self.records[slot as usize].key.deadline
-    }
-
-    /// The key of a slot's last row.
-    #[inline]
-    pub fn key(&self, slot: u32) -> Key
-        requires { slot < length self.now.keys }
-        ensures { result ≡ slice_index_or self.now.keys slot no_key }
-    {
-        self.records[slot as usize].key
+        self.records[slot as usize].deadline
     }
 
     /// The value of a slot.
@@ -103,14 +100,18 @@ impl<T: Copy> Kept<T> {
         self.records[slot as usize].value
     }
 
-    /// Gives a slot another key and another value.
+    /// Gives a slot another row and another value.
     #[inline]
-    pub fn set(&mut self, slot: u32, key: Key, value: T)
-        requires { slot < length self.old.keys }
-        ensures keys { self.new.keys ≡ slice_set self.old.keys slot key }
-        ensures values { self.new.values ≡ slice_set self.old.values slot value }
+    pub fn set(&mut self, row: Row, value: T)
+        requires { row.slot < length self.old.keys }
+        ensures keys { self.new.keys ≡ slice_set self.old.keys row.slot (key_of row) }
+        ensures values { self.new.values ≡ slice_set self.old.values row.slot value }
         ensures room { self.new.room ≡ self.old.room }
     {
-        self.records[slot as usize] = Record { key, value };
+        self.records[row.slot as usize] = Record {
+            deadline: row.deadline,
+            value,
+        };
+        self.keys = self.keys.with(&row);
     }
 }

@@ -18,13 +18,17 @@
 //! 8 bytes and nothing else of the wheel.
 //!
 //! Whether a slot has a row is told by its link among the buckets' alone. So `remove` reads and writes these links and
-//! nothing else, and a row's key stays where it was stored until the slot has another. `Chains` knows nothing of rows:
+//! nothing else, and a row's deadline stays where it was stored until the slot has another. `Chains` knows nothing of rows:
 //! why a slot belongs to a home is the wheel's or its user's to know, and a contract speaks of every assignment of
 //! places that fits.
 //!
-//! **Records** (`Kept`). A row's deadline and order stand beside the value that the wheel's user keeps of its slot, in
-//! one record. So a start writes one place for all of them, and where a row moves to a lower level, what its expiry will
-//! read comes into the caches.
+//! **Records** (`Kept`). A row's deadline stands beside the value that the wheel's user keeps of its slot, in one record. So
+//! a start writes one place for both, and where a row moves to a lower level, what its expiry will read comes into the
+//! caches.
+//!
+//! **Orders** (`Keys`). A row's order is its rank among all rows that were put in. It isn't stored: a chain has its slots in
+//! this order already. Contracts speak of it by the slots' keys, a deadline and an order each, which proofs alone read. A
+//! row that is told has its deadline and its slot (`HeldRow`).
 //!
 //! **Another row of a slot** (`replace`) takes the place of the one before it. Where the slot is the newest of the bucket
 //! to which the new row belongs, as where a timer is moved on again and again, no link is written.
@@ -59,7 +63,10 @@
 //! for each of the 35 words. So no look comes to an empty bucket: it reads three words at most, however far the next row
 //! is.
 //!
-//! **A step of time** visits the buckets that have rows, up to the bucket of the time that it comes to.
+//! **A step of time** visits the buckets that have rows, up to the bucket of the time that it comes to, and each from its
+//! oldest row to its newest. Rows of one deadline have one bucket, so these are collected in order of start, and a sort by
+//! deadline and then by rank, the place where a row was collected, puts all into order. It takes no memory, and one pass
+//! where the deadlines come in order already, as they do from the lowest level where no row was late.
 //!
 //! **The next due row** (`next_due`) is in the first bucket that has one. On the lowest level the bucket tells its
 //! deadline. Above it the rows of the bucket are looked at, 64 at most. Where there are more the begin of the bucket's
@@ -77,7 +84,7 @@
 //! **Owners.** `own` puts a slot into the chain of an owner as its newest, `disown` takes it out, `is_owned` tells whether
 //! it is in one, and `newest_owned` tells the newest of an owner. This hangs on no row: a slot may have an owner without a row, and a row without an owner.
 //!
-//! **At rest** a slot takes 32 bytes and its value: 16 of key and 16 of links; an owner 8 bytes for its head; and a wheel
+//! **At rest** a slot takes 24 bytes and its value: 8 of deadline and 16 of links; an owner 8 bytes for its head; and a wheel
 //! 17.5 KiB for the heads of its buckets, and 280 bytes for the marks. All is taken when the wheel is made, and no call
 //! takes memory after that; what is written then are the heads and the marks.
 //!
@@ -89,6 +96,7 @@
 
 mod chains;
 mod kept;
+mod keys;
 mod laws;
 mod links;
 mod marked;
@@ -99,5 +107,5 @@ mod walk;
 mod wheel;
 
 pub use laws::answers_come_closer;
-pub use row::{BUCKETS, Key, Row};
+pub use row::{BUCKETS, HeldRow, Key, Row};
 pub use wheel::Wheel;

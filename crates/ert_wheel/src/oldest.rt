@@ -4,13 +4,14 @@ ghost use Rattle.std.specs.Prelude.{◌≡◌, ◌<◌, ℕ, MatchOption, length
 ghost use Rattle.ert_wheel.specs.FirstDue.{NoneDueIn, IsOldestDue};
 ghost use Rattle.ert_wheel.specs.NextDue.{MayWalk};
 ghost use Rattle.ert_wheel.specs.Rings.{AreChains};
+ghost use Rattle.ert_wheel.specs.Rows.{row_told};
 ghost use Rattle.ert_wheel.specs.Wheels.{held_keys, places};
 ghost use Rattle.ert_wheel.specs.declared.row.Key.{Key};
 ghost use Rattle.ert_wheel.specs.declared.row.TheConstants.{BUCKETS};
 
 use crate::kept::Kept;
 use crate::marked::MarkedChains;
-use crate::row::{Key, Row};
+use crate::row::HeldRow;
 
 /// The oldest row of a bucket with a deadline at most `to`; None where it has none.
 ///
@@ -20,22 +21,22 @@ pub fn oldest_due<T: Copy>(
     kept: &Kept<T>,
     bucket: u32,
     to: u64,
-) -> Option<Row>
+) -> Option<HeldRow>
     requires bucket { bucket < BUCKETS }
     requires may { MayWalk chains.now (held_keys chains.now kept.now.keys) }
     requires kept { length kept.now.keys ≡ chains.now.written }
     ensures { (home : Key → ℕ)
         → AreChains chains.now (places home (held_keys chains.now kept.now.keys))
         → MatchOption result (NoneDueIn (held_keys chains.now kept.now.keys) home bucket to)
-        (IsOldestDue (held_keys chains.now kept.now.keys) home bucket to) }
+        (λ row. IsOldestDue (held_keys chains.now kept.now.keys) home bucket to (row_told (held_keys chains.now kept.now.keys) row)) }
 {
     let mut next = chains.oldest(bucket);
     while let Some(slot) = next {
-        let Key { deadline, order } = kept.key(slot);
+        let deadline = kept.deadline(slot);
         if deadline <= to {
-            return Some(Row {
+            return Some(HeldRow {
                 deadline,
-                order,
+                rank: 0,
                 slot,
             });
         }

@@ -7,7 +7,7 @@ pub const LAST: u64 = NEVER - 1;
 /// How many buckets a wheel has: 512 on each of four levels, and 192 on the highest.
 pub const BUCKETS: u32 = 2_240;
 
-/// What a wheel keeps of a row.
+/// What contracts know of a row. A wheel stores its deadline; its order is known to proofs alone.
 #[derive(Clone, Copy, Debug, PartialEq, Eq)]
 pub struct Key {
     /// When the row is due, in milliseconds. At most [`LAST`].
@@ -16,13 +16,28 @@ pub struct Key {
     pub order: u64,
 }
 
-/// A row of a wheel. Rows are compared by deadline, then by order.
-#[derive(Clone, Copy, Debug, PartialEq, Eq, PartialOrd, Ord)]
+/// A row that is put into a wheel.
+#[derive(Clone, Copy, Debug, PartialEq, Eq)]
 pub struct Row {
     /// When the row is due, in milliseconds. At most [`LAST`].
     pub deadline: u64,
-    /// Its rank among all rows that were put in: later ones have greater orders.
+    /// Its rank among all rows that were put in: later ones have greater orders. It isn't stored: a bucket has its rows in
+    /// this order.
     pub order: u64,
     /// The slot whose row it is.
     pub slot: u32,
 }
+
+/// A row that a wheel holds, as it is told. Rows are compared by deadline, then by rank.
+#[derive(Clone, Copy, Debug, PartialEq, Eq, PartialOrd, Ord)]
+pub struct HeldRow {
+    /// When the row is due, in milliseconds. At most [`LAST`].
+    pub deadline: u64,
+    /// How many rows were collected before it, where all that are due are told; and else 0.
+    pub rank: u32,
+    /// The slot whose row it is.
+    pub slot: u32,
+}
+
+// Due rows are collected and sorted in a list, four in a line of the caches.
+const _: () = prove!(size_of::<HeldRow>() == 16);

@@ -3,7 +3,7 @@ ghost use Rattle.std.specs.Prelude.{◌≡◌, min};
 use crate::chains::Chains;
 use crate::kept::Kept;
 use crate::marked::MarkedChains;
-use crate::row::{BUCKETS, Key, LAST, Row};
+use crate::row::{BUCKETS, HeldRow, LAST, Row};
 use crate::walk::{bucket, collect, early_in, first_bucket, least_in, move_on, visit_end};
 use ert_defs::NoMemory;
 use std::alloc::Global;
@@ -64,7 +64,7 @@ impl<T: Copy> Wheel<T> {
     ghost use Rattle.std.specs.Option.{is_some};
     ghost use Rattle.ert_wheel.specs.NextDue.{NoRow, IsNextDue};
     ghost use Rattle.ert_wheel.specs.Rings.{Place, AreChains, MayPut, Puts, PutsInHome, MayTake, GivesUpPlace, Finds};
-    ghost use Rattle.ert_wheel.specs.Rows.{key_in, key_of, row_at, times, due_count, left_at, comes_before};
+    ghost use Rattle.ert_wheel.specs.Rows.{key_in, key_of, rows_told, told_at, times, due_count, left_at, comes_before};
     ghost use Rattle.ert_wheel.specs.declared.row.TheConstants.{NEVER, LAST};
 
     /// A wheel without rows, with room for one of each slot below `slots`, of which none is written. The numbers of
@@ -108,17 +108,16 @@ impl<T: Copy> Wheel<T> {
     }
 
     /// The row of a slot; None where it has none.
-    pub fn row(&self, slot: u32) -> Option<Row>
+    pub fn row(&self, slot: u32) -> Option<HeldRow>
         requires { slot < self.now.owners.written }
-        ensures { result ≡ option_map (row_at slot) (key_in self.now.keys slot) }
+        ensures { result ≡ option_map (told_at slot) (key_in self.now.keys slot) }
     {
         if self.buckets.is_alone(slot) {
             return None;
         }
-        let Key { deadline, order } = self.kept.key(slot);
-        Some(Row {
-            deadline,
-            order,
+        Some(HeldRow {
+            deadline: self.kept.deadline(slot),
+            rank: 0,
             slot,
         })
     }
@@ -180,15 +179,10 @@ impl<T: Copy> Wheel<T> {
         ensures values { self.new.values ≡ slice_set self.old.values row.slot value }
         ensures passed { self.new.passed ≡ self.old.passed }
     {
-        let Row {
-            deadline,
-            order,
-            slot,
-        } = row;
-        let home = bucket(self.next_time, deadline.max(self.next_time));
-        self.buckets.put(slot, home);
-        self.kept.set(slot, Key { deadline, order }, value);
-        lower(&mut self.floor, deadline);
+        let home = bucket(self.next_time, row.deadline.max(self.next_time));
+        self.buckets.put(row.slot, home);
+        self.kept.set(row, value);
+        lower(&mut self.floor, row.deadline);
         self.len += 1;
     }
 
@@ -266,12 +260,12 @@ impl<T: Copy> Wheel<T> {
 
     /// Writes the rows with a deadline at most `to`, in order of deadline, then of order, into `out`,
     /// which is cleared first and has room for one row of each slot.
-    pub fn due(&self, to: u64, out: &mut Vec<Row>)
+    pub fn due(&self, to: u64, out: &mut Vec<HeldRow>)
         requires { length self.now.keys ≤ vec_capacity out.old }
-        ensures each { (slot : ℕ) → times slot out.new.items ≡ due_count to (key_in self.now.keys slot) }
-        ensures rows { All (λ row. key_in self.now.keys row.slot ≡ Some (key_of row)) out.new.items }
+        ensures each { (slot : ℕ) → times slot (rows_told self.now.keys out.new.items) ≡ due_count to (key_in self.now.keys slot) }
+        ensures rows { All (λ row. key_in self.now.keys row.slot ≡ Some (key_of row)) (rows_told self.now.keys out.new.items) }
         ensures written { All (λ row. row.slot < self.now.owners.written) out.new.items }
-        ensures sorted { IsSortedBy comes_before out.new.items }
+        ensures sorted { IsSortedBy comes_before (rows_told self.now.keys out.new.items) }
         ensures capacity { vec_capacity out.new ≡ vec_capacity out.old }
     {
         out.clear();
@@ -330,11 +324,11 @@ impl<T: Copy> Wheel<T> {
     }
 
     /// Takes the rows with a deadline at most `to` out, and writes them into `out` as `due` does.
-    pub fn advance(&mut self, to: u64, out: &mut Vec<Row>)
+    pub fn advance(&mut self, to: u64, out: &mut Vec<HeldRow>)
         requires { length self.old.keys ≤ vec_capacity out.old }
-        ensures each { (slot : ℕ) → times slot out.new.items ≡ due_count to (key_in self.old.keys slot) }
-        ensures rows { All (λ row. key_in self.old.keys row.slot ≡ Some (key_of row)) out.new.items }
-        ensures sorted { IsSortedBy comes_before out.new.items }
+        ensures each { (slot : ℕ) → times slot (rows_told self.old.keys out.new.items) ≡ due_count to (key_in self.old.keys slot) }
+        ensures rows { All (λ row. key_in self.old.keys row.slot ≡ Some (key_of row)) (rows_told self.old.keys out.new.items) }
+        ensures sorted { IsSortedBy comes_before (rows_told self.old.keys out.new.items) }
         ensures capacity { vec_capacity out.new ≡ vec_capacity out.old }
         ensures left { self.new.keys ≡ map (left_at to) self.old.keys }
         ensures owners { self.new.owners ≡ self.old.owners }

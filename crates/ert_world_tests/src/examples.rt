@@ -8,7 +8,7 @@ use ert_effects::{StartErr, Taken};
 use ert_locks::DeskName;
 use ert_service::CallerSession;
 use ert_unique::{Spent, Uniques};
-use ert_wheel::{Row, Wheel};
+use ert_wheel::{HeldRow, Row, Wheel};
 use ert_world::World;
 use std::alloc::Global;
 use std::process::Abort;
@@ -109,7 +109,7 @@ fn a_pass_draws(rt: HostRuntime) -> Result<(), NoMemory> {
 }
 
 /// The rows that are due at 20 milliseconds.
-fn due_rows(alloc: Global) -> Result<Vec<Row>, Fail> {
+fn due_rows(alloc: Global) -> Result<Vec<HeldRow>, Fail> {
     let mut wheel = Wheel::new(alloc, 64, 1)?;
     let mut due = Vec::with_capacity(alloc, 64)?;
     wheel.write_up_to(4, 0u64);

@@ -2,7 +2,7 @@
 ghost use Rattle.std.specs.Prelude.{◌≡◌};
 
 use super::WheelPart;
-use ert_wheel::Row;
+use ert_wheel::HeldRow;
 
 impl WheelPart {
     ghost use Rattle.std.specs.Bool.{OnTrue};
@@ -11,13 +11,14 @@ impl WheelPart {
     ghost use Rattle.std.specs.Prelude.{◌≡◌, ◌≤◌, MatchOption, [], count_by, min};
     ghost use Rattle.ert_timers.specs.Trying.{come_to};
     ghost use Rattle.ert_wheel.specs.FirstDue.{NoRowDue, IsFirstRowDue};
+    ghost use Rattle.ert_wheel.specs.Rows.{row_told};
 
     /// The first row, by deadline and then by start, where it is due at `to`; None where none is. The time of the wheel
     /// goes on with it.
-    pub(crate) fn first_row_due(&mut self, to: u64) -> Option<Row>
+    pub(crate) fn first_row_due(&mut self, to: u64) -> Option<HeldRow>
         ensures part { self.new ≡ come_to self.old self.new.passed }
         ensures time { self.old.passed ≤ self.new.passed }
-        ensures row { MatchOption result (NoRowDue self.old.keys to) (IsFirstRowDue self.old.keys to) }
+        ensures row { MatchOption result (NoRowDue self.old.keys to) (λ row. IsFirstRowDue self.old.keys to (row_told self.old.keys row)) }
     {
         self.wheel.first_due(to)
     }

@@ -3,13 +3,14 @@ ghost use Rattle.std.specs.Prelude.{◌≡◌};
 
 use super::Wheel;
 use crate::oldest::oldest_due;
-use crate::row::Row;
+use crate::row::HeldRow;
 use crate::walk::{first_bucket, visit_end};
 
 impl<T: Copy> Wheel<T> {
     ghost use Rattle.std.specs.Prelude.{◌≡◌, ◌≤◌, MatchBool, MatchOption, max};
     ghost use Rattle.ert_wheel.specs.FirstDue.{NoRowDue, IsFirstRowDue, IsReached, MayBeDue};
     ghost use Rattle.ert_wheel.specs.NextDue.{NoneBefore};
+    ghost use Rattle.ert_wheel.specs.Rows.{row_told};
 
     /// Whether a row may be due at `to`: one stands in a bucket that an advance up to `to` looks at. False comes only where
     /// none is due by then.
@@ -32,8 +33,8 @@ impl<T: Copy> Wheel<T> {
     ///
     /// Else the work is constant, but where rows were put in late since time moved on. Then it looks at the rows of the next
     /// time's bucket that are older than the first, and at all of them where a row is the first with its deadline.
-    pub fn first_due(&mut self, to: u64) -> Option<Row>
-        ensures first { MatchOption result (NoRowDue self.old.keys to) (IsFirstRowDue self.old.keys to) }
+    pub fn first_due(&mut self, to: u64) -> Option<HeldRow>
+        ensures first { MatchOption result (NoRowDue self.old.keys to) (λ row. IsFirstRowDue self.old.keys to (row_told self.old.keys row)) }
         ensures keys { self.new.keys ≡ self.old.keys }
         ensures owners { self.new.owners ≡ self.old.owners }
         ensures values { self.new.values ≡ self.old.values }
@@ -53,9 +54,9 @@ impl<T: Copy> Wheel<T> {
     /// The first row where it is due at a time before which none is; None where none is due at that time, if this is no later
     /// than the next time.
     #[inline]
-    fn first_at(&self, time: u64) -> Option<Row>
+    fn first_at(&self, time: u64) -> Option<HeldRow>
         requires { NoneBefore self.now.keys time }
-        ensures { MatchOption result (time ≤ self.now.passed → NoRowDue self.now.keys time) (IsFirstRowDue self.now.keys time) }
+        ensures { MatchOption result (time ≤ self.now.passed → NoRowDue self.now.keys time) (λ row. IsFirstRowDue self.now.keys time (row_told self.now.keys row)) }
     {
         oldest_due(
             &self.buckets,

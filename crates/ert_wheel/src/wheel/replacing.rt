@@ -1,6 +1,6 @@
 //! A slot's row that another takes the place of.
 use super::{Wheel, lower};
-use crate::row::{Key, Row};
+use crate::row::Row;
 use crate::walk::bucket;
 
 impl<T: Copy> Wheel<T> {
@@ -23,14 +23,9 @@ impl<T: Copy> Wheel<T> {
         ensures values { self.new.values ≡ slice_set self.old.values row.slot value }
         ensures passed { self.new.passed ≡ self.old.passed }
     {
-        let Row {
-            deadline,
-            order,
-            slot,
-        } = row;
-        let home = bucket(self.next_time, deadline.max(self.next_time));
-        self.buckets.renew(slot, home);
-        self.kept.set(slot, Key { deadline, order }, value);
-        lower(&mut self.floor, deadline);
+        let home = bucket(self.next_time, row.deadline.max(self.next_time));
+        self.buckets.renew(row.slot, home);
+        self.kept.set(row, value);
+        lower(&mut self.floor, row.deadline);
     }
 }

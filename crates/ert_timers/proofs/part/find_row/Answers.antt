@@ -1,8 +1,9 @@
-use Rattle.std.proofs.Common.{List, Option, Some, None, length, refl, sym, ap, subst, ◌∙◌, arith}
+use Rattle.std.proofs.Common.{List, Option, Some, None, length, option_map, refl, sym, ap, subst, ◌∙◌, arith}
 use Rattle.ert_timers.specs.Owners.{Thinned, FindsRow}
-use Rattle.ert_timers.proofs.Owners.{thinned_none, thinned_more, linked_falls, finds_some, finds_none, no_row}
+use Rattle.ert_timers.proofs.Owners.{thinned_none, thinned_more, linked_falls, finds_some, finds_none, no_row, told_row}
 use Rattle.ert_timers.proofs.part.find_row.Goals as goal
 use Rattle.ert_wheel.specs.Rings.{with_place}
+use Rattle.ert_wheel.specs.Rows.{key_in, row_told}
 use Rattle.ert_wheel.specs.declared.row.Key.{Key}
 
 pub loop-slot-init : goal.loop-slot-init
@@ -38,7 +39,9 @@ loop-slot-preserved c = record {
   thins = λ places are.
       let t = c.loop-slot.invariant.thins places are in
       let keys = c.loop-slot.wheel.keys in
-      let none = no_row keys c.in-Some.slot c.row.result c.row.ensures c.in_default-row.is in
+      let none =
+      no_row keys c.in-Some.slot (option_map (row_told keys) c.row.result) (told_row keys c.in-Some.slot (key_in keys c.in-Some.slot) c.row.result refl c.row.ensures)
+      (ap (option_map (row_told keys)) c.in_default-row.is) in
       let left = with_place t.0 c.in-Some.slot None in (
         left,
         subst (λ ks. Thinned c.disown.new.self.owners ks places left) (sym c.disown.ensures.keys)
@@ -56,9 +59,11 @@ loop-slot-smaller c =
 pub returns-in-Some-row-clause-finds : goal.returns-in-Some-row-clause-finds
 returns-in-Some-row-clause-finds c = λ places are.
     let t = c.loop-slot.invariant.thins places are in
-    subst (λ ks. FindsRow ks places c.args.process c.loop-slot.wheel.owners (Some c.in-Some-row.row)) c.loop-slot.invariant.keys_stay
-    (finds_some c.loop-slot.wheel.owners c.loop-slot.wheel.keys places t.0 c.args.process _ c.in-Some.slot c.row.result c.in-Some-row.row t.1
-    (c.in-Some.ensures.finds t.0 t.1.are) c.row.ensures c.in-Some-row.is)
+    let keys = c.loop-slot.wheel.keys in
+    subst (λ ks. FindsRow ks places c.args.process c.loop-slot.wheel.owners (Some (row_told ks c.in-Some-row.row))) c.loop-slot.invariant.keys_stay
+    (finds_some c.loop-slot.wheel.owners keys places t.0 c.args.process _ c.in-Some.slot (option_map (row_told keys) c.row.result) (row_told keys c.in-Some-row.row) t.1
+    (c.in-Some.ensures.finds t.0 t.1.are) (told_row keys c.in-Some.slot (key_in keys c.in-Some.slot) c.row.result refl c.row.ensures)
+    (ap (option_map (row_told keys)) c.in-Some-row.is))
 
 pub returns-clause-finds : goal.returns-clause-finds
 returns-clause-finds c = λ places are.

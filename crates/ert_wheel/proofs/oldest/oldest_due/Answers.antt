@@ -1,18 +1,17 @@
-use Rattle.std.proofs.Common.{ap, subst, sym, arith}
+use Rattle.std.proofs.Common.{subst, sym, arith}
 use Rattle.ert_wheel.proofs.Climbing.{climb_starts, reads, climb_finds, climbs_on, climb_falls, climb_ends}
 use Rattle.ert_wheel.proofs.oldest.oldest_due.Goals as goal
 use Rattle.ert_wheel.specs.FirstDue.{IsOldestDue}
-use Rattle.ert_wheel.specs.Rows.{row_at}
+use Rattle.ert_wheel.specs.Rows.{row_told}
 use Rattle.ert_wheel.specs.Wheels.{no_key, held_keys, places}
-use Rattle.ert_wheel.specs.declared.row.Key.{Key}
 
 pub loop-next-init : goal.loop-next-init
 loop-next-init g c = λ home are.
     climb_starts c.args.chains.now (held_keys c.args.chains.now c.args.kept.now.keys) home c.args.bucket c.args.to c.oldest-next.result c.requires.may.slots
     (c.oldest-next.ensures (places home (held_keys c.args.chains.now c.args.kept.now.keys)) are)
 
-pub key-deadline-requires : goal.key-deadline-requires
-key-deadline-requires g c =
+pub deadline-deadline-requires : goal.deadline-deadline-requires
+deadline-deadline-requires g c =
     let may = c.requires.may in
     (reads c.args.chains.now c.args.kept.now.keys may.home c.args.bucket c.args.to c.in-Some.slot c.loop-next.next no_key
     (record { slots = may.slots; are = may.are; climbed = c.loop-next.invariant may.home may.are; is = c.in-Some.is })).low
@@ -20,10 +19,10 @@ key-deadline-requires g c =
 pub returns-then-deadline-to : goal.returns-then-deadline-to
 returns-then-deadline-to g c = λ home are.
     let keys = held_keys c.args.chains.now c.args.kept.now.keys in
-    subst (λ (key : Key). IsOldestDue keys home c.args.bucket c.args.to (row_at c.in-Some.slot key)) (sym c.key-deadline.ensures)
+    subst (λ n. IsOldestDue keys home c.args.bucket c.args.to (row_told keys (record { deadline = n; rank = 0; slot = c.in-Some.slot }))) (sym c.deadline-deadline.ensures)
     (climb_finds c.args.chains.now c.args.kept.now.keys home c.args.bucket c.args.to c.in-Some.slot c.loop-next.next no_key
     (record { slots = c.requires.may.slots; are = are; climbed = c.loop-next.invariant home are; is = c.in-Some.is })
-    (omega (arith, c.if-deadline-to.true, ap (λ (key : Key). key.deadline) c.key-deadline.ensures)))
+    (omega (arith, c.if-deadline-to.true, c.deadline-deadline.ensures)))
 
 pub loop-next-smaller : goal.loop-next-smaller
 loop-next-smaller g c =
@@ -35,7 +34,7 @@ pub loop-next-preserved : goal.loop-next-preserved
 loop-next-preserved g c = λ home are.
     climbs_on c.args.chains.now c.args.kept.now.keys home c.args.bucket c.args.to c.in-Some.slot c.loop-next.next c.newer-next.result no_key
     (record { slots = c.requires.may.slots; are = are; climbed = c.loop-next.invariant home are; is = c.in-Some.is })
-    (omega (arith, c.if-deadline-to.false, ap (λ (key : Key). key.deadline) c.key-deadline.ensures)) c.newer-next.ensures
+    (omega (arith, c.if-deadline-to.false, c.deadline-deadline.ensures)) c.newer-next.ensures
 
 pub returns : goal.returns
 returns g c = λ home are.

@@ -1,5 +1,5 @@
 use Rattle.std.proofs.Common.{ℕ, min, ap, ◌∙◌, subst, sym, arith}
-use Rattle.ert_wheel.proofs.Collect.{at_key, stands_low, steps_fall}
+use Rattle.ert_wheel.proofs.Looking.{at_key, stands_low, steps_fall}
 use Rattle.ert_wheel.proofs.Least.{IsPassed, never_over, is_answered, passes_none, steps_on, passes_all}
 use Rattle.ert_wheel.proofs.walk.least_in.Goals as goal
 use Rattle.ert_wheel.specs.Wheels.{no_key, held_keys, places}

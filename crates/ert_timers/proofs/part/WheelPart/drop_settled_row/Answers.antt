@@ -13,8 +13,8 @@ use Rattle.ert_timers.specs.Parts.{PartStands, last_timer}
 use Rattle.ert_timers.specs.Starting.{status_shown}
 use Rattle.ert_timers.proofs.Dropped.{drops_none, drops_one, drops_empty, settled_seen, told_some, told_none}
 use Rattle.ert_timers.proofs.part.WheelPart.drop_settled_row.Goals as goal
-use Rattle.ert_wheel.specs.Rows.{key_in, row_at}
-use Rattle.ert_wheel.specs.declared.row.Row.{Row as WheelRow}
+use Rattle.ert_wheel.specs.Rows.{key_in, told_at}
+use Rattle.ert_wheel.specs.declared.row.HeldRow.{HeldRow}
 
 pub see_timer-shown-requires-clause-slot : goal.see_timer-shown-requires-clause-slot
 see_timer-shown-requires-clause-slot c = record {
@@ -28,7 +28,7 @@ returns-then-is_armed-clause-drops c =
     let h = front_of c.args.pass.now in
     let p = c.args.self.now in
     let k = c.args.slot in
-    let has = told_some (row_at k) (key_in p.keys k) c.row.result c.in-Some.row c.row.ensures c.in-Some.is in
+    let has = told_some (told_at k) (key_in p.keys k) c.row.result c.in-Some.row c.row.ensures c.in-Some.is in
     drops_none g h p k has.0 c.requires.stands has.1
     (ap (λ n. is_armed (status_shown (shown_in (state g h) n k))) (sym c.number.ensures)
     ∙ (ap (λ s. is_armed (status_shown s)) (sym c.see_timer-shown.ensures.shown) ∙ (sym c.is_armed.ensures ∙ c.if-is_armed.true)))
@@ -44,9 +44,9 @@ pub forget-requires-clause-last : goal.forget-requires-clause-last
 forget-requires-clause-last c =
     let p = c.args.self.now in
     let k = c.args.slot in
-    let has = told_some (row_at k) (key_in p.keys k) c.row.result c.in-Some.row c.row.ensures c.in-Some.is in
+    let has = told_some (told_at k) (key_in p.keys k) c.row.result c.in-Some.row c.row.ensures c.in-Some.is in
     let last : c.timer.result.timer ≡ last_timer p.number p.slots k =
-    ap (λ (r : Row). r.timer) c.timer.ensures ∙ ap (λ (r : WheelRow). last_timer p.number p.slots r.slot) (sym has.2) in
+    ap (λ (r : Row). r.timer) c.timer.ensures ∙ ap (λ (r : HeldRow). last_timer p.number p.slots r.slot) (sym has.2) in
     subst (λ (t : TimerRef). IsLast p t) (sym last) (record { low = c.requires.low; named = refl; used = inr (λ none. let no : Some has.0 ≡ None = sym has.1 ∙ none in cc) })
 
 pub forget-requires-clause-settled : goal.forget-requires-clause-settled
@@ -57,9 +57,9 @@ forget-requires-clause-settled c = λ g named armed.
     let k = c.args.slot in
     let same : Some (settings_of d) ≡ Some g = sym c.see_timer-shown.ensures.belongs.named ∙ named in
     let mine : settings_of d ≡ g = cc in
-    let has = told_some (row_at k) (key_in p.keys k) c.row.result c.in-Some.row c.row.ensures c.in-Some.is in
+    let has = told_some (told_at k) (key_in p.keys k) c.row.result c.in-Some.row c.row.ensures c.in-Some.is in
     let last : c.timer.result.timer ≡ last_timer p.number p.slots k =
-    ap (λ (r : Row). r.timer) c.timer.ensures ∙ ap (λ (r : WheelRow). last_timer p.number p.slots r.slot) (sym has.2) in
+    ap (λ (r : Row). r.timer) c.timer.ensures ∙ ap (λ (r : HeldRow). last_timer p.number p.slots r.slot) (sym has.2) in
     let here : (state (settings_of d) h).status (last_timer p.number p.slots k) ≡ Some Armed =
     subst (λ (x : Settings). (state x h).status (last_timer p.number p.slots k) ≡ Some Armed) (sym mine)
     (subst (λ (v : View). (state g v.front).status (last_timer p.number p.slots k) ≡ Some Armed) c.see_timer-shown.ensures.same
@@ -73,9 +73,9 @@ returns-clause-drops c =
     let g = settings_of c.args.desk.now in
     let p = c.args.self.now in
     let k = c.args.slot in
-    let has = told_some (row_at k) (key_in p.keys k) c.row.result c.in-Some.row c.row.ensures c.in-Some.is in
+    let has = told_some (told_at k) (key_in p.keys k) c.row.result c.in-Some.row c.row.ensures c.in-Some.is in
     let last : c.timer.result.timer ≡ last_timer p.number p.slots k =
-    ap (λ (r : Row). r.timer) c.timer.ensures ∙ ap (λ (r : WheelRow). last_timer p.number p.slots r.slot) (sym has.2) in
+    ap (λ (r : Row). r.timer) c.timer.ensures ∙ ap (λ (r : HeldRow). last_timer p.number p.slots r.slot) (sym has.2) in
     drops_one g (front_of c.args.pass.now) p c.forget.new.self k c.timer.result.timer last c.requires.low
     (subst (λ (v : View). PartStands g v.front c.forget.new.self) c.see_timer-shown.ensures.same
     (c.forget.ensures.stands g c.see_timer-shown.ensures.belongs.named)) c.forget.ensures.loses c.forget.ensures.forgotten
@@ -84,10 +84,10 @@ pub returns-in_default-clause-drops : goal.returns-in_default-clause-drops
 returns-in_default-clause-drops c =
     let p = c.args.self.now in
     drops_empty (settings_of c.args.desk.now) (front_of c.args.pass.now) p c.args.slot c.requires.stands
-    (told_none (row_at c.args.slot) (key_in p.keys c.args.slot) c.row.result c.row.ensures c.in_default.is)
+    (told_none (told_at c.args.slot) (key_in p.keys c.args.slot) c.row.result c.row.ensures c.in_default.is)
 
 pub timer-requires-clause-used : goal.timer-requires-clause-used
 timer-requires-clause-used c =
     let p = c.args.self.now in
-    let has = told_some (row_at c.args.slot) (key_in p.keys c.args.slot) c.row.result c.in-Some.row c.row.ensures c.in-Some.is in
-    inr (λ none. let no : Some has.0 ≡ None = sym (ap (λ (r : WheelRow). key_in p.keys r.slot) (sym has.2) ∙ has.1) ∙ none in cc)
+    let has = told_some (told_at c.args.slot) (key_in p.keys c.args.slot) c.row.result c.in-Some.row c.row.ensures c.in-Some.is in
+    inr (λ none. let no : Some has.0 ≡ None = sym (ap (λ (r : HeldRow). key_in p.keys r.slot) (sym has.2) ∙ has.1) ∙ none in cc)

@@ -1,78 +1,96 @@
-use Rattle.std.proofs.Common.{◌≡◌, ◌+◌, drop, length, ap, subst, sym, arith, get_or}
+use Rattle.std.proofs.Common.{◌≡◌, ◌+◌, ◌∙◌, Some, drop, length, ap, subst, sym, arith, get_or}
 use Rattle.ert_table.specs.Desks.{settings_of, view_of}
-use Rattle.ert_timers.specs.Expiring.{AreDue, IsReady, ExpiresSome}
+use Rattle.ert_timers.specs.Expiring.{AreDue, IsReady, Expires, ExpiresSome}
 use Rattle.ert_timers.specs.Parts.{Part}
 use Rattle.ert_timers.proofs.Trials.{expires_none, expires_more, expires_gone_on, still_held}
-use Rattle.ert_timers.proofs.Dues.{is_next, first_held, next_row, no_row, none_left}
+use Rattle.ert_timers.proofs.Dues.{is_next, first_held, next_told, none_told, none_left, row_stays}
 use Rattle.ert_timers.proofs.part.WheelPart.expire_all.Goals as goal
+use Rattle.ert_wheel.specs.Rows.{key_of, row_told, rows_told}
+use Rattle.ert_wheel.specs.declared.row.HeldRow.{HeldRow}
 use Rattle.ert_wheel.specs.declared.row.Row.{Row}
-use Rattle.ert_wheel.proofs.Collect.{key_low}
+use Rattle.ert_wheel.proofs.Looking.{key_low}
 
-none : Row
-none = record { deadline = 0; order = 0; slot = 0 }
+none : HeldRow
+none = record { deadline = 0; rank = 0; slot = 0 }
 
 pub loop-row-init : goal.loop-row-init
 loop-row-init c = record {
   belongs = c.requires.belongs;
   holds = c.requires.holds;
-  call = expires_none (settings_of c.args.desk.now) (view_of c.args.pass.now) c.args.self.now c.args.to c.args.due.now c.args.expired.now
+  call = expires_none (settings_of c.args.desk.now) (view_of c.args.pass.now) c.args.self.now c.args.to (rows_told c.args.self.now.keys c.args.due.now) c.args.expired.now
       c.requires.ready;
 }
 
 pub expire-requires-clause-first : goal.expire-requires-clause-first
 unfolding none
 expire-requires-clause-first c =
-    let due = c.args.due.now in
+    let told = c.args.due.now in
+    let due = rows_told c.args.self.now.keys told in
     let n = c.loop-row.row-index in
     let h = (view_of c.loop-row.pass).front in
     let g = settings_of c.args.desk.now in
-    is_next g h c.loop-row.self c.args.to (get_or due n none) (drop (n + 1) due)
-    (subst (IsReady g h c.loop-row.self c.args.to) (next_row due n none c.loop-row-test.true) c.loop-row.invariant.call.ready)
+    let row = row_told c.args.self.now.keys (get_or told n none) in
+    is_next g h c.loop-row.self c.args.to row (drop (n + 1) due)
+    (subst (IsReady g h c.loop-row.self c.args.to) (next_told c.args.self.now.keys told n none c.loop-row-test.true) c.loop-row.invariant.call.ready)
 
 pub expire-requires-clause-held : goal.expire-requires-clause-held
 unfolding none
 expire-requires-clause-held c =
-    let due = c.args.due.now in
+    let told = c.args.due.now in
+    let due = rows_told c.args.self.now.keys told in
     let n = c.loop-row.row-index in
     let h = (view_of c.loop-row.pass).front in
     let g = settings_of c.args.desk.now in
-    first_held g h c.loop-row.self c.args.to (get_or due n none) (drop (n + 1) due)
-    (subst (IsReady g h c.loop-row.self c.args.to) (next_row due n none c.loop-row-test.true) c.loop-row.invariant.call.ready)
+    let row = row_told c.args.self.now.keys (get_or told n none) in
+    let held =
+    first_held g h c.loop-row.self c.args.to row (drop (n + 1) due)
+    (subst (IsReady g h c.loop-row.self c.args.to) (next_told c.args.self.now.keys told n none c.loop-row-test.true) c.loop-row.invariant.call.ready) in
+    held ∙ ap (λ (r : Row). Some (key_of r)) (sym (row_stays c.args.self.now.keys c.loop-row.self.keys (get_or told n none) held))
 
 pub expire-requires-clause-low : goal.expire-requires-clause-low
 unfolding none
 expire-requires-clause-low c =
-    let due = c.args.due.now in
+    let told = c.args.due.now in
+    let due = rows_told c.args.self.now.keys told in
     let n = c.loop-row.row-index in
     let h = (view_of c.loop-row.pass).front in
     let g = settings_of c.args.desk.now in
+    let row = row_told c.args.self.now.keys (get_or told n none) in
     let ready = c.loop-row.invariant.call.ready in
     let held =
-    first_held g h c.loop-row.self c.args.to (get_or due n none) (drop (n + 1) due)
-    (subst (IsReady g h c.loop-row.self c.args.to) (next_row due n none c.loop-row-test.true) ready) in
+    first_held g h c.loop-row.self c.args.to row (drop (n + 1) due)
+    (subst (IsReady g h c.loop-row.self c.args.to) (next_told c.args.self.now.keys told n none c.loop-row-test.true) c.loop-row.invariant.call.ready) in
     omega (arith, ready.stands.holds.wide, ready.stands.holds.many, key_low c.loop-row.self.keys _ _ held)
 
 pub loop-row-preserved : goal.loop-row-preserved
 unfolding none
 loop-row-preserved c =
-    let due = c.args.due.now in
+    let told = c.args.due.now in
+    let due = rows_told c.args.self.now.keys told in
     let n = c.loop-row.row-index in
+    let h = (view_of c.loop-row.pass).front in
     let g = settings_of c.args.desk.now in
-    let one = c.expire.ensures.call in
+    let row = row_told c.args.self.now.keys (get_or told n none) in
+    let held =
+    first_held g h c.loop-row.self c.args.to row (drop (n + 1) due)
+    (subst (IsReady g h c.loop-row.self c.args.to) (next_told c.args.self.now.keys told n none c.loop-row-test.true) c.loop-row.invariant.call.ready) in
+    let one : Expires g (view_of c.loop-row.pass) c.loop-row.self c.expire.new.self row c.loop-row.expired c.expire.new.expired (view_of c.expire.new.pass) =
+    subst (λ (r : Row). Expires g (view_of c.loop-row.pass) c.loop-row.self c.expire.new.self r c.loop-row.expired c.expire.new.expired (view_of c.expire.new.pass))
+    (row_stays c.args.self.now.keys c.loop-row.self.keys (get_or told n none) held) c.expire.ensures.call in
     record {
       belongs = c.expire.ensures.belongs;
       holds = still_held (view_of c.loop-row.pass) (view_of c.expire.new.pass) c.loop-row.self.number c.expire.new.self.number
           c.loop-row.invariant.holds one.step.actors (ap (λ (p : Part). p.number) one.part);
-      call = expires_more g (view_of c.args.pass.now) c.args.self.now c.loop-row.self c.expire.new.self c.args.to due n (get_or due n none)
+      call = expires_more g (view_of c.args.pass.now) c.args.self.now c.loop-row.self c.expire.new.self c.args.to due n row
           c.args.expired.now c.loop-row.expired c.expire.new.expired (view_of c.loop-row.pass) (view_of c.expire.new.pass)
-          c.loop-row.invariant.call c.loop-row.invariant.holds.sched (next_row due n none c.loop-row-test.true)
+          c.loop-row.invariant.call c.loop-row.invariant.holds.sched (next_told c.args.self.now.keys told n none c.loop-row-test.true)
           c.loop-row.invariant.holds.wheel one;
     }
 
 pub go_on-requires : goal.go_on-requires
 go_on-requires c =
     none_left c.loop-row.self c.args.to
-    (subst (AreDue c.loop-row.self c.args.to) (no_row c.args.due.now c.loop-row.row-index c.loop-row-test.false)
+    (subst (AreDue c.loop-row.self c.args.to) (none_told c.args.self.now.keys c.args.due.now c.loop-row.row-index c.loop-row-test.false)
     c.loop-row.invariant.call.ready.due)
 
 pub returns-clause-call : goal.returns-clause-call
@@ -80,10 +98,11 @@ returns-clause-call c =
     let g = settings_of c.args.desk.now in
     let v = view_of c.args.pass.now in
     let u = view_of c.loop-row.pass in
-    let due = c.args.due.now in
-    let all : c.loop-row.row-index ≡ length due = omega (arith, c.loop-row-test.false, c.loop-row.invariant.call) in
-    subst (λ (q : Part). ExpiresSome g v c.args.self.now q c.args.to due (length due) c.args.expired.now c.loop-row.expired u) (sym c.go_on.ensures)
-    (expires_gone_on g v c.args.self.now c.loop-row.self c.args.to due (length due) c.args.expired.now c.loop-row.expired u
+    let told = c.args.due.now in
+    let due = rows_told c.args.self.now.keys told in
+    let all : c.loop-row.row-index ≡ length told = omega (arith, c.loop-row-test.false, c.loop-row.invariant.call) in
+    subst (λ (q : Part). ExpiresSome g v c.args.self.now q c.args.to due (length told) c.args.expired.now c.loop-row.expired u) (sym c.go_on.ensures)
+    (expires_gone_on g v c.args.self.now c.loop-row.self c.args.to due (length told) c.args.expired.now c.loop-row.expired u
     (subst (λ n. ExpiresSome g v c.args.self.now c.loop-row.self c.args.to due n c.args.expired.now c.loop-row.expired u) all c.loop-row.invariant.call))
 
 pub returns-clause-on : goal.returns-clause-on

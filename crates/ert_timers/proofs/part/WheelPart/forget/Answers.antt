@@ -7,7 +7,7 @@ use Rattle.ert_timers.proofs.Forgotten.{forgot}
 use Rattle.ert_timers.proofs.Passing.{loses_none, loses_row}
 use Rattle.ert_timers.specs.Changes.{dropped, reused}
 use Rattle.ert_timers.specs.Passed.{LosesRows}
-use Rattle.ert_wheel.proofs.Collect.{key_low}
+use Rattle.ert_wheel.proofs.Looking.{key_low}
 use Rattle.ert_timers.proofs.part.WheelPart.forget.Goals as goal
 use Rattle.ert_wheel.specs.Rows.{key_in}
 

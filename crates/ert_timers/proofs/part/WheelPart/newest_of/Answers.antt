@@ -1,9 +1,10 @@
-use Rattle.std.proofs.Common.{◌≡◌, ◌<◌, ◌∙◌, refl, sym, subst}
+use Rattle.std.proofs.Common.{◌≡◌, ◌<◌, ◌∙◌, option_map, refl, sym, subst}
 use Rattle.ert_timers.specs.Changes.{NextOf}
 use Rattle.ert_timers.specs.Parts.{Part, all_slots}
 use Rattle.ert_timers.specs.contracts.part.WheelPart.{the_view}
 use Rattle.ert_timers.proofs.Fit.{fit_owned, fit_same}
 use Rattle.ert_timers.proofs.Keeping.{next_found, owned_thinned}
+use Rattle.ert_wheel.specs.Rows.{row_told}
 use Rattle.ert_words.specs.Free.{free_set}
 use Rattle.ert_timers.proofs.part.WheelPart.newest_of.Goals as goal
 use Rattle.ert_timers.proofs.part.WheelPart.newest_of.Goals.{After-find_row}
@@ -49,6 +50,6 @@ pub returns-clause-row : goal.returns-clause-row
 returns-clause-row c =
     let fit = c.self.invariant in
     let p = c.self.inside in
-    subst (λ (q : Part). NextOf q c.args.process c.find_row.result) (sym (same c))
-    (next_found (the_view p) (free_set p.free) p.wheel.owners c.find_row.new.wheel.owners c.args.process c.find_row.result fit
+    subst (λ (q : Part). NextOf q c.args.process (option_map (row_told q.keys) c.find_row.result)) (sym (same c))
+    (next_found (the_view p) (free_set p.free) p.wheel.owners c.find_row.new.wheel.owners c.args.process (option_map (row_told p.wheel.keys) c.find_row.result) fit
     (c.find_row.ensures.finds fit.chained.places fit.chained.are))

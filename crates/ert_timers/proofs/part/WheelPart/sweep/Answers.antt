@@ -1,4 +1,4 @@
-use Rattle.std.proofs.Common.{◌≡◌, ◌<◌, ◌∙◌, Some, None, inr, count_by, sym, ap, subst, refl, arith}
+use Rattle.std.proofs.Common.{◌≡◌, ◌<◌, ◌∙◌, Some, None, inr, count_by, option_map, sym, ap, subst, refl, arith}
 use Rattle.std.specs.Option.{is_some}
 use Rattle.ert_table.specs.Desks.{settings_of, view_of}
 use Rattle.ert_defs.specs.States.{state}
@@ -7,7 +7,7 @@ use Rattle.ert_timers.specs.Parts.{HoldsCaller, Part, slot_at}
 use Rattle.ert_timers.proofs.Orphaned.{still_caller}
 use Rattle.ert_timers.proofs.Swept.{sweeps_none, sweeps_same, sweeps_more, all_swept, sweeps_all, next_held, fewer}
 use Rattle.ert_timers.proofs.part.WheelPart.sweep.Goals as goal
-use Rattle.ert_wheel.specs.Rows.{key_of}
+use Rattle.ert_wheel.specs.Rows.{key_of, row_told}
 
 pub loop-row-init : goal.loop-row-init
 loop-row-init c = record {
@@ -22,7 +22,7 @@ newest_of-requires c = subst (λ n. c.args.process < n) (sym c.loop-row.invarian
 
 pub orphan-requires-clause-held : goal.orphan-requires-clause-held
 orphan-requires-clause-held c =
-    next_held c.newest_of.new.self c.args.process c.in-Some.row c.timer-timer.result c.in-Some.ensures.row c.timer-timer.ensures
+    next_held c.newest_of.new.self c.args.process (row_told c.newest_of.new.self.keys c.in-Some.row) c.timer-timer.result c.in-Some.ensures.row c.timer-timer.ensures
 
 pub orphan-requires-clause-exited : goal.orphan-requires-clause-exited
 orphan-requires-clause-exited c =
@@ -44,7 +44,7 @@ loop-row-preserved c =
       belongs = c.orphan.ensures.belongs;
       holds = still_caller g u (view_of c.orphan.new.pass) c.args.by c.newest_of.new.self.number c.orphan.new.self.number holds
           one.step.actors (ap (λ (p : Part). p.number) one.part);
-      call = sweeps_more g v c.args.by c.args.process c.args.self.now c.newest_of.new.self c.orphan.new.self c.in-Some.row
+      call = sweeps_more g v c.args.by c.args.process c.args.self.now c.newest_of.new.self c.orphan.new.self (row_told c.newest_of.new.self.keys c.in-Some.row)
           c.timer-timer.result u (view_of c.orphan.new.pass)
           (sweeps_same g v c.args.by c.args.process c.args.self.now c.loop-row.self c.newest_of.new.self u part c.loop-row.invariant.call)
           holds c.in-Some.ensures.row c.timer-timer.ensures one;
@@ -54,7 +54,7 @@ pub loop-row-smaller : goal.loop-row-smaller
 loop-row-smaller c =
     let less =
     fewer (settings_of c.args.desk.now) (view_of c.loop-row.pass) c.args.by c.args.process c.newest_of.new.self c.orphan.new.self
-    c.in-Some.row c.timer-timer.result (view_of c.orphan.new.pass) c.in-Some.ensures.row c.timer-timer.ensures c.orphan.ensures.call in
+    (row_told c.newest_of.new.self.keys c.in-Some.row) c.timer-timer.result (view_of c.orphan.new.pass) c.in-Some.ensures.row c.timer-timer.ensures c.orphan.ensures.call in
     omega (arith, less, ap (λ (p : Part). count_by is_some p.keys) c.newest_of.ensures.part)
 
 pub returns-clause-number : goal.returns-clause-number
@@ -70,10 +70,10 @@ returns-clause-swept c =
     let g = settings_of c.args.desk.now in
     let v = view_of c.args.pass.now in
     let u = view_of c.loop-row.pass in
-    all_swept g v c.args.by c.args.process c.args.self.now.number c.args.self.now c.newest_of.new.self c.newest_of.result u refl
+    all_swept g v c.args.by c.args.process c.args.self.now.number c.args.self.now c.newest_of.new.self (option_map (row_told c.newest_of.new.self.keys) c.newest_of.result) u refl
     (sweeps_same g v c.args.by c.args.process c.args.self.now c.loop-row.self c.newest_of.new.self u c.newest_of.ensures.part
     c.loop-row.invariant.call)
-    c.in_default.is c.newest_of.ensures.row
+    (ap (option_map (row_told c.newest_of.new.self.keys)) c.in_default.is) c.newest_of.ensures.row
 
 pub returns-clause-call : goal.returns-clause-call
 returns-clause-call c =
@@ -86,4 +86,4 @@ returns-clause-loses c =
     c.newest_of.new.self (view_of c.loop-row.pass) c.newest_of.ensures.part c.loop-row.invariant.call).loses
 
 pub timer-timer-requires-clause-used : goal.timer-timer-requires-clause-used
-timer-timer-requires-clause-used c = inr (λ none. let no : Some (key_of c.in-Some.row) ≡ None = sym c.in-Some.ensures.row.1 ∙ none in cc)
+timer-timer-requires-clause-used c = inr (λ none. let no : Some (key_of (row_told c.newest_of.new.self.keys c.in-Some.row)) ≡ None = sym c.in-Some.ensures.row.1 ∙ none in cc)

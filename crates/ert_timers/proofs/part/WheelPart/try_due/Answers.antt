@@ -7,7 +7,8 @@ use Rattle.ert_timers.proofs.Dues.{none_left}
 use Rattle.ert_timers.proofs.Trials.{ready_looked, still_held, has_idled, has_tried, has_not_tried, when_none}
 use Rattle.ert_timers.proofs.part.WheelPart.try_due.Goals as goal
 use Rattle.ert_defs.specs.declared.entry.Actor.TheVariants.{Sched}
-use Rattle.ert_wheel.specs.declared.row.Row.{Row}
+use Rattle.ert_wheel.specs.Rows.{rows_told}
+use Rattle.ert_wheel.specs.declared.row.HeldRow.{HeldRow}
 
 pub go_on-requires : goal.go_on-requires
 go_on-requires c = none_left c.args.self.now c.look_down-to.result c.if-is_idle.ensures
@@ -32,16 +33,16 @@ expire_all-requires-clause-ready c =
     let v = view_of c.args.pass.now in
     let u = view_of c.look_down-to.new.pass in
     let to = c.look_down-to.result in
-    subst (λ (p : Part). IsReady g u.front p to c.deref.result.now) (sym c.find_due.ensures.part)
-    (subst (λ (rows : List Row). IsReady g u.front c.args.self.now to rows) (sym c.deref.ensures.value)
-    (ready_looked g v c.args.self.now to c.in_ok-due.due.items u c.requires.stands c.requires.holds
+    subst (λ (p : Part). IsReady g u.front p to (rows_told p.keys c.deref.result.now)) (sym c.find_due.ensures.part)
+    (subst (λ (rows : List HeldRow). IsReady g u.front c.args.self.now to (rows_told c.args.self.now.keys rows)) (sym c.deref.ensures.value)
+    (ready_looked g v c.args.self.now to (rows_told c.args.self.now.keys c.in_ok-due.due.items) u c.requires.stands c.requires.holds
     (subst (λ n. LooksDown g v (Sched n) to u) c.number.ensures c.look_down-to.ensures.looks) c.in_ok-due.ensures.due))
 
 pub returns-clause-call : goal.returns-clause-call
 returns-clause-call c =
     let due = c.deref.result.now in
     has_tried (settings_of c.args.desk.now) (view_of c.args.pass.now) c.args.self.now c.find_due.new.self c.expire_all.new.self
-    c.keep_list.new.self c.number.result c.look_down-to.result due (length due) c.args.expired.now c.find_due.new.expired c.expire_all.new.expired
+    c.keep_list.new.self c.number.result c.look_down-to.result (rows_told c.find_due.new.self.keys due) (length due) c.args.expired.now c.find_due.new.expired c.expire_all.new.expired
     (view_of c.look_down-to.new.pass) (view_of c.expire_all.new.pass) c.number.ensures c.find_due.ensures.part c.keep_list.ensures
     c.find_due.ensures.expired c.look_down-to.ensures.looks c.expire_all.ensures.call (omega arith) c.requires.holds
 

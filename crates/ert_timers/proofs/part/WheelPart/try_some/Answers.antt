@@ -9,6 +9,7 @@ use Rattle.ert_timers.proofs.Trials.{still_held}
 use Rattle.ert_timers.proofs.Trying.{row_counted, tries_none, tries_more, looked_more}
 use Rattle.ert_timers.proofs.part.WheelPart.try_some.Goals as goal
 use Rattle.ert_wheel.specs.FirstDue.{IsFirstRowDue}
+use Rattle.ert_wheel.specs.Rows.{row_told}
 
 pub loop-row-init : goal.loop-row-init
 loop-row-init c =
@@ -41,7 +42,7 @@ returns-then-left-eq0-clause-call c =
 pub returns-then-left-eq0-clause-left : goal.returns-then-left-eq0-clause-left
 returns-then-left-eq0-clause-left c =
     subst (λ (p : Part). HasDue p c.args.to) (sym c.first_row_due.ensures.part)
-    (has_due (come_to c.loop-row.self c.first_row_due.new.self.passed) c.args.to c.in-Some.row c.in-Some.ensures.row)
+    (has_due (come_to c.loop-row.self c.first_row_due.new.self.passed) c.args.to (row_told c.loop-row.self.keys c.in-Some.row) c.in-Some.ensures.row)
 
 pub expire-requires-clause-stands : goal.expire-requires-clause-stands
 expire-requires-clause-stands c =
@@ -53,8 +54,8 @@ expire-requires-clause-first c =
     let looked =
     looked_come_to (settings_of c.args.desk.now) (view_of c.loop-row.pass).front c.loop-row.self c.first_row_due.new.self c.args.to c.first_row_due.new.self.passed
     c.first_row_due.ensures.part c.loop-row.invariant.looked in
-    first_next (settings_of c.args.desk.now) (view_of c.loop-row.pass).front c.first_row_due.new.self c.args.to c.in-Some.row looked.stands looked.told
-    (subst (λ (p : Part). IsFirstRowDue p.keys c.args.to c.in-Some.row) (sym c.first_row_due.ensures.part) c.in-Some.ensures.row)
+    first_next (settings_of c.args.desk.now) (view_of c.loop-row.pass).front c.first_row_due.new.self c.args.to (row_told c.first_row_due.new.self.keys c.in-Some.row) looked.stands looked.told
+    (subst (λ (p : Part). IsFirstRowDue p.keys c.args.to (row_told p.keys c.in-Some.row)) (sym c.first_row_due.ensures.part) c.in-Some.ensures.row)
 
 pub loop-row-preserved : goal.loop-row-preserved
 loop-row-preserved c =
@@ -64,8 +65,9 @@ loop-row-preserved c =
     let w = view_of c.expire.new.pass in
     let q = c.first_row_due.new.self in
     let part : q ≡ come_to c.loop-row.self q.passed = c.first_row_due.ensures.part in
-    let first : IsFirstRowDue q.keys c.args.to c.in-Some.row =
-    subst (λ (p : Part). IsFirstRowDue p.keys c.args.to c.in-Some.row) (sym part) c.in-Some.ensures.row in
+    let row = row_told q.keys c.in-Some.row in
+    let first : IsFirstRowDue q.keys c.args.to row =
+    subst (λ (p : Part). IsFirstRowDue p.keys c.args.to (row_told p.keys c.in-Some.row)) (sym part) c.in-Some.ensures.row in
     let looked = looked_come_to g u.front c.loop-row.self q c.args.to q.passed part c.loop-row.invariant.looked in
     let holds : HoldsSched u q.number = subst (λ (p : Part). HoldsSched u p.number) (sym part) c.loop-row.invariant.holds in
     let one = c.expire.ensures.call in
@@ -75,13 +77,13 @@ loop-row-preserved c =
       belongs = c.expire.ensures.belongs;
       holds = still_held u w q.number c.expire.new.self.number holds one.step.actors (ap (λ (p : Part). p.number) one.part);
       call = subst (λ n. TriesRows g v c.args.self.now c.expire.new.self c.args.to n c.args.expired.now c.expire.new.expired w) count
-          (tries_more g v c.args.self.now q c.expire.new.self c.args.to (c.args.most - c.loop-row.left) c.in-Some.row c.args.expired.now c.loop-row.expired c.expire.new.expired u w
+          (tries_more g v c.args.self.now q c.expire.new.self c.args.to (c.args.most - c.loop-row.left) row c.args.expired.now c.loop-row.expired c.expire.new.expired u w
           (tried_come_to g v c.args.self.now c.loop-row.self q c.args.to (c.args.most - c.loop-row.left) c.args.expired.now c.loop-row.expired u
           part c.first_row_due.ensures.time c.loop-row.invariant.call)
           looked.stands first.held first.due holds.wheel one);
       looked = record {
         stands = one.stands;
-        told = looked_more g q c.expire.new.self c.args.to c.in-Some.row c.loop-row.expired c.expire.new.expired u w looked.told holds.sched one;
+        told = looked_more g q c.expire.new.self c.args.to row c.loop-row.expired c.expire.new.expired u w looked.told holds.sched one;
       };
       few = omega (arith, c.loop-row.invariant.few);
       room = omega (
@@ -89,7 +91,7 @@ loop-row-preserved c =
         c.if-left-eq0.false,
         c.loop-row.invariant.room,
         one.room,
-        row_counted q c.expire.new.self c.in-Some.row first.held (ap (λ (p : Part). p.keys) one.part),
+        row_counted q c.expire.new.self row first.held (ap (λ (p : Part). p.keys) one.part),
         ap (λ (p : Part). count_by is_some p.keys) part,
       );
     }

@@ -1,10 +1,11 @@
-use Rattle.std.proofs.Common.{◌≡◌, ◌+◌, ◌<◌, Some, ap, ◌∙◌, arith}
-use Rattle.std.proofs.lemmas.List.Elements.{All-weaker}
-use Rattle.ert_wheel.proofs.Due.{seen_start, seen_skip, visit_may, visit_more, due_each, due_rows}
+use Rattle.std.proofs.Common.{◌≡◌, ◌+◌, Some, get_or, ap, ◌∙◌, rules, arith}
+use Rattle.std.specs.List.Sorted.{IsSortedBy}
+use Rattle.ert_wheel.proofs.Due.{seen_start, seen_skip, visit_may, visit_more, due_each, due_rows, due_sorted, ranks_before, told_each}
 use Rattle.ert_wheel.proofs.Writes.{sees, keys_of, row_written}
 use Rattle.ert_wheel.proofs.wheel.Wheel.due.Goals as goal
-use Rattle.ert_wheel.specs.Rows.{key_in, key_of}
+use Rattle.ert_wheel.specs.Rows.{key_in, key_of, row_told}
 use Rattle.ert_wheel.specs.Wheels.{home_by, places}
+use Rattle.ert_wheel.specs.declared.row.HeldRow.{HeldRow}
 use Rattle.ert_wheel.specs.declared.row.Row.{Row}
 
 pub loop-home-init : goal.loop-home-init
@@ -66,6 +67,16 @@ returns-clause-rows g c =
     due_rows c.args.self.now.keys c.loop-home.out.items c.sort_unstable.new.self.items c.loop-home.invariant.sees.are_rows c.sort_unstable.ensures.permutation
 
 pub returns-clause-written : goal.returns-clause-written
-returns-clause-written g c =
-    All-weaker (λ (row : Row). key_in c.args.self.now.keys row.slot ≡ Some (key_of row)) (λ (row : Row). row.slot < c.args.self.now.owners.written)
-    (λ row has. row_written row.slot (key_of row) c.self.invariant c.self.view_is has) c.sort_unstable.new.self.items (returns-clause-rows g c)
+returns-clause-written g c = λ k d low.
+    let keys = c.args.self.now.keys in
+    let new = c.sort_unstable.new.self.items in
+    let row : HeldRow = get_or new k d in
+    row_written row.slot (key_of (row_told keys row)) c.self.invariant c.self.view_is
+    (told_each (λ (row : Row). key_in keys row.slot ≡ Some (key_of row)) keys new (returns-clause-rows g c) k d low)
+
+pub returns-clause-sorted : goal.returns-clause-sorted
+returns-clause-sorted g c =
+    let sorted = c.sort_unstable.ensures.sorted in
+    let by_rank : IsSortedBy ranks_before c.sort_unstable.new.self.items = search (rules, sorted) in
+    due_sorted c.args.self.now.keys c.loop-home.out.items c.sort_unstable.new.self.items c.loop-home.invariant.sees.ranked
+    c.sort_unstable.ensures.permutation by_rank
