@@ -30,7 +30,7 @@
 //! entries of its intervals in order of number: the read of the last timer, the look at the destination and
 //! the start of the next timer (specs/Going). So each timer that a turn starts is the new firing of an interval.
 //!
-//! The module `intervals` of the tests of the crate `ert_world_tests` is an example of its use.
+//! The module `intervals` of the crate `ert_tests` is an example of its use.
 //!
 //! **Cost.** A turn reads the last timer of each Running or Waiting interval of its wheel, in order of
 //! number, and passes over the others.

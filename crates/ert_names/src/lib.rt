@@ -10,7 +10,7 @@
 //! has one life and so one message, the registrar lives and has the messages of named timers alone, and no exit
 //! settles one of these (`specs/Promised.antt`). Each name is that of a process that lives (`specs/Living.antt`).
 //!
-//! The module `names` of the tests of the crate `ert_world_tests` is an example of its use.
+//! The module `names` of the crate `ert_tests` is an example of its use.
 //!
 //! **What it costs.** To register, to look up and to hand over goes with the logarithm of how many names there
 //! are, in std's ordered maps; a name stands in memory twice. A row stays for the life of the world: some 40 bytes

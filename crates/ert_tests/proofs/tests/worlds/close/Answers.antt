@@ -1,0 +1,9 @@
+use Rattle.std.proofs.Common.{sym, subst}
+use Rattle.ert_table.specs.Desks.{actors_of}
+use Rattle.ert_table.specs.Held.{IsWhole}
+use Rattle.ert_table.specs.declared.desk.Desk.{Desk}
+use Rattle.ert_tests.proofs.tests.worlds.close.Goals as goal
+
+pub close-requires-clause-whole : goal.close-requires-clause-whole
+close-requires-clause-whole g c =
+    subst (λ (d : Desk). IsWhole d.settings (actors_of c.into_desk-desk.result.1)) (sym c.in-Ok.ensures.ok) c.into_desk-desk.ensures.history.whole

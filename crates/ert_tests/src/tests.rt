@@ -1,0 +1,17 @@
+mod compare;
+mod dividing;
+mod intervals;
+mod migrations;
+mod names;
+mod os_clocks;
+mod program;
+pub(crate) mod seats;
+pub(crate) mod services;
+mod settings;
+mod shard_calls;
+mod stamps;
+mod streams;
+mod uniques;
+mod words;
+mod world_calls;
+mod worlds;

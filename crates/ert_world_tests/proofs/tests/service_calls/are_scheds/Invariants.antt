@@ -1,5 +1,0 @@
-use Rattle.ert_world_tests.proofs.Counted.{AreFrom}
-use Rattle.ert_world_tests.proofs.tests.service_calls.are_scheds.Given as goal
-
-abbrev pub invariant-loop-at : goal.invariant-loop-at
-invariant-loop-at g l = AreFrom (λ s. s.part.wheel) l.at l.seats.items

@@ -1,5 +1,0 @@
-use Rattle.std.specs.Arc.{arc_value}
-use Rattle.ert_world_tests.proofs.tests.trials.try_out.Given as goal
-
-abbrev pub ghosts-try_on : goal.ghosts-try_on
-ghosts-try_on g a = record { table = (arc_value a.parts.desk).table.shared.table_id; settings = (arc_value a.parts.desk).settings }
