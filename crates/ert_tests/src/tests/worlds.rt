@@ -18,6 +18,7 @@ const SETTINGS: Settings = Settings {
     schedulers: 1,
     processes: 2,
     slots: 2,
+    looks: 64,
     callers: 1,
     first: Reading { mono: 0, sys: 0 },
 };
