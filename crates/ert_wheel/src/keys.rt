@@ -18,6 +18,9 @@ impl Model for Keys {
     ghost also_owns = { λ _. ftrue };
 }
 
+// They own nothing.
+unsafe impl Send for Keys {}
+
 impl Keys {
     ghost use Rattle.std.specs.Prelude.{◌≡◌, ◌-◌, [], ◌++◌, length, replicate, slice_set};
     ghost use Rattle.ert_wheel.specs.Rows.{key_of};
