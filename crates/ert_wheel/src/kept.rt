@@ -30,12 +30,12 @@ impl<T> Model for Kept<T> {
     ghost Value = { KeptSlots T };
 
     ghost view = { λ k. record {
-      keys = k.keys.list;
+      keys = k.keys.by_slot;
       values = map record_value k.records.items;
       room = vec_capacity k.records;
     } };
 
-    ghost invariant = { λ k. AreDeadlines k.records.items k.keys.list };
+    ghost invariant = { λ k. AreDeadlines k.records.items k.keys.by_slot };
 }
 
 impl<T: Copy> Kept<T> {

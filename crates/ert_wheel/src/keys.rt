@@ -9,7 +9,7 @@ use std::marker::Model;
 /// The key of the last row of each slot that is written.
 #[derive(Drop)]
 pub struct Keys {
-    pub ghost list: { List Key },
+    pub ghost by_slot: { List Key },
 }
 
 const _: () = prove!(size_of::<Keys>() == 0);
@@ -17,6 +17,9 @@ const _: () = prove!(size_of::<Keys>() == 0);
 impl Model for Keys {
     ghost also_owns = { λ _. ftrue };
 }
+
+// They own nothing.
+unsafe impl Send for Keys {}
 
 impl Keys {
     ghost use Rattle.std.specs.Prelude.{◌≡◌, ◌-◌, [], ◌++◌, length, replicate, slice_set};
@@ -26,7 +29,7 @@ impl Keys {
     /// Of no slot.
     #[inline(always)]
     pub fn new() -> Keys
-        ensures { result.list ≡ [] }
+        ensures { result.by_slot ≡ [] }
     {
         Keys {}
     }
@@ -34,7 +37,7 @@ impl Keys {
     /// Of slots up to so many: those that come new have no row.
     #[inline(always)]
     pub fn up_to(&self, _count: &u32) -> Keys
-        ensures { result.list ≡ self.now.list ++ replicate (_count.now - length self.now.list) no_key }
+        ensures { result.by_slot ≡ self.now.by_slot ++ replicate (_count.now - length self.now.by_slot) no_key }
     {
         Keys {}
     }
@@ -42,7 +45,7 @@ impl Keys {
     /// With another row of a slot.
     #[inline(always)]
     pub fn with(&self, _row: &Row) -> Keys
-        ensures { result.list ≡ slice_set self.now.list _row.now.slot (key_of _row.now) }
+        ensures { result.by_slot ≡ slice_set self.now.by_slot _row.now.slot (key_of _row.now) }
     {
         Keys {}
     }

@@ -25,7 +25,7 @@ use Rattle.ert_timers.specs.Passed.{LosesRows}
 use Rattle.ert_timers.proofs.Passing.{same_last}
 use Rattle.ert_timers.specs.Tidy.{IsTidy, IsTidyBut}
 use Rattle.ert_wheel.specs.Rows.{key_in}
-use Rattle.ert_wheel.proofs.Collect.{key_low}
+use Rattle.ert_wheel.proofs.Looking.{key_low}
 use Rattle.ert_world.proofs.Alone.{lone, rows_same, stays_by, went}
 use Rattle.ert_world.proofs.Calls.{Has, Makes, ComeBack, parts_in, seen_at, exact, after, added, fit_on, makes, schedulers_at}
 use Rattle.ert_world.proofs.Cancelled.{Settles, cancel_settles, cancel_only}

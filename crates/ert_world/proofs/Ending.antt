@@ -38,7 +38,7 @@ use Rattle.ert_timers.specs.Freeing.{IsHeld}
 use Rattle.ert_timers.specs.HeldFor.{IsHeldFor}
 use Rattle.ert_timers.specs.Parts.{Part, PartStands as WheelStands, IsLive, last_timer, held_row}
 use Rattle.ert_timers.specs.Passed.{LosesRows}
-use Rattle.ert_wheel.proofs.Collect.{key_low}
+use Rattle.ert_wheel.proofs.Looking.{key_low}
 use Rattle.ert_wheel.proofs.Views.{counts_less}
 use Rattle.ert_wheel.specs.Rows.{key_in}
 use Rattle.ert_wheel.specs.declared.row.Key.{Key}

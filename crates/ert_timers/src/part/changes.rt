@@ -14,7 +14,7 @@ use ert_defs::{FIRST_LATER_GENERATION, Start, TimerRef, USES_OF_ROUND, use_of};
 use ert_wheel::{Row, Wheel};
 use ert_words::FreeSlots;
 
-/// How many slots are written at once, at the first use of the first of them: 3.5 KiB.
+/// How many slots are written at once, at the first use of the first of them: 3 KiB.
 const WRITTEN_AT_ONCE: u32 = 64;
 
 impl Slot {
