@@ -1,6 +1,6 @@
 -- The formats of events, entries and settings.
 
-use Rattle.std.proofs.Common.{◌≡◌, ℕ, List, [], ◌∷◌, ◌++◌, Some, refl, sym, ap}
+use Rattle.std.proofs.Common.{◌≡◌, ℕ, List, [], ◌∷◌, ◌++◌, Option, Some, refl, sym, ap}
 use Rattle.std.specs.Prelude.{codes}
 use Rattle.ert_defs.specs.declared.entry.Event.{Event}
 use Rattle.ert_defs.specs.declared.entry.Event.TheVariants.{Tick, Shift, Look, Off, Arm, Probe, Peek, Cancel, Expire, Orphan, Deliver, Drop, Mark, Advanced, Ask, Pick, Answer, Take, Unwatch, Watch, Tell}
@@ -245,6 +245,10 @@ fields =
     then-gives small _ _ (λ slots f4. then-gives small _ _ (λ callers f5. then-gives reading _ _ (λ first f6.
     done-gives _ _ refl (record { start = f1; schedulers = f2; processes = f3; slots = f4; looks = refl; callers = f5; first = f6 })))))))))
 
+-- settings with other looks, and the words that are left
+abbrev with_looks : Settings → List Word → ℕ → Option (Settings × List Word)
+with_looks g rest n = Some (record g { looks = n }, rest)
+
 settings-again : (g : Settings) (rest : List Word) → FitsSettings g → read_settings (settings_words g ++ rest) ≡ Some (g, rest)
 unfolding read_settings read_fields read_later_fields
 settings-again g rest f = choice-again settings_rows (codes "settings") _ _ refl (
@@ -253,8 +257,8 @@ settings-again g rest f = choice-again settings_rows (codes "settings") _ _ refl
     then-again small _ g.processes _ _ f.processes (then-again small _ g.slots _ _ f.slots (
     then-again small _ g.callers _ _ f.callers (then-again reading _ g.first rest _ f.first same))))))))
   where
-    same : Some (record g { looks = SCENARIO_LOOKS }, rest) ≡ Some (g, rest)
-    same = ap (λ (n : ℕ). Some (record g { looks = n }, rest)) (sym f.looks)
+    same : with_looks g rest SCENARIO_LOOKS ≡ with_looks g rest g.looks
+    same = ap (with_looks g rest) (sym f.looks)
 
 pub settings : IsFormat settings_words FitsSettings read_settings
 unfolding read_settings
