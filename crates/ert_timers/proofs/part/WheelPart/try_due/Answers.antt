@@ -1,4 +1,5 @@
 use Rattle.std.proofs.Common.{List, length, sym, ap, subst, arith}
+use Rattle.std.proofs.lemmas.List.{length-map}
 use Rattle.ert_table.specs.Desks.{settings_of, view_of}
 use Rattle.ert_timers.specs.Expiring.{IsReady}
 use Rattle.ert_timers.specs.Looking.{LooksDown}
@@ -7,7 +8,7 @@ use Rattle.ert_timers.proofs.Dues.{none_left}
 use Rattle.ert_timers.proofs.Trials.{ready_looked, still_held, has_idled, has_tried, has_not_tried, when_none}
 use Rattle.ert_timers.proofs.part.WheelPart.try_due.Goals as goal
 use Rattle.ert_defs.specs.declared.entry.Actor.TheVariants.{Sched}
-use Rattle.ert_wheel.specs.Rows.{rows_told}
+use Rattle.ert_wheel.specs.Rows.{row_told, rows_told}
 use Rattle.ert_wheel.specs.declared.row.HeldRow.{HeldRow}
 
 pub go_on-requires : goal.go_on-requires
@@ -44,7 +45,8 @@ returns-clause-call c =
     has_tried (settings_of c.args.desk.now) (view_of c.args.pass.now) c.args.self.now c.find_due.new.self c.expire_all.new.self
     c.keep_list.new.self c.number.result c.look_down-to.result (rows_told c.find_due.new.self.keys due) (length due) c.args.expired.now c.find_due.new.expired c.expire_all.new.expired
     (view_of c.look_down-to.new.pass) (view_of c.expire_all.new.pass) c.number.ensures c.find_due.ensures.part c.keep_list.ensures
-    c.find_due.ensures.expired c.look_down-to.ensures.looks c.expire_all.ensures.call (omega arith) c.requires.holds
+    c.find_due.ensures.expired c.look_down-to.ensures.looks c.expire_all.ensures.call
+    (omega (arith, length-map due (row_told c.find_due.new.self.keys))) c.requires.holds
 
 pub returns-in_err-due-clause-call : goal.returns-in_err-due-clause-call
 returns-in_err-due-clause-call c =
