@@ -239,13 +239,19 @@ static void next_mail(Run *run) {
     SAME(some == 0 ? process == 99 : process < run->mirror.settings.processes && mirror_can_take(&run->mirror, process), true);
 }
 
-/* Room for some messages is made, or given back: no later answer tells it. */
+/* Room for some messages, or for some expired timers, is made or given back: no later answer tells it. */
 static void change_room(Run *run, uint32_t process, uint32_t how) {
-    if (how % 2 == 0) {
+    uint32_t sched = process % run->mirror.settings.schedulers;
+    if (how % 4 == 0) {
         SAME(ert_world_reserve_mail(&run->world, process, how), ERT_OK);
         SAME(ert_world_reserve_mail(&run->world, process, SIZE_MAX), ERT_NO_MEMORY);
-    } else {
+    } else if (how % 4 == 1) {
         SAME(ert_world_shrink_mail(&run->world, process), ERT_OK);
+    } else if (how % 4 == 2) {
+        SAME(ert_world_reserve_expired(&run->world, sched, how), ERT_OK);
+        SAME(ert_world_reserve_expired(&run->world, sched, SIZE_MAX), ERT_NO_MEMORY);
+    } else {
+        SAME(ert_world_shrink_expired(&run->world, sched), ERT_OK);
     }
 }
 

@@ -695,8 +695,9 @@ int32_t ert_world_serve(ert_world *world, uint32_t sched, uint32_t *served);
  * Expired timers wait at the scheduler until ert_world_deliver delivers them. Writes how many there were,
  * and that time, to `advanced`.
  *
- * ERT_NO_MEMORY: none has expired. ERT_RANGE: there is no such scheduler. ERT_CLOSED. Work for the due timers
- * and the milliseconds since the last advance.
+ * ERT_NO_MEMORY: none has expired; it never comes if there is room in the list of expired timers for those that are due
+ * (ert_world_reserve_expired). ERT_RANGE: there is no such scheduler. ERT_CLOSED. Work for the due timers and the
+ * milliseconds since the last advance.
  */
 int32_t ert_world_advance(ert_world *world, uint32_t sched, ert_advanced *advanced);
 
@@ -718,9 +719,10 @@ int32_t ert_world_deliver(ert_world *world, uint32_t sched, ert_delivered *deliv
  *
  * Writes what it did to `turned`.
  *
- * ERT_NO_MEMORY: what was done stays done and is not reported, and the next turn goes on. The advance needs memory for the
- * list of what expires, and the messages need room in their mailboxes, which ert_world_reserve_mail makes ahead.
- * ERT_RANGE: there is no such scheduler. ERT_CLOSED.
+ * ERT_NO_MEMORY: what was done stays done and is not reported, and the next turn goes on: nothing is lost. The advance needs
+ * room in the list of expired timers, which ert_world_reserve_expired makes ahead, and the messages need room in their
+ * mailboxes, which ert_world_reserve_mail makes ahead; if there is both, it never comes. ERT_RANGE: there is no such
+ * scheduler. ERT_CLOSED.
  */
 int32_t ert_world_turn(ert_world *world, uint32_t sched, ert_turned *turned);
 
@@ -738,7 +740,8 @@ int32_t ert_world_turn(ert_world *world, uint32_t sched, ert_turned *turned);
  * started when their deadline had passed are all looked at once for each deadline among them, and more often if they
  * were not started in order of deadline.
  *
- * ERT_NO_MEMORY: as of ert_world_turn. ERT_RANGE: there is no such scheduler. ERT_CLOSED.
+ * ERT_NO_MEMORY: as of ert_world_turn, but that the list needs room for `most` timers, or for all that the wheel holds if
+ * those are fewer. ERT_RANGE: there is no such scheduler. ERT_CLOSED.
  */
 int32_t ert_world_turn_some(ert_world *world, uint32_t sched, uint32_t most, ert_turned_some *turned);
 
@@ -759,6 +762,30 @@ int32_t ert_world_turn_some(ert_world *world, uint32_t sched, uint32_t most, ert
  * passed does it look at all that are due at the next turn.
  */
 int32_t ert_world_next_due(ert_world *world, uint32_t sched, uint64_t *due);
+
+/*
+ * Makes room in the list of expired timers of a scheduler for `count` more than wait in it.
+ *
+ * Until as many were due, ert_world_advance needs no memory; a timer that a seat cancelled counts when it would have been
+ * due. The list has no room at first, gets more when timers expire that find none, and keeps it when ert_world_deliver takes
+ * them out. So a program that must get its messages in time makes the room ahead, for the most that can be due at once and
+ * wait: if none waits yet, room for `slots` of the settings is enough for good. With room in the mailboxes
+ * (ert_world_reserve_mail) its turns take no memory.
+ *
+ * ERT_NO_MEMORY: there is not as much memory; the list has the room that it had. ERT_RANGE: there is no such scheduler.
+ * ERT_CLOSED. If there is the room already, constant work and no memory; otherwise work for the timers in the list.
+ */
+int32_t ert_world_reserve_expired(ert_world *world, uint32_t sched, size_t count);
+
+/*
+ * Gives back the memory of the list of expired timers of a scheduler that those which wait don't need, which a burst of
+ * timers took: all of it, if none waits.
+ *
+ * ERT_NO_MEMORY: the allocator had no smaller block to move the timers to; nothing has changed, and the call can be made
+ * again. It is never returned if none waits. ERT_RANGE: there is no such scheduler. ERT_CLOSED. Work for the timers in the
+ * list.
+ */
+int32_t ert_world_shrink_expired(ert_world *world, uint32_t sched);
 
 /*
  * Opens a seat of a service behind a closed handle: its next caller, for the use of one thread at a time.
@@ -1236,8 +1263,9 @@ int32_t ert_shard_notify(ert_shard *shard, uint32_t process, uint32_t *told);
 /*
  * Expires every timer of the shard that is due at the current monotonic time, as ert_world_advance does.
  *
- * Writes how many there were, and that time, to `advanced`. ERT_NO_MEMORY: none has expired. ERT_CLOSED. Work for the due
- * timers and the milliseconds since the last advance.
+ * Writes how many there were, and that time, to `advanced`. ERT_NO_MEMORY: none has expired; it never comes if there is room
+ * in the list of expired timers for those that are due (ert_shard_reserve_expired). ERT_CLOSED. Work for the due timers and
+ * the milliseconds since the last advance.
  */
 int32_t ert_shard_advance(ert_shard *shard, ert_advanced *advanced);
 
@@ -1253,8 +1281,9 @@ int32_t ert_shard_deliver(ert_shard *shard, ert_delivered *delivered);
  * Makes a turn of the shard: serves at most 64 of its requests, advances its wheel, and delivers what has expired. This is
  * the call for the event loop of its thread.
  *
- * Writes what it did to `turned`. ERT_NO_MEMORY: what was done stays done and is not reported, and the next turn goes on.
- * ERT_CLOSED.
+ * Writes what it did to `turned`. ERT_NO_MEMORY: what was done stays done and is not reported, and the next turn goes on; it
+ * never comes if there is room in the list of expired timers (ert_shard_reserve_expired) and in the mailboxes
+ * (ert_shard_reserve_mail). ERT_CLOSED.
  */
 int32_t ert_shard_turn(ert_shard *shard, ert_turned *turned);
 
@@ -1267,7 +1296,8 @@ int32_t ert_shard_turn(ert_shard *shard, ert_turned *turned);
  * serves requests and tells whether timers are due. A timer that another thread cancelled counts as one of the `most` if it
  * would be due.
  *
- * ERT_NO_MEMORY: as of ert_shard_turn. ERT_CLOSED. Work as of ert_world_turn_some.
+ * ERT_NO_MEMORY: as of ert_shard_turn, but that the list needs room for `most` timers, or for all that the wheel holds if
+ * those are fewer. ERT_CLOSED. Work as of ert_world_turn_some.
  */
 int32_t ert_shard_turn_some(ert_shard *shard, uint32_t most, ert_turned_some *turned);
 
@@ -1281,6 +1311,24 @@ int32_t ert_shard_turn_some(ert_shard *shard, uint32_t most, ert_turned_some *tu
  * ERT_EMPTY: the wheel holds no timer, and `due` is as it was. ERT_CLOSED. It changes nothing. Constant work.
  */
 int32_t ert_shard_next_due(ert_shard *shard, uint64_t *due);
+
+/*
+ * Makes room in the list of expired timers of the shard for `count` more than wait in it, as ert_world_reserve_expired does:
+ * until as many were due, ert_shard_advance needs no memory. If none waits yet, room for `slots` of the settings is enough
+ * for good.
+ *
+ * ERT_NO_MEMORY: there is not as much memory; the list has the room that it had. ERT_CLOSED. Work as of
+ * ert_world_reserve_expired.
+ */
+int32_t ert_shard_reserve_expired(ert_shard *shard, size_t count);
+
+/*
+ * Gives back the memory of the list of expired timers of the shard that those which wait don't need, as
+ * ert_world_shrink_expired does.
+ *
+ * ERT_NO_MEMORY: as of ert_world_shrink_expired. ERT_CLOSED. Work for the timers in the list.
+ */
+int32_t ert_shard_shrink_expired(ert_shard *shard);
 
 #ifdef __cplusplus
 }

@@ -240,6 +240,8 @@ unsafe extern "C" {
         turned: *mut ert_turned_some,
     ) -> i32;
     pub fn ert_world_next_due(world: *mut ert_world, sched: u32, due: *mut u64) -> i32;
+    pub fn ert_world_reserve_expired(world: *mut ert_world, sched: u32, count: usize) -> i32;
+    pub fn ert_world_shrink_expired(world: *mut ert_world, sched: u32) -> i32;
     pub fn ert_seat_open(seat: *mut ert_seat, world: *mut ert_world) -> i32;
     pub fn ert_seat_close(seat: *mut ert_seat) -> i32;
     pub fn ert_seat_monotonic_time(seat: *mut ert_seat, time: *mut i64) -> i32;
@@ -318,4 +320,6 @@ unsafe extern "C" {
         turned: *mut ert_turned_some,
     ) -> i32;
     pub fn ert_shard_next_due(shard: *mut ert_shard, due: *mut u64) -> i32;
+    pub fn ert_shard_reserve_expired(shard: *mut ert_shard, count: usize) -> i32;
+    pub fn ert_shard_shrink_expired(shard: *mut ert_shard) -> i32;
 }

@@ -684,6 +684,18 @@ impl World {
         Ok(done_or(status, ffi::ERT_EMPTY)?.then_some(due))
     }
 
+    /// Makes room in the list of expired timers of a scheduler for `count` more than wait in it: until as many were due,
+    /// `advance` needs no memory, and with room in the mailboxes (`reserve_mail`) neither does `turn`. If none waits yet,
+    /// room for as many as the settings have slots is enough for good.
+    pub fn reserve_expired(&mut self, sched: u32, count: usize) -> Result<(), Error> {
+        done(unsafe { ffi::ert_world_reserve_expired(&mut *self.handle, sched, count) })
+    }
+
+    /// Gives back the memory of the list of expired timers of a scheduler that those which wait don't need.
+    pub fn shrink_expired(&mut self, sched: u32) -> Result<(), Error> {
+        done(unsafe { ffi::ert_world_shrink_expired(&mut *self.handle, sched) })
+    }
+
     /// A seat for another thread. Its caller is not given out again, not even once it is dropped.
     pub fn seat(&mut self) -> Result<Seat, Error> {
         let mut seat = Seat {

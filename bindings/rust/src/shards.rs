@@ -365,6 +365,18 @@ impl Shard {
         let status = unsafe { ffi::ert_shard_next_due(&mut *self.handle, &mut due) };
         Ok(done_or(status, ffi::ERT_EMPTY)?.then_some(due))
     }
+
+    /// Makes room in the list of expired timers of the shard for `count` more than wait in it: until as many were due,
+    /// `advance` needs no memory, and with room in the mailboxes (`reserve_mail`) neither does `turn`. If none waits yet,
+    /// room for as many as the settings have slots is enough for good.
+    pub fn reserve_expired(&mut self, count: usize) -> Result<(), Error> {
+        done(unsafe { ffi::ert_shard_reserve_expired(&mut *self.handle, count) })
+    }
+
+    /// Gives back the memory of the list of expired timers of the shard that those which wait don't need.
+    pub fn shrink_expired(&mut self) -> Result<(), Error> {
+        done(unsafe { ffi::ert_shard_shrink_expired(&mut *self.handle) })
+    }
 }
 
 impl Drop for Shard {

@@ -1,4 +1,4 @@
-//! Room in a mailbox is made and given back, and its messages are the same.
+//! Room in a mailbox and in a list of expired timers is made and given back, and the messages are the same.
 use ertime::{Error, Hub, Mail, Reading, Settings, Start, World};
 
 const BURST: usize = 1_000;
@@ -26,10 +26,18 @@ fn of_a_world() -> Result<(), Error> {
     assert_eq!(world.shrink_mail(2), Err(Error::Range));
     assert_eq!(world.reserve_mail(1, usize::MAX), Err(Error::NoMemory));
     world.reserve_mail(1, BURST)?;
+    assert_eq!(world.reserve_expired(1, 1), Err(Error::Range));
+    assert_eq!(world.shrink_expired(1), Err(Error::Range));
+    assert_eq!(world.reserve_expired(0, usize::MAX), Err(Error::NoMemory));
+    world.reserve_expired(0, BURST)?;
     for number in 0..BURST as u64 {
         world.start(0, &Start::after(0, 1, number))?;
     }
+    assert_eq!(world.advance(0)?.expired as usize, BURST);
+    world.shrink_expired(0)?;
+    assert_eq!(world.expired(0)? as usize, BURST);
     assert_eq!(world.turn(0)?.put as usize, BURST);
+    world.shrink_expired(0)?;
     let mut mails = Vec::new();
     assert!(world.take_some(1, BURST - 1, &mut mails)?);
     world.shrink_mail(1)?;
@@ -49,10 +57,16 @@ fn of_a_shard() -> Result<(), Error> {
     assert_eq!(shard.shrink_mail(0), Err(Error::Range));
     assert_eq!(shard.reserve_mail(1, usize::MAX), Err(Error::NoMemory));
     shard.reserve_mail(1, BURST)?;
+    assert_eq!(shard.reserve_expired(usize::MAX), Err(Error::NoMemory));
+    shard.reserve_expired(BURST)?;
     for number in 0..BURST as u64 {
         shard.start(&Start::after(0, 1, number))?;
     }
+    assert_eq!(shard.advance()?.expired as usize, BURST);
+    shard.shrink_expired()?;
+    assert_eq!(shard.expired() as usize, BURST);
     assert_eq!(shard.turn()?.put as usize, BURST);
+    shard.shrink_expired()?;
     let mut mails = Vec::new();
     assert!(shard.take_some(1, BURST - 1, &mut mails)?);
     shard.shrink_mail(1)?;

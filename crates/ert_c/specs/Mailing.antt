@@ -1,5 +1,5 @@
--- What a service does by the calls that find a process with mail, take several messages, make room in a mailbox, and
--- cancel all timers of a process, and how C is told the answers.
+-- What a service does by the calls that find a process with mail, take several messages, make room in a mailbox or in a
+-- list of expired timers, and cancel all timers of a process, and how C is told the answers.
 
 use Rattle.std.specs.Prelude.{◌≡◌, ℕ, ℤ, map, drop, List, ◌++◌, length, Option, Some, None, Result, Ok, Err, IfOk, OnErr, ⊤}
 use Rattle.ert_defs.specs.declared.mail.Mail.{Mail}
@@ -10,7 +10,7 @@ use Rattle.ert_world.specs.Stepping.{Stays}
 use Rattle.ert_world.specs.Worlds.{Seen}
 use Rattle.ert_world.specs.declared.mailing.TakeEnd.{TakeEnd}
 use Rattle.ert_world.specs.declared.mailing.TakeEnd.TheVariants.{Most, Empty, Exited}
-use Rattle.ert_c.specs.Calls.{AtProcess, MakesCall}
+use Rattle.ert_c.specs.Calls.{AtProcess, AtSched, MakesCall}
 use Rattle.ert_c.specs.Through.{Through}
 use Rattle.ert_c.specs.Told.{mail_as, IsToldDone}
 use Rattle.ert_c.specs.declared.mail_calls.ErtMail.{ErtMail}
@@ -52,13 +52,18 @@ pub record TakesPlaces (process : ℕ) (old : Seen) (kept found : List ErtMail) 
   pub count : answer.0 ≡ length mails
   pub places : StandFirst mails kept found
 
--- room was made in a mailbox, or its memory was given back, or out of memory: in each case all is as it was
+-- room was made in a mailbox or in a list of expired timers, or its memory was given back, or out of memory: in each case
+-- all is as it was
 abbrev pub LeavesAll : {W : Type 0} → Result (Unit {0}) OutOfMemory → W → W → Type 0
 LeavesAll answer old new = new ≡ old
 
 -- C has room made in the mailbox of a process, or gives its memory back
 abbrev pub ChangesRoom : ℕ → Option Seen → ℤ → Option Seen → Type 0
 ChangesRoom process old status new = Through ⊤ (AtProcess process LeavesAll (λ answer. IsToldDone answer status) status ⊤) old status new
+
+-- C has room made in the list of expired timers of a scheduler, or gives its memory back
+abbrev pub ChangesListRoom : ℕ → Option Seen → ℤ → Option Seen → Type 0
+ChangesListRoom sched old status new = Through ⊤ (AtSched sched LeavesAll (λ answer. IsToldDone answer status) status ⊤) old status new
 
 -- caller 0 cancels all timers of a process: so many were cancelled
 pub record CancelsAllBy (process answer : ℕ) (old new : Seen) : Type 0 where

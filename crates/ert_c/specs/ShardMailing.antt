@@ -1,10 +1,10 @@
--- What a shard does by the calls that find a process with mail, take several messages, and make room in a mailbox, and how
--- C is told the answers.
+-- What a shard does by the calls that find a process with mail, take several messages, and make room in a mailbox or in the
+-- list of expired timers, and how C is told the answers.
 
 use Rattle.std.specs.Prelude.{◌≡◌, ℕ, ◌+◌, ℤ, List, length, Option, Result, IfOk, OnErr, ⊤}
 use Rattle.ert_c.specs.Mailing.{LeavesAll, StandFirst}
 use Rattle.ert_c.specs.ShardCalls.{AtHome}
-use Rattle.ert_c.specs.Through.{Through}
+use Rattle.ert_c.specs.Through.{Through, TellsC}
 use Rattle.ert_c.specs.Told.{IsToldDone}
 use Rattle.ert_c.specs.declared.mail_calls.ErtMail.{ErtMail}
 use Rattle.ert_defs.specs.declared.mail.Mail.{Mail}
@@ -34,3 +34,7 @@ pub record ShardTakesPlaces (process : ℕ) (old : Owned) (kept found : List Ert
 -- C has room made in the mailbox of a process of a shard, or gives its memory back
 abbrev pub ShardChangesRoom : ℕ → Option Owned → ℤ → Option Owned → Type 0
 ShardChangesRoom process old status new = Through ⊤ (AtHome process LeavesAll (λ answer. IsToldDone answer status) status ⊤) old status new
+
+-- C has room made in the list of expired timers of a shard, or gives its memory back
+abbrev pub ShardChangesListRoom : Option Owned → ℤ → Option Owned → Type 0
+ShardChangesListRoom old status new = Through ⊤ (TellsC LeavesAll (λ answer. IsToldDone answer status)) old status new

@@ -1,9 +1,11 @@
-//! The exported calls of a shard's scheduler.
+//! The exported calls of a shard's scheduler, and those that make room in its list of expired timers and give it back.
 ghost use Rattle.ert_c.specs.ShardCalls.{ShardAdvancesBy, ShardDeliversBy, ShardTurnsBy, ShardLooksAhead, IsTurnTold};
+ghost use Rattle.ert_c.specs.ShardMailing.{ShardChangesListRoom};
 ghost use Rattle.ert_c.specs.Through.{AnswersThrough};
 ghost use Rattle.ert_c.specs.Told.{IsAdvanceTold, IsDelivered, IsDueTold};
 
 use crate::handle::opened;
+use crate::mail_calls::tell_done;
 use crate::shard_handle::ErtShard;
 use crate::status::CLOSED;
 use crate::turn_calls::{
@@ -46,6 +48,24 @@ pub extern "C" fn ert_shard_next_due(shard: &mut ErtShard, due: &mut u64) -> i32
 {
     let answer = opened!(shard).next_due();
     tell_due(answer, due)
+}
+
+/// Makes room in the list of expired timers of a shard for so many more.
+#[unsafe(no_mangle)]
+pub extern "C" fn ert_shard_reserve_expired(shard: &mut ErtShard, count: usize) -> i32
+    ensures { ShardChangesListRoom shard.old.place.value result shard.new.place.value }
+{
+    let answer = opened!(shard).reserve_expired(count);
+    tell_done(answer)
+}
+
+/// Gives back the memory of the list of expired timers of a shard that those which wait don't need.
+#[unsafe(no_mangle)]
+pub extern "C" fn ert_shard_shrink_expired(shard: &mut ErtShard) -> i32
+    ensures { ShardChangesListRoom shard.old.place.value result shard.new.place.value }
+{
+    let answer = opened!(shard).shrink_expired();
+    tell_done(answer)
 }
 
 /// Tells C what a turn of a shard did.

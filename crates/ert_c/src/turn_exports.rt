@@ -1,8 +1,10 @@
-//! The exported calls of schedulers.
+//! The exported calls of schedulers, and those that make room in a list of expired timers and give it back.
 ghost use Rattle.ert_c.specs.Calls.{AnswersAtSched, ServesBy, AdvancesBy, DeliversBy, TurnsBy, LooksAheadForC};
+ghost use Rattle.ert_c.specs.Mailing.{ChangesListRoom};
 ghost use Rattle.ert_c.specs.Told.{IsServed, IsAdvanceTold, IsDelivered, IsTurned, IsDueTold};
 
 use crate::handle::{ErtWorld, at_sched, opened};
+use crate::mail_calls::tell_done;
 use crate::status::{CLOSED, RANGE};
 use crate::turn_calls::{
     ErtAdvanced, ErtDelivered, ErtTurned, tell_advanced, tell_delivered, tell_due, tell_served,
@@ -65,4 +67,24 @@ pub extern "C" fn ert_world_next_due(world: &mut ErtWorld, sched: u32, due: &mut
     let service = at_sched!(world, sched);
     let answer = service.next_due(sched);
     tell_due(answer, due)
+}
+
+/// Makes room in the list of expired timers of a scheduler for so many more.
+#[unsafe(no_mangle)]
+pub extern "C" fn ert_world_reserve_expired(world: &mut ErtWorld, sched: u32, count: usize) -> i32
+    ensures { ChangesListRoom sched world.old.place.value result world.new.place.value }
+{
+    let service = at_sched!(world, sched);
+    let answer = service.reserve_expired(sched, count);
+    tell_done(answer)
+}
+
+/// Gives back the memory of the list of expired timers of a scheduler that those which wait don't need.
+#[unsafe(no_mangle)]
+pub extern "C" fn ert_world_shrink_expired(world: &mut ErtWorld, sched: u32) -> i32
+    ensures { ChangesListRoom sched world.old.place.value result world.new.place.value }
+{
+    let service = at_sched!(world, sched);
+    let answer = service.shrink_expired(sched);
+    tell_done(answer)
 }

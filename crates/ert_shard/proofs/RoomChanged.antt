@@ -1,4 +1,4 @@
--- The room of a mailbox of a shard changes, and nothing else.
+-- The room of a mailbox of a shard or of its list of expired timers changes, and nothing else.
 
 use Rattle.std.proofs.Common.{◌≡◌, ℕ, ◌-◌, [], List, slice_index_or, refl, sym, ap, subst, ◌∙◌}
 use Rattle.std.specs.Prelude.{slice_set}
@@ -13,7 +13,9 @@ use Rattle.ert_shard.specs.Shards.{Share, IsHome, counted_from, ShardParts, AreS
 use Rattle.ert_table.specs.Desks.{settings_of, front_of}
 use Rattle.ert_table.specs.declared.desk.Desk.{Desk}
 use Rattle.ert_table.specs.declared.desk.Pass.{Pass}
+use Rattle.ert_timers.specs.ExpiredLists.{Queue}
 use Rattle.ert_world.proofs.Listed.{listed_kept}
+use Rattle.ert_world.proofs.RoomChanged.{with_list, list_stands}
 
 -- a shard keeps its parts where a mailbox is what it was but for its room
 pub room_changed : (d : Desk) (p : Pass) (s : Share) (parts : ShardParts) (process : ℕ) (old new : Mailbox) → AreShardPartsFit d p s parts → IsHome s process
@@ -46,3 +48,23 @@ room_changed d p s parts process old new fit home lent same =
       };
       home = fit.home;
     }
+
+-- a shard keeps its parts where its list of expired timers is what it was but for its room
+pub list_room_changed : (d : Desk) (p : Pass) (s : Share) (parts : ShardParts) (new : Queue) → AreShardPartsFit d p s parts
+    → new.rows ≡ parts.sched.expired.rows → AreShardPartsFit d p s (record parts { sched = with_list parts.sched new })
+list_room_changed d p s parts new fit same = record {
+  belongs = fit.belongs;
+  holds = fit.holds;
+  stand = record {
+    legal = fit.stand.legal;
+    wheel_is = fit.stand.wheel_is;
+    wheel = fit.stand.wheel;
+    inbox_is = fit.stand.inbox_is;
+    inbox = fit.stand.inbox;
+    sched_is = fit.stand.sched_is;
+    sched = λ left. list_stands (settings_of d) (front_of p) parts.sched new (fit.stand.sched left) same;
+    mails = fit.stand.mails;
+    listed = fit.stand.listed;
+  };
+  home = fit.home;
+}

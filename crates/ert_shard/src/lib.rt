@@ -28,6 +28,7 @@
 //! | `Shard::advance_some`, `deliver_some`, `turn_some` | the shard's scheduler | the same, of so many timers at most | as in `ert_world` |
 //! | `Shard::held`, `expired`, `mail_count` | | no entry: how much waits | constant |
 //! | `Shard::reserve_mail`, `shrink_mail` | | no entry: makes room for messages in a mailbox, gives back what its messages don't need | those messages |
+//! | `Shard::reserve_expired`, `shrink_expired` | | no entry: makes room for timers in the shard's list of expired ones, gives back what those that wait don't need | those timers |
 //! | `Shard::next_due`, `Hub::published` | | no entry: how early a timer may be due; the last published time | as in `ert_world` |
 //!
 //! **What it promises.** Users see of a shard its desk, its settings, the history that it knows, its share and its wheel
@@ -53,9 +54,9 @@
 //!
 //! **Memory.** `start`, `restart`, `cancel_timer`, `read_timer`, `take`, `take_some`, `exit`, the calls on the clock, `join`
 //! and `join_all` take none, and of the calls of `next_mail` only the first of a shard does, for its list. Where there is
-//! none, `next_mail`, `ask`, `monitor`, `notify`, `reserve_mail` and `shrink_mail` change nothing, `serve` keeps the request
-//! in the hand, `advance` and `advance_some` let no timer expire, `deliver` and `deliver_some` keep what wasn't handed over,
-//! `shard` and `seat` leave everything as it was.
+//! none, `next_mail`, `ask`, `monitor`, `notify`, `reserve_mail`, `shrink_mail`, `reserve_expired` and `shrink_expired` change
+//! nothing, `serve` keeps the request in the hand, `advance` and `advance_some` let no timer expire, `deliver` and
+//! `deliver_some` keep what wasn't handed over, `shard` and `seat` leave everything as it was.
 //!
 //! It stands on `ert_defs`, `ert_clock`, `ert_effects`, `ert_table`, `ert_calls`, `ert_timers`, `ert_mail`
 //! and `ert_world`, and its proofs on the laws of `ert_laws`.

@@ -1,4 +1,4 @@
-//! The calls of a shard that make room in a mailbox, and give it back. Neither makes an entry.
+//! The calls of a shard that make room in a mailbox or in the list of expired timers, and give it back. None makes an entry.
 use crate::shard::Shard;
 use ert_defs::NoMemory;
 
@@ -26,5 +26,25 @@ impl Shard {
         ensures { self.new ≡ self.old }
     {
         self.mails[(process - self.from) as usize].shrink()
+    }
+
+    /// Makes room in the list of expired timers of the shard for so many more: `advance` lets as many expire without memory,
+    /// and `deliver`, which takes them out, gives their room back to the list.
+    ///
+    /// If memory runs out, nothing has changed.
+    pub fn reserve_expired(&mut self, count: usize) -> Result<(), NoMemory>
+        ensures { self.new ≡ self.old }
+    {
+        self.sched.expired.reserve(count)
+    }
+
+    /// Gives back the memory of the list of expired timers of the shard that those which wait don't need: all of it where
+    /// none waits. The work is in proportion to these.
+    ///
+    /// Out of memory comes where the smaller block for these couldn't be had; nothing has changed.
+    pub fn shrink_expired(&mut self) -> Result<(), NoMemory>
+        ensures { self.new ≡ self.old }
+    {
+        self.sched.expired.shrink()
     }
 }

@@ -22,7 +22,7 @@ impl Model for ExpiredList {
 }
 
 impl ExpiredList {
-    ghost use Rattle.std.specs.Prelude.{◌≡◌, ◌↔◌, ◌+◌, ◌<◌, ◌≤◌, ◌++◌, [], ◌∷◌, length, IsTrue, OnOk, OnErr};
+    ghost use Rattle.std.specs.Prelude.{◌≡◌, ◌≢◌, ◌↔◌, ◌+◌, ◌<◌, ◌≤◌, ◌++◌, [], ◌∷◌, length, IsTrue, OnOk, OnErr};
     ghost use Rattle.ert_defs.specs.Mails.{first_of, others_of};
 
     /// An empty list.
@@ -59,16 +59,39 @@ impl ExpiredList {
     pub fn pop(&mut self) -> Option<TimerRow>
         ensures first { result ≡ first_of self.old.rows }
         ensures others { self.new.rows ≡ others_of self.old.rows }
+        ensures room { self.old.room ≤ self.new.room }
     {
         self.timers.pop_front()
     }
 
-    /// Makes room for more timers.
-    pub(crate) fn reserve(&mut self, count: usize) -> Result<(), NoMemory>
-        ensures rows { self.new.rows ≡ self.old.rows }
+    /// Makes room for so many more timers: then as many may expire (`WheelPart::advance`) without memory, and `pop` takes up
+    /// no room.
+    ///
+    /// Out of memory comes only where there wasn't the room.
+    pub fn reserve(&mut self, count: usize) -> Result<(), NoMemory>
         ensures room { OnOk result (count ≤ self.new.room) }
+        ensures more { self.old.room ≤ self.new.room }
+        ensures rows { self.new.rows ≡ self.old.rows }
+        ensures memory { OnErr result (self.old.room < count) }
     {
         self.timers.reserve(count)?;
+        Ok(())
+    }
+
+    /// Gives back the memory that its timers don't need: all of it where it has none. They are moved to a smaller block, so
+    /// the work is in proportion to their number.
+    ///
+    /// Out of memory comes only where it has timers and room, and the smaller block couldn't be had.
+    pub fn shrink(&mut self) -> Result<(), NoMemory>
+        ensures room { OnOk result (self.new.room ≡ 0) }
+        ensures less { self.new.room ≤ self.old.room }
+        ensures rows { self.new.rows ≡ self.old.rows }
+        ensures memory { OnErr result ((0 < self.old.room) × (self.old.rows ≢ [])) }
+    {
+        self.timers.shrink_to_fit();
+        if self.timers.len() < self.timers.capacity() {
+            return Err(NoMemory);
+        }
         Ok(())
     }
 

@@ -63,7 +63,8 @@
 //! process and was settled.
 //!
 //! Each timer is tried once, by one exchange, and then its row goes. No call waits for anybody. Only `open`
-//! takes memory, and `advance` for its list of expired timers, before the first of them expires.
+//! takes memory, and `advance` and `advance_some` for the list of expired timers, before the first of them expires, where it
+//! hasn't the room. `ExpiredList::reserve` makes that ahead, and `shrink` gives it back.
 //!
 //! **What it promises.** The part stands for the front of its pass (`specs/Parts`, `PartStands`). Each call keeps
 //! that, and takes place with exactly the entries that `ert_effects` says for its answer.

@@ -228,7 +228,7 @@ impl WheelPart {
     }
 
     /// The rows with a deadline up to `to`, in order of deadline and then of start, with room for their timers
-    /// in the list.
+    /// in the list. If memory runs out, the vector of rows is kept for the next advance, which takes no memory for it.
     #[inline(never)]
     pub(crate) fn find_due(
         &mut self,
@@ -244,7 +244,10 @@ impl WheelPart {
         due.clear();
         due.reserve(self.wheel.slots() as usize)?;
         self.wheel.due(to, &mut due);
-        expired.reserve(due.len())?;
+        if expired.reserve(due.len()).is_err() {
+            self.keep_list(due);
+            return Err(NoMemory);
+        }
         Ok(due)
     }
 

@@ -37,6 +37,7 @@
 //! | `seats`, `settings`, `published` | | no entry: how many seats were given out, settings and the last published time | constant |
 //! | `held`, `expired`, `mail_count` | | no entry: how many timers a wheel holds, how many expired ones and how many messages wait | constant |
 //! | `reserve_mail`, `shrink_mail` | | no entry: makes room for messages in a mailbox, gives back what its messages don't need | those messages |
+//! | `reserve_expired`, `shrink_expired` | | no entry: makes room for timers in a scheduler's list of expired ones, gives back what those that wait don't need | those timers |
 //! | `counts` | | no entry: how many timers have which status | the wheels, the schedulers and the processes |
 //! | `into_parts`, `into_desk` | | no entry: takes a world apart, ends it | constant |
 //! | `Seat::from_parts`, `into_parts` | | no entry: puts a seat together, takes one apart | constant |
@@ -70,9 +71,9 @@
 //!
 //! **Memory.** `start`, `room`, `cancel_timer`, `cancel_all`, `read_timer`, `take`, `take_some`, `exit`, `meet`, the
 //! calls on the clock and all calls of a seat take none. Where there is none, `seat`, `ask`, `monitor`, `notify`,
-//! `reserve_mail`, `shrink_mail` and the first `next_mail` change nothing, `advance` lets no timer expire, `serve` keeps
-//! the request in the hand, `deliver` keeps what wasn't handed over, and of a turn what was done stays done. So each of
-//! them can be made again. No call copies a part.
+//! `reserve_mail`, `shrink_mail`, `reserve_expired`, `shrink_expired` and the first `next_mail` change nothing, `advance`
+//! lets no timer expire, `serve` keeps the request in the hand, `deliver` keeps what wasn't handed over, and of a turn what
+//! was done stays done. So each of them can be made again. No call copies a part.
 //!
 //! It stands on `ert_defs`, `ert_clock`, `ert_effects`, `ert_table`, `ert_calls`, `ert_timers`
 //! and `ert_mail`, and its proofs on the laws of `ert_laws`.

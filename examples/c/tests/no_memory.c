@@ -1,6 +1,7 @@
 /*
- * Out of memory: each allocation fails in turn, and where there is room in a mailbox none is made. Linked with
- * --wrap=malloc and --wrap=realloc; the address sanitizer tells at the end whether anything was lost.
+ * Out of memory: each allocation fails in turn, and where there is room in the mailboxes and in the list of expired timers
+ * a turn makes none. Linked with --wrap=malloc and --wrap=realloc; the address sanitizer tells at the end whether anything
+ * was lost.
  */
 #include <inttypes.h>
 #include <stdio.h>
@@ -228,6 +229,175 @@ static void room_of_a_shard(void) {
     IS(ert_hub_close(&hub), ERT_OK);
 }
 
+/* So many timers of process 1 are started that are due at once, with messages that are numbered from 0 on. */
+static void start_due(ert_world *world, int32_t count) {
+    for (int32_t it = 0; it < count; it++) {
+        ert_start start = {.when = 0, .msg = (uint64_t)it, .dest = 1};
+        IS(ert_world_start(world, 0, &start, &timer), ERT_OK);
+    }
+}
+
+/* A turn while no allocation succeeds. Where it ends well, so many timers expired and were delivered. */
+static void turn_without(ert_world *world, int32_t status, int32_t served, int32_t expired) {
+    ert_turned turned;
+    succeed = 0;
+    IS(ert_world_turn(world, 0, &turned), status);
+    succeed = -1;
+    if (status == ERT_OK) {
+        IS((int32_t)turned.served, served);
+        IS((int32_t)turned.expired, expired);
+        IS((int32_t)turned.put, expired);
+    }
+}
+
+static void take_answer(ert_world *world) {
+    ert_mail mail;
+    IS(ert_world_take(world, 1, &mail), ERT_OK);
+    IS((int32_t)mail.tag, ERT_READ_DONE);
+}
+
+static int32_t expired_of(ert_world *world) {
+    uint64_t expired;
+    IS(ert_world_expired(world, 0, &expired), ERT_OK);
+    return (int32_t)expired;
+}
+
+/* An advance while no allocation succeeds. */
+static void advance(ert_world *world, int32_t status) {
+    ert_advanced advanced;
+    succeed = 0;
+    IS(ert_world_advance(world, 0, &advanced), status);
+    succeed = -1;
+}
+
+/* Where there is room in the mailbox and in the list of expired timers, a turn takes no memory. */
+static void room_of_a_turn(void) {
+    ert_settings roomy = settings;
+    ert_world world = ERT_INIT;
+    ert_turned_some some;
+    roomy.slots = BURST;
+    IS(ert_world_open(&world, &roomy), ERT_OK);
+    IS(ert_world_reserve_mail(&world, 1, BURST + 2), ERT_OK);
+    start_due(&world, BURST);
+    IS(ask(&world), ERT_OK);
+    turn_without(&world, ERT_NO_MEMORY, 0, 0); /* the request is served, and none has expired */
+    take_answer(&world);
+    IS(expired_of(&world), 0);
+    succeed = 0;
+    IS(ert_world_reserve_expired(&world, 0, BURST), ERT_NO_MEMORY);
+    succeed = -1;
+    IS(ert_world_reserve_expired(&world, 0, SIZE_MAX), ERT_NO_MEMORY);
+    IS(ert_world_reserve_expired(&world, 1, BURST), ERT_OK);
+    turn_without(&world, ERT_NO_MEMORY, 0, 0); /* that is the room of another scheduler */
+    IS(ert_world_reserve_expired(&world, 0, BURST), ERT_OK);
+    succeed = 0;
+    IS(ert_world_reserve_expired(&world, 0, BURST), ERT_OK); /* there is the room */
+    IS(ert_world_shrink_expired(&world, 1), ERT_OK);
+    succeed = -1;
+    IS(ask(&world), ERT_OK);
+    turn_without(&world, ERT_OK, 1, BURST);
+    take_answer(&world);
+    take(&world, 1, BURST, 0);
+    start_due(&world, BURST); /* what is delivered leaves its room to others */
+    turn_without(&world, ERT_OK, 0, BURST);
+    take(&world, 1, BURST, 0);
+
+    start_due(&world, REST);
+    advance(&world, ERT_OK);
+    succeed = 0;
+    IS(ert_world_shrink_expired(&world, 0), ERT_NO_MEMORY);
+    succeed = -1;
+    IS(ert_world_shrink_expired(&world, 0), ERT_OK);
+    succeed = 0;
+    IS(ert_world_shrink_expired(&world, 0), ERT_OK); /* there is nothing to give back */
+    succeed = -1;
+    start_due(&world, 1);
+    advance(&world, ERT_NO_MEMORY);
+    IS(expired_of(&world), REST);
+    turn_without(&world, ERT_NO_MEMORY, 0, 0);
+    IS(turn(&world), ERT_OK);
+    take(&world, 1, REST, 0);
+    take(&world, 1, 1, 0);
+    succeed = 0;
+    IS(ert_world_shrink_expired(&world, 0), ERT_OK); /* where none waits it takes no memory */
+    succeed = -1;
+    start_due(&world, BURST);
+    turn_without(&world, ERT_NO_MEMORY, 0, 0);
+
+    IS(ert_world_reserve_expired(&world, 0, REST), ERT_OK); /* a turn with a bound needs room for that */
+    succeed = 0;
+    for (int32_t left = BURST; left > 0; left -= REST) {
+        IS(ert_world_turn_some(&world, 0, REST, &some), ERT_OK);
+        IS((int32_t)some.put, REST);
+        IS((int32_t)some.more, left > REST);
+    }
+    succeed = -1;
+    take(&world, 1, BURST, 0);
+    IS(ert_world_close(&world), ERT_OK);
+}
+
+/* The same of a shard. */
+static void room_of_a_shards_turn(void) {
+    ert_settings divided = settings;
+    ert_hub hub = ERT_INIT;
+    ert_shard shard = ERT_INIT;
+    ert_advanced advanced;
+    ert_turned turned;
+    ert_mail mail;
+    divided.callers = 3;
+    divided.processes = 4;
+    divided.slots = REST;
+    IS(ert_hub_open(&hub, &divided), ERT_OK);
+    IS(ert_hub_shard(&hub, &shard, 2), ERT_OK);
+    IS(ert_shard_reserve_mail(&shard, 3, REST + 1), ERT_OK);
+    for (uint64_t it = 0; it < REST; it++) {
+        ert_start start = {.when = 0, .msg = it, .dest = 3};
+        IS(ert_shard_start(&shard, &start, &timer), ERT_OK);
+    }
+    ert_request request = {.kind = ERT_READ, .timer = timer, .reply_to = 3, .info = 1};
+    IS(ert_shard_ask(&shard, &request), ERT_OK);
+    succeed = 0;
+    IS(ert_shard_turn(&shard, &turned), ERT_NO_MEMORY);
+    IS(ert_shard_reserve_expired(&shard, REST), ERT_NO_MEMORY);
+    succeed = -1;
+    IS(ert_shard_reserve_expired(&shard, SIZE_MAX), ERT_NO_MEMORY);
+    IS(ert_shard_reserve_expired(&shard, REST), ERT_OK);
+    succeed = 0;
+    IS(ert_shard_turn(&shard, &turned), ERT_OK);
+    IS((int32_t)turned.put, REST);
+    IS(ert_shard_take(&shard, 3, &mail), ERT_OK);
+    IS((int32_t)mail.tag, ERT_READ_DONE);
+    for (uint64_t it = 0; it < REST; it++) {
+        IS(ert_shard_take(&shard, 3, &mail), ERT_OK);
+        IS(mail.msg == it, 1);
+    }
+    IS(ert_shard_take(&shard, 3, &mail), ERT_EMPTY);
+    succeed = -1;
+    ert_start start = {.when = 0, .msg = 7, .dest = 3};
+    IS(ert_shard_start(&shard, &start, &timer), ERT_OK);
+    succeed = 0;
+    IS(ert_shard_advance(&shard, &advanced), ERT_OK);
+    IS((int32_t)advanced.expired, 1);
+    IS(ert_shard_shrink_expired(&shard), ERT_NO_MEMORY);
+    succeed = -1;
+    IS(ert_shard_shrink_expired(&shard), ERT_OK);
+    IS(ert_shard_start(&shard, &start, &timer), ERT_OK);
+    succeed = 0;
+    IS(ert_shard_advance(&shard, &advanced), ERT_NO_MEMORY);
+    succeed = -1;
+    IS(ert_shard_turn(&shard, &turned), ERT_OK);
+    IS((int32_t)turned.put, 2);
+    succeed = 0;
+    IS(ert_shard_shrink_expired(&shard), ERT_OK);
+    succeed = -1;
+    IS(ert_shard_start(&shard, &start, &timer), ERT_OK);
+    succeed = 0;
+    IS(ert_shard_turn(&shard, &turned), ERT_NO_MEMORY);
+    succeed = -1;
+    IS(ert_shard_close(&shard), ERT_OK);
+    IS(ert_hub_close(&hub), ERT_OK);
+}
+
 int main(void) {
     ert_world world = ERT_INIT;
     long refused = 0;
@@ -268,6 +438,8 @@ int main(void) {
     divide();
     room_of_a_mailbox();
     room_of_a_shard();
+    room_of_a_turn();
+    room_of_a_shards_turn();
     puts("each call could be made again");
     return EXIT_SUCCESS;
 }

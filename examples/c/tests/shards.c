@@ -88,6 +88,8 @@ static void closed_handles(void) {
     IS(ert_shard_next_mail(&s, &n), ERT_CLOSED);
     IS(ert_shard_reserve_mail(&s, 9, 1), ERT_CLOSED);
     IS(ert_shard_shrink_mail(&s, 9), ERT_CLOSED);
+    IS(ert_shard_reserve_expired(&s, 1), ERT_CLOSED);
+    IS(ert_shard_shrink_expired(&s), ERT_CLOSED);
     IS(ert_shard_ask(&s, &request), ERT_CLOSED);
     IS(ert_shard_serve(&s, &n), ERT_CLOSED);
     IS(ert_shard_monitor(&s, 9, &n), ERT_CLOSED);
@@ -415,6 +417,7 @@ static void mail_of_many(void) {
     IS(ert_shard_shrink_mail(&d.high, 2), ERT_RANGE);
     IS(ert_shard_shrink_mail(&d.high, 5), ERT_RANGE);
     IS(ert_shard_reserve_mail(&d.high, 3, 100), ERT_OK);
+    IS(ert_shard_reserve_expired(&d.high, 100), ERT_OK);
     IS(ert_shard_take_some(&d.high, 3, mails, 2, &taken), ERT_EMPTY);
     IS(taken, 0);
     start(&d.high, 0, 3, 1);
@@ -436,6 +439,7 @@ static void mail_of_many(void) {
     IS(taken, 1);
     IS(mails[0].msg, 1);
     IS(ert_shard_shrink_mail(&d.high, 3), ERT_OK);
+    IS(ert_shard_shrink_expired(&d.high), ERT_OK);
     IS(ert_shard_take_some(&d.high, 3, mails, 2, &taken), ERT_EMPTY);
     IS(taken, 1);
     IS(mails[0].msg, 2);

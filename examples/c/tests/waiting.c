@@ -75,6 +75,8 @@ static void refusals(void) {
     IS(ert_world_next_mail(&world, &process), ERT_CLOSED);
     IS(ert_world_reserve_mail(&world, 0, 1), ERT_CLOSED);
     IS(ert_world_shrink_mail(&world, 0), ERT_CLOSED);
+    IS(ert_world_reserve_expired(&world, 0, 1), ERT_CLOSED);
+    IS(ert_world_shrink_expired(&world, 0), ERT_CLOSED);
     IS(ert_world_cancel_all(&world, 0, &count), ERT_CLOSED);
     opened(&world, 1);
     IS(ert_world_restart(&world, &timer, &start), ERT_RANGE);
@@ -85,6 +87,8 @@ static void refusals(void) {
     IS(ert_world_take_some(&world, 2, mails, 2, &taken), ERT_RANGE);
     IS(ert_world_reserve_mail(&world, 2, 1), ERT_RANGE);
     IS(ert_world_shrink_mail(&world, 2), ERT_RANGE);
+    IS(ert_world_reserve_expired(&world, 1, 1), ERT_RANGE);
+    IS(ert_world_shrink_expired(&world, 1), ERT_RANGE);
     IS(ert_world_cancel_all(&world, 2, &count), ERT_RANGE);
     IS(ert_world_next_mail(&world, &process), ERT_EMPTY);
     IS(process, 7);
@@ -325,6 +329,9 @@ static void room_changes_nothing(void) {
             IS(ert_world_reserve_mail(world, 1, BURST), ERT_OK);
             IS(ert_world_reserve_mail(world, 1, SIZE_MAX), ERT_NO_MEMORY);
             IS(ert_world_reserve_mail(world, 1, 0), ERT_OK);
+            IS(ert_world_reserve_expired(world, 0, BURST), ERT_OK);
+            IS(ert_world_reserve_expired(world, 0, SIZE_MAX), ERT_NO_MEMORY);
+            IS(ert_world_reserve_expired(world, 0, 0), ERT_OK);
         }
         send(world, 1, BURST, 1);
         IS(in_mailbox(world, 1), BURST);
@@ -332,6 +339,7 @@ static void room_changes_nothing(void) {
         if (it == 1) {
             IS(ert_world_shrink_mail(world, 1), ERT_OK);
             IS(ert_world_shrink_mail(world, 0), ERT_OK);
+            IS(ert_world_shrink_expired(world, 0), ERT_OK);
         }
         IS(in_mailbox(world, 1), TIMERS);
         send(world, 1, TIMERS, 2);
