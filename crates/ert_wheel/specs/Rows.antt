@@ -6,8 +6,8 @@ use Rattle.ert_wheel.specs.declared.row.Key.{Key}
 use Rattle.ert_wheel.specs.declared.row.HeldRow.{HeldRow}
 use Rattle.ert_wheel.specs.declared.row.Row.{Row}
 
--- what a wheel holds: by slot the key of its row, for each owner a chain of slots, by slot a value, and the first time
--- that wasn't passed
+-- what a wheel holds: by slot the key of its row, for each owner a chain of slots, a value of each slot that is written,
+-- and the first time that wasn't passed
 pub record Held (T : Type 0) : Type 0 where
   pub keys : List (Option Key)
   pub owners : Rings

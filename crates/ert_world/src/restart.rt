@@ -1,7 +1,7 @@
 //! The call that gives an armed timer a new deadline.
 use crate::world::{CALLER, World};
 use ert_calls::cancel_timer;
-use ert_defs::{Actor, Start, TimerRef, USES_OF_ROUND};
+use ert_defs::{Actor, Start, TimerRef};
 use ert_timers::{Forecast, foresee};
 
 /// Why a timer wasn't given a new deadline.
@@ -31,36 +31,6 @@ impl World {
     /// holds no row of it. No memory is taken.
     #[inline(always)]
     pub fn restart(&mut self, timer: TimerRef, start: &Start) -> Result<TimerRef, RestartErr>
-        requires { start.now.dest < self.old.settings.processes }
-        ensures call { Goes self.old (Restarts self.old timer start.now result) self.new }
-        ensures forgotten { Forgets timer result self.new }
-    {
-        // As in `cancel_timer`.
-        if timer.generation <= USES_OF_ROUND {
-            self.restart_by_name(timer, start)
-        } else {
-            self.restart_of_later_round(timer, start)
-        }
-    }
-
-    /// The same for a timer of a later round of its slot.
-    #[cold]
-    #[inline(never)]
-    fn restart_of_later_round(
-        &mut self,
-        timer: TimerRef,
-        start: &Start,
-    ) -> Result<TimerRef, RestartErr>
-        requires { start.now.dest < self.old.settings.processes }
-        ensures call { Goes self.old (Restarts self.old timer start.now result) self.new }
-        ensures forgotten { Forgets timer result self.new }
-    {
-        self.restart_by_name(timer, start)
-    }
-
-    /// The same for any timer.
-    #[inline(always)]
-    fn restart_by_name(&mut self, timer: TimerRef, start: &Start) -> Result<TimerRef, RestartErr>
         requires { start.now.dest < self.old.settings.processes }
         ensures call { Goes self.old (Restarts self.old timer start.now result) self.new }
         ensures forgotten { Forgets timer result self.new }

@@ -10,8 +10,8 @@ use Rattle.ert_world.proofs.CancelCalls.{cancel_called, cancelled_none, does_can
 use Rattle.ert_world.proofs.Listed.{kept_by}
 use Rattle.ert_world.proofs.Renewing.{is_none, restarted, restarted_at, part_stands}
 use Rattle.ert_world.proofs.Restarting.{told_of, started_anew, restarts, forgets}
-use Rattle.ert_world.proofs.world.World.restart_by_name.Goals as goal
-use Rattle.ert_world.proofs.world.World.restart_by_name.Goals.{in-Ok, in-Err}
+use Rattle.ert_world.proofs.world.World.restart.Goals as goal
+use Rattle.ert_world.proofs.world.World.restart.Goals.{in-Ok, in-Err}
 
 pub invariant_of-self : goal.invariant_of-self
 invariant_of-self c =
