@@ -20,6 +20,7 @@ impl Model for Keys {
 
 // They own nothing.
 unsafe impl Send for Keys {}
+
 unsafe impl Sync for Keys {}
 
 impl Keys {
