@@ -6,14 +6,16 @@ use std::alloc::Global;
 use std::process::Abort;
 use std::test::Fail;
 
-/// A text of format 1, without the space between its fields, is migrated to this one, which says the same.
-fn becomes(rt: &impl Abort, alloc: Global, race: bool, text: &str, want: &str) -> Result<(), Fail> {
-    let migrated = migrate(alloc, Value::from_str(alloc, text)?)?.to_string(alloc)?;
-    assert!(rt; migrated.as_str() == want, "{migrated}, not {want}");
-    let before = read_scenario(alloc, text.as_bytes(), race)?;
-    let after = read_scenario(alloc, migrated.as_bytes(), race)?;
-    assert!(rt; before.settings == after.settings, "at {text}");
-    assert!(rt; before.ops.as_slice() == after.ops.as_slice(), "at {text}");
+/// A text of format 1 in format 2, without the space between its fields.
+fn migrated(alloc: Global, text: &str) -> Result<String, Fail> {
+    Ok(migrate(alloc, Value::from_str(alloc, text)?)?.to_string(alloc)?)
+}
+
+/// Two texts say the same.
+fn are_alike(rt: &impl Abort, alloc: Global, race: bool, one: &str, two: &str) -> Result<(), Fail> {
+    let one = read_scenario(alloc, one.as_bytes(), race)?;
+    let two = read_scenario(alloc, two.as_bytes(), race)?;
+    assert!(rt; one.settings == two.settings && one.ops.as_slice() == two.ops.as_slice());
     Ok(())
 }
 
@@ -42,7 +44,9 @@ const MIGRATED: [(bool, &str, &str); 3] = [
 #[test]
 fn migrates(rt: HostRuntime) -> Result<(), Fail> {
     for (race, text, want) in MIGRATED {
-        becomes(&rt, rt.alloc(), race, text, want)?;
+        let found = migrated(rt.alloc(), text)?;
+        assert!(rt; found.as_str() == want, "{found}, not {want}");
+        are_alike(&rt, rt.alloc(), race, text, want)?;
     }
     Ok(())
 }

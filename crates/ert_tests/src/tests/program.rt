@@ -45,49 +45,70 @@ const THREE_READINGS: &str =
 const TWO_READINGS: &str =
     "live 0 1767225600000000000\nlive 1000000000 1767225601000000000\nend 1000000000\n";
 
-/// What a run is given: its words, its input, the readings of its clock, and the call of each of the three that fails,
-/// from 1, or 0 for none. Then how it has to end, how many bytes it writes, and the texts of which they may be the first.
+/// What a run is given, and the texts of which what it writes may be the first bytes.
 #[derive(Clone, Copy)]
-pub(crate) struct Run {
-    pub(crate) words: &'static [&'static str],
-    pub(crate) text: &'static str,
+pub(crate) struct Given {
+    words: &'static [&'static str],
+    text: &'static str,
     readings: &'static [(i64, i64)],
-    read: u32,
-    write: u32,
-    reading: u32,
-    status: EndStatus,
-    length: usize,
-    pub(crate) texts: &'static [&'static str],
+    texts: &'static [&'static str],
 }
 
-const LEAPS: Run = Run {
-    words: &["run"],
-    text: LEAP,
-    readings: &[],
-    read: 0,
-    write: 0,
-    reading: 0,
-    status: EndStatus::Done,
-    length: 98,
-    texts: &[LEAP_TEXT],
-};
-
-pub(crate) const CANCELS: Run = Run {
+pub(crate) const RACE: Given = Given {
     words: &["race"],
     text: TWO_CANCELS,
-    length: 134,
+    readings: &[],
     texts: &EITHER_CANCELS,
-    ..LEAPS
 };
 
-const LIVES: Run = Run {
-    words: &["live", "3"],
-    text: "",
-    readings: &READINGS,
-    length: 114,
-    texts: &[THREE_READINGS],
-    ..LEAPS
-};
+/// The call that fails of the reads, of the writes and of the readings of the clock, from 1, or 0 for none.
+type Faults = (u32, u32, u32);
+
+pub(crate) const NO_FAULT: Faults = (0, 0, 0);
+
+/// Which run it is.
+#[derive(Clone, Copy, Debug)]
+enum Of {
+    Leaps,
+    Cancels,
+    ThreeReadings,
+    TwoReadings,
+    SecondRefused,
+    FirstRefused,
+}
+
+fn given_of(run: Of) -> Given {
+    match run {
+        Of::Leaps => Given {
+            words: &["run"],
+            text: LEAP,
+            readings: &[],
+            texts: &[LEAP_TEXT],
+        },
+        Of::Cancels => RACE,
+        Of::ThreeReadings => live(&["live", "3"], &READINGS, &[THREE_READINGS]),
+        Of::TwoReadings => live(&["live", "2"], &READINGS, &[TWO_READINGS]),
+        Of::SecondRefused => live(
+            &["live", "2"],
+            &[(0, 0), (-1, 0)],
+            &["live 0 0\nrefused reading 2\n"],
+        ),
+        Of::FirstRefused => live(&["live", "2"], &[(-1, 0), (0, 0)], &["refused reading 1\n"]),
+    }
+}
+
+fn live(
+    words: &'static [&'static str],
+    readings: &'static [(i64, i64)],
+    texts: &'static [&'static str],
+) -> Given {
+    Given {
+        words,
+        text: "",
+        readings,
+        texts,
+    }
+}
 
 fn strings(alloc: Global, words: &[&str]) -> Result<Vec<String>, AllocError> {
     let mut all = Vec::new(alloc);
@@ -132,14 +153,15 @@ fn call<R: AllocGlobal + Threads + Wait + Sync, G: Gate + Sync>(
 /// The status and the output of a run over a gate. Each write takes one byte.
 pub(crate) fn end_of<R: AllocGlobal + Threads + Wait + Sync, G: Gate + Sync>(
     rt: &R,
-    given: &Run,
+    given: &Given,
+    (read, write, reading): Faults,
     gate: &G,
 ) -> Result<(EndStatus, String), AllocError> {
     let alloc = rt.alloc();
     let text = given.text.as_bytes().to_vec(alloc)?;
-    let mut input = MemSource::new(text, vec![in alloc; given.read]?);
-    let mut output = MemSink::new(alloc, 1, vec![in alloc; given.write]?);
-    let clock = clock_of(alloc, given.readings, given.reading)?;
+    let mut input = MemSource::new(text, vec![in alloc; read]?);
+    let mut output = MemSink::new(alloc, 1, vec![in alloc; write]?);
+    let clock = clock_of(alloc, given.readings, reading)?;
     let ended = call(rt, given.words, &mut input, &mut output, clock, gate)?;
     Ok((
         ended.status,
@@ -147,134 +169,51 @@ pub(crate) fn end_of<R: AllocGlobal + Threads + Wait + Sync, G: Gate + Sync>(
     ))
 }
 
+/// A run, the call that fails, how it has to end, and how many bytes it writes.
+type Run = (Of, Faults, EndStatus, usize);
+
 /// Whether a run ends as it has to.
 fn is_right<R: AllocGlobal + Threads + Wait + Sync>(
     rt: &R,
-    given: &Run,
+    (run, faults, wanted, length): Run,
 ) -> Result<bool, AllocError> {
-    let (status, written) = end_of(rt, given, &FreeGate)?;
+    let given = given_of(run);
+    let (status, written) = end_of(rt, &given, faults, &FreeGate)?;
     let text = written.as_str();
     let begins = given.texts.iter().any(|all| all.starts_with(text));
-    Ok(status == given.status && text.len() == given.length && begins)
+    Ok(status == wanted && text.len() == length && begins)
 }
 
 const RUNS: [Run; 21] = [
     // The first read gives the whole text, and the second its end.
-    Run {
-        read: 1,
-        status: EndStatus::ReadFault,
-        length: 0,
-        ..LEAPS
-    },
-    Run {
-        read: 2,
-        status: EndStatus::ReadFault,
-        length: 0,
-        ..LEAPS
-    },
-    Run { read: 3, ..LEAPS },
+    (Of::Leaps, (1, 0, 0), EndStatus::ReadFault, 0),
+    (Of::Leaps, (2, 0, 0), EndStatus::ReadFault, 0),
+    (Of::Leaps, (3, 0, 0), EndStatus::Done, 98),
     // Each write takes one byte.
-    Run {
-        write: 1,
-        status: EndStatus::WriteFault,
-        length: 0,
-        ..LEAPS
-    },
-    Run {
-        write: 50,
-        status: EndStatus::WriteFault,
-        length: 49,
-        ..LEAPS
-    },
-    Run {
-        write: 98,
-        status: EndStatus::WriteFault,
-        length: 97,
-        ..LEAPS
-    },
-    Run { write: 99, ..LEAPS },
-    Run { ..CANCELS },
-    Run {
-        read: 1,
-        status: EndStatus::ReadFault,
-        length: 0,
-        ..CANCELS
-    },
-    Run {
-        read: 2,
-        status: EndStatus::ReadFault,
-        length: 0,
-        ..CANCELS
-    },
-    Run {
-        write: 1,
-        status: EndStatus::WriteFault,
-        length: 0,
-        ..CANCELS
-    },
-    Run {
-        write: 10,
-        status: EndStatus::WriteFault,
-        length: 9,
-        ..CANCELS
-    },
-    Run {
-        write: 134,
-        status: EndStatus::WriteFault,
-        length: 133,
-        ..CANCELS
-    },
-    Run {
-        write: 135,
-        ..CANCELS
-    },
-    Run { ..LIVES },
-    Run {
-        reading: 1,
-        status: EndStatus::ClockFault,
-        length: 0,
-        ..LIVES
-    },
-    Run {
-        reading: 2,
-        status: EndStatus::ClockFault,
-        length: 27,
-        ..LIVES
-    },
-    Run {
-        reading: 3,
-        status: EndStatus::ClockFault,
-        length: 63,
-        ..LIVES
-    },
-    Run {
-        words: &["live", "2"],
-        length: 78,
-        texts: &[TWO_READINGS],
-        ..LIVES
-    },
-    Run {
-        words: &["live", "2"],
-        readings: &[(0, 0), (-1, 0)],
-        status: EndStatus::Refused,
-        length: 27,
-        texts: &["live 0 0\nrefused reading 2\n"],
-        ..LIVES
-    },
-    Run {
-        words: &["live", "2"],
-        readings: &[(-1, 0), (0, 0)],
-        status: EndStatus::Refused,
-        length: 18,
-        texts: &["refused reading 1\n"],
-        ..LIVES
-    },
+    (Of::Leaps, (0, 1, 0), EndStatus::WriteFault, 0),
+    (Of::Leaps, (0, 50, 0), EndStatus::WriteFault, 49),
+    (Of::Leaps, (0, 98, 0), EndStatus::WriteFault, 97),
+    (Of::Leaps, (0, 99, 0), EndStatus::Done, 98),
+    (Of::Cancels, NO_FAULT, EndStatus::Done, 134),
+    (Of::Cancels, (1, 0, 0), EndStatus::ReadFault, 0),
+    (Of::Cancels, (2, 0, 0), EndStatus::ReadFault, 0),
+    (Of::Cancels, (0, 1, 0), EndStatus::WriteFault, 0),
+    (Of::Cancels, (0, 10, 0), EndStatus::WriteFault, 9),
+    (Of::Cancels, (0, 134, 0), EndStatus::WriteFault, 133),
+    (Of::Cancels, (0, 135, 0), EndStatus::Done, 134),
+    (Of::ThreeReadings, NO_FAULT, EndStatus::Done, 114),
+    (Of::ThreeReadings, (0, 0, 1), EndStatus::ClockFault, 0),
+    (Of::ThreeReadings, (0, 0, 2), EndStatus::ClockFault, 27),
+    (Of::ThreeReadings, (0, 0, 3), EndStatus::ClockFault, 63),
+    (Of::TwoReadings, NO_FAULT, EndStatus::Done, 78),
+    (Of::SecondRefused, NO_FAULT, EndStatus::Refused, 27),
+    (Of::FirstRefused, NO_FAULT, EndStatus::Refused, 18),
 ];
 
 #[test]
 fn a_run_ends_where_a_call_fails(rt: HostRuntime) -> Result<(), Fail> {
-    for (number, given) in RUNS.iter().enumerate() {
-        assert!(rt; is_right(&rt, given)?, "run {number}");
+    for run in RUNS {
+        assert!(rt; is_right(&rt, run)?, "{run:?}");
     }
     Ok(())
 }

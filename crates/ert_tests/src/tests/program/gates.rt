@@ -3,7 +3,7 @@
 //!
 //! In all of them there is one scheduler. So worker 0 does the keeper list, worker 1 makes the turns, and worker
 //! 2 and the workers after it do the lists of the callers from 1 on.
-use super::{CANCELS, EITHER_CANCELS, Run, TWO_CANCELS, end_of};
+use super::{EITHER_CANCELS, Given, NO_FAULT, RACE, TWO_CANCELS, end_of};
 use ert_program::EndStatus;
 use ert_race::LedgerGate;
 use std::alloc::AllocError;
@@ -75,11 +75,8 @@ fn hold<R: AllocGlobal + Threads + Wait + Abort + Sync>(
     (race, held, awaited, reports): Row,
 ) -> Result<(), AllocError> {
     let gate = LedgerGate::new((held, 1), awaited, TRIES);
-    let given = Run {
-        text: race,
-        ..CANCELS
-    };
-    let (status, report) = end_of(rt, &given, &gate)?;
+    let given = Given { text: race, ..RACE };
+    let (status, report) = end_of(rt, &given, NO_FAULT, &gate)?;
     let is_one = reports.iter().any(|one| *one == report.as_str());
     assert!(rt; status == EndStatus::Done && is_one, "{report} of {race}");
     assert!(rt; gate.has_held(), "no turn came to the gate in {race}");
