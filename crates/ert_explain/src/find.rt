@@ -25,16 +25,26 @@ pub(crate) fn find(
 ) -> Piece {
     let whole = Locator::new(alloc, bytes);
     let found = match refusal {
-        ScenarioErr::Shape(0) | ScenarioErr::Range(0) => in_fields(whole, cause),
-        ScenarioErr::Shape(place) | ScenarioErr::Range(place) => {
-            match op_at(value, race, (place as usize).saturating_sub(1)) {
-                Some(op) => in_op(to_op(whole, op), cause),
-                None => whole,
-            }
+        ScenarioErr::Shape(place) | ScenarioErr::Range(place) if place > 0 => {
+            at_place(whole, value, race, place, cause)
         }
         _ => in_fields(whole, cause),
     };
     found.piece()
+}
+
+/// To what is wrong with the op at a place.
+fn at_place<'a>(
+    whole: Locator<'a>,
+    value: &Value,
+    race: bool,
+    place: u32,
+    cause: Cause,
+) -> Locator<'a> {
+    match op_at(value, race, (place as usize).saturating_sub(1)) {
+        Some(op) => in_op(to_op(whole, op), cause),
+        None => whole,
+    }
 }
 
 /// To an op.

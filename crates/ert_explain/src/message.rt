@@ -15,7 +15,7 @@ use crate::op_shape::OpShape;
 use crate::shown::write_shown;
 use ert_scenario::ScenarioErr;
 use fields::{write_fields_back, write_fields_front, write_range_back, write_range_front};
-use hints::write_limits;
+use hints::{write_limits, write_named, write_param};
 use ops::{write_excess, write_op_back, write_op_front};
 use std::alloc::AllocError;
 use std::fmt::Write;
@@ -78,11 +78,11 @@ fn write_front(page: &mut String, cause: Cause) -> Result<(), AllocError>
     ensures { OnOk result (string_bytes page.new ≡ string_bytes page.old ++ front_text cause) }
 {
     match cause {
-        Cause::Json(expected) => write!(page, "expected {} here", expected.text()),
+        Cause::Json(expected) => write_named(page, "expected ", expected.text(), " here"),
         Cause::Fields(shape) => write_fields_front(page, shape),
         Cause::FieldRange(range) => write_range_front(page, range),
         Cause::Op(shape) => write_op_front(page, shape),
-        Cause::Argument(out) => write!(page, "{} is ", out.param.word()),
+        Cause::Argument(out) => write_param(page, out.param),
         Cause::Label(_) => page.push_str("label "),
         Cause::Excess(excess) => write_excess(page, excess),
         Cause::Other => page.push_str("this is no scenario"),

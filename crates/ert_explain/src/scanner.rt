@@ -215,7 +215,7 @@ impl<'a> Scanner<'a> {
     fn take_four(&mut self) -> Result<(), Expected> {
         for _ in 0..4 {
             match self.peek() {
-                Some(b'0'..=b'9' | b'a'..=b'f' | b'A'..=b'F') => self.pass(),
+                Some(digit) if digit.is_ascii_hexdigit() => self.pass(),
                 _ => return Err(Expected::HexDigit),
             }
         }
@@ -228,23 +228,39 @@ impl<'a> Scanner<'a> {
         if self.peek() == Some(b'-') {
             self.pass();
         }
+        self.take_natural()?;
+        self.take_fraction()?;
+        self.take_exponent()
+    }
+
+    /// Takes an integer without a sign and without leading zeros.
+    fn take_natural(&mut self) -> Result<(), Expected> {
         if self.peek() == Some(b'0') {
             self.pass();
-        } else {
-            self.take_digits()?;
+            return Ok(());
         }
-        if self.peek() == Some(b'.') {
+        self.take_digits()
+    }
+
+    /// Takes a fraction, where there is one.
+    fn take_fraction(&mut self) -> Result<(), Expected> {
+        if self.peek() != Some(b'.') {
+            return Ok(());
+        }
+        self.pass();
+        self.take_digits()
+    }
+
+    /// Takes an exponent, where there is one.
+    fn take_exponent(&mut self) -> Result<(), Expected> {
+        if !matches!(self.peek(), Some(b'e' | b'E')) {
+            return Ok(());
+        }
+        self.pass();
+        if matches!(self.peek(), Some(b'+' | b'-')) {
             self.pass();
-            self.take_digits()?;
         }
-        if matches!(self.peek(), Some(b'e' | b'E')) {
-            self.pass();
-            if matches!(self.peek(), Some(b'+' | b'-')) {
-                self.pass();
-            }
-            self.take_digits()?;
-        }
-        Ok(())
+        self.take_digits()
     }
 
     /// Takes one or more digits.
@@ -252,7 +268,7 @@ impl<'a> Scanner<'a> {
         let start = self.at;
         for _ in 0..self.bytes.len() {
             match self.peek() {
-                Some(b'0'..=b'9') => self.pass(),
+                Some(digit) if digit.is_ascii_digit() => self.pass(),
                 _ => break,
             }
         }

@@ -1,5 +1,5 @@
 /// Who does the ops of a list, which decides what ops may stand there.
-#[derive(Clone, Copy, Debug, PartialEq, Eq)]
+#[derive(Clone, Copy)]
 pub(crate) enum Doer {
     /// One thread does the ops of all, as in the field `ops`.
     Everyone,

@@ -1,5 +1,5 @@
 /// What is wrong with a value of a scenario.
-#[derive(Clone, Copy, Debug, PartialEq, Eq)]
+#[derive(Clone, Copy)]
 pub(crate) enum Fault {
     /// It isn't of the kind that is asked for.
     Shape,

@@ -9,7 +9,7 @@ use crate::kinds::integer;
 use serde_json::Value;
 
 /// Whose ops a scenario has.
-#[derive(Clone, Copy, Debug, PartialEq, Eq)]
+#[derive(Clone, Copy)]
 pub(crate) enum Format {
     /// The field `format` is the integer 1.
     One,

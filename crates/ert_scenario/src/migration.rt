@@ -168,7 +168,7 @@ fn with_field(alloc: Global, value: Value, name: &str, field: Value) -> Result<V
 }
 
 /// Puts a field into an object.
-fn put(
+pub(crate) fn put(
     alloc: Global,
     fields: &mut Map<String, Value>,
     name: &str,

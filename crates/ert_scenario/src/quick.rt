@@ -1,9 +1,10 @@
 //! The quick way to a scenario: one pass over the tokens of a text, which keeps the ops and no tree of values.
 //! It gives nothing wherever anything is unusual, and says nothing of faults.
 
-ghost use Rattle.std.specs.Prelude.{◌≡◌, false, Some, IsTrue, IfOk, IfErr, IfSome};
+ghost use Rattle.std.specs.Prelude.{◌≡◌, [], false, Some, IsTrue, IfOk, IfErr, IfSome};
+ghost use Rattle.json.specs.Json.{value as json_value};
 ghost use Rattle.serde_json.specs.Data.{Members, object};
-ghost use Rattle.serde_json.specs.Read.{read};
+ghost use Rattle.serde_json.specs.Read.{read, of_json, converted};
 ghost use Rattle.ert_scenario.specs.QuickMembers.{IsSeenAs, IsPlanOf, IsPlanWith, plan_for_one};
 ghost use Rattle.ert_scenario.specs.Scenarios.{plan_of, IsScenario};
 
@@ -50,7 +51,19 @@ fn read_seen(alloc: Global, text: &str) -> Result<Option<Seen>, AllocError>
     let mut scratch = Scratch::new(alloc);
     let mut reader = Reader::new(text, &mut scratch)?;
     let room = (MOST_OPS as usize).min(text.len() / OP_BYTES);
-    let Some(seen) = read_object(alloc, &mut reader, room)? else {
+    read_whole(alloc, &mut reader, room)
+}
+
+/// The members of the object that all tokens together are, with room for so many ops.
+fn read_whole(
+    alloc: Global,
+    reader: &mut Reader<'_>,
+    room: usize,
+) -> Result<Option<Seen>, AllocError>
+    ensures { IfOk result (λ o. IfSome o (λ seen. (all : Members)
+        × (converted of_json (json_value 127 reader.old) ≡ Some (object all, [])) × IsSeenAs seen all)) }
+{
+    let Some(seen) = read_object(alloc, reader, room)? else {
         return Ok(None);
     };
     match reader.next() {

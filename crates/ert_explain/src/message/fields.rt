@@ -1,8 +1,9 @@
 //! What a message says of a field.
 ghost use Rattle.std.specs.Prelude.{◌≡◌, ◌++◌, OnOk, string_bytes};
+ghost use Rattle.ert_explain.specs.declared.field_range.FieldRange.TheVariants.{ManySlots};
 ghost use Rattle.ert_explain.specs.Messages.{fields_front, range_front, fields_back, range_back, missing_text, caller_text};
 
-use super::hints::{write_has_to, write_limits, write_near};
+use super::hints::{write_has_to, write_limits, write_named, write_near, write_param};
 use crate::field::Field;
 use crate::field_range::FieldRange;
 use crate::field_shape::FieldShape;
@@ -22,7 +23,7 @@ pub(super) fn write_fields_front(page: &mut String, shape: FieldShape) -> Result
             page.push_str("the field \"race\" is for the command race alone")
         }
         FieldShape::Missing(field) => write_missing(page, field),
-        FieldShape::Kind(field) => write!(page, "\"{}\" is ", field.name()),
+        FieldShape::Kind(field) => write_named(page, "\"", field.name(), "\" is "),
         FieldShape::OtherRaceField => page.push_str("a race has no field "),
         FieldShape::Caller(number) => write_caller(page, number),
     }
@@ -31,7 +32,7 @@ pub(super) fn write_fields_front(page: &mut String, shape: FieldShape) -> Result
 fn write_missing(page: &mut String, field: Field) -> Result<(), AllocError>
     ensures { OnOk result (string_bytes page.new ≡ string_bytes page.old ++ missing_text field) }
 {
-    write!(page, "the field \"{}\" is missing", field.name())
+    write_named(page, "the field \"", field.name(), "\" is missing")
 }
 
 fn write_caller(page: &mut String, number: usize) -> Result<(), AllocError>
@@ -45,16 +46,21 @@ pub(super) fn write_range_front(page: &mut String, range: FieldRange) -> Result<
     ensures { OnOk result (string_bytes page.new ≡ string_bytes page.old ++ range_front range) }
 {
     match range {
-        FieldRange::Outside(field, _) => write!(page, "\"{}\" is ", field.name()),
-        FieldRange::ManySlots => {
-            write!(
-                page,
-                "all schedulers together have more than {MOST_SLOTS_IN_ALL} slots"
-            )
-        }
+        FieldRange::Outside(field, _) => write_named(page, "\"", field.name(), "\" is "),
+        FieldRange::ManySlots => write_many_slots(page),
         FieldRange::PartOfMillisecond => page.push_str("\"start\" is "),
-        FieldRange::Reading(param, _) => write!(page, "{} is ", param.word()),
+        FieldRange::Reading(param, _) => write_param(page, param),
     }
+}
+
+/// Appends that there are too many slots.
+fn write_many_slots(page: &mut String) -> Result<(), AllocError>
+    ensures { OnOk result (string_bytes page.new ≡ string_bytes page.old ++ range_front ManySlots) }
+{
+    write!(
+        page,
+        "all schedulers together have more than {MOST_SLOTS_IN_ALL} slots"
+    )
 }
 
 /// Appends what the field has to be, or a name that may be meant.

@@ -1,10 +1,12 @@
 //! What a message says that there has to be, and which name may be meant.
-ghost use Rattle.std.specs.Prelude.{◌≡◌, ◌++◌, OnOk, string_bytes};
+ghost use Rattle.std.specs.Prelude.{◌≡◌, ◌++◌, OnOk, codes, string_bytes};
 ghost use Rattle.std.specs.Fmt.{signed_decimal};
 ghost use Rattle.ert_explain.specs.Messages.{from_front, from_text, to_text, between_text, limits_text, has_to_text, hint_text, near_text};
+ghost use Rattle.ert_explain.specs.Words.{param_word};
 
 use crate::near::Near;
 use crate::op_range::Limits;
+use crate::param::Param;
 use std::alloc::AllocError;
 use std::fmt::Write;
 
@@ -74,5 +76,27 @@ pub(super) fn write_near(page: &mut String, near: Option<Near>) -> Result<(), Al
 fn write_hint(page: &mut String, name: &str) -> Result<(), AllocError>
     ensures { OnOk result (string_bytes page.new ≡ string_bytes page.old ++ hint_text name.now) }
 {
-    write!(page, "; did you mean \"{name}\"?")
+    write_named(page, "; did you mean \"", name, "\"?")
+}
+
+/// Appends which argument or item the part that is shown says.
+pub(super) fn write_param(page: &mut String, param: Param) -> Result<(), AllocError>
+    ensures { OnOk result (string_bytes page.new ≡ string_bytes page.old ++ (param_word param ++ codes " is ")) }
+{
+    page.push_str(param.word())?;
+    page.push_str(" is ")
+}
+
+/// Appends a name between two texts.
+pub(super) fn write_named(
+    page: &mut String,
+    front: &str,
+    name: &str,
+    back: &str,
+) -> Result<(), AllocError>
+    ensures { OnOk result (string_bytes page.new ≡ string_bytes page.old ++ (front.now ++ (name.now ++ back.now))) }
+{
+    page.push_str(front)?;
+    page.push_str(name)?;
+    page.push_str(back)
 }

@@ -11,6 +11,7 @@ ghost use Rattle.ert_scenario.specs.QuickMembers.{IsSeenAs, ReadsMember};
 use super::ops::read_ops;
 use super::tokens::read_value;
 use crate::format::{Format, format_from};
+use crate::migration::put;
 use ert_ops::Op;
 use json::{Reader, Token};
 use serde_json::{Map, Value};
@@ -128,8 +129,7 @@ fn read_field(
         return Ok(false);
     };
     seen.named = format_after(seen.named, name, &value);
-    let key = String::from_str(alloc, name)?;
-    drop(seen.fields.insert(key, value)?);
+    put(alloc, &mut seen.fields, name, value)?;
     Ok(true)
 }
 
