@@ -1,6 +1,6 @@
 -- What a judge knows of a timer that a legal entry arms: its slot is free for it, and it is a new use of that.
 
-use Rattle.std.proofs.Common.{◌≡◌, ◌↔◌, ◌∙◌, refl, sym, ap, subst, ℕ, ◌<◌, Bool, true, false, List, length, Option, Some, None, eq-eqb}
+use Rattle.std.proofs.Common.{◌≡◌, ◌↔◌, ◌∙◌, refl, sym, ap, subst, ℕ, ◌<◌, ◌≤◌, Bool, true, false, List, length, Option, Some, None, eq-eqb}
 use Rattle.std.proofs.lemmas.List.{length-map}
 use Rattle.std.proofs.lemmas.List.Elements.{All-get_or}
 use Rattle.std.proofs.lemmas.Option.{slice_get_within, get_or_from_slice_get}
@@ -11,21 +11,24 @@ use Rattle.ert_defs.proofs.Slots.{ordered, same_timer-true}
 use Rattle.ert_defs.specs.Clocks.{Clock}
 use Rattle.ert_defs.specs.Legal.{Can, CanArm, Known}
 use Rattle.ert_defs.specs.Milliseconds.{natural, down, deadline_of}
-use Rattle.ert_defs.specs.States.{State, state}
+use Rattle.ert_defs.specs.States.{State, state, uses_at}
 use Rattle.ert_defs.specs.Timers.{Uses, IsNextUse, is_taken, same_timer}
 use Rattle.ert_defs.specs.declared.entry.Actor.{Actor}
 use Rattle.ert_defs.specs.declared.entry.Entry.{Entry}
 use Rattle.ert_defs.specs.declared.entry.Event.{Event}
 use Rattle.ert_defs.specs.declared.entry.Event.TheVariants.{Arm}
 use Rattle.ert_defs.specs.declared.settings.Settings.{Settings}
+use Rattle.ert_defs.specs.declared.timer.Start.{Start}
 use Rattle.ert_defs.specs.declared.timer.TimerRef.{TimerRef}
 use Rattle.ert_state.specs.Parts.{looks_in, look_of}
 use Rattle.ert_state.specs.Uses.{uses_in, IsNewUse}
 use Rattle.ert_state.specs.Wheels.{timers_at, rows_of, status_among, IsOwnOf, IsOwn}
 use Rattle.ert_state.specs.declared.wheels.Timer.{Timer}
-use Rattle.ert_judge.specs.Breaks.{IsUse}
+use Rattle.ert_judge.specs.Breaks.{ArmBreaks, UseBreaks, IsUse, last_status_of, looked_at}
 use Rattle.ert_judge.specs.Shown.{shown, last_status, IsFreeFor, HasFollowed}
 use Rattle.ert_judge.specs.declared.judge.Judge.{Judge}
+use Rattle.ert_judge.specs.declared.reasons.Reason.{Reason}
+use Rattle.ert_judge.specs.declared.reasons.Reason.TheVariants.{SlotTaken, WheelUsed}
 use Rattle.ert_judge.proofs.TimerLaws.{ArmsNext}
 
 -- a slot is free for a timer exactly where that can be armed, by the deadline that its start has
@@ -71,6 +74,32 @@ use_known c j by timer deadline u now count free uses look is counts few =
           uses (subst (λ n. IsNextUse u n is.wanted timer.generation) look is.next_use);
       few = subst (λ n. n < 9007199254740992) (counts ∙ sym all) few;
     }
+
+-- why a generation isn't the next use of a free slot is why the timer can't be armed
+pub use_breaks : (g : Settings) (s : State) (by : Actor) (timer : TimerRef) (start : Start) (reason : Reason)
+    → is_taken (last_status_of s timer.wheel timer.slot) ≡ false
+    → UseBreaks (uses_at s timer.wheel timer.slot) (looked_at g s by) (deadline_of g start (s.looked by)) timer.generation reason
+    → ArmBreaks g s by timer start reason
+use_breaks g s by timer start (SlotTaken status) free never = absurd never
+use_breaks g s by timer start WheelUsed free never = absurd never
+use_breaks g s by timer start _ free breaks = (free, breaks)
+
+-- and so is that its wheel has had as many timers as it may
+pub wheel_used : (c : Clock) (j : Judge) (by : Actor) (timer : TimerRef) (start : Start) (u : Uses) (now count : ℕ)
+    → is_taken (last_status j timer.wheel timer.slot) ≡ false → u ≡ uses_in (timers_at j.timers timer.wheel) timer.slot
+    → now ≡ natural (down j.settings (look_of (looks_in j.looks) by))
+    → IsUse u now (deadline_of j.settings start (look_of (looks_in j.looks) by)) timer.generation
+    → count ≡ length (timers_at j.timers timer.wheel) → 9007199254740992 ≤ count
+    → ArmBreaks j.settings (shown c j) by timer start WheelUsed
+wheel_used c j by timer start u now count free uses look is counts full =
+    let ts : List Timer = timers_at j.timers timer.wheel in
+    let all : length (rows_of ts) ≡ length ts = length-map ts (λ (t : Timer). t.row) in
+    let due : Option ℕ = deadline_of j.settings start (look_of (looks_in j.looks) by) in (
+      free,
+      subst (λ (v : Uses). IsUse v (natural (down j.settings (look_of (looks_in j.looks) by))) due timer.generation)
+          uses (subst (λ n. IsUse u n due timer.generation) look is),
+      subst (λ n. 9007199254740992 ≤ n) (counts ∙ sym all) full,
+    )
 
 -- a reference without a status in its wheel is a new use of its slot
 own_new : (w : ℕ) (ts : List Timer) (r : TimerRef) → IsOwn w ts → r.wheel ≡ w → status_among ts r ≡ None

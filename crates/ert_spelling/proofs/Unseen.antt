@@ -13,9 +13,9 @@ use Rattle.ert_spelling.specs.Reading.{mail_rows}
 use Rattle.ert_spelling.specs.declared.wanted.Wanted.{Wanted}
 
 -- a reader reads where the function gave something
-pub same_some : {A : Type 0} (r : Option (A × Option (Bor (List ℕ)))) (x : Option (A × List Word)) → value_and_rest r ≡ x → is_some r ≡ is_some x
-same_some None x e = ap is_some e
-same_some (Some a) x e = ap is_some e
+pub same_some : {A : Type 0} (r : Option A) (rest : Option (Bor (List ℕ))) (x : Option (A × List Word)) → value_and_rest r rest ≡ x → is_some r ≡ is_some x
+same_some None rest x e = ap is_some e
+same_some (Some a) rest x e = ap is_some e
 
 -- whether a word is a name in a table, by the names alone
 abbrev is_in : List Word → Word → Bool

@@ -11,9 +11,9 @@ use Rattle.ert_spelling.specs.Parts.{Word}
 abbrev pub Reader : Type 0 → Type 0
 Reader A = List Word → Option (A × List Word)
 
--- what a function gave, with the words after it
-abbrev pub value_and_rest : {A : Type 0} → Option (A × Option (Bor (List ℕ))) → Option (A × List Word)
-value_and_rest given = option_map (λ x. (x.0, words_of x.1)) given
+-- what a function gave, with the words that it left
+abbrev pub value_and_rest : {A : Type 0} → Option A → Option (Bor (List ℕ)) → Option (A × List Word)
+value_and_rest given rest = option_map (λ a. (a, words_of rest)) given
 
 -- a value that takes no word
 abbrev pub done : {A : Type 0} → A → Reader A

@@ -11,20 +11,18 @@ use ert_defs::Actor;
 
 /// The actor that made an entry.
 #[tactic(auto, unfolding(crate::specs::Reading::read_actor))]
-pub(crate) fn actor(words: Words) -> Option<(Actor, Words)>
-    ensures { value_and_rest result ≡ read_actor (words_of words.entry) }
+pub(crate) fn actor(words: &mut Words) -> Option<Actor>
+    ensures { value_and_rest result words.new ≡ read_actor (words_of words.old) }
 {
-    let (word, words) = next_word(words)?;
-    Some((actor_of(word)?, words))
+    actor_of(next_word(words)?)
 }
 
 /// The second actor that made an entry, where there is one.
 #[tactic(auto, unfolding(crate::specs::Reading::read_with))]
-pub(crate) fn with(words: Words) -> Option<(Option<Actor>, Words)>
-    ensures { value_and_rest result ≡ read_with (words_of words.entry) }
+pub(crate) fn with(words: &mut Words) -> Option<Option<Actor>>
+    ensures { value_and_rest result words.new ≡ read_with (words_of words.old) }
 {
-    let (word, words) = next_word(words)?;
-    Some((with_of(word)?, words))
+    with_of(next_word(words)?)
 }
 
 /// The actor that a word names: a letter, and its number.

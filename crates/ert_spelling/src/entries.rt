@@ -15,19 +15,21 @@ use ert_defs::Entry;
 pub(crate) fn entry_of(line: &[u8]) -> Option<Entry>
     ensures { result ≡ whole read_one_entry (words_in line.now) }
 {
-    match entry(Some(line))? {
-        (entry, None) => Some(entry),
-        _ => None,
+    let mut words = Some(line);
+    let entry = entry(&mut words)?;
+    match words {
+        None => Some(entry),
+        Some(_) => None,
     }
 }
 
 /// An entry: its actors, and its event.
 #[tactic(auto, unfolding(crate::specs::Events::read_one_entry))]
-fn entry(words: Words) -> Option<(Entry, Words)>
-    ensures { value_and_rest result ≡ read_one_entry (words_of words.entry) }
+fn entry(words: &mut Words) -> Option<Entry>
+    ensures { value_and_rest result words.new ≡ read_one_entry (words_of words.old) }
 {
-    let (by, words) = actor(words)?;
-    let (with, words) = with(words)?;
-    let (event, words) = event(words)?;
-    Some((Entry { by, with, event }, words))
+    let by = actor(words)?;
+    let with = with(words)?;
+    let event = event(words)?;
+    Some(Entry { by, with, event })
 }

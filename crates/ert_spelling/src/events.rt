@@ -16,16 +16,15 @@ use ert_defs::Event;
 
 /// An event: its name, and its fields.
 #[tactic(auto, unfolding(crate::specs::Events::read_event))]
-pub(crate) fn event(words: Words) -> Option<(Event, Words)>
-    ensures { value_and_rest result ≡ read_event (words_of words.entry) }
+pub(crate) fn event(words: &mut Words) -> Option<Event>
+    ensures { value_and_rest result words.new ≡ read_event (words_of words.old) }
 {
-    let (name, words) = next_text(words)?;
-    named(name, words)
+    named(next_text(words)?, words)
 }
 
 /// The event of this name.
-fn named<'a>(name: &str, words: Words<'a>) -> Option<(Event, Words<'a>)>
-    ensures { value_and_rest result ≡ read_named name.now event_rows (words_of words.entry) }
+fn named(name: &str, words: &mut Words) -> Option<Event>
+    ensures { value_and_rest result words.new ≡ read_named name.now event_rows (words_of words.old) }
 {
     match name {
         "tick" => tick(words),
@@ -45,8 +44,8 @@ fn named<'a>(name: &str, words: Words<'a>) -> Option<(Event, Words<'a>)>
 }
 
 /// The event of this name, of those that are no timer's and not the clock's.
-fn named_later<'a>(name: &str, words: Words<'a>) -> Option<(Event, Words<'a>)>
-    ensures { value_and_rest result ≡ read_named name.now later_rows (words_of words.entry) }
+fn named_later(name: &str, words: &mut Words) -> Option<Event>
+    ensures { value_and_rest result words.new ≡ read_named name.now later_rows (words_of words.old) }
 {
     match name {
         "mark" => mark(words),
@@ -64,231 +63,222 @@ fn named_later<'a>(name: &str, words: Words<'a>) -> Option<(Event, Words<'a>)>
 
 /// An OS reading was taken.
 #[tactic(auto, unfolding(crate::specs::Events::read_tick))]
-fn tick(words: Words) -> Option<(Event, Words)>
-    ensures { value_and_rest result ≡ read_tick (words_of words.entry) }
+fn tick(words: &mut Words) -> Option<Event>
+    ensures { value_and_rest result words.new ≡ read_tick (words_of words.old) }
 {
-    let (reading, words) = reading(words)?;
-    let (act, words) = act(words)?;
-    let (now, words) = integer(words)?;
-    Some((Event::Tick { reading, act, now }, words))
+    let reading = reading(words)?;
+    let act = act(words)?;
+    let now = integer(words)?;
+    Some(Event::Tick { reading, act, now })
 }
 
 /// The offset and its state were set.
 #[tactic(auto, unfolding(crate::specs::Events::read_shift))]
-fn shift(words: Words) -> Option<(Event, Words)>
-    ensures { value_and_rest result ≡ read_shift (words_of words.entry) }
+fn shift(words: &mut Words) -> Option<Event>
+    ensures { value_and_rest result words.new ≡ read_shift (words_of words.old) }
 {
-    let (offset, words) = integer(words)?;
-    let (state, words) = state(words)?;
-    Some((Event::Shift { offset, state }, words))
+    let offset = integer(words)?;
+    let state = state(words)?;
+    Some(Event::Shift { offset, state })
 }
 
 /// The time was read.
 #[tactic(auto, unfolding(crate::specs::Events::read_look))]
-fn look(words: Words) -> Option<(Event, Words)>
-    ensures { value_and_rest result ≡ read_look (words_of words.entry) }
+fn look(words: &mut Words) -> Option<Event>
+    ensures { value_and_rest result words.new ≡ read_look (words_of words.old) }
 {
-    let (now, words) = integer(words)?;
-    Some((Event::Look { now }, words))
+    let now = integer(words)?;
+    Some(Event::Look { now })
 }
 
 /// The offset was read.
 #[tactic(auto, unfolding(crate::specs::Events::read_off))]
-fn off(words: Words) -> Option<(Event, Words)>
-    ensures { value_and_rest result ≡ read_off (words_of words.entry) }
+fn off(words: &mut Words) -> Option<Event>
+    ensures { value_and_rest result words.new ≡ read_off (words_of words.old) }
 {
-    let (offset, words) = integer(words)?;
-    let (state, words) = state(words)?;
-    Some((Event::Off { offset, state }, words))
+    let offset = integer(words)?;
+    let state = state(words)?;
+    Some(Event::Off { offset, state })
 }
 
 /// A timer was started.
 #[tactic(auto, unfolding(crate::specs::Events::read_arm))]
-fn arm(words: Words) -> Option<(Event, Words)>
-    ensures { value_and_rest result ≡ read_arm (words_of words.entry) }
+fn arm(words: &mut Words) -> Option<Event>
+    ensures { value_and_rest result words.new ≡ read_arm (words_of words.old) }
 {
-    let (timer, words) = timer(words)?;
-    let (start, words) = start(words)?;
-    Some((Event::Arm { timer, start }, words))
+    let timer = timer(words)?;
+    let start = start(words)?;
+    Some(Event::Arm { timer, start })
 }
 
 /// The last timer of a slot was looked at.
 #[tactic(auto, unfolding(crate::specs::Events::read_probe))]
-fn probe(words: Words) -> Option<(Event, Words)>
-    ensures { value_and_rest result ≡ read_probe (words_of words.entry) }
+fn probe(words: &mut Words) -> Option<Event>
+    ensures { value_and_rest result words.new ≡ read_probe (words_of words.old) }
 {
-    let (wheel, words) = small(words)?;
-    let (slot, words) = small(words)?;
-    let (found, words) = found(words)?;
-    Some((Event::Probe { wheel, slot, found }, words))
+    let wheel = small(words)?;
+    let slot = small(words)?;
+    let found = found(words)?;
+    Some(Event::Probe { wheel, slot, found })
 }
 
 /// A timer was read.
 #[tactic(auto, unfolding(crate::specs::Events::read_peek))]
-fn peek(words: Words) -> Option<(Event, Words)>
-    ensures { value_and_rest result ≡ read_peek (words_of words.entry) }
+fn peek(words: &mut Words) -> Option<Event>
+    ensures { value_and_rest result words.new ≡ read_peek (words_of words.old) }
 {
-    let (timer, words) = timer(words)?;
-    let (left, words) = left(words)?;
-    Some((Event::Peek { timer, left }, words))
+    let timer = timer(words)?;
+    let left = left(words)?;
+    Some(Event::Peek { timer, left })
 }
 
 /// A timer was cancelled.
 #[tactic(auto, unfolding(crate::specs::Events::read_cancel))]
-fn cancel(words: Words) -> Option<(Event, Words)>
-    ensures { value_and_rest result ≡ read_cancel (words_of words.entry) }
+fn cancel(words: &mut Words) -> Option<Event>
+    ensures { value_and_rest result words.new ≡ read_cancel (words_of words.old) }
 {
-    let (timer, words) = timer(words)?;
-    let (left, words) = left(words)?;
-    Some((Event::Cancel { timer, left }, words))
+    let timer = timer(words)?;
+    let left = left(words)?;
+    Some(Event::Cancel { timer, left })
 }
 
 /// A timer expired.
 #[tactic(auto, unfolding(crate::specs::Events::read_expire))]
-fn expire(words: Words) -> Option<(Event, Words)>
-    ensures { value_and_rest result ≡ read_expire (words_of words.entry) }
+fn expire(words: &mut Words) -> Option<Event>
+    ensures { value_and_rest result words.new ≡ read_expire (words_of words.old) }
 {
-    let (timer, words) = timer(words)?;
-    Some((Event::Expire { timer }, words))
+    let timer = timer(words)?;
+    Some(Event::Expire { timer })
 }
 
 /// A timer whose destination has exited was cancelled.
 #[tactic(auto, unfolding(crate::specs::Events::read_orphan))]
-fn orphan(words: Words) -> Option<(Event, Words)>
-    ensures { value_and_rest result ≡ read_orphan (words_of words.entry) }
+fn orphan(words: &mut Words) -> Option<Event>
+    ensures { value_and_rest result words.new ≡ read_orphan (words_of words.old) }
 {
-    let (timer, words) = timer(words)?;
-    Some((Event::Orphan { timer }, words))
+    let timer = timer(words)?;
+    Some(Event::Orphan { timer })
 }
 
 /// A message was put into its mailbox.
 #[tactic(auto, unfolding(crate::specs::Events::read_deliver))]
-fn deliver(words: Words) -> Option<(Event, Words)>
-    ensures { value_and_rest result ≡ read_deliver (words_of words.entry) }
+fn deliver(words: &mut Words) -> Option<Event>
+    ensures { value_and_rest result words.new ≡ read_deliver (words_of words.old) }
 {
-    let (timer, words) = timer(words)?;
-    Some((Event::Deliver { timer }, words))
+    let timer = timer(words)?;
+    Some(Event::Deliver { timer })
 }
 
 /// A message was thrown away.
 #[tactic(auto, unfolding(crate::specs::Events::read_drop))]
-fn drop(words: Words) -> Option<(Event, Words)>
-    ensures { value_and_rest result ≡ read_drop (words_of words.entry) }
+fn drop(words: &mut Words) -> Option<Event>
+    ensures { value_and_rest result words.new ≡ read_drop (words_of words.old) }
 {
-    let (timer, words) = timer(words)?;
-    Some((Event::Drop { timer }, words))
+    let timer = timer(words)?;
+    Some(Event::Drop { timer })
 }
 
 /// It was seen whether a process had exited.
 #[tactic(auto, unfolding(crate::specs::Events::read_mark))]
-fn mark(words: Words) -> Option<(Event, Words)>
-    ensures { value_and_rest result ≡ read_mark (words_of words.entry) }
+fn mark(words: &mut Words) -> Option<Event>
+    ensures { value_and_rest result words.new ≡ read_mark (words_of words.old) }
 {
-    let (process, words) = small(words)?;
-    let (exits, words) = truth(words)?;
-    let (was, words) = truth(words)?;
-    Some((
-        Event::Mark {
-            process,
-            exits,
-            was,
-        },
-        words,
-    ))
+    let process = small(words)?;
+    let exits = truth(words)?;
+    let was = truth(words)?;
+    Some(Event::Mark {
+        process,
+        exits,
+        was,
+    })
 }
 
 /// The timers of a wheel that were due have been settled.
 #[tactic(auto, unfolding(crate::specs::Events::read_advanced))]
-fn advanced(words: Words) -> Option<(Event, Words)>
-    ensures { value_and_rest result ≡ read_advanced (words_of words.entry) }
+fn advanced(words: &mut Words) -> Option<Event>
+    ensures { value_and_rest result words.new ≡ read_advanced (words_of words.old) }
 {
-    let (wheel, words) = small(words)?;
-    let (to, words) = natural(words)?;
-    Some((Event::Advanced { wheel, to }, words))
+    let wheel = small(words)?;
+    let to = natural(words)?;
+    Some(Event::Advanced { wheel, to })
 }
 
 /// A request was put into an inbox.
 #[tactic(auto, unfolding(crate::specs::Events::read_ask))]
-fn ask(words: Words) -> Option<(Event, Words)>
-    ensures { value_and_rest result ≡ read_ask (words_of words.entry) }
+fn ask(words: &mut Words) -> Option<Event>
+    ensures { value_and_rest result words.new ≡ read_ask (words_of words.old) }
 {
-    let (wheel, words) = small(words)?;
-    let (request, words) = request(words)?;
-    Some((Event::Ask { wheel, request }, words))
+    let wheel = small(words)?;
+    let request = request(words)?;
+    Some(Event::Ask { wheel, request })
 }
 
 /// The first request of an inbox was taken.
 #[tactic(auto, unfolding(crate::specs::Events::read_pick))]
-fn pick(words: Words) -> Option<(Event, Words)>
-    ensures { value_and_rest result ≡ read_pick (words_of words.entry) }
+fn pick(words: &mut Words) -> Option<Event>
+    ensures { value_and_rest result words.new ≡ read_pick (words_of words.old) }
 {
-    let (wheel, words) = small(words)?;
-    let (got, words) = picked(words)?;
-    Some((Event::Pick { wheel, got }, words))
+    let wheel = small(words)?;
+    let got = picked(words)?;
+    Some(Event::Pick { wheel, got })
 }
 
 /// The request in the hand was answered.
 #[tactic(auto, unfolding(crate::specs::Events::read_answer))]
-fn answer(words: Words) -> Option<(Event, Words)>
-    ensures { value_and_rest result ≡ read_answer (words_of words.entry) }
+fn answer(words: &mut Words) -> Option<Event>
+    ensures { value_and_rest result words.new ≡ read_answer (words_of words.old) }
 {
-    let (wheel, words) = small(words)?;
-    let (left, words) = left(words)?;
-    Some((Event::Answer { wheel, left }, words))
+    let wheel = small(words)?;
+    let left = left(words)?;
+    Some(Event::Answer { wheel, left })
 }
 
 /// The first message of a mailbox was taken.
 #[tactic(auto, unfolding(crate::specs::Events::read_take))]
-fn take(words: Words) -> Option<(Event, Words)>
-    ensures { value_and_rest result ≡ read_take (words_of words.entry) }
+fn take(words: &mut Words) -> Option<Event>
+    ensures { value_and_rest result words.new ≡ read_take (words_of words.old) }
 {
-    let (process, words) = small(words)?;
-    let (got, words) = taken(words)?;
-    Some((Event::Take { process, got }, words))
+    let process = small(words)?;
+    let got = taken(words)?;
+    Some(Event::Take { process, got })
 }
 
 /// A monitor was removed.
 #[tactic(auto, unfolding(crate::specs::Events::read_unwatch))]
-fn unwatch(words: Words) -> Option<(Event, Words)>
-    ensures { value_and_rest result ≡ read_unwatch (words_of words.entry) }
+fn unwatch(words: &mut Words) -> Option<Event>
+    ensures { value_and_rest result words.new ≡ read_unwatch (words_of words.old) }
 {
-    let (process, words) = small(words)?;
-    let (monitor, words) = small(words)?;
-    let (was, words) = truth(words)?;
-    Some((
-        Event::Unwatch {
-            process,
-            monitor,
-            was,
-        },
-        words,
-    ))
+    let process = small(words)?;
+    let monitor = small(words)?;
+    let was = truth(words)?;
+    Some(Event::Unwatch {
+        process,
+        monitor,
+        was,
+    })
 }
 
 /// A monitor of the time offset was made.
 #[tactic(auto, unfolding(crate::specs::Events::read_watch))]
-fn watch(words: Words) -> Option<(Event, Words)>
-    ensures { value_and_rest result ≡ read_watch (words_of words.entry) }
+fn watch(words: &mut Words) -> Option<Event>
+    ensures { value_and_rest result words.new ≡ read_watch (words_of words.old) }
 {
-    let (process, words) = small(words)?;
-    let (monitor, words) = small(words)?;
-    let (offset, words) = integer(words)?;
-    Some((
-        Event::Watch {
-            process,
-            monitor,
-            offset,
-        },
-        words,
-    ))
+    let process = small(words)?;
+    let monitor = small(words)?;
+    let offset = integer(words)?;
+    Some(Event::Watch {
+        process,
+        monitor,
+        offset,
+    })
 }
 
 /// A process was told the offset.
 #[tactic(auto, unfolding(crate::specs::Events::read_tell))]
-fn tell(words: Words) -> Option<(Event, Words)>
-    ensures { value_and_rest result ≡ read_tell (words_of words.entry) }
+fn tell(words: &mut Words) -> Option<Event>
+    ensures { value_and_rest result words.new ≡ read_tell (words_of words.old) }
 {
-    let (process, words) = small(words)?;
-    let (offset, words) = integer(words)?;
-    Some((Event::Tell { process, offset }, words))
+    let process = small(words)?;
+    let offset = integer(words)?;
+    Some(Event::Tell { process, offset })
 }

@@ -81,25 +81,26 @@ pub fn first_word(line: &[u8], before: usize) -> &[u8]
 fn is_read(wanted: Wanted, word: &[u8]) -> bool
     ensures { result ≡ is_read wanted word.now }
 {
+    let mut words = Some(word);
     match wanted {
         Wanted::SettingsWord => word == b"settings".as_slice(),
-        Wanted::Mode => mode(Some(word)).is_some(),
-        Wanted::Truth => truth(Some(word)).is_some(),
-        Wanted::Integer => integer(Some(word)).is_some(),
-        Wanted::Small => small(Some(word)).is_some(),
-        Wanted::Natural => natural(Some(word)).is_some(),
-        Wanted::Act => act(Some(word)).is_some(),
-        Wanted::State => state(Some(word)).is_some(),
-        Wanted::Found => found(Some(word)).is_some(),
-        Wanted::Kind => kind(Some(word)).is_some(),
+        Wanted::Mode => mode(&mut words).is_some(),
+        Wanted::Truth => truth(&mut words).is_some(),
+        Wanted::Integer => integer(&mut words).is_some(),
+        Wanted::Small => small(&mut words).is_some(),
+        Wanted::Natural => natural(&mut words).is_some(),
+        Wanted::Act => act(&mut words).is_some(),
+        Wanted::State => state(&mut words).is_some(),
+        Wanted::Found => found(&mut words).is_some(),
+        Wanted::Kind => kind(&mut words).is_some(),
         Wanted::When => is_when(word),
-        Wanted::Actor => actor(Some(word)).is_some(),
-        Wanted::Partner => with(Some(word)).is_some(),
+        Wanted::Actor => actor(&mut words).is_some(),
+        Wanted::Partner => with(&mut words).is_some(),
         Wanted::Event => event_turns(word).is_some(),
-        Wanted::RequestKind => request_kind(Some(word)).is_some(),
-        Wanted::Picked => word == b"none".as_slice() || request_kind(Some(word)).is_some(),
+        Wanted::RequestKind => request_kind(&mut words).is_some(),
+        Wanted::Picked => word == b"none".as_slice() || request_kind(&mut words).is_some(),
         Wanted::Taken => word == b"none".as_slice() || mail_turns(word).is_some(),
-        Wanted::Left => left(Some(word)).is_some(),
+        Wanted::Left => left(&mut words).is_some(),
         Wanted::End => false,
     }
 }

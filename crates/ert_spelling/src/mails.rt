@@ -13,71 +13,66 @@ use ert_defs::{Mail, Request, RequestKind};
 
 /// A request.
 #[tactic(auto, unfolding(crate::specs::Reading::read_request))]
-pub(crate) fn request(words: Words) -> Option<(Request, Words)>
-    ensures { value_and_rest result ≡ read_request (words_of words.entry) }
+pub(crate) fn request(words: &mut Words) -> Option<Request>
+    ensures { value_and_rest result words.new ≡ read_request (words_of words.old) }
 {
-    let (kind, words) = request_kind(words)?;
-    let (timer, words) = timer(words)?;
-    let (reply_to, words) = small(words)?;
-    let (info, words) = truth(words)?;
-    Some((
-        Request {
-            kind,
-            timer,
-            reply_to,
-            info,
-        },
-        words,
-    ))
+    let kind = request_kind(words)?;
+    let timer = timer(words)?;
+    let reply_to = small(words)?;
+    let info = truth(words)?;
+    Some(Request {
+        kind,
+        timer,
+        reply_to,
+        info,
+    })
 }
 
 /// What a request asks for.
 #[tactic(auto, unfolding(crate::specs::Reading::read_request_kind))]
-pub(crate) fn request_kind(words: Words) -> Option<(RequestKind, Words)>
-    ensures { value_and_rest result ≡ read_request_kind (words_of words.entry) }
+pub(crate) fn request_kind(words: &mut Words) -> Option<RequestKind>
+    ensures { value_and_rest result words.new ≡ read_request_kind (words_of words.old) }
 {
-    let (name, words) = next_text(words)?;
-    match name {
-        "cancel" => Some((RequestKind::Cancel, words)),
-        "read" => Some((RequestKind::Read, words)),
+    match next_text(words)? {
+        "cancel" => Some(RequestKind::Cancel),
+        "read" => Some(RequestKind::Read),
         _ => None,
     }
 }
 
 /// A request, or that there was none.
-pub(crate) fn picked(words: Words) -> Option<(Option<Request>, Words)>
-    ensures { value_and_rest result ≡ optional read_request (words_of words.entry) }
+pub(crate) fn picked(words: &mut Words) -> Option<Option<Request>>
+    ensures { value_and_rest result words.new ≡ optional read_request (words_of words.old) }
 {
-    if let Some(rest) = none(words) {
-        return Some((None, rest));
+    if let Some(rest) = none(*words) {
+        *words = rest;
+        return Some(None);
     }
-    let (request, rest) = request(words)?;
-    Some((Some(request), rest))
+    Some(Some(request(words)?))
 }
 
 /// A message, or that there was none.
-pub(crate) fn taken(words: Words) -> Option<(Option<Mail>, Words)>
-    ensures { value_and_rest result ≡ optional read_mail (words_of words.entry) }
+pub(crate) fn taken(words: &mut Words) -> Option<Option<Mail>>
+    ensures { value_and_rest result words.new ≡ optional read_mail (words_of words.old) }
 {
-    if let Some(rest) = none(words) {
-        return Some((None, rest));
+    if let Some(rest) = none(*words) {
+        *words = rest;
+        return Some(None);
     }
-    let (mail, rest) = mail(words)?;
-    Some((Some(mail), rest))
+    Some(Some(mail(words)?))
 }
 
 /// A message in a mailbox.
 #[tactic(auto, unfolding(crate::specs::Reading::read_mail))]
-fn mail(words: Words) -> Option<(Mail, Words)>
-    ensures { value_and_rest result ≡ read_mail (words_of words.entry) }
+fn mail(words: &mut Words) -> Option<Mail>
+    ensures { value_and_rest result words.new ≡ read_mail (words_of words.old) }
 {
-    let (name, words) = next_text(words)?;
-    called(name, words)
+    called(next_text(words)?, words)
 }
 
 /// The message of this name.
-fn called<'a>(name: &str, words: Words<'a>) -> Option<(Mail, Words<'a>)>
-    ensures { value_and_rest result ≡ read_named name.now mail_rows (words_of words.entry) }
+fn called(name: &str, words: &mut Words) -> Option<Mail>
+    ensures { value_and_rest result words.new ≡ read_named name.now mail_rows (words_of words.old) }
 {
     match name {
         "timeout" => timeout(words),
@@ -91,49 +86,49 @@ fn called<'a>(name: &str, words: Words<'a>) -> Option<(Mail, Words<'a>)>
 
 /// A timer has expired.
 #[tactic(auto, unfolding(crate::specs::Reading::read_timeout))]
-fn timeout(words: Words) -> Option<(Mail, Words)>
-    ensures { value_and_rest result ≡ read_timeout (words_of words.entry) }
+fn timeout(words: &mut Words) -> Option<Mail>
+    ensures { value_and_rest result words.new ≡ read_timeout (words_of words.old) }
 {
-    let (timer, words) = timer(words)?;
-    let (msg, words) = natural(words)?;
-    Some((Mail::Timeout { timer, msg }, words))
+    let timer = timer(words)?;
+    let msg = natural(words)?;
+    Some(Mail::Timeout { timer, msg })
 }
 
 /// A message alone.
 #[tactic(auto, unfolding(crate::specs::Reading::read_bare))]
-fn bare(words: Words) -> Option<(Mail, Words)>
-    ensures { value_and_rest result ≡ read_bare (words_of words.entry) }
+fn bare(words: &mut Words) -> Option<Mail>
+    ensures { value_and_rest result words.new ≡ read_bare (words_of words.old) }
 {
-    let (msg, words) = natural(words)?;
-    Some((Mail::Bare { msg }, words))
+    let msg = natural(words)?;
+    Some(Mail::Bare { msg })
 }
 
 /// The answer to a cancel.
 #[tactic(auto, unfolding(crate::specs::Reading::read_cancel_done))]
-fn cancel_done(words: Words) -> Option<(Mail, Words)>
-    ensures { value_and_rest result ≡ read_cancel_done (words_of words.entry) }
+fn cancel_done(words: &mut Words) -> Option<Mail>
+    ensures { value_and_rest result words.new ≡ read_cancel_done (words_of words.old) }
 {
-    let (timer, words) = timer(words)?;
-    let (left, words) = left(words)?;
-    Some((Mail::CancelDone { timer, left }, words))
+    let timer = timer(words)?;
+    let left = left(words)?;
+    Some(Mail::CancelDone { timer, left })
 }
 
 /// The answer to a read.
 #[tactic(auto, unfolding(crate::specs::Reading::read_read_done))]
-fn read_done(words: Words) -> Option<(Mail, Words)>
-    ensures { value_and_rest result ≡ read_read_done (words_of words.entry) }
+fn read_done(words: &mut Words) -> Option<Mail>
+    ensures { value_and_rest result words.new ≡ read_read_done (words_of words.old) }
 {
-    let (timer, words) = timer(words)?;
-    let (left, words) = left(words)?;
-    Some((Mail::ReadDone { timer, left }, words))
+    let timer = timer(words)?;
+    let left = left(words)?;
+    Some(Mail::ReadDone { timer, left })
 }
 
 /// A change of the offset.
 #[tactic(auto, unfolding(crate::specs::Reading::read_change))]
-fn change(words: Words) -> Option<(Mail, Words)>
-    ensures { value_and_rest result ≡ read_change (words_of words.entry) }
+fn change(words: &mut Words) -> Option<Mail>
+    ensures { value_and_rest result words.new ≡ read_change (words_of words.old) }
 {
-    let (monitor, words) = small(words)?;
-    let (offset, words) = integer(words)?;
-    Some((Mail::Change { monitor, offset }, words))
+    let monitor = small(words)?;
+    let offset = integer(words)?;
+    Some(Mail::Change { monitor, offset })
 }

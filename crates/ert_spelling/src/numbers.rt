@@ -10,29 +10,26 @@ use std::str;
 
 /// A number of 32 bits.
 #[tactic(auto, unfolding(crate::specs::Reading::read_small))]
-pub(crate) fn small(words: Words) -> Option<(u32, Words)>
-    ensures { value_and_rest result ≡ read_small (words_of words.entry) }
+pub(crate) fn small(words: &mut Words) -> Option<u32>
+    ensures { value_and_rest result words.new ≡ read_small (words_of words.old) }
 {
-    let (word, words) = next_word(words)?;
-    Some((small_of(word)?, words))
+    small_of(next_word(words)?)
 }
 
 /// A number of 64 bits.
 #[tactic(auto, unfolding(crate::specs::Reading::read_natural))]
-pub(crate) fn natural(words: Words) -> Option<(u64, Words)>
-    ensures { value_and_rest result ≡ read_natural (words_of words.entry) }
+pub(crate) fn natural(words: &mut Words) -> Option<u64>
+    ensures { value_and_rest result words.new ≡ read_natural (words_of words.old) }
 {
-    let (word, words) = next_word(words)?;
-    Some((natural_of(word)?, words))
+    natural_of(next_word(words)?)
 }
 
 /// A number of 64 bits that may be negative.
 #[tactic(auto, unfolding(crate::specs::Reading::read_integer))]
-pub(crate) fn integer(words: Words) -> Option<(i64, Words)>
-    ensures { value_and_rest result ≡ read_integer (words_of words.entry) }
+pub(crate) fn integer(words: &mut Words) -> Option<i64>
+    ensures { value_and_rest result words.new ≡ read_integer (words_of words.old) }
 {
-    let (word, words) = next_word(words)?;
-    Some((integer_of(word)?, words))
+    integer_of(next_word(words)?)
 }
 
 /// The number of 32 bits that a word is.

@@ -15,25 +15,26 @@ use ert_defs::{Act, Mode, OffsetState, Reading, SCENARIO_LOOKS, Settings};
 pub(crate) fn settings_of(line: &[u8]) -> Option<Settings>
     ensures { result ≡ whole read_settings (words_in line.now) }
 {
-    let (name, words) = next_text(Some(line))?;
-    if name != "settings" {
+    let mut words = Some(line);
+    if next_text(&mut words)? != "settings" {
         return None;
     }
-    match fields(words)? {
-        (settings, None) => Some(settings),
-        _ => None,
+    let settings = fields(&mut words)?;
+    match words {
+        None => Some(settings),
+        Some(_) => None,
     }
 }
 
 /// The fields of settings.
 #[tactic(auto, unfolding(crate::specs::Events::read_fields))]
-fn fields(words: Words) -> Option<(Settings, Words)>
-    ensures { value_and_rest result ≡ read_fields (words_of words.entry) }
+fn fields(words: &mut Words) -> Option<Settings>
+    ensures { value_and_rest result words.new ≡ read_fields (words_of words.old) }
 {
-    let (mode, words) = mode(words)?;
-    let (correction, words) = truth(words)?;
-    let (start, words) = integer(words)?;
-    let (schedulers, words) = small(words)?;
+    let mode = mode(words)?;
+    let correction = truth(words)?;
+    let start = integer(words)?;
+    let schedulers = small(words)?;
     later_fields(mode, correction, start, schedulers, words)
 }
 
@@ -45,78 +46,72 @@ fn later_fields(
     correction: bool,
     start: i64,
     schedulers: u32,
-    words: Words,
-) -> Option<(Settings, Words)>
-    ensures { value_and_rest result ≡ read_later_fields mode correction start schedulers (words_of words.entry) }
+    words: &mut Words,
+) -> Option<Settings>
+    ensures { value_and_rest result words.new ≡ read_later_fields mode correction start schedulers (words_of words.old) }
 {
-    let (processes, words) = small(words)?;
-    let (slots, words) = small(words)?;
-    let (callers, words) = small(words)?;
-    let (first, words) = reading(words)?;
-    Some((
-        Settings {
-            mode,
-            correction,
-            start,
-            schedulers,
-            processes,
-            slots,
-            looks: SCENARIO_LOOKS,
-            callers,
-            first,
-        },
-        words,
-    ))
+    let processes = small(words)?;
+    let slots = small(words)?;
+    let callers = small(words)?;
+    let first = reading(words)?;
+    Some(Settings {
+        mode,
+        correction,
+        start,
+        schedulers,
+        processes,
+        slots,
+        looks: SCENARIO_LOOKS,
+        callers,
+        first,
+    })
 }
 
 /// A time warp mode.
 #[tactic(auto, unfolding(crate::specs::Reading::read_mode))]
-pub(crate) fn mode(words: Words) -> Option<(Mode, Words)>
-    ensures { value_and_rest result ≡ read_mode (words_of words.entry) }
+pub(crate) fn mode(words: &mut Words) -> Option<Mode>
+    ensures { value_and_rest result words.new ≡ read_mode (words_of words.old) }
 {
-    let (name, words) = next_text(words)?;
-    match name {
-        "no" => Some((Mode::No, words)),
-        "single" => Some((Mode::Single, words)),
-        "multi" => Some((Mode::Multi, words)),
+    match next_text(words)? {
+        "no" => Some(Mode::No),
+        "single" => Some(Mode::Single),
+        "multi" => Some(Mode::Multi),
         _ => None,
     }
 }
 
 /// A reading of the clocks of the operating system.
 #[tactic(auto, unfolding(crate::specs::Reading::read_reading))]
-pub(crate) fn reading(words: Words) -> Option<(Reading, Words)>
-    ensures { value_and_rest result ≡ read_reading (words_of words.entry) }
+pub(crate) fn reading(words: &mut Words) -> Option<Reading>
+    ensures { value_and_rest result words.new ≡ read_reading (words_of words.old) }
 {
-    let (mono, words) = integer(words)?;
-    let (sys, words) = integer(words)?;
-    Some((Reading { mono, sys }, words))
+    let mono = integer(words)?;
+    let sys = integer(words)?;
+    Some(Reading { mono, sys })
 }
 
 /// What a tick is for.
 #[tactic(auto, unfolding(crate::specs::Reading::read_act))]
-pub(crate) fn act(words: Words) -> Option<(Act, Words)>
-    ensures { value_and_rest result ≡ read_act (words_of words.entry) }
+pub(crate) fn act(words: &mut Words) -> Option<Act>
+    ensures { value_and_rest result words.new ≡ read_act (words_of words.old) }
 {
-    let (name, words) = next_text(words)?;
-    match name {
-        "plain" => Some((Act::Plain, words)),
-        "force" => Some((Act::Force, words)),
-        "finalize" => Some((Act::Finalize, words)),
+    match next_text(words)? {
+        "plain" => Some(Act::Plain),
+        "force" => Some(Act::Force),
+        "finalize" => Some(Act::Finalize),
         _ => None,
     }
 }
 
 /// A state of the offset.
 #[tactic(auto, unfolding(crate::specs::Reading::read_state))]
-pub(crate) fn state(words: Words) -> Option<(OffsetState, Words)>
-    ensures { value_and_rest result ≡ read_state (words_of words.entry) }
+pub(crate) fn state(words: &mut Words) -> Option<OffsetState>
+    ensures { value_and_rest result words.new ≡ read_state (words_of words.old) }
 {
-    let (name, words) = next_text(words)?;
-    match name {
-        "preliminary" => Some((OffsetState::Preliminary, words)),
-        "final" => Some((OffsetState::Final, words)),
-        "volatile" => Some((OffsetState::Volatile, words)),
+    match next_text(words)? {
+        "preliminary" => Some(OffsetState::Preliminary),
+        "final" => Some(OffsetState::Final),
+        "volatile" => Some(OffsetState::Volatile),
         _ => None,
     }
 }

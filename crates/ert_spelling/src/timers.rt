@@ -11,110 +11,95 @@ use ert_defs::{Kind, Start, Status, TimerRef, When};
 
 /// A reference to a timer.
 #[tactic(auto, unfolding(crate::specs::Reading::read_timer))]
-pub(crate) fn timer(words: Words) -> Option<(TimerRef, Words)>
-    ensures { value_and_rest result ≡ read_timer (words_of words.entry) }
+pub(crate) fn timer(words: &mut Words) -> Option<TimerRef>
+    ensures { value_and_rest result words.new ≡ read_timer (words_of words.old) }
 {
-    let (wheel, words) = small(words)?;
-    let (slot, words) = small(words)?;
-    let (generation, words) = natural(words)?;
-    Some((
-        TimerRef {
-            wheel,
-            slot,
-            generation,
-        },
-        words,
-    ))
+    let wheel = small(words)?;
+    let slot = small(words)?;
+    let generation = natural(words)?;
+    Some(TimerRef {
+        wheel,
+        slot,
+        generation,
+    })
 }
 
 /// What a timer is started with.
 #[tactic(auto, unfolding(crate::specs::Reading::read_start))]
-pub(crate) fn start(words: Words) -> Option<(Start, Words)>
-    ensures { value_and_rest result ≡ read_start (words_of words.entry) }
+pub(crate) fn start(words: &mut Words) -> Option<Start>
+    ensures { value_and_rest result words.new ≡ read_start (words_of words.old) }
 {
-    let (when, words) = when(words)?;
-    let (dest, words) = small(words)?;
-    let (msg, words) = natural(words)?;
-    let (kind, words) = kind(words)?;
-    Some((
-        Start {
-            when,
-            dest,
-            msg,
-            kind,
-        },
-        words,
-    ))
+    let when = when(words)?;
+    let dest = small(words)?;
+    let msg = natural(words)?;
+    let kind = kind(words)?;
+    Some(Start {
+        when,
+        dest,
+        msg,
+        kind,
+    })
 }
 
 /// When a timer is to expire.
 #[tactic(auto, unfolding(crate::specs::Reading::read_when))]
-fn when(words: Words) -> Option<(When, Words)>
-    ensures { value_and_rest result ≡ read_when (words_of words.entry) }
+fn when(words: &mut Words) -> Option<When>
+    ensures { value_and_rest result words.new ≡ read_when (words_of words.old) }
 {
-    let (name, words) = next_text(words)?;
-    match name {
-        "after" => {
-            let (time, words) = integer(words)?;
-            Some((When::After(time), words))
-        }
-        "at" => {
-            let (time, words) = integer(words)?;
-            Some((When::At(time), words))
-        }
+    match next_text(words)? {
+        "after" => Some(When::After(integer(words)?)),
+        "at" => Some(When::At(integer(words)?)),
         _ => None,
     }
 }
 
 /// What a timer sends.
 #[tactic(auto, unfolding(crate::specs::Reading::read_kind))]
-pub(crate) fn kind(words: Words) -> Option<(Kind, Words)>
-    ensures { value_and_rest result ≡ read_kind (words_of words.entry) }
+pub(crate) fn kind(words: &mut Words) -> Option<Kind>
+    ensures { value_and_rest result words.new ≡ read_kind (words_of words.old) }
 {
-    let (name, words) = next_text(words)?;
-    match name {
-        "wrapped" => Some((Kind::Wrapped, words)),
-        "bare" => Some((Kind::Bare, words)),
+    match next_text(words)? {
+        "wrapped" => Some(Kind::Wrapped),
+        "bare" => Some(Kind::Bare),
         _ => None,
     }
 }
 
 /// Where a timer stood, where there was one.
-pub(crate) fn found(words: Words) -> Option<(Option<Status>, Words)>
-    ensures { value_and_rest result ≡ optional read_status (words_of words.entry) }
+pub(crate) fn found(words: &mut Words) -> Option<Option<Status>>
+    ensures { value_and_rest result words.new ≡ optional read_status (words_of words.old) }
 {
-    if let Some(rest) = none(words) {
-        return Some((None, rest));
+    if let Some(rest) = none(*words) {
+        *words = rest;
+        return Some(None);
     }
-    let (status, rest) = status(words)?;
-    Some((Some(status), rest))
+    Some(Some(status(words)?))
 }
 
 /// Where a timer stands.
 #[tactic(auto, unfolding(crate::specs::Reading::read_status))]
-fn status(words: Words) -> Option<(Status, Words)>
-    ensures { value_and_rest result ≡ read_status (words_of words.entry) }
+fn status(words: &mut Words) -> Option<Status>
+    ensures { value_and_rest result words.new ≡ read_status (words_of words.old) }
 {
-    let (name, words) = next_text(words)?;
-    match name {
-        "armed" => Some((Status::Armed, words)),
-        "expired" => Some((Status::Expired, words)),
-        "delivered" => Some((Status::Delivered, words)),
-        "cancelled" => Some((Status::Cancelled, words)),
-        "orphaned" => Some((Status::Orphaned, words)),
-        "dropped" => Some((Status::Dropped, words)),
+    match next_text(words)? {
+        "armed" => Some(Status::Armed),
+        "expired" => Some(Status::Expired),
+        "delivered" => Some(Status::Delivered),
+        "cancelled" => Some(Status::Cancelled),
+        "orphaned" => Some(Status::Orphaned),
+        "dropped" => Some(Status::Dropped),
         _ => None,
     }
 }
 
 /// How many milliseconds were left, where the timer was armed.
 #[tactic(auto, unfolding(crate::specs::Reading::read_left))]
-pub(crate) fn left(words: Words) -> Option<(Option<u64>, Words)>
-    ensures { value_and_rest result ≡ read_left (words_of words.entry) }
+pub(crate) fn left(words: &mut Words) -> Option<Option<u64>>
+    ensures { value_and_rest result words.new ≡ read_left (words_of words.old) }
 {
-    if let Some(rest) = none(words) {
-        return Some((None, rest));
+    if let Some(rest) = none(*words) {
+        *words = rest;
+        return Some(None);
     }
-    let (milliseconds, rest) = natural(words)?;
-    Some((Some(milliseconds), rest))
+    Some(Some(natural(words)?))
 }

@@ -69,7 +69,7 @@ fn request_turns(word: &[u8]) -> &'static [Wanted]
 pub(crate) fn event_turns(word: &[u8]) -> Option<&'static [Wanted]>
     ensures { option_map (λ x. x.now) result ≡ meaning turn_rows word.now }
 {
-    let (name, _) = next_text(Some(word))?;
+    let name = next_text(&mut Some(word))?;
     turns_of_event(name)
 }
 
@@ -77,7 +77,7 @@ pub(crate) fn event_turns(word: &[u8]) -> Option<&'static [Wanted]>
 pub(crate) fn mail_turns(word: &[u8]) -> Option<&'static [Wanted]>
     ensures { option_map (λ x. x.now) result ≡ meaning mail_turn_rows word.now }
 {
-    let (name, _) = next_text(Some(word))?;
+    let name = next_text(&mut Some(word))?;
     turns_of_mail(name)
 }
 

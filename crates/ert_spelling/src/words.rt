@@ -13,24 +13,29 @@ pub(crate) type Words<'a> = Option<&'a [u8]>;
 
 /// The next word, which may have no bytes.
 #[tactic(auto, using(crate::proofs::Splits::cut_words, crate::proofs::Splits::free_words), unfolding(crate::specs::Readers::read_word))]
-pub(crate) fn next_word(words: Words) -> Option<(&[u8], Words)>
-    ensures { option_map (λ x. (x.0.now, words_of x.1)) result ≡ read_word (words_of words.entry) }
+pub(crate) fn next_word<'a>(words: &mut Words<'a>) -> Option<&'a [u8]>
+    ensures { option_map (λ x. (x.now, words_of words.new)) result ≡ read_word (words_of words.old) }
 {
-    let line = words?;
+    let line = (*words)?;
     match cut(line, b' ') {
-        Some((word, rest)) => Some((word, Some(rest))),
-        None => Some((line, None)),
+        Some((word, rest)) => {
+            *words = Some(rest);
+            Some(word)
+        }
+        None => {
+            *words = None;
+            Some(line)
+        }
     }
 }
 
 /// The next word as text. A word that isn't UTF-8 is none.
 #[tactic(auto, using(crate::proofs::Splits::no_text, crate::proofs::Splits::text), unfolding(crate::specs::Readers::read_word, crate::specs::Readers::read_text))]
-pub(crate) fn next_text(words: Words) -> Option<(&str, Words)>
-    ensures { option_map (λ x. (x.0.now, words_of x.1)) result ≡ read_text (words_of words.entry) }
+pub(crate) fn next_text<'a>(words: &mut Words<'a>) -> Option<&'a str>
+    ensures { option_map (λ x. (x.now, words_of words.new)) result ≡ read_text (words_of words.old) }
 {
-    let (word, words) = next_word(words)?;
-    match str::from_utf8(word) {
-        Ok(text) => Some((text, words)),
+    match str::from_utf8(next_word(words)?) {
+        Ok(text) => Some(text),
         Err(_) => None,
     }
 }
@@ -40,9 +45,9 @@ pub(crate) fn next_text(words: Words) -> Option<(&str, Words)>
 pub(crate) fn none(words: Words) -> Option<Words>
     ensures { option_map words_of result ≡ none_at (words_of words.entry) }
 {
-    let (word, words) = next_word(words)?;
-    if word == b"none".as_slice() {
-        Some(words)
+    let mut rest = words;
+    if next_word(&mut rest)? == b"none".as_slice() {
+        Some(rest)
     } else {
         None
     }
@@ -50,13 +55,12 @@ pub(crate) fn none(words: Words) -> Option<Words>
 
 /// `true` or `false`.
 #[tactic(auto, unfolding(crate::specs::Reading::read_bool))]
-pub(crate) fn truth(words: Words) -> Option<(bool, Words)>
-    ensures { value_and_rest result ≡ read_bool (words_of words.entry) }
+pub(crate) fn truth(words: &mut Words) -> Option<bool>
+    ensures { value_and_rest result words.new ≡ read_bool (words_of words.old) }
 {
-    let (word, words) = next_text(words)?;
-    match word {
-        "true" => Some((true, words)),
-        "false" => Some((false, words)),
+    match next_text(words)? {
+        "true" => Some(true),
+        "false" => Some(false),
         _ => None,
     }
 }

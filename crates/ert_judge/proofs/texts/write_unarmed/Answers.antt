@@ -1,0 +1,7 @@
+use Rattle.ert_judge.proofs.texts.write_unarmed.Goals as goal
+
+pub returns-in-None : goal.returns-in-None
+returns-in-None c = rw c.in-None.is c.write.ensures.bytes
+
+pub returns-in-Some : goal.returns-in-Some
+returns-in-Some c = rw (c.in-Some.is, ← c.status_word.ensures) c.write-in-Some.ensures.bytes

@@ -1,0 +1,4 @@
+use Rattle.ert_judge.proofs.texts.write_waiting.Goals as goal
+
+pub returns-in-None : goal.returns-in-None
+returns-in-None c = rw c.in-None.is c.write.ensures.bytes
