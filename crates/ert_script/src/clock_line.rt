@@ -55,14 +55,14 @@ fn write_moved(
     }
 }
 
-// A line with this front that tells the value to which a refused move would have brought the offset.
+/// A line with this front that tells the value to which a refused move would have brought the offset.
 fn write_wide(page: &mut String, front: &str, value: i128) -> Result<(), AllocError>
     ensures { OnOk result (string_bytes page.new ≡ string_bytes page.old ++ (front.now ⋅ signed_decimal value ⋅ codes "\n")) }
 {
     write!(page, "{front}{value}\n")
 }
 
-// A line with this front that tells a time.
+/// A line with this front that tells a time.
 fn write_time(page: &mut String, front: &str, time: i64) -> Result<(), AllocError>
     ensures { OnOk result (string_bytes page.new ≡ string_bytes page.old ++ (front.now ⋅ signed_decimal time ⋅ codes "\n")) }
 {

@@ -79,21 +79,21 @@ pub fn write_end(page: &mut String, now: i64) -> Result<(), AllocError>
     write!(page, "end {now}\n")
 }
 
-// A line with this front that tells a number.
+/// A line with this front that tells a number.
 fn write_number(page: &mut String, front: &str, number: u32) -> Result<(), AllocError>
     ensures { OnOk result (string_bytes page.new ≡ string_bytes page.old ++ (front.now ⋅ decimal number ⋅ codes "\n")) }
 {
     write!(page, "{front}{number}\n")
 }
 
-// A line with this front that tells whether something is so.
+/// A line with this front that tells whether something is so.
 fn write_bool(page: &mut String, front: &str, is_so: bool) -> Result<(), AllocError>
     ensures { OnOk result (string_bytes page.new ≡ string_bytes page.old ++ (front.now ⋅ bool_text is_so ⋅ codes "\n")) }
 {
     write!(page, "{front}{}\n", bool_word(is_so))
 }
 
-// The line of an advance.
+/// The line of an advance.
 fn write_advance(page: &mut String, to: u64, expired: u32) -> Result<(), AllocError>
     ensures { OnOk result (string_bytes page.new
         ≡ string_bytes page.old ++ (codes "advance " ⋅ decimal to ⋅ codes " " ⋅ decimal expired ⋅ codes "\n")) }
@@ -101,7 +101,7 @@ fn write_advance(page: &mut String, to: u64, expired: u32) -> Result<(), AllocEr
     write!(page, "advance {to} {expired}\n")
 }
 
-// The line of a delivery.
+/// The line of a delivery.
 fn write_delivered(page: &mut String, put: u32, dropped: u32) -> Result<(), AllocError>
     ensures { OnOk result (string_bytes page.new
         ≡ string_bytes page.old ++ (codes "deliver " ⋅ decimal put ⋅ codes " " ⋅ decimal dropped ⋅ codes "\n")) }
