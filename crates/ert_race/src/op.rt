@@ -19,7 +19,6 @@ use std::sync::Wait;
 ///
 /// If memory runs out, the timer of a start was started, and its label isn't bound; of another op nothing was
 /// done.
-#[tactic(auto, using(crate::proofs::CallsMade::own_done, crate::proofs::CallsMade::own_failed, crate::proofs::CallsMade::own_unbound))]
 pub(crate) fn do_one<L: DeskName, R: Wait>(
     doer: &mut SessionDoer<L, R>,
     known: &LabelMap,

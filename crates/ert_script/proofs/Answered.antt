@@ -26,7 +26,7 @@ use Rattle.ert_effects.specs.declared.answers.Taken.TheVariants.{Mail as Taking,
 use Rattle.ert_ops.specs.declared.op.Op.{Op}
 use Rattle.ert_ops.specs.declared.op.Op.TheVariants as ops
 use Rattle.ert_effects.proofs.Growing.{grows_as}
-use Rattle.ert_script.specs.Doing.{IsAnswered, HasStarted, BreaksOff}
+use Rattle.ert_script.specs.Doing.{IsAnswered, HasStarted, CannotAsk, BreaksOff}
 use Rattle.ert_script.specs.Replies.{tick_told, check_told, finalize_told, settings_told, start_told, take_told}
 use Rattle.ert_transcript.specs.Calls.{reading_of, start_for_op, request_for_op, AsksFor, Calls, Converts}
 use Rattle.ert_transcript.specs.Labels.{Labels, ref_of}
@@ -117,6 +117,13 @@ module _ (g : Settings) (way : Way) (n : ℕ) (timer : TimerRef) (f h : List Ent
       → Grows (AsksFor g way n (request_for_op kind ls label p info)) f h
   asked_for kind ls label p info request is of grows =
       subst (λ (q : Request). Grows (AsksFor g way n q) f h)
+      (is ∙ ap (λ (t : TimerRef). record { kind = kind; timer = t; reply_to = p; info = info }) (sym of)) grows
+
+  -- a request could not be put, for the timer of a label
+  pub not_asked_for : (kind : RequestKind) (ls : Labels) (label p : ℕ) (info : Bool) (request : Request) → request ≡ record { kind = kind; timer = timer; reply_to = p; info = info }
+      → ref_of ls label ≡ timer → Grows (CannotAsk g way n request) f h → Grows (CannotAsk g way n (request_for_op kind ls label p info)) f h
+  not_asked_for kind ls label p info request is of grows =
+      subst (λ (q : Request). Grows (CannotAsk g way n q) f h)
       (is ∙ ap (λ (t : TimerRef). record { kind = kind; timer = t; reply_to = p; info = info }) (sym of)) grows
 
 -- a conversion makes no entry

@@ -1,7 +1,8 @@
 //! The lines that tell times and the offset.
 ghost use Rattle.std.specs.Prelude.{◌≡◌, ℕ, ◌++◌, codes, OnOk, string_bytes};
+ghost use Rattle.std.specs.Fmt.{signed_decimal};
 ghost use Rattle.ert_defs.specs.declared.timer.TimerRef.{TimerRef};
-ghost use Rattle.ert_script.specs.Told.{IsInfoReply};
+ghost use Rattle.ert_script.specs.Told.{IsClockReply};
 ghost use Rattle.ert_transcript.specs.Lines.{line_of};
 ghost use Rattle.ert_transcript.specs.Texts.{◌⋅◌, moved_text, state_text, info_front, info_middle, info_back, offset_text};
 
@@ -11,8 +12,36 @@ use ert_transcript::Reply;
 use std::alloc::AllocError;
 use std::fmt::Write;
 
+/// Appends the line of a reply that tells times or the offset.
+pub fn write_clock(page: &mut String, reply: &Reply) -> Result<(), AllocError>
+    requires { IsClockReply reply.now }
+    ensures { (name : TimerRef → ℕ) → OnOk result (string_bytes page.new ≡ string_bytes page.old ++ line_of name reply.now) }
+{
+    match *reply {
+        Reply::Tick { now, shift } => write_moved(page, "tick ", now, shift),
+        Reply::TickWide { value } => write_wide(page, "tick offset_wide ", value),
+        Reply::Check { now, shift } => write_moved(page, "check ", now, shift),
+        Reply::CheckWide { value } => write_wide(page, "check offset_wide ", value),
+        Reply::Finalize { old, now, shift } => write_finalize(page, old, now, shift),
+        Reply::FinalizeWide { value } => write_wide(page, "finalize offset_wide ", value),
+        Reply::Time { now } => write_time(page, "time ", now),
+        Reply::System { time } => write_time(page, "system ", time),
+        Reply::Offset { offset, state } => write_offset(page, offset, state),
+        Reply::Info {
+            start,
+            end,
+            mode,
+            correction,
+            offset,
+            state,
+        } => write_info(page, start, end, mode, correction, offset, state),
+        Reply::Convert { value } => write_time(page, "convert ", value),
+        _ => unreachable!(),
+    }
+}
+
 /// A line with this front that tells a time, and the new offset where it moved.
-pub fn write_moved(
+fn write_moved(
     page: &mut String,
     front: &str,
     now: i64,
@@ -26,9 +55,23 @@ pub fn write_moved(
     }
 }
 
+/// A line with this front that tells the value to which a refused move would have brought the offset.
+fn write_wide(page: &mut String, front: &str, value: i128) -> Result<(), AllocError>
+    ensures { OnOk result (string_bytes page.new ≡ string_bytes page.old ++ (front.now ⋅ signed_decimal value ⋅ codes "\n")) }
+{
+    write!(page, "{front}{value}\n")
+}
+
+/// A line with this front that tells a time.
+fn write_time(page: &mut String, front: &str, time: i64) -> Result<(), AllocError>
+    ensures { OnOk result (string_bytes page.new ≡ string_bytes page.old ++ (front.now ⋅ signed_decimal time ⋅ codes "\n")) }
+{
+    write!(page, "{front}{time}\n")
+}
+
 /// The line of a finalization: the state before it, and what `write_moved` tells.
 #[tactic(auto, using(crate::proofs::Texts::joined))]
-pub fn write_finalize(
+fn write_finalize(
     page: &mut String,
     old: OffsetState,
     now: i64,
@@ -42,7 +85,7 @@ pub fn write_finalize(
 }
 
 /// The line of the offset: its value and its state.
-pub fn write_offset(page: &mut String, offset: i64, state: OffsetState) -> Result<(), AllocError>
+fn write_offset(page: &mut String, offset: i64, state: OffsetState) -> Result<(), AllocError>
     ensures { OnOk result (string_bytes page.new ≡ string_bytes page.old ++ (codes "offset " ⋅ offset_text offset state)) }
 {
     write!(page, "offset {offset} {}\n", state_word(state))
@@ -50,21 +93,18 @@ pub fn write_offset(page: &mut String, offset: i64, state: OffsetState) -> Resul
 
 /// The line of the settings.
 #[tactic(auto, using(crate::proofs::Texts::joined))]
-pub fn write_info(page: &mut String, reply: &Reply) -> Result<(), AllocError>
-    requires { IsInfoReply reply.now }
-    ensures { (name : TimerRef → ℕ) → OnOk result (string_bytes page.new ≡ string_bytes page.old ++ line_of name reply.now) }
+fn write_info(
+    page: &mut String,
+    start: i64,
+    end: i64,
+    mode: Mode,
+    correction: bool,
+    offset: i64,
+    state: OffsetState,
+) -> Result<(), AllocError>
+    ensures { OnOk result (string_bytes page.new
+        ≡ string_bytes page.old ++ (info_front start end mode ⋅ info_middle correction ⋅ info_back offset state)) }
 {
-    let Reply::Info {
-        start,
-        end,
-        mode,
-        correction,
-        offset,
-        state,
-    } = *reply
-    else {
-        unreachable!()
-    };
     write_info_front(page, start, end, mode)?;
     write_info_behind(page, correction, offset, state)
 }

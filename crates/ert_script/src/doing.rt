@@ -73,7 +73,6 @@ fn clock_op<D: Doer>(doer: &mut D, op: &Op, timer: TimerRef) -> Reply
 }
 
 /// Does an op of a process.
-#[tactic(auto, using(crate::proofs::Answered::take_answered))]
 fn process_op<D: Doer>(doer: &mut D, op: &Op, timer: TimerRef) -> Result<Reply, NoMemory>
     requires may { D.may doer.old }
     requires process { IsProcessOp op.now }
@@ -149,7 +148,6 @@ fn start_op<D: Doer>(doer: &mut D, op: &Op, timer: TimerRef) -> Reply
 }
 
 /// Does an op on a timer.
-#[tactic(auto, using(crate::proofs::Answered::cancel_answered, crate::proofs::Answered::quiet_answered, crate::proofs::Answered::read_answered))]
 fn timer_op<D: Doer>(doer: &mut D, op: &Op, timer: TimerRef) -> Result<Reply, NoMemory>
     requires range { IsOpInRange (D.settings doer.old) op.now }
     requires timer { IsTimerOp op.now }

@@ -32,6 +32,16 @@ returns-in-Finalize-clause-answer g c =
     (finalize_answered (g.D.Doer.settings d) (g.D.Doer.way d) (g.D.Doer.number d) c.args.timer (g.D.Doer.history d) _ c.in-Finalize.mono c.in-Finalize.sys c.finalize.result c.finalize.ensures.reads
     (simp to_z-of_z at c.finalize.ensures.call)))
 
+pub returns-in-Time-clause-answer : goal.returns-in-Time-clause-answer
+returns-in-Time-clause-answer g c =
+    let now : FitsSigned w64 c.monotonic_time.result = search rules in
+    rw c.in-Time.is (simp to_z-of_z (record { does = λ ls of. c.monotonic_time.ensures.call; fails = λ ls of. tt }))
+
+pub returns-in-System-clause-answer : goal.returns-in-System-clause-answer
+returns-in-System-clause-answer g c =
+    let time : FitsSigned w64 c.system_time.result = search rules in
+    rw c.in-System.is (simp to_z-of_z (record { does = λ ls of. c.system_time.ensures.call; fails = λ ls of. tt }))
+
 pub returns-in-Offset-clause-answer : goal.returns-in-Offset-clause-answer
 returns-in-Offset-clause-answer g c =
     let offset : FitsSigned w64 c.time_offset-offset.result.0 = search rules in
