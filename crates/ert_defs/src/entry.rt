@@ -31,7 +31,7 @@ pub enum Act {
 }
 
 /// What one atomic step did.
-#[derive(Clone, Copy, Debug, PartialEq, Eq)]
+#[derive(Clone, Copy)]
 pub enum Event {
     /// An OS reading was taken, and the time became `now`.
     Tick {
@@ -141,7 +141,7 @@ pub enum Event {
 }
 
 /// One event of a history, with the actors that made it.
-#[derive(Clone, Copy, Debug, PartialEq, Eq)]
+#[derive(Clone, Copy)]
 pub struct Entry {
     pub by: Actor,
     pub with: Option<Actor>,

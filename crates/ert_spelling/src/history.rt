@@ -11,7 +11,7 @@ use std::alloc::Global;
 use thiserror::Error;
 
 /// A history of the service, legal or not.
-#[derive(Debug, Drop)]
+#[derive(Drop)]
 pub struct History {
     /// Settings that a service can be opened with.
     pub settings: Settings,
