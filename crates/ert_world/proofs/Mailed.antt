@@ -1,6 +1,6 @@
 -- A process with mail, and takes of several messages.
 
-use Rattle.std.proofs.Common.{◌≡◌, ℕ, ◌<◌, Bool, true, false, List, [], ◌∷◌, ◌++◌, Option, Some, None, slice_index_or, refl, sym, ap, subst, ◌∙◌}
+use Rattle.std.proofs.Common.{◌≡◌, ℕ, ◌<◌, Bool, true, false, List, [], ◌∷◌, ◌++◌, length, Option, Some, None, slice_index_or, refl, sym, ap, subst, ◌∙◌}
 use Rattle.std.proofs.Math.Nat.{zero-add}
 use Rattle.ert_defs.specs.Mails.{MailState}
 use Rattle.ert_defs.specs.States.{State, state}
@@ -9,9 +9,9 @@ use Rattle.ert_defs.specs.declared.entry.Entry.{Entry}
 use Rattle.ert_defs.specs.declared.mail.Mail.{Mail}
 use Rattle.ert_defs.specs.declared.settings.Settings.{Settings}
 use Rattle.ert_effects.specs.MailCalls.{Takes}
-use Rattle.ert_effects.specs.Ways.{Way}
+use Rattle.ert_effects.specs.Ways.{Way, Growth, Then}
 use Rattle.ert_effects.specs.declared.answers.Taken.{Taken}
-use Rattle.ert_effects.specs.declared.answers.Taken.TheVariants.{Mail as Took}
+use Rattle.ert_effects.specs.declared.answers.Taken.TheVariants.{Mail as Took, Empty, Exited}
 use Rattle.ert_mail.specs.Lists.{AreListed, IsNextIn, LooksForMail, exited_from, exits_seen, life_seen}
 use Rattle.ert_mail.specs.Mailboxes.{Mailbox, mailbox_seen as box}
 use Rattle.ert_table.specs.Calls.{AreOnlyOf, IsMade}
@@ -21,10 +21,12 @@ use Rattle.ert_table.specs.declared.desk.Pass.{Pass}
 use Rattle.ert_world.proofs.Armed.{AreCalm}
 use Rattle.ert_world.proofs.Calls.{Has, has_at, alone_called, parts_in, processes_at, seen_at}
 use Rattle.ert_world.proofs.Calm.{IsQuiet}
-use Rattle.ert_world.proofs.Composed.{goes_more}
+use Rattle.ert_world.proofs.Alone.{went}
+use Rattle.ert_world.proofs.Composed.{goes_more, goes_then}
 use Rattle.ert_world.proofs.Listed.{mails_low}
-use Rattle.ert_world.specs.Mailing.{mail_of, FindsMail, IsNextMail, TakesMails}
-use Rattle.ert_world.specs.Worlds.{Seen, seen, AreSound, Goes, By}
+use Rattle.ert_world.specs.Mailing.{mail_of, FindsMail, IsNextMail, TakesMails, TakesSome}
+use Rattle.ert_world.specs.Worlds.{Seen, seen, AreSound, Goes, By, way_of}
+use Rattle.ert_world.specs.declared.mailing.TakeEnd.TheVariants.{Empty as FoundEmpty, Exited as HadExited}
 use Rattle.ert_world.specs.declared.world.World.TheInside.{Inside}
 
 -- the messages of a mailbox are those of its process
@@ -101,3 +103,31 @@ pub took_more : (a b c : Seen) (process : ℕ) (mails : List Mail) (mail : Mail)
 took_more a b c process mails mail answer is one other =
     goes_more a b c (λ (g : Settings) (way : Way) (m : Mail). way [] (Takes g 0 process (Took m))) mails mail one
     (subst (λ (t : Taken). Goes b (By b (λ g. Takes g 0 process t)) c) is other)
+
+-- a call that can be made so is the other one
+goes_as : (a b : Seen) (call other : Way → Growth) → ((way : Way) (m : List Entry) → call way a.history m → other way a.history m)
+    → Goes a call b → Goes a other b
+goes_as a b call other so goes =
+    let one = goes.grows in
+    went a b other (record { piece = one.piece; grown = one.grown; made = so (way_of a) one.piece one.made })
+    goes.legal goes.table goes.settings goes.clock goes.next
+
+-- and then there was none
+pub found_empty : (a b c : Seen) (process most : ℕ) (mails : List Mail) (answer : Taken) → answer ≡ Empty → length mails < most
+    → Goes a (λ way. TakesMails a.settings way process mails) b → Goes b (By b (λ g. Takes g 0 process answer)) c
+    → Goes a (λ way. TakesSome a.settings way process most mails FoundEmpty) c
+found_empty a b c process most mails answer is few one other =
+    goes_as a c (λ way. Then (TakesMails a.settings way process mails) (way [] (Takes a.settings 0 process Empty)))
+    (λ way. TakesSome a.settings way process most mails FoundEmpty) (λ way m made. (few, made))
+    (goes_then a b c (λ way. TakesMails a.settings way process mails) (λ g way. way [] (Takes g 0 process Empty)) one
+    (subst (λ (t : Taken). Goes b (By b (λ g. Takes g 0 process t)) c) is other))
+
+-- or the process had exited
+pub found_exited : (a b c : Seen) (process most : ℕ) (mails : List Mail) (answer : Taken) → answer ≡ Exited → length mails < most
+    → Goes a (λ way. TakesMails a.settings way process mails) b → Goes b (By b (λ g. Takes g 0 process answer)) c
+    → Goes a (λ way. TakesSome a.settings way process most mails HadExited) c
+found_exited a b c process most mails answer is few one other =
+    goes_as a c (λ way. Then (TakesMails a.settings way process mails) (way [] (Takes a.settings 0 process Exited)))
+    (λ way. TakesSome a.settings way process most mails HadExited) (λ way m made. (few, made))
+    (goes_then a b c (λ way. TakesMails a.settings way process mails) (λ g way. way [] (Takes g 0 process Exited)) one
+    (subst (λ (t : Taken). Goes b (By b (λ g. Takes g 0 process t)) c) is other))

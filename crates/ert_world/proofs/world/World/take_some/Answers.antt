@@ -1,5 +1,5 @@
 use Rattle.std.proofs.Common.{[], ◌∷◌, ◌++◌, arith, ap, ◌∙◌, append_assoc, length-append}
-use Rattle.ert_world.proofs.Mailed.{took_more}
+use Rattle.ert_world.proofs.Mailed.{took_more, found_empty, found_exited}
 use Rattle.ert_world.proofs.world.World.take_some.Goals as goal
 
 pub loop-taken-preserved : goal.loop-taken-preserved
@@ -13,4 +13,24 @@ loop-taken-preserved c =
       few = omega (arith, c.loop-taken-test.true);
       room = omega (arith, i.room, c.push_reserved.ensures.len, c.push_reserved.ensures.capacity);
       goes = took_more c.args.self.now c.loop-taken.self c.take.new.self c.args.process i.took c.in-Mail.mail c.take.result c.in-Mail.is i.goes c.take.ensures.call;
+    }
+
+pub returns-in-Empty : goal.returns-in-Empty
+returns-in-Empty c =
+    let i = c.loop-taken.invariant in
+    record {
+      mails = i.took;
+      put = i.put;
+      goes = found_empty c.args.self.now c.loop-taken.self c.take.new.self c.args.process c.args.most i.took c.take.result c.in-Empty.is
+          (omega (arith, i.count, c.loop-taken-test.true)) i.goes c.take.ensures.call;
+    }
+
+pub returns-in-Exited : goal.returns-in-Exited
+returns-in-Exited c =
+    let i = c.loop-taken.invariant in
+    record {
+      mails = i.took;
+      put = i.put;
+      goes = found_exited c.args.self.now c.loop-taken.self c.take.new.self c.args.process c.args.most i.took c.take.result c.in-Exited.is
+          (omega (arith, i.count, c.loop-taken-test.true)) i.goes c.take.ensures.call;
     }
