@@ -18,13 +18,13 @@ use Rattle.ert_timers.proofs.Dues.{none_armed_due}
 use Rattle.ert_timers.proofs.Later.{later_step}
 use Rattle.ert_timers.proofs.Tried.{self, waits_by}
 use Rattle.ert_timers.proofs.Trials.{looked_stands}
-use Rattle.ert_timers.proofs.Passing.{holds_less}
+use Rattle.ert_timers.proofs.Passing.{holds_less, loses_then}
 use Rattle.ert_timers.proofs.Trying.{loses_come_to, stands_come_to, tries_come_to}
 use Rattle.ert_timers.specs.Changes.{gone_on}
 use Rattle.ert_timers.specs.ExpiredLists.{Queue}
 use Rattle.ert_timers.specs.Looking.{LooksDown}
 use Rattle.ert_timers.specs.Parts.{HoldsSched, Part, PartStands}
-use Rattle.ert_timers.specs.Passed.{HoldsNone}
+use Rattle.ert_timers.specs.Passed.{HoldsNone, LosesRows}
 use Rattle.ert_timers.specs.Trying.{HasDue, HasExpiredSome, IsLooked, IsTriedSome, LosesSome, TriesRows, come_to}
 use Rattle.ert_wheel.specs.FirstDue.{NoRowDue, IsFirstRowDue}
 use Rattle.ert_wheel.specs.Rows.{key_of}
@@ -57,6 +57,10 @@ loses_some g v p q r to most true old new u some keys =
 loses_some g v p q r to most false old new u some keys =
     let tried : some.count ≤ most = some.tried in
     omega (arith, tried, some.done.fewer, ap (count_by is_some) keys)
+
+-- no row is lost where the time goes on
+pub loses_gone_on : (p q r : Part) (to : ℕ) → r ≡ gone_on q to → LosesRows p q → LosesRows p r
+loses_gone_on p q r to on loses = subst (LosesRows p) (sym on) (loses_then p q (gone_on q to) loses (loses_come_to q (gone_on q to).passed (omega arith)))
 
 -- the first row that is due is one that is
 pub has_due : (p : Part) (to : ℕ) (row : WheelRow) → IsFirstRowDue p.keys to row → HasDue p to

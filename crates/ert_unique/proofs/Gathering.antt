@@ -1,6 +1,6 @@
 -- The draws of passes that are put together, one after the other.
 
-use Rattle.std.proofs.Common.{◌≡◌, ℕ, zero, suc, ◌+◌, arith, List, [], ◌∷◌, ◌++◌, length, length-append, slice_index, refl, sym, ap, ◌∙◌}
+use Rattle.std.proofs.Common.{◌≡◌, ℕ, zero, suc, ◌+◌, arith, List, [], ◌∷◌, ◌++◌, length, length-append, slice_index, refl, sym, ap, ◌∙◌, add-one}
 use mathlib.Core.Option.{some, some-injective, some-ne-none}
 use lib.ListN.{get_elem?}
 use Rattle.ert_unique.specs.Numbers.{occurrences, IsOneTo, IsRearranged}
@@ -53,6 +53,9 @@ one_to_rearranged n xs ys is one = record {
 pub length_below : (n : ℕ) → length (below n) ≡ n
 length_below zero = refl
 length_below (suc n) = omega (arith, length-append (below n) (n ∷ []), length_below n)
+
+pub below_more : (n : ℕ) → below n ++ n ∷ [] ≡ below (n + 1)
+below_more n = sym (ap below (add-one n))
 
 -- an element that stands in a list is read there
 pub first_at : (words : List ℕ) (n : ℕ) → get_elem? words 0 ≡ some n → slice_index words 0 ≡ n

@@ -1,16 +1,20 @@
 -- Steps one after the other are a call, whatever makes them.
 
-use Rattle.std.proofs.Common.{◌≡◌, ◌⊎◌, ℕ, zero, suc, ◌+◌, ◌≤◌, true, List, [], ◌∷◌, ◌++◌, length, Some, Ok, Err, inl, inr, refl, sym, ap, subst, ◌∙◌, arith, append-nil, append_assoc, add-zero}
+use Rattle.std.proofs.Common.{◌≡◌, ◌⊎◌, ℕ, zero, suc, ◌+◌, ◌<◌, ◌≤◌, true, false, List, [], ◌∷◌, ◌++◌, length, Option, Some, None, Ok, Err, inl, inr, refl, sym, ap, subst, ◌∙◌, arith, append-nil, append_assoc, add-zero}
+use Rattle.std.proofs.lemmas.Bool.{lt-ltb}
 use Rattle.ert_effects.proofs.Growing.{grows_then, grows_more}
-use Rattle.ert_effects.specs.Chains.{Serves, ServesMany, ServesAll, units, AdvancesWheel, Hands, HandsMany, Delivers, puts, put_by, drops, dropped_by, Turns, SweepsWheel, SweepsWheels, Exits}
+use Rattle.ert_effects.specs.Chains.{HoldsRequest, Serves, ServesMany, ServesAll, units, AdvancesWheel, Hands, HandsMany, Delivers, puts, put_by, drops, dropped_by, Turns, SweepsWheel, SweepsWheels, Exits}
+use Rattle.ert_effects.specs.RequestCalls.{Answers}
 use Rattle.ert_effects.specs.WheelCalls.{MarksExit}
 use Rattle.ert_effects.specs.Ways.{Growth, Way, Grows, Then, Many}
 use Rattle.ert_effects.specs.declared.answers.Handed.{Handed}
 use Rattle.ert_effects.specs.declared.answers.Handed.TheVariants.{Put, Dropped}
 use Rattle.ert_effects.specs.declared.answers.Turned.{Turned}
 use Rattle.ert_defs.specs.Mails.{first_of, others_of}
-use Rattle.ert_defs.specs.declared.entry.Actor.TheVariants.{Caller}
+use Rattle.ert_defs.specs.States.{state}
+use Rattle.ert_defs.specs.declared.entry.Actor.TheVariants.{Caller, MailOf}
 use Rattle.ert_defs.specs.declared.entry.Entry.{Entry}
+use Rattle.ert_defs.specs.declared.mail.Request.{Request}
 use Rattle.ert_defs.specs.declared.memory.NoMemory.{NoMemory}
 use Rattle.ert_defs.specs.declared.settings.Settings.{Settings}
 use Rattle.ert_defs.specs.declared.settings.TheConstants.{MOST_SLOTS}
@@ -37,6 +41,11 @@ drops_more (h ∷ hows) how = let more = drops_more hows how in omega (arith, mo
 pub one_less : {X : Type 0} (xs ys : List X) (x : X) → first_of xs ≡ Some x → ys ≡ others_of xs → suc (length ys) ≡ length xs
 one_less [] ys x first is = absurd cc
 one_less (y ∷ xs) ys x first is = ap (λ l. suc (length l)) is
+
+-- a list that has no first is empty
+none_left : {X : Type 0} (xs : List X) → first_of xs ≡ None → xs ≡ []
+none_left [] none = refl
+none_left (x ∷ xs) none = absurd cc
 
 -- so the counts stay few
 pub few_put : (put dropped n m : ℕ) → (put + dropped ≡ 0) ⊎ ((put + dropped) + n ≤ MOST_SLOTS) → n ≤ MOST_SLOTS → suc m ≡ n → ((put + 1) + dropped) + m ≤ MOST_SLOTS
@@ -102,6 +111,19 @@ module _ {S : Type 0} (settings : S → Settings) (history : S → List Entry) (
       grows_more (call (settings a) (way (settings a) (mark a) w)) answers answer (history a) (history b) (history c) many
       (since (λ g way. call g way answer) a b c same one)
 
+  -- the request that is held is answered, or there is no memory for that
+  pub answered : (a b c : S) (request : Request) (left : Option ℕ) → Same a b → Made (λ g way. HoldsRequest g way w (Some request)) a b
+      → Made (λ g way. way (MailOf request.reply_to ∷ []) (Answers g w request (Ok left))) b c → Made (λ g way. Serves g way w (Ok true)) a c
+  answered a b c request left same one two =
+      let both = made_then (λ g way. HoldsRequest g way w (Some request)) (λ g way. way (MailOf request.reply_to ∷ []) (Answers g w request (Ok left))) a b c same one two in
+      record { piece = both.piece; grown = both.grown; made = record { request = request; left = left; steps = both.made } }
+
+  pub unanswered : (a b c : S) (request : Request) (e : NoMemory) → Same a b → Made (λ g way. HoldsRequest g way w (Some request)) a b
+      → Made (λ g way. way (MailOf request.reply_to ∷ []) (Answers g w request (Err e))) b c → Made (λ g way. Serves g way w (Err e)) a c
+  unanswered a b c request e same one two =
+      let both = made_then (λ g way. HoldsRequest g way w (Some request)) (λ g way. way (MailOf request.reply_to ∷ []) (Answers g w request (Err e))) a b c same one two in
+      record { piece = both.piece; grown = both.grown; made = record { request = request; steps = both.made } }
+
   -- one request more is served
   pub served_more : (a b c : S) (n : ℕ) → Same a b → Made (λ g way. ServesMany g way w n) a b → Made (λ g way. Serves g way w (Ok true)) b c
       → Made (λ g way. ServesMany g way w (n + 1)) a c
@@ -109,6 +131,22 @@ module _ {S : Type 0} (settings : S → Settings) (history : S → List Entry) (
       subst (λ k. Made (λ g way. ServesMany g way w k) a c) (suc_is n)
       (subst (λ l. Made (λ g way. Many (λ (one : Unit {0}). Serves g way w (Ok true)) l) a c) (times_more n)
       (made_more (λ g way (one : Unit {0}). Serves g way w (Ok true)) (units n) tt a b c same one other))
+
+  -- requests are served until there is none, 64 at most, or there is no memory for one
+  pub none_served : (a : S) → Made (λ g way. ServesMany g way w 0) a a
+  none_served a = record { piece = []; grown = sym (append-nil (history a)); made = refl }
+
+  pub served_all : (a b c : S) (n : ℕ) → n < 64 → Same a b → Made (λ g way. ServesMany g way w n) a b → Made (λ g way. Serves g way w (Ok false)) b c
+      → Made (λ g way. ServesAll g way w (Ok n)) a c
+  served_all a b c n low same one two =
+      let both = made_then (λ g way. ServesMany g way w n) (λ g way. Serves g way w (Ok false)) a b c same one two in
+      record { piece = both.piece; grown = both.grown; made = (omega (arith, low), rw (lt-ltb n 64 low) both.made) }
+
+  pub unserved : (a b c : S) (n : ℕ) (e : NoMemory) → n < 64 → Same a b → Made (λ g way. ServesMany g way w n) a b → Made (λ g way. Serves g way w (Err e)) b c
+      → Made (λ g way. ServesAll g way w (Err e)) a c
+  unserved a b c n e low same one two =
+      let both = made_then (λ g way. ServesMany g way w n) (λ g way. Serves g way w (Err e)) a b c same one two in
+      record { piece = both.piece; grown = both.grown; made = (n, low, both.made) }
 
   -- timers are handed over: so many are put, and so many thrown away
   pub record HasHanded (put dropped : ℕ) (a b : S) : Type 0 where
@@ -139,6 +177,31 @@ module _ {S : Type 0} (settings : S → Settings) (history : S → List Entry) (
       subst (λ n. HasHanded n (dropped + 1) a c) (add-zero put)
       (handed_more put dropped Dropped a b c same one (subst (λ x. Made (λ g way. Hands g way w (Ok x)) b c) is other))
 
+  -- none is left, or there is no memory for the next
+  pub none_handed : (a : S) → HasHanded 0 0 a a
+  none_handed a = record { hows = []; made = record { piece = []; grown = sym (append-nil (history a)); made = refl }; put_is = refl; dropped_is = refl }
+
+  pub delivered : (put dropped : ℕ) (a b : S) → Same a b → HasHanded put dropped a b → first_of ((state (settings b) (history b)).scheds w).expired ≡ None
+      → Made (λ g way. Delivers g way w (Ok (put, dropped))) a b
+  delivered put dropped a b same many none = record {
+    piece = many.made.piece;
+    grown = many.made.grown;
+    made = record {
+      hows = many.hows;
+      runs = many.made.made;
+      put_is = many.put_is;
+      dropped_is = many.dropped_is;
+      done = subst (λ g. ((state g (history a ++ many.made.piece)).scheds w).expired ≡ []) same.0
+          (subst (λ h. ((state (settings b) h).scheds w).expired ≡ []) many.made.grown (none_left _ none));
+    };
+  }
+
+  pub undelivered : (put dropped : ℕ) (a b c : S) (e : NoMemory) → Same a b → HasHanded put dropped a b → Made (λ g way. Hands g way w (Err e)) b c
+      → Made (λ g way. Delivers g way w (Err e)) a c
+  undelivered put dropped a b c e same many one =
+      let both = made_then (λ g way. HandsMany g way w many.hows) (λ g way. Hands g way w (Err e)) a b c same many.made one in
+      record { piece = both.piece; grown = both.grown; made = record { hows = many.hows; runs = both.made } }
+
   -- a turn is done, or stops because memory ran out
   pub turned : (a b c d : S) (t : Turned) → Same a b → Same b c → Made (λ g way. ServesAll g way w (Ok t.served)) a b
       → Made (λ g way. AdvancesWheel g way w (Ok (t.to, t.expired))) b c → Made (λ g way. Delivers g way w (Ok (t.put, t.dropped))) c d
@@ -146,6 +209,9 @@ module _ {S : Type 0} (settings : S → Settings) (history : S → List Entry) (
   turned a b c d t on_b on_c one two three =
       made_then (λ g way. ServesAll g way w (Ok t.served)) (λ g way. Then (AdvancesWheel g way w (Ok (t.to, t.expired))) (Delivers g way w (Ok (t.put, t.dropped)))) a b d on_b one
       (made_then (λ g way. AdvancesWheel g way w (Ok (t.to, t.expired))) (λ g way. Delivers g way w (Ok (t.put, t.dropped))) b c d on_c two three)
+
+  pub turn_unserved : (a b : S) (e : NoMemory) → Made (λ g way. ServesAll g way w (Err e)) a b → Made (λ g way. Turns g way w (Err e)) a b
+  turn_unserved a b e one = record { piece = one.piece; grown = one.grown; made = inl one.made }
 
   pub turn_unadvanced : (a b c : S) (served : ℕ) (e : NoMemory) → Same a b
       → Made (λ g way. ServesAll g way w (Ok served)) a b → Made (λ g way. AdvancesWheel g way w (Err e)) b c

@@ -1,4 +1,5 @@
-use Rattle.std.proofs.Common.{◌≡◌, true, None, refl, sym, ap, subst, ◌∙◌}
+use Rattle.std.proofs.Common.{◌≡◌, None, refl, sym, ap, subst, ◌∙◌}
+use Rattle.std.proofs.lemmas.Bool.{false≢true}
 use Rattle.ert_defs.specs.States.{state}
 use Rattle.ert_table.specs.Desks.{view_of}
 use Rattle.ert_timers.specs.Parts.{Part, PartStands}
@@ -26,7 +27,7 @@ returns-else-drop_row-clause-stands c = λ g named.
     let p = c.args.self.now in
     let k = c.args.timer.slot in
     let none : key_in p.keys k ≡ None =
-    none_key (key_in p.keys k) (λ is. let found : c.drop_row.result ≡ true = c.drop_row.ensures.found.1 is in cc) in
+    none_key (key_in p.keys k) (λ is. false≢true (sym c.if-drop_row.false ∙ c.drop_row.ensures.found.1 is)) in
     subst (λ (q : Part). PartStands g (view_of c.args.pass.now).front q)
     (sym (c.drop_row.ensures.left ∙ ap (λ keys. let q : Part = record p { keys = keys } in q) (set_none p.keys k none))) (c.requires.stands g named)
 
@@ -43,7 +44,7 @@ returns-else-drop_row-clause-loses c =
     let p = c.args.self.now in
     let k = c.args.timer.slot in
     let none : key_in p.keys k ≡ None =
-    none_key (key_in p.keys k) (λ is. let found : c.drop_row.result ≡ true = c.drop_row.ensures.found.1 is in cc) in
+    none_key (key_in p.keys k) (λ is. false≢true (sym c.if-drop_row.false ∙ c.drop_row.ensures.found.1 is)) in
     subst (LosesRows p)
     (sym (c.drop_row.ensures.left ∙ ap (λ keys. let q : Part = record p { keys = keys } in q) (set_none p.keys k none))) (loses_none p)
 

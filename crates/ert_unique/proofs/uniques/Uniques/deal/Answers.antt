@@ -1,9 +1,11 @@
-use Rattle.std.proofs.Common.{◌≡◌, ◌-◌, ◌∙◌, arith, ap, length}
-use Rattle.std.proofs.lemmas.List.{length-map}
-use Rattle.ert_unique.specs.Passes.{number_of}
+use Rattle.std.proofs.Common.{◌≡◌, ◌+◌, ◌-◌, ◌∙◌, arith, [], ◌∷◌, ◌++◌, refl, sym, ap, subst, length, map, All}
+use Rattle.std.proofs.lemmas.List.{length-map, map_push}
+use Rattle.std.proofs.lemmas.List.Elements.{All-push}
+use Rattle.ert_unique.specs.Passes.{number_of, BelongsToUniques, IsNew}
 use Rattle.ert_unique.specs.Steps.{UniqueSitter}
+use Rattle.ert_unique.specs.Views.{first_share, keeping}
 use Rattle.ert_unique.proofs.Dividing.{divides}
-use Rattle.ert_unique.proofs.Gathering.{length_below}
+use Rattle.ert_unique.proofs.Gathering.{below_more, length_below}
 use Rattle.ert_unique.proofs.uniques.Uniques.deal.Goals as goal
 
 pub split_seat-requires : goal.split_seat-requires
@@ -18,6 +20,26 @@ split_seat-requires c =
       divides table.shared.key seat.id seat.me.0 (seat.me.0.share - 1) 1 (ap (λ (x : UniqueSitter). x.0.passes) rest ∙ c.requires.count)
           (omega (arith, share, c.loop-number-test.true)) (omega (arith, draws)),
     )
+
+pub loop-number-preserved : goal.loop-number-preserved
+loop-number-preserved c =
+    let kept = c.loop-number.invariant in
+    let number = c.loop-number.number in
+    let items = c.loop-number.passes.items in
+    let split = c.split_seat.ensures in
+    let less : c.args.count - number - 1 ≡ c.args.count - (number + 1) = omega arith in
+    record {
+      table = split.0 ∙ kept.table;
+      rest = split.2 ∙ (ap (λ (x : UniqueSitter). (keeping x.0 (x.0.share - 1), x.1)) kept.rest ∙ ap (λ n. (keeping (first_share c.args.count) n, [])) less);
+      belong = subst (All (BelongsToUniques c.args.self.now)) (sym c.in_ok-push.ensures.items)
+          (All-push (BelongsToUniques c.args.self.now) items _ kept.belong
+          (record { table = split.3 ∙ (kept.table ∙ c.requires.table); opened = ap (λ (x : UniqueSitter). x.0.passes) split.4 ∙ (ap (λ (x : UniqueSitter). x.0.passes) kept.rest ∙ c.requires.count) }));
+      new = subst (All IsNew) (sym c.in_ok-push.ensures.items)
+          (All-push IsNew items _ kept.new
+          (record { draws = ap (λ (x : UniqueSitter). x.0.draws) split.4; seen = ap (λ (x : UniqueSitter). x.0.seen) split.4 ∙ ap (λ (x : UniqueSitter). x.0.seen) kept.rest; plains = refl }));
+      numbers = ap (map number_of) c.in_ok-push.ensures.items
+          ∙ (map_push number_of items _ ∙ (ap (λ l. l ++ number ∷ []) kept.numbers ∙ below_more number));
+    }
 
 pub returns-clause-all : goal.returns-clause-all
 returns-clause-all c =
