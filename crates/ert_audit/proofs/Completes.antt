@@ -1,10 +1,10 @@
--- Where nothing fails, the status is that of the text's verdict.
+-- What a status tells, and that it is that of the text's verdict where nothing fails.
 
 use Rattle.std.proofs.Common.{◌≡◌, ◌⊎◌, inl, inr, ◌++◌, ℕ, sym, ap, ◌∙◌, subst, List, Option, Some, None}
 use Rattle.std.proofs.lemmas.List.{append-nil}
-use Rattle.ert_io.specs.Known.{before, IsAtEnd}
-use Rattle.ert_audit.specs.Audits.{status_telling}
-use Rattle.ert_audit.specs.Verdicts.{HasVerdict}
+use Rattle.ert_io.specs.Known.{then, before, IsAtEnd}
+use Rattle.ert_audit.specs.Audits.{status_telling, IsVerdict, HasAll, Judges}
+use Rattle.ert_audit.specs.Verdicts.{HasVerdict, verdict_line}
 use Rattle.ert_audit.specs.declared.status.AuditStatus.{AuditStatus}
 use Rattle.ert_audit.specs.declared.status.AuditStatus.TheVariants.{WriteFault, NoMemory}
 use Rattle.ert_audit.specs.declared.verdict.Verdict.{Verdict}
@@ -33,5 +33,19 @@ told_so read text found wanted status one same has wants sure which = elim which
   | inr other ↦ elim other [
     | inl fault ↦ absurd (sure fault)
     | inr memory ↦ inr memory
+  ]
+]
+
+-- a status that tells a verdict, where the output failed or memory ran out otherwise
+pub judges : {text : List ℕ} {left left_new taken taken_new : Option (List ℕ)} (verdict : Verdict) (status : AuditStatus)
+    → HasAll text left left_new verdict
+    → (status ≡ status_telling verdict) ⊎ (status ≡ WriteFault) ⊎ (status ≡ NoMemory)
+    → (status ≡ status_telling verdict → taken_new ≡ then taken (verdict_line verdict))
+    → IsVerdict status → Judges status text left left_new taken taken_new
+judges verdict status has which told is = elim which [
+  | inl tells ↦ record { verdict = verdict; has = has; tells = tells; writes = told tells }
+  | inr other ↦ elim other [
+    | inl fault ↦ absurd (subst IsVerdict fault is)
+    | inr memory ↦ absurd (subst IsVerdict memory is)
   ]
 ]

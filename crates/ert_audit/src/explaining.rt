@@ -4,16 +4,19 @@ ghost use Rattle.std.specs.Prelude.{◌≡◌, ◌⊎◌, ◌≤◌, ◌++◌, c
 ghost use Rattle.ert_audit.specs.Explained.{IsMessage, TellsPart};
 ghost use Rattle.ert_audit.specs.Messages.{line_front, shortened, illegal_message, IsIllegalMessage};
 ghost use Rattle.ert_audit.specs.Refusals.{IsRefusalMessage};
+ghost use Rattle.ert_defs.specs.Settings.{IsChecked};
 ghost use Rattle.ert_io.specs.Writing.{WritesFront};
 ghost use Rattle.ert_judge.specs.Texts.{◌⋅◌, reason_text};
+ghost use Rattle.ert_judge.specs.Verdicts.{StopsAtIllegal};
+ghost use Rattle.ert_spelling.specs.Spelling.{Spells};
 
 use crate::auditing::Audited;
 use crate::lines::{line_after, write_shown};
 use crate::refusing::{refusal_of, write_refusal};
 use crate::status::AuditStatus;
 use ert_io::{Sink, write_all};
-use ert_judge::{Reason, first_stop, reason, write_reason};
-use ert_spelling::{SpellingErr, read_history};
+use ert_judge::{Reason, Stop, first_stop, reason, write_reason};
+use ert_spelling::{History, SpellingErr, read_history};
 use std::alloc::{AllocError, Global};
 use std::fmt::Write;
 
@@ -74,14 +77,30 @@ fn write_message<E: Sink>(errors: &mut E, message: &[u8])
 fn illegal_on(alloc: Global, text: &[u8]) -> Option<String>
     ensures { IfSome result (λ message. IsIllegalMessage text.now (string_bytes message)) }
 {
-    let Ok(history) = read_history(alloc, text) else {
-        return None;
-    };
-    let Ok(Some(stop)) = first_stop(alloc, &history.settings, &history.entries) else {
-        return None;
-    };
-    let entry = *history.entries.get(stop.place)?;
-    let why = reason(&stop.judge, &entry)?;
+    match read_history(alloc, text) {
+        Ok(history) => illegal_in(alloc, text, &history),
+        Err(_) => None,
+    }
+}
+
+/// The same, of the history that the text spells.
+fn illegal_in(alloc: Global, text: &[u8], history: &History) -> Option<String>
+    requires { Spells history.now.settings history.now.entries.items text.now × IsChecked history.now.settings }
+    ensures { IfSome result (λ message. IsIllegalMessage text.now (string_bytes message)) }
+{
+    match first_stop(alloc, &history.settings, &history.entries) {
+        Ok(Some(stop)) => illegal_at(alloc, text, history, &stop),
+        _ => None,
+    }
+}
+
+/// The same, where the history stops being legal.
+fn illegal_at(alloc: Global, text: &[u8], history: &History, stop: &Stop) -> Option<String>
+    requires spelled { Spells history.now.settings history.now.entries.items text.now × IsChecked history.now.settings }
+    requires stops { StopsAtIllegal history.now.settings history.now.entries.items stop.now }
+    ensures { IfSome result (λ message. IsIllegalMessage text.now (string_bytes message)) }
+{
+    let why = reason(&stop.judge, &history.entries[stop.place])?;
     let line = line_after(text, stop.place + 1);
     let mut page = String::new(alloc);
     match write_illegal(&mut page, stop.place + 2, line, why) {

@@ -1,6 +1,6 @@
--- Words and texts, as the code finds them in a line.
+-- Words, texts and letters, as the code finds them in a line.
 
-use Rattle.std.proofs.Common.{◌≡◌, ℕ, Bool, true, false, cond, eqb, List, [], ◌∷◌, Some, None, refl, ap, ◌∙◌}
+use Rattle.std.proofs.Common.{◌≡◌, ℕ, Bool, true, false, cond, eqb, List, [], ◌∷◌, Option, Some, None, refl, ap, ◌∙◌}
 use Rattle.std.specs.List.{onto_first}
 use Rattle.std.specs.Str.{IsUtf8, is_utf8}
 use Rattle.std.proofs.lemmas.Bool.{false_from_ne_true}
@@ -9,6 +9,7 @@ use Rattle.std.proofs.lemmas.Str.{IsUtf8-from_is_utf8, is_utf8-from_IsUtf8}
 use Rattle.ert_spelling.specs.Cuts.{IsNowhereIn, IsCutAt, words_in}
 use Rattle.ert_spelling.specs.Parts.{Word}
 use Rattle.ert_spelling.specs.Readers.{read_text, all_read}
+use Rattle.ert_spelling.specs.Reading.{lettered}
 
 -- the words of a line that has a blank
 pub cut_words : (line front rest : List ℕ) → IsCutAt 32 line front rest → words_in line ≡ front ∷ words_in rest
@@ -41,3 +42,13 @@ split_some a b false words = onto_some a b words
 pub something_left : {A : Type 0} (a : A) (line : List ℕ) → all_read (a, words_in line) ≡ None
 something_left a [] = refl
 something_left a (b ∷ bs) = split_some a b (eqb b 32) (words_in bs)
+
+nothing : {A : Type 0} (b : Bool) (o : Option A) → o ≡ None → cond b None o ≡ None
+nothing true o e = refl
+nothing false o e = e
+
+-- a letter that has no number names no actor
+pub no_number : (letter : ℕ) → lettered letter None ≡ None
+no_number letter =
+    nothing (eqb letter 119) _ (nothing (eqb letter 105) _ (nothing (eqb letter 115) _ (nothing (eqb letter 109) _
+    (nothing (eqb letter 99) None refl))))

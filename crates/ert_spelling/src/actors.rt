@@ -1,9 +1,9 @@
 //! The actors of an entry.
 
-ghost use Rattle.std.specs.Prelude.{◌≡◌};
+ghost use Rattle.std.specs.Prelude.{◌≡◌, Some};
 ghost use Rattle.ert_spelling.specs.Cuts.{words_of};
 ghost use Rattle.ert_spelling.specs.Readers.{value_and_rest};
-ghost use Rattle.ert_spelling.specs.Reading.{actor_of, with_of, read_actor, read_with};
+ghost use Rattle.ert_spelling.specs.Reading.{lettered, actor_of, with_of, read_actor, read_with};
 
 use crate::numbers::small_of;
 use crate::words::{Words, next_word};
@@ -25,18 +25,34 @@ pub(crate) fn with(words: &mut Words) -> Option<Option<Actor>>
     with_of(next_word(words)?)
 }
 
-/// The actor that a word names: a letter, and its number.
-#[tactic(auto, unfolding(crate::specs::Reading::actor_of))]
+/// The actor that a word names: a letter, and its number. The clock has a letter alone.
+#[tactic(auto, using(crate::proofs::Splits::no_number), unfolding(crate::specs::Reading::actor_of))]
 fn actor_of(word: &[u8]) -> Option<Actor>
     ensures { result ≡ actor_of word.now }
 {
     match word {
-        [b'k'] => Some(Actor::Keeper),
-        [b'w', number @ ..] => Some(Actor::Wheel(small_of(number)?)),
-        [b'i', number @ ..] => Some(Actor::Inbox(small_of(number)?)),
-        [b's', number @ ..] => Some(Actor::Sched(small_of(number)?)),
-        [b'm', number @ ..] => Some(Actor::MailOf(small_of(number)?)),
-        [b'c', number @ ..] => Some(Actor::Caller(small_of(number)?)),
+        [] => None,
+        [b'k', number @ ..] => {
+            if number.is_empty() {
+                Some(Actor::Keeper)
+            } else {
+                None
+            }
+        }
+        [letter, number @ ..] => lettered(*letter, small_of(number)?),
+    }
+}
+
+/// The actor of this letter that has this number.
+fn lettered(letter: u8, number: u32) -> Option<Actor>
+    ensures { result ≡ lettered letter (Some number) }
+{
+    match letter {
+        b'w' => Some(Actor::Wheel(number)),
+        b'i' => Some(Actor::Inbox(number)),
+        b's' => Some(Actor::Sched(number)),
+        b'm' => Some(Actor::MailOf(number)),
+        b'c' => Some(Actor::Caller(number)),
         _ => None,
     }
 }

@@ -109,5 +109,5 @@ fn is_read(wanted: Wanted, word: &[u8]) -> bool
 fn is_when(word: &[u8]) -> bool
     ensures { result ≡ is_some (meant_by word.now when_rows) }
 {
-    matches!(word, b"after" | b"at")
+    word == b"after".as_slice() || word == b"at".as_slice()
 }

@@ -1,6 +1,34 @@
-use Rattle.std.proofs.Common.{◌∙◌}
-use Rattle.ert_audit.proofs.Completes.{all_read, told_so}
+use Rattle.std.proofs.Common.{◌∙◌, subst, inr, List, ℕ}
+use Rattle.ert_audit.specs.Verdicts.{HasVerdict}
+use Rattle.ert_audit.proofs.Completes.{all_read, told_so, judges}
 use Rattle.ert_audit.proofs.auditing.audit.Goals as goal
+
+pub returns-in-Ok-verdict_on-clause-judged : goal.returns-in-Ok-verdict_on-clause-judged
+returns-in-Ok-verdict_on-clause-judged g c =
+    let verdict = c.in-Ok-verdict_on.verdict in
+    judges verdict c.tell.result
+    (record {
+      taken = c.in-Ok.ensures.bytes;
+      short = c.in-Ok.ensures.short;
+      end = c.in-Ok.ensures.end;
+      is = subst (λ (t : List ℕ). HasVerdict t verdict) c.deref.ensures.value c.in-Ok-verdict_on.ensures;
+    })
+    c.tell.ensures.which c.tell.ensures.told
+
+pub returns-in-Ok-verdict_on-clause-stops : goal.returns-in-Ok-verdict_on-clause-stops
+returns-in-Ok-verdict_on-clause-stops g c = λ _.
+    let verdict = c.in-Ok-verdict_on.verdict in
+    inr (record {
+      text = c.in-Ok.text.items;
+      verdict = verdict;
+      has = record {
+        taken = c.in-Ok.ensures.bytes;
+        short = c.in-Ok.ensures.short;
+        end = c.in-Ok.ensures.end;
+        is = subst (λ (t : List ℕ). HasVerdict t verdict) c.deref.ensures.value c.in-Ok-verdict_on.ensures;
+      };
+      writes = c.tell.ensures.front;
+    })
 
 pub returns-in-Ok-verdict_on-clause-complete : goal.returns-in-Ok-verdict_on-clause-complete
 returns-in-Ok-verdict_on-clause-complete g c = λ read wrote text verdict all short has.
