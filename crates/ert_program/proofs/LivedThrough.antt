@@ -170,6 +170,15 @@ refused_with n c d text refused = record {
   no_desk = λ e. refl;
 }
 
+before_none : (left : Option (List Reading)) → left ≡ readings_before [] left
+before_none None = refl
+before_none (Some rs) = refl
+
+pub stopped_first : (n : ℕ) (c d : ClockStream) (text : List ℕ) → 0 < n → d.left ≡ c.left → Rose c.faults d.faults → text ≡ []
+    → Watched n c d (without_desk ClockFault) text
+stopped_first n c d text some kept rose empty =
+    stopped_with n c d text rose (record { readings = []; count = some; given = sym kept ∙ before_none d.left; valid = tt; are = empty })
+
 pub stopped_later : (n : ℕ) (c d : ClockStream) (count : ℕ) (now : Option (List Reading)) (w : Seen) (text : List ℕ) → count < n
     → IsWatched count c.left now w text → d.left ≡ now → Rose c.faults d.faults → Watched n c d (without_desk ClockFault) text
 stopped_later n c d count now w text below far kept rose =
@@ -239,6 +248,12 @@ watched_all n c d count w lines text r all far whole named knows laws =
 pub takes_one : (n : ℕ) (r : Reading) (left left_new : Option (List Reading)) → 1 ≤ n → left ≡ reading_before r left_new → TakesReadings n left left_new
 takes_one n r left None some given = record { readings = r ∷ []; few = some; given = given }
 takes_one n r left (Some later) some given = record { readings = r ∷ []; few = some; given = given }
+
+-- all were taken
+pub takes_all : (n count : ℕ) (left now : Option (List Reading)) (w : Seen) (lines : List ℕ) → count ≡ n → IsWatched count left now w lines → TakesReadings n left now
+takes_all n count left now w lines all far =
+    let before = far.counted in
+    record { readings = far.first ∷ far.others; few = omega arith; given = far.given }
 
 -- so many were taken, and one more
 pub takes_next : (n count : ℕ) (left mid left_new : Option (List Reading)) (w : Seen) (lines : List ℕ) (r : Reading) → count < n

@@ -2,8 +2,13 @@ use Rattle.std.proofs.Common.{rules, arith, ◌≡◌, ◌<◌, ◌∙◌, FitsS
 use Rattle.std.proofs.lemmas.Result.{err_from_is_err_and}
 use Rattle.ert_defs.specs.Readings.{IsValid}
 use Rattle.ert_io.specs.Faults.{Rose}
-use Rattle.ert_program.proofs.LivedThrough.{takes_one, takes_next, watched_first, watched_more, stopped_later, refused_first, refused_later, watched_all}
+use Rattle.ert_program.proofs.LivedThrough.{takes_one, takes_next, takes_all, watched_first, watched_more, stopped_first, stopped_later, refused_first, refused_later, watched_all}
 use Rattle.ert_program.proofs.living.watch.Goals as goal
+
+pub returns-in_default-clause-ok : goal.returns-in_default-clause-ok
+returns-in_default-clause-ok g c =
+    let rose : Rose (g.C.OsClock.faults c.args.clock.now) (g.C.OsClock.faults c.read.new.self) = search rules in
+    rw c.without_desk.ensures (stopped_first c.args.n _ _ _ (omega arith) c.in_default.ensures.kept rose c.requires.empty)
 
 pub returns-then-not-is_valid-clause-ok : goal.returns-then-not-is_valid-clause-ok
 returns-then-not-is_valid-clause-ok g c =
@@ -76,3 +81,9 @@ returns-in_err-go_on-clause-err g c =
     let below : c.readings.taken < c.args.n = omega arith in
     let p = err_from_is_err_and c.from_residual-in_err-go_on.result c.from_residual-in_err-go_on.ensures.1 in
     rw p.1 (takes_next c.args.n c.readings.taken _ _ _ c.readings.world _ c.in-Ok-read.reading below c.readings.invariant.so_far c.in-Ok-read.ensures.given)
+
+pub returns-in_err-write_end-clause-err : goal.returns-in_err-write_end-clause-err
+returns-in_err-write_end-clause-err g c =
+    let all : c.readings.taken ≡ c.args.n = omega arith in
+    let p = err_from_is_err_and c.from_residual-in_err-write_end.result c.from_residual-in_err-write_end.ensures.1 in
+    rw p.1 (takes_all c.args.n c.readings.taken _ _ c.readings.world _ all c.readings.invariant.so_far)
