@@ -6,6 +6,7 @@
 #     make dist         a tar archive for machines without the toolchain, in build/dist
 #                       (make dist TARGET=aarch64 the one of the C library for that processor, by a cross compiler)
 #     make deb          packages for Debian, in build/deb
+#     make page         the page to play with time, one file that a browser opens from the disk, in build/page
 #     make html         all documents as a site with a search, in build/site
 #     make release      checks the version, makes the archive and tags it
 #     make prove        proves what has changed since it was built, and builds it
@@ -78,11 +79,20 @@ EXAMPLES = examples/c/event_loop.c examples/c/seats.c examples/c/repeating.c exa
 DOCUMENTS = CHANGELOG.md EMBEDDING.md
 LIBRARIES = $(B)/libertime.a $(B)/$(REAL)
 
-.PHONY: all prove pages install install-strip uninstall dist deb html release clean
+# The page is made of the programs as a module of WebAssembly (`make wasm`), for which Debian's binaryen is needed:
+# without it all else is made.
+HAS_PLAYGROUND = $(and $(is_native),$(shell command -v wasm-opt 2>/dev/null))
+PLAYGROUND = $(B)/page/ertime.html
+PLAYGROUND_SOURCES = packaging/page $(wildcard tools/web/*.mjs tools/web/page/* tools/web/picture/*.mjs tools/playing/*.py) \
+  docs/GUIDE.md docs/FORMATS.md docs/scenario.schema.json
+
+.PHONY: all prove pages page install install-strip uninstall dist deb html release clean
 .DELETE_ON_ERROR:
 
-all: $(if $(is_native),$(ERTIME) $(ERTAUDIT)) $(LIBRARIES) pages $(B)/THIRD-PARTY $(addprefix $(B)/doc/,$(DOCUMENTS))
+all: $(if $(is_native),$(ERTIME) $(ERTAUDIT)) $(LIBRARIES) pages $(B)/THIRD-PARTY $(addprefix $(B)/doc/,$(DOCUMENTS)) \
+  $(if $(HAS_PLAYGROUND),$(PLAYGROUND))
 pages: $(PAGES)
+page: $(PLAYGROUND)
 
 # What exists is taken as it is: proofs take long, so none begins because a file has a newer date.
 PROVED = crates/ert_cli/out/ert_cli crates/ert_audit/out/ert_audit crates/ert_c/out/libert_c.a
@@ -146,6 +156,10 @@ $(B)/THIRD-PARTY: packaging/notices crates.txt
 	mkdir -p $(B)
 	$(PYTHON) packaging/notices $(KIT) >$@
 
+$(PLAYGROUND): $(B)/wasm/ertime.wasm $(B)/THIRD-PARTY LICENSE $(PLAYGROUND_SOURCES)
+	mkdir -p $(@D)
+	$(PYTHON) packaging/page $< $(B)/THIRD-PARTY $(VERSION) $@
+
 # A path below the prefix as pkg-config writes it, and a path as seen from the folder of the CMake file.
 pc_prefix = $(prefix)
 below = $(patsubst $(prefix)/%,$${prefix}/%,$(1))
@@ -170,7 +184,8 @@ ifneq ($(PROGRAMS),)
 	  $(INSTALL_DATA) completions/_$$it "$(DESTDIR)$(zshcompletiondir)" && \
 	  $(INSTALL_DATA) completions/$$it.fish "$(DESTDIR)$(fishcompletiondir)" || exit; \
 	done
-	$(INSTALL_DATA) docs/scenario.schema.json "$(DESTDIR)$(docdir)"
+	$(INSTALL_DATA) docs/scenario.schema.json $(if $(HAS_PLAYGROUND),$(PLAYGROUND)) "$(DESTDIR)$(docdir)"
+	@$(if $(HAS_PLAYGROUND),:,echo 'There is no wasm-opt (binaryen), so the page to play with time is left out.' >&2)
 endif
 	$(INSTALL_DATA) include/ertime.h "$(DESTDIR)$(includedir)"
 	$(INSTALL_DATA) $(LIBRARIES) "$(DESTDIR)$(libdir)"
@@ -203,7 +218,7 @@ uninstall:
 	rm -f $(call in,fishcompletiondir,$(addsuffix .fish,$(PROGRAMS)))
 	rm -f $(call in,cmakedir,ertime-config.cmake ertime-config-version.cmake)
 	rm -f $(call in,gdbdir,$(REAL)-gdb.py)
-	rm -f $(call in,docdir,LICENSE THIRD-PARTY scenario.schema.json $(DOCUMENTS) $(addprefix examples/,$(notdir $(EXAMPLES))))
+	rm -f $(call in,docdir,LICENSE THIRD-PARTY scenario.schema.json ertime.html $(DOCUMENTS) $(addprefix examples/,$(notdir $(EXAMPLES))))
 	for at in $(FOLDERS); do \
 	  while [ "$$at" != '$(prefix)' ] && [ "$$at" != / ] && { [ ! -e '$(DESTDIR)'"$$at" ] || rmdir '$(DESTDIR)'"$$at" 2>/dev/null; }; do \
 	    at=$$(dirname "$$at"); \
@@ -234,15 +249,17 @@ deb: all
 	$(FILL) -e "s|@DATE@|$$(date -u -R -d @$(EPOCH))|" packaging/debian/changelog.in >$(DEB)/debian/changelog
 	rm $(DEB)/debian/changelog.in
 	cat $(B)/THIRD-PARTY >>$(DEB)/debian/copyright
+	$(if $(HAS_PLAYGROUND),,sed -i '/ertime.html/d' $(DEB)/debian/ertime.install)
 	$(MAKE) install DESTDIR='$(abspath $(DEB))/installed' prefix=/usr libdir=/usr/lib/x86_64-linux-gnu \
 	  zshcompletiondir=/usr/share/zsh/vendor-completions
 	cd $(DEB) && SOURCE_DATE_EPOCH=$(EPOCH) dpkg-buildpackage -b -us -uc -nc -d
 	@ls $(B)/deb/*.deb
 
-# All documents, the pages and the references as a site. Nothing is proved or built for it. The search needs a server:
-# `python3 -m http.server -d build/site` is one.
-html: pages
-	$(PYTHON) packaging/site $(B)/site $(B)/man
+# All documents, the pages and the references as a site, with the page to play with time where it is built or its proved
+# crate is there. Nothing is proved for it. The search needs a server: `python3 -m http.server -d build/site` is one.
+IN_SITE = $(or $(wildcard $(PLAYGROUND)),$(and $(HAS_PLAYGROUND),$(wildcard crates/ert_text/out/kept)))
+html: pages $(if $(IN_SITE),$(PLAYGROUND))
+	$(PYTHON) packaging/site $(B)/site $(B)/man $(if $(IN_SITE),$(PLAYGROUND))
 
 # One version everywhere, with its changes told and nothing left to commit; then the archive and the tag.
 release:

@@ -1,6 +1,10 @@
-"""The page on which one plays with time: what `tools/playground` is made of.
+"""What makes the page on which one plays with time: `packaging/page` calls it, and `tools/playground` opens the page.
 
-`programs` finds `ertime` and `ertaudit` and runs them on a text, `answers` says what came of it with a picture of
-`picturing`, `shelf` has the scenarios and histories of the guide and `spelling` the words of histories, `link` puts a text into a fragment, and `server`
-serves all of it and the files of `page/`.
+`shelf` and `spelling` take the page's lists from the documents, `modules` joins its scripts, `one_file` puts everything
+into one file, and `link` is a text in the fragment of an address.
 """
+from __future__ import annotations
+
+import pathlib
+
+TOP = pathlib.Path(__file__).resolve().parent.parent.parent

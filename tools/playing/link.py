@@ -1,14 +1,16 @@
-"""A text in the fragment of an address, as the page writes it (`page/link.js`): deflated, in the URL's base 64."""
+"""A text in the fragment of an address, as the page writes it (`web/page/link.mjs`): deflated, in the URL's base 64."""
 from __future__ import annotations
 
 import base64
 import pathlib
 import zlib
 
-from picturing.inputs import read_text
+# The letters of a fragment: a scenario, and a history.
+KINDS = ("s", "h")
 
-# The letter of a fragment: a scenario or a history.
-KINDS = {"s": "scenario", "h": "history"}
+
+class BadFile(Exception):
+    """A file that the page can't begin with; the text says why."""
 
 
 def fragment(text: str) -> str:
@@ -19,8 +21,18 @@ def fragment(text: str) -> str:
     return f"{kind}={base64.urlsafe_b64encode(packed).decode().rstrip('=')}"
 
 
+def read_text(name: str) -> str:
+    """The text of a file."""
+    try:
+        return pathlib.Path(name).read_bytes().decode()
+    except OSError as error:
+        raise BadFile(f"{name}: {error.strerror or 'it cannot be read'}") from error
+    except UnicodeDecodeError as error:
+        raise BadFile(f"{name}: not UTF-8") from error
+
+
 def fragment_of(what: str) -> str:
-    """The fragment of a link of another run, or of a file with a scenario or a history."""
+    """The fragment of a link that a page made, or of a file with a scenario or a history."""
     _, mark, tail = what.partition("#")
     if mark and tail[:2] in {f"{kind}=" for kind in KINDS} and not pathlib.Path(what).exists():
         return tail

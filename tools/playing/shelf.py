@@ -4,7 +4,7 @@ from __future__ import annotations
 import pathlib
 import re
 
-from .programs import TOP
+from . import TOP
 
 HEADING = re.compile(r"#{2,} (.*)")
 PICTURE = re.compile(r"!\[([^\]]*)\]\(pictures/(history_)?(\w+)\.svg\)")

@@ -5,7 +5,7 @@ import pathlib
 import re
 from collections.abc import Iterator
 
-from .programs import TOP
+from . import TOP
 
 Spelling = dict[str, dict[str, str]]
 

@@ -1,144 +1,33 @@
-"""Tests of what `tools/playground` makes of a text: its programs, which are stood in for here, its answers and its lists."""
+"""Tests of what the page is made of and by: its lists, links, joined scripts and bounded module."""
 from __future__ import annotations
 
 import base64
 import json
-import os
 import pathlib
 import re
+import shutil
+import subprocess
 import tempfile
-import threading
-import time
 import unittest
 import zlib
-from typing import Any
-from unittest import mock
 
-from picturing.inputs import BadInput
-from picturing.written import FIELDS
-from playing import programs
-from playing.answers import fault_of, of_history, of_scenario
-from playing.link import fragment_of
-from playing.programs import TOP, Program, found
+from playing import TOP
+from playing.limit import NoLimit, limited
+from playing.link import BadFile, fragment_of
+from playing.modules import CannotJoin, joined
 from playing.shelf import shelf
 from playing.spelling import spelling
-from tests.served import ends
 
 EXAMPLES = TOP / "examples"
+WEB = TOP / "tools/web"
+# A module with a memory of one page, of 16,384 at most, and a custom section behind it.
+MODULE = b"\0asm\1\0\0\0" + bytes([5, 6, 1, 1, 1, 0x80, 0x80, 1]) + bytes([0, 2, 1, 65])
 
 
-def stand_in(code: str, *words: str, seconds: float = 60.0) -> Program:
-    """A program that is a line of the shell, with these words."""
-    return Program(["/bin/sh", "-c", code, "sh", *words], seconds)
-
-
-def printing(output: str, errors: str = "", status: int = 0) -> Program:
-    """A program that reads its input, writes this and ends so."""
-    return stand_in('cat >/dev/null; printf %s "$1"; printf %s "$2" >&2; exit "$3"', output, errors, str(status))
-
-
-class Programs(unittest.TestCase):
-    """How a program is run."""
-
-    def test_answer(self) -> None:
-        ended = stand_in("rev; printf no >&2; exit 3").answer(b"abc\n")
-        self.assertEqual(ended, (3, "cba\n", "no"))
-
-    def test_no_shell(self) -> None:
-        """A path is taken as it is."""
-        with tempfile.TemporaryDirectory() as room:
-            path = pathlib.Path(room) / "a b; echo $HOME"
-            path.write_text("#!/bin/sh\ncat\n")
-            path.chmod(0o755)
-            self.assertEqual(Program([str(path)]).answer(b"$(id)"), (0, "$(id)", ""))
-
-    def test_time_limit_ends_the_whole_group(self) -> None:
-        with tempfile.TemporaryDirectory() as room:
-            told = pathlib.Path(room) / "child"
-            began = time.monotonic()
-            self.assertIsNone(stand_in('sleep 60 & echo $! >"$1"; wait', str(told), seconds=3).answer(b"").status)
-            self.assertLess(time.monotonic() - began, 50)
-            self.assertTrue(ends(int(told.read_text())))
-
-    def test_memory(self) -> None:
-        self.assertEqual(stand_in("cat >/dev/null; ulimit -v").answer(b"").output, f"{64 * 1024}\n")
-
-    def test_stop(self) -> None:
-        program = stand_in("sleep 60")
-        asked = threading.Thread(target=program.answer, args=(b"",))
-        asked.start()
-        while not program.running:
-            time.sleep(0.01)
-        program.stop()
-        asked.join(20)
-        self.assertFalse(asked.is_alive())
-        self.assertRaises(OSError, program.answer, b"")
-
-    def test_found(self) -> None:
-        with tempfile.TemporaryDirectory() as room:
-            paths = {}
-            for name in ("given", "told", "on_path/ertime", "top/crates/ert_cli/out/ert_cli"):
-                paths[name] = pathlib.Path(room) / name
-                paths[name].parent.mkdir(parents=True, exist_ok=True)
-                paths[name].touch(mode=0o755)
-            on_path = str(paths["on_path/ertime"].parent)
-            rows: list[tuple[str | None, dict[str, str], str | None]] = [
-                (str(paths["given"]), {"ERTIME": str(paths["told"]), "PATH": on_path}, "given"),
-                (None, {"ERTIME": str(paths["told"]), "PATH": on_path}, "told"),
-                (None, {"PATH": on_path}, "on_path/ertime"),
-                (None, {"PATH": ""}, "top/crates/ert_cli/out/ert_cli"),
-                ("/no/such", {"PATH": on_path}, None),
-            ]
-            for given, environment, wanted in rows:
-                with mock.patch.dict(os.environ, environment, clear=True):
-                    with mock.patch.object(programs, "TOP", pathlib.Path(room) / "top"):
-                        self.assertEqual(found("ertime", given), wanted and str(paths[wanted]))
-
-
-class Answers(unittest.TestCase):
-    """What is made of what a program says."""
-
-    def test_faults(self) -> None:
-        rows: dict[str, Any] = {
-            'scenario:2:5: op 2: there is no op "tikc"\n': (2, 5, 'op 2: there is no op "tikc"'),
-            "history:7: s0 w0 expire 0 0 1: the timer's deadline is 6 ms\n": (7, None, "s0 w0 expire 0 0 1: the timer's deadline is 6 ms"),
-            "history:7:7: it ends\n": (7, 7, "it ends"),
-            "": None,
-            "scenario:2:5: two\nlines\n": None,
-        }
-        for said, wanted in rows.items():
-            told = wanted and dict(zip(("line", "column", "message"), wanted))
-            self.assertEqual(fault_of(said), told, said)
-
-    def test_examples(self) -> None:
-        """Each op has a place, from left to right, and OS monotonic time goes on with them."""
-        for row in shelf()["scenario"]:
-            path = EXAMPLES / "ertime" / f"{row['name']}.json"
-            said = path.with_name(path.name + ".stdout").read_text()
-            answer = of_scenario(printing(said), path.read_bytes())
-            self.assertEqual((answer["outcome"], answer["lines"]), ("ran", said.splitlines()))
-            self.assertEqual(len(answer["places"]), len(json.loads(row["text"])["ops"]))
-            times = [(x, int(mono)) for x, mono in answer["axis"]]
-            self.assertEqual(times, sorted(times))
-            self.assertNotIn("<style>", answer["picture"])
-            self.assertIn('data-op="0"', answer["picture"])
-        for row in shelf()["history"]:
-            path = EXAMPLES / "ertaudit" / f"{row['name']}.txt"
-            said = path.with_name(path.name + ".stdout").read_text()
-            answer = of_history(printing(said, status=int(said.startswith("illegal"))), path.read_bytes())
-            self.assertEqual(answer["outcome"], said.split()[0])
-            self.assertEqual(len(answer["places"]), row["text"].count("\n") - 1)
-
-    def test_other_ends(self) -> None:
-        refused = of_scenario(printing("refused json\n", "scenario:1:1: expected a value here\n", 3), b"")
-        self.assertEqual((refused["outcome"], refused["fault"]["column"]), ("refused", 1))
-        for judge in (of_scenario, of_history):
-            self.assertIn("memory ran out", judge(printing("", status=7), b"")["message"])
-            self.assertIn("status -9", judge(stand_in("kill -9 $$"), b"")["message"])
-            self.assertIn("more than 0.2 seconds", judge(stand_in("sleep 60", seconds=0.2), b"")["message"])
-            answer = judge(printing("something else\n"), b"\xff")
-            self.assertIn("There is no picture", answer["message"])
-            self.assertNotIn("picture", answer)
+def node(code: str) -> str:
+    """What a script prints."""
+    words = ["node", "--input-type=module", "-e", code]
+    return subprocess.run(words, stdout=subprocess.PIPE, text=True, check=True, cwd=WEB).stdout
 
 
 class Shelf(unittest.TestCase):
@@ -152,10 +41,14 @@ class Shelf(unittest.TestCase):
         self.assertEqual(len(names), len(set(names)))
 
     def test_spelling(self) -> None:
-        """Each event has its fields, and the settings and all parts of the fields are told."""
-        said = spelling()
-        self.assertEqual(said["events"].keys(), FIELDS.keys())
-        self.assertEqual(said["parts"].keys(), {"actor", "reading", "timer", "start", "request", "message", "settings"})
+        """The settings and all parts of the fields are told."""
+        self.assertEqual(spelling()["parts"].keys(), {"actor", "reading", "timer", "start", "request", "message", "settings"})
+
+    @unittest.skipUnless(shutil.which("node"), "there is no node")
+    def test_events(self) -> None:
+        """Each event has its fields."""
+        events = json.loads(node("const {FIELDS} = await import('./picture/written.mjs'); console.log(JSON.stringify(Object.keys(FIELDS)))"))
+        self.assertEqual(set(spelling()["events"]), set(events))
 
     def test_fragments(self) -> None:
         for name, kind in (("ertime/frozen_clock.json", "s"), ("ertaudit/early_expiry.txt", "h")):
@@ -164,8 +57,64 @@ class Shelf(unittest.TestCase):
             letter, packed = made.split("=")
             text = zlib.decompress(base64.urlsafe_b64decode(packed + "=" * (-len(packed) % 4)), -15)
             self.assertEqual((letter, text), (kind, path.read_bytes()))
-            self.assertEqual(fragment_of(f"http://127.0.0.1:1/token/#{made}"), made)
-        self.assertRaises(BadInput, fragment_of, "/no/such#x=1")
+            self.assertEqual(fragment_of(f"file:///elsewhere/ertime.html#{made}"), made)
+        self.assertRaises(BadFile, fragment_of, "/no/such#x=1")
+
+
+class Joined(unittest.TestCase):
+    """Modules as one script."""
+
+    def setUp(self) -> None:
+        room = tempfile.TemporaryDirectory()
+        self.addCleanup(room.cleanup)
+        self.room = pathlib.Path(room.name)
+
+    def write(self, name: str, text: str) -> pathlib.Path:
+        """A module."""
+        (self.room / name).write_text(text)
+        return self.room / name
+
+    @unittest.skipUnless(shutil.which("node"), "there is no node")
+    def test_names_stay_apart(self) -> None:
+        """Two modules have a name each that is the same, and one is used by two others but begins once."""
+        self.write("low.mjs", 'const it = "low";\nconsole.log(import.meta.url + it);\nexport const low = () => it;\n')
+        self.write("middle.mjs", 'import {low} from "./low.mjs";\n\nconst it = 1;\nexport class Middle {}\nexport async function both() { return low() + it; }\n')
+        top = self.write("top.mjs", 'import {low} from "./low.mjs";\nimport {Middle, both} from "./middle.mjs";\n\nconsole.log(low(), await both(), Middle.name);\n')
+        script = self.write("script.cjs", joined(top))
+        said = subprocess.run(["node", script], stdout=subprocess.PIPE, text=True, check=True).stdout
+        self.assertEqual(said, "low\nlow low1 Middle\n")
+
+    def test_what_is_written_otherwise(self) -> None:
+        for text in ('import it from "./it.mjs";\n', "export default 1;\n", "export {it};\n", 'import "node:fs";\n', "export let it = 1;\n"):
+            self.assertRaises(CannotJoin, joined, self.write("other.mjs", text))
+        self.write("a.mjs", 'import {b} from "./b.mjs";\nexport const a = b;\n')
+        self.assertRaises(CannotJoin, joined, self.write("b.mjs", 'import {a} from "./a.mjs";\nexport const b = a;\n'))
+
+
+class Limit(unittest.TestCase):
+    """The memory of the module."""
+
+    def test_limits(self) -> None:
+        """The limit is the lesser one, and all else stays."""
+        tail = bytes([0, 2, 1, 65])
+        self.assertEqual(limited(MODULE, 2**30), MODULE)
+        self.assertEqual(limited(MODULE, 2**24), b"\0asm\1\0\0\0" + bytes([5, 5, 1, 1, 1, 0x80, 2]) + tail)
+        self.assertEqual(limited(MODULE, 100 * 65_536), b"\0asm\1\0\0\0" + bytes([5, 4, 1, 1, 1, 100]) + tail)
+        without = (b"", b"\0asm\1\0\0\0", b"\0asm\1\0\0\0" + bytes([5, 3, 1, 0, 1]), b"\0asm\1\0\0\0" + bytes([5, 4, 1, 5, 1, 9]))
+        for module in without:
+            self.assertRaises(NoLimit, limited, module, 2**24)
+
+
+class Files(unittest.TestCase):
+    """What the page is made of."""
+
+    def test_no_other_place(self) -> None:
+        """The HTML has no code and no style in it, and nothing names another place."""
+        text = (WEB / "page/index.html").read_text()
+        self.assertIsNone(re.search(r"\son\w+\s*=|\sstyle\s*=|<style|<script(?![^>]*\s(?:src|id)=)|javascript:", text))
+        for path in (*(WEB / "page").iterdir(), *(WEB / "picture").glob("*.mjs")):
+            outside = re.findall(r"(?:https?:)?//[\w.]+\.\w+[^\s\"']*", re.sub(r"^\s*//.*", "", path.read_text(), flags=re.M))
+            self.assertEqual([it for it in outside if not it.startswith("http://www.w3.org/")], [], path.name)
 
 
 if __name__ == "__main__":

@@ -1,4 +1,5 @@
-"""Tests of the page that `tools/playground` serves, with the programs themselves; most of them in a browser.
+"""Tests of the page that `make page` builds, in a browser, which opens it from the disk.
 
-`.ci/check_playground` runs them: ERTIME and ERTAUDIT name the programs, and Selenium drives Debian's Chromium.
+`.ci/check_playground` runs them: PAGE names the page, ERTIME and ERTAUDIT the programs with which it is compared, and
+Selenium drives Debian's Chromium.
 """

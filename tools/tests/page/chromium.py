@@ -2,6 +2,7 @@
 from __future__ import annotations
 
 import os
+import pathlib
 import shutil
 import unittest
 from typing import Any
@@ -14,8 +15,6 @@ from selenium.webdriver.common.keys import Keys
 from selenium.webdriver.remote.webelement import WebElement
 from selenium.webdriver.support.select import Select
 from selenium.webdriver.support.wait import WebDriverWait
-
-from tests.served import Playground
 
 FIRST = 1_767_225_600_000_000_000
 SECOND = 1_000_000_000
@@ -48,19 +47,18 @@ def begun() -> webdriver.Chrome:
 class PageTest(unittest.TestCase):
     """A test of a page that was just opened, 1280 pixels wide and light."""
 
-    served: Playground
     browser: webdriver.Chrome
+    address: str
 
     @classmethod
     def setUpClass(cls) -> None:
-        cls.served = Playground()
-        cls.addClassCleanup(cls.served.stop)
+        cls.address = pathlib.Path(os.environ["PAGE"]).resolve().as_uri()
         cls.browser = begun()
         cls.addClassCleanup(cls.browser.quit)
 
     def setUp(self) -> None:
         self.see(1280, 860)
-        self.visit(self.served.address)
+        self.visit(self.address)
 
     def tearDown(self) -> None:
         """No script failed, and nothing was kept from the page by its own policy."""

@@ -8,8 +8,8 @@ from selenium.webdriver.common.action_chains import ActionChains
 from selenium.webdriver.common.by import By
 from selenium.webdriver.common.keys import Keys
 
+from playing import TOP
 from playing.shelf import shelf
-from tests.served import TOP
 
 from .chromium import FIRST, SECOND, TEXT, PageTest
 

@@ -1,18 +1,21 @@
 """The page as a whole, in a browser: links, histories, keys alone, narrow windows, dark colours, and no other place."""
 from __future__ import annotations
 
+import os
 import pathlib
 import re
+import subprocess
+import sys
 
 from selenium.webdriver.common.action_chains import ActionChains
 from selenium.webdriver.common.by import By
 from selenium.webdriver.common.keys import Keys
 
+from playing import TOP
 from playing.link import fragment
 from playing.shelf import shelf
 
 from .chromium import PageTest
-from tests.served import TOP, Playground
 
 TEXT = '{"format":1,"first":[0,0],"ops":[["time"],\n["tick",5,5]]}'
 
@@ -30,23 +33,28 @@ class Links(PageTest):
             self.visit(link)
             self.assertEqual((self.text, self.said, self.lines), (text, said, lines))
 
-    def test_a_link_of_another_run(self) -> None:
-        """What Python packs, the page opens; and a playground that is given a link begins with it."""
-        self.visit(f"{self.served.address}#{fragment(TEXT)}")
+    def test_a_link_of_tools_playground(self) -> None:
+        """What Python packs, the page opens; and tools/playground goes on to the page with a file, or with a link."""
+        self.visit(f"{self.address}#{fragment(TEXT)}")
         self.assertEqual(self.text, TEXT)
         link = self.run_script("return location.href")
-        other = Playground(link)
-        self.addCleanup(other.stop)
-        self.assertNotEqual(other.parts.path, self.served.parts.path)
-        self.visit(other.address)
-        self.assertEqual((self.text, self.lines), (TEXT, ["time 0", "tick 5", "end 5"]))
+        if pathlib.Path(os.environ["PAGE"]).resolve() != TOP / "build/page/ertime.html":
+            return
+        path = TOP / "examples/ertaudit/early_expiry.txt"
+        for what, text in ((link, TEXT), (str(path), path.read_text())):
+            words = [sys.executable, str(TOP / "tools/playground"), "--no-browser", what]
+            start = subprocess.run(words, stdout=subprocess.PIPE, text=True, check=True).stdout.strip()
+            self.browser.get("about:blank")
+            self.browser.get(start)
+            self.wait(lambda: self.run_script("return document.body.dataset.ready"))
+            self.assertEqual(self.text, text)
 
     def test_a_history_and_a_broken_link(self) -> None:
         history = shelf()["history"][0]["text"]
-        self.visit(f"{self.served.address}#{fragment(history)}")
+        self.visit(f"{self.address}#{fragment(history)}")
         self.assertEqual((self.text, self.find(".verdict").text), (history, "legal 9"))
         for tail in ("#s=!", "#s=AAAA", "#x", f"#{fragment(TEXT)[:-4]}", f"#{fragment('x' * 1_000_001)}"):
-            self.visit(self.served.address + tail)
+            self.visit(self.address + tail)
             self.assertEqual(self.browser.find_element(By.ID, "told").text, "The link can't be read")
 
 
@@ -200,10 +208,15 @@ class Looks(PageTest):
             self.assertEqual(light(self.picture("return getComputedStyle(svg.querySelector('rect.page')).fill")) > 0.5, is_light)
 
     def test_nothing_comes_from_elsewhere(self) -> None:
+        """Beside the page itself nothing was loaded but what it made; and the policy of the page keeps it so."""
         self.tab("history")
-        names = self.run_script("return performance.getEntries().map(it => it.name).filter(it => it.includes('://'))")
-        self.assertGreater(len(names), 10)
-        self.assertEqual([it for it in names if not it.startswith(self.served.address)], [])
+        names = self.run_script("return performance.getEntries().map(it => it.name).filter(it => it.includes(':'))")
+        self.assertIn(self.address, names)
+        self.assertEqual([it for it in names if it != self.address and not it.startswith(("blob:", "data:"))], [])
+        asked = "const done = arguments[0]; fetch('https://example.org/').then(() => done('sent'), (it) => done(it.name))"
+        self.assertEqual(self.browser.execute_async_script(asked), "TypeError")
+        said = [it["message"] for it in self.browser.get_log("browser")]
+        self.assertTrue(said and all("Content Security Policy" in it or "connect-src" in it for it in said), said)
 
 
 def light(colour: str) -> float:

@@ -148,7 +148,7 @@ class Long(PageTest):
     def report(self, text: str) -> None:
         """Prints how long the answer takes, and the time from the last key to what is then drawn: the least of several."""
         asked = "const [text, done] = arguments; const begun = performance.now();"
-        asked += "fetch('scenario', {method: 'POST', body: text}).then(it => it.json()).then(() => done(performance.now() - begun))"
+        asked += "ertime.answer('scenario', text).then(() => done(performance.now() - begun))"
         drawn = "const [area, text, done] = arguments, place = area.closest('section'), begun = performance.now();"
         drawn += "const seen = new MutationObserver(() => { if (place.ariaBusy === 'false') { seen.disconnect();"
         drawn += " requestAnimationFrame(() => setTimeout(() => done(performance.now() - begun))); } });"

@@ -1,6 +1,7 @@
 // A text with numbers of lines, marks, and choices at the cursor, over a plain textarea.
 
-import {Lines, change} from "./text.js";
+import {MOST} from "./link.mjs";
+import {Lines, change} from "./text.mjs";
 
 const ROW = 20;
 const PAD = 8;
@@ -16,7 +17,10 @@ function made(tag, css, text = "") {
 }
 
 export class Editor extends EventTarget {
-  /** Tells `change` where the text changed, and `move` where the cursor did. `help` tells what can stand at the cursor. */
+  /**
+   * Tells `change` where the text changed, `move` where the cursor did, and `long` where one is put in that is too long.
+   * `help` tells what can stand at the cursor.
+   */
   constructor(place, help) {
     super();
     this.area = place.querySelector("textarea");
@@ -33,13 +37,30 @@ export class Editor extends EventTarget {
     this.area.addEventListener("scroll", () => this.draw());
     this.area.addEventListener("keydown", (event) => this.key(event));
     this.area.addEventListener("blur", () => this.close());
+    this.area.addEventListener("paste", (event) => this.putIn(event, event.clipboardData));
+    this.area.addEventListener("drop", (event) => this.putIn(event, event.dataTransfer));
     document.addEventListener("selectionchange", () => document.activeElement === this.area && this.moved());
     this.list.addEventListener("pointerdown", (event) => this.clicked(event));
     new ResizeObserver(() => this.draw()).observe(this.area);
   }
 
+  /** The text; none of one that is too long to be read. */
   get text() {
     return this.lines.text;
+  }
+
+  /** Whether the text is too long to be read. */
+  get isLong() {
+    return this.area.value.length > MOST;
+  }
+
+  /** What is put in: a file becomes the text, and what is too long stays out. */
+  async putIn(event, given) {
+    const [file] = given.files;
+    if (!file && given.getData("text/plain").length <= MOST) return;
+    event.preventDefault();
+    if (file && file.size <= MOST) this.become(await file.text());
+    else this.dispatchEvent(new Event("long"));
   }
 
   /** Another text, as if it had been opened. */
@@ -102,7 +123,7 @@ export class Editor extends EventTarget {
   }
 
   changed(event) {
-    this.lines = new Lines(this.area.value);
+    this.lines = new Lines(this.isLong ? "" : this.area.value);
     this.setFault(null);
     this.setHere(null, false);
     this.dispatchEvent(new Event("change"));

@@ -1,6 +1,6 @@
 // What the JSON Schema of scenarios says of the place at which the cursor stands, and what can be written there.
 
-import {isOps, scan} from "./scan.js";
+import {isOps, scan} from "./scan.mjs";
 
 const DEFAULT_FORMAT = 2;
 

@@ -1,18 +1,17 @@
 // The tab in which a scenario is written and run.
 
-import {field, length, tidied, withField, withFormat, withLeap, withTimer} from "./edits.js";
-import {List} from "./lines.js";
-import {opAt, scan} from "./scan.js";
-import {Tab} from "./tab.js";
-import {nanoseconds, seconds} from "./times.js";
+import {field, length, tidied, withField, withFormat, withLeap, withTimer} from "./edits.mjs";
+import {List} from "./lines.mjs";
+import {opAt, scan} from "./scan.mjs";
+import {Tab} from "./tab.mjs";
+import {nanoseconds, seconds} from "./times.mjs";
 
 /** How many steps the slider of the point has. */
 const STEPS = 1000;
 
 export class ScenarioTab extends Tab {
-  constructor(shelf, help, tell) {
-    super("scenario", shelf, help);
-    this.tell = tell;
+  constructor(shelf, help, page) {
+    super("scenario", shelf, help, page);
     this.point = null;
     this.list = new List(this.find(".lines"), (number, goes) => this.picked(number, goes));
     this.explain(help.of("", {stack: []}, 0));

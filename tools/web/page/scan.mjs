@@ -1,6 +1,6 @@
 // Where the parts of a scenario stand in its text, which may not be JSON yet.
 
-import {last} from "./text.js";
+import {last} from "./text.mjs";
 
 const TOKEN = /"(?:[^"\\\n]|\\.)*"?|[{}[\]:,]|[^\s"{}[\]:,]+/gy;
 const SPACE = /\s+/gy;

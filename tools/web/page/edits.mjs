@@ -1,7 +1,7 @@
 // What the buttons change in the text of a scenario: each gives the new text. Times are nanoseconds, as BigInt.
 
-import {scan} from "./scan.js";
-import {last} from "./text.js";
+import {scan} from "./scan.mjs";
+import {last} from "./text.mjs";
 
 const ORDER = ["format", "mode", "correction", "start", "schedulers", "processes", "slots", "first", "ops", "race"];
 const READINGS = ["tick", "check", "finalize"];

@@ -1,6 +1,6 @@
 // The picture that the program's transcript makes: what of it is an op, and which time a place is.
 
-import {last} from "./text.js";
+import {last} from "./text.mjs";
 
 const SPACE = "http://www.w3.org/2000/svg";
 /** A move by fewer pixels is a click. */
@@ -24,17 +24,12 @@ function step(most) {
 }
 
 export class Picture extends EventTarget {
-  /** Tells `choose` with the number of an op, `point` with a place, and `drag` with two. */
-  constructor(host) {
+  /** Tells `choose` with the number of an op, `point` with a place, and `drag` with two. `sheets` are its styles. */
+  constructor(host, sheets) {
     super();
     this.host = host;
     this.root = host.attachShadow({mode: "open"});
-    for (const name of ["picture.css", "marks.css"]) {
-      const sheet = document.createElement("link");
-      sheet.rel = "stylesheet";
-      sheet.href = name;
-      this.root.append(sheet);
-    }
+    this.root.adoptedStyleSheets = sheets;
     this.svg = null;
     this.places = [];
     this.axis = [];
@@ -53,7 +48,7 @@ export class Picture extends EventTarget {
     else this.root.append(svg);
     this.svg = svg;
     this.places = places;
-    this.axis = (axis ?? []).map(([x, mono]) => ({x, mono: BigInt(mono)}));
+    this.axis = axis;
     this.height = svg.viewBox.baseVal.height;
     this.pointLine = drawn("line", "point", {y1: 56, y2: this.height - 12});
     this.hereLine = drawn("line", "here", {y1: 56, y2: this.height - 12});

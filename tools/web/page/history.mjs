@@ -1,10 +1,10 @@
 // The tab in which a history is written and judged.
 
-import {Tab} from "./tab.js";
+import {Tab} from "./tab.mjs";
 
 export class HistoryTab extends Tab {
-  constructor(shelf, help) {
-    super("history", shelf, help);
+  constructor(shelf, help, page) {
+    super("history", shelf, help, page);
     this.explain(help.of([], 0));
   }
 

@@ -1,10 +1,12 @@
 // The page: two tabs, and the link that has the text of the one in sight.
 
-import {HistoryTab} from "./history.js";
-import {fragment, opened} from "./link.js";
-import {ScenarioTab} from "./scenario.js";
-import {Help} from "./schema.js";
-import {Spelling} from "./spelling.js";
+import {STYLE} from "../picture/palette.mjs";
+import {HistoryTab} from "./history.mjs";
+import {fragment, opened} from "./link.mjs";
+import {Runner} from "./runner.mjs";
+import {ScenarioTab} from "./scenario.mjs";
+import {Help} from "./schema.mjs";
+import {Spelling} from "./spelling.mjs";
 
 /** The longest fragment that is written into the address. */
 const MOST_LINK = 100_000;
@@ -19,17 +21,42 @@ function tell(text) {
 
 for (const event of ["keydown", "pointerdown"]) document.addEventListener(event, () => tell(""), {capture: true});
 
-/** The files that the server makes. */
-async function load(name) {
-  return (await fetch(name)).json();
+/** What the page is built with (`packaging/page`): the module and the worker, lists, texts and styles. */
+const built = JSON.parse(find("built").textContent);
+
+/** The bytes of the module, which is packed. */
+async function unpacked(text) {
+  const bytes = Uint8Array.from(atob(text), (it) => it.charCodeAt(0));
+  const stream = new Blob([bytes]).stream().pipeThrough(new DecompressionStream("gzip"));
+  return new Uint8Array(await new Response(stream).arrayBuffer());
 }
 
-const [schema, spelling, shelf] = await Promise.all(["schema.json", "spelling.json", "shelf.json"].map(load));
+const module = await unpacked(built.module);
+const worker = URL.createObjectURL(new Blob([built.worker], {type: "text/javascript"}));
+
+/** What runs the programs, in a worker that it begins when it is first asked. */
+function runner() {
+  return new Runner(() => {
+    const begun = new Worker(worker);
+    begun.postMessage({module});
+    return begun;
+  });
+}
+
+/** A style sheet of a text. */
+function sheet(text) {
+  const made = new CSSStyleSheet();
+  made.replaceSync(text);
+  return made;
+}
+
+const page = {tell, runner, sheets: [STYLE, built.marks].map(sheet)};
 const tabs = {
-  scenario: new ScenarioTab(shelf.scenario, new Help(schema), tell),
-  history: new HistoryTab(shelf.history, new Spelling(spelling)),
+  scenario: new ScenarioTab(built.shelf.scenario, new Help(built.schema), page),
+  history: new HistoryTab(built.shelf.history, new Spelling(built.spelling), page),
 };
 let shown = tabs.scenario;
+find("licences").textContent = built.licences;
 
 /** Shows a tab, which has its first example where nothing was opened or written. */
 function show(kind, isOpened = false) {
@@ -49,7 +76,7 @@ async function link() {
   const {kind, editor} = shown;
   const {text} = editor;
   const made = await fragment(kind, text);
-  const fits = made.length <= MOST_LINK;
+  const fits = made.length <= MOST_LINK && !editor.isLong;
   if (shown.kind === kind && editor.text === text) {
     written = fits ? `#${made}` : "";
     history.replaceState(null, "", written || location.pathname);
@@ -98,4 +125,8 @@ document.addEventListener("keydown", (event) => {
 });
 window.addEventListener("hashchange", enter);
 await enter();
+
+/** For the browser's console: `ertime.answer("scenario", text)` gives what the program said, and what is made of that. */
+const asked = runner();
+globalThis.ertime = {answer: (kind, text) => asked.answer(kind, text)};
 document.body.dataset.ready = "true";

@@ -1,28 +1,36 @@
 // One tab: a text, what the program says of it, and the picture.
 
-import {Editor} from "./editor.js";
-import {MOST} from "./link.js";
-import {Picture} from "./picture.js";
-import {size} from "./text.js";
-import {fixed} from "./times.js";
+import {failed} from "./answers.mjs";
+import {Editor} from "./editor.mjs";
+import {MOST} from "./link.mjs";
+import {Picture} from "./picture.mjs";
+import {size} from "./text.mjs";
+import {fixed} from "./times.mjs";
 
 /** Milliseconds without a key after which a text is judged. */
 const PAUSE = 200;
 
 export class Tab extends EventTarget {
-  /** Tells `answer` with what came of a text. `kind` is that of the text: its place in the page, and its judge. */
-  constructor(kind, shelf, help) {
+  /**
+   * Tells `answer` with what came of a text. `kind` is that of the text: its place in the page, and its program. `page` has
+   * what the tabs share: `runner` makes what runs the programs, `sheets` are the styles of pictures, `tell` shows a note.
+   */
+  constructor(kind, shelf, help, page) {
     super();
     this.kind = kind;
+    this.tell = page.tell;
+    this.runner = page.runner();
     this.place = document.getElementById(kind);
     this.said = this.find(".said");
     this.shelf = shelf;
     this.editor = new Editor(this.place, help);
-    this.picture = new Picture(this.find(".picture"));
+    this.picture = new Picture(this.find(".picture"), page.sheets);
     this.answer = null;
+    this.asked = 0;
     this.here = -1;
     this.editor.addEventListener("change", () => this.changed(PAUSE));
     this.editor.addEventListener("move", () => this.moved());
+    this.editor.addEventListener("long", () => this.tell(`A text has ${MOST.toLocaleString("en")} bytes at most`));
     this.picture.addEventListener("choose", ({detail}) => this.choose(detail, "picture"));
     this.said.addEventListener("click", () => this.goToFault());
     this.fill();
@@ -73,20 +81,13 @@ export class Tab extends EventTarget {
 
   /** Has a text judged, unless another one comes meanwhile. */
   async judge(text) {
-    this.request?.abort();
-    this.request = new AbortController();
-    const {signal} = this.request;
-    try {
-      if (size(text) > MOST) {
-        this.take({outcome: "failed", lines: [], fault: null, message: `The text is longer than ${MOST} bytes.`});
-        return;
-      }
-      const sent = await fetch(this.kind, {method: "POST", body: text, headers: {"Content-Type": "text/plain"}, signal});
-      const answer = await sent.json();
-      if (!signal.aborted) this.take(answer);
-    } catch (error) {
-      if (!signal.aborted) this.take({outcome: "failed", lines: [], fault: null, message: `The playground doesn't answer: ${error.message}`});
+    const number = ++this.asked;
+    if (this.editor.isLong || size(text) > MOST) {
+      this.take(failed(`The text is longer than ${MOST.toLocaleString("en")} bytes.`));
+      return;
     }
+    const found = await this.runner.answer(this.kind, text);
+    if (found && number === this.asked) this.take(found.answer);
   }
 
   /** Shows what came of a text. */
