@@ -21,11 +21,12 @@ class Shots(PageTest):
     def take(self, folder: pathlib.Path) -> None:
         """Both tabs."""
         self.see(1280, 820)
-        self.choose(".shelf", "requests_and_a_warp")
+        if "frozen_clock" not in self.find(".shelf option:checked").text:
+            self.choose(".shelf", "frozen_clock")
         self.area.click()
         self.chord(Keys.CONTROL, Keys.HOME)
-        self.press(*[Keys.ARROW_DOWN] * 9, *[Keys.ARROW_RIGHT] * 22)
-        self.wait(lambda: self.here[1] == 3)
+        self.press(*[Keys.ARROW_DOWN] * 6, *[Keys.ARROW_RIGHT] * 10)
+        self.wait(lambda: self.here[1] == 2)
         self.browser.save_screenshot(str(folder / NAMES[0]))
         self.tab("history")
         self.choose(".shelf", "cancelled_twice")
