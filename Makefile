@@ -55,7 +55,7 @@ tell_loader = [ -n '$(DESTDIR)' ] || $(LDCONFIG) 2>/dev/null || :
 # archive of the heap, so it is made from C.
 KIT = $(patsubst %/bin/rt,%,$(realpath $(shell command -v rt 2>/dev/null)))
 ERTIME = crates/ert_cli/out/ert_cli
-ERTAUDIT = crates/ert_audit/out/ert_audit
+ERTAUDIT = crates/ert_audit_cli/out/ert_audit_cli
 ARCHIVE = crates/ert_c/out/$(if $(is_native),,$(TARGET)-unknown-linux-gnu/)libert_c.a
 HEAP = $(if $(is_native),$(KIT)/c/liblibc_c.a,$(B)/heap.o)
 
@@ -85,7 +85,7 @@ all: $(if $(is_native),$(ERTIME) $(ERTAUDIT)) $(LIBRARIES) pages $(B)/THIRD-PART
 pages: $(PAGES)
 
 # What exists is taken as it is: proofs take long, so none begins because a file has a newer date.
-PROVED = crates/ert_cli/out/ert_cli crates/ert_audit/out/ert_audit crates/ert_c/out/libert_c.a
+PROVED = crates/ert_cli/out/ert_cli crates/ert_audit_cli/out/ert_audit_cli crates/ert_c/out/libert_c.a
 $(PROVED) &:
 	packaging/prove $(filter $(PROVED),$(ERTIME) $(ERTAUDIT) $(ARCHIVE))
 .PRECIOUS: $(PROVED)

@@ -12,7 +12,7 @@ import threading
 from typing import NamedTuple
 
 TOP = pathlib.Path(__file__).resolve().parent.parent.parent
-BUILT = {"ertime": "crates/ert_cli/out/ert_cli", "ertaudit": "crates/ert_audit/out/ert_audit"}
+BUILT = {"ertime": "crates/ert_cli/out/ert_cli", "ertaudit": "crates/ert_audit_cli/out/ert_audit_cli"}
 # Seconds that a program may take, and bytes of memory.
 SECONDS = 2.0
 MEMORY = 64 * 2**20
