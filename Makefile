@@ -6,6 +6,7 @@
 #     make dist         a tar archive for machines without the toolchain, in build/dist
 #                       (make dist TARGET=aarch64 the one of the C library for that processor, by a cross compiler)
 #     make deb          packages for Debian, in build/deb
+#     make wasm         the programs as modules for browsers and node, in build/wasm
 #     make page         the page to play with time, one file that a browser opens from the disk, in build/page
 #     make html         all documents as a site with a search, in build/site
 #     make release      checks the version, makes the archive and tags it
@@ -51,13 +52,15 @@ PYTHON = python3
 LDCONFIG = ldconfig
 tell_loader = [ -n '$(DESTDIR)' ] || $(LDCONFIG) 2>/dev/null || :
 
-# What was proved: the programs, the library's archive, and the archive of the toolchain by which that one calls
+# What was proved: the programs, the archives of the libraries, and the archive of the toolchain by which those call
 # malloc. `rt ci` and `packaging/prove` leave them there; other places can be given. For aarch64 the toolchain has no
 # archive of the heap, so it is made from C.
 KIT = $(patsubst %/bin/rt,%,$(realpath $(shell command -v rt 2>/dev/null)))
 ERTIME = crates/ert_cli/out/ert_cli
-ERTAUDIT = crates/ert_audit/out/ert_audit
-ARCHIVE = crates/ert_c/out/$(if $(is_native),,$(TARGET)-unknown-linux-gnu/)libert_c.a
+ERTAUDIT = crates/ert_audit_cli/out/ert_audit_cli
+at_target = $(if $(is_native),,$(TARGET)-unknown-linux-gnu/)
+ARCHIVE = crates/ert_c/out/$(at_target)libert_c.a
+TEXT_ARCHIVE = crates/ert_text/out/$(at_target)libert_text.a
 HEAP = $(if $(is_native),$(KIT)/c/liblibc_c.a,$(B)/heap.o)
 
 # The version is taken from the header. (.ci/check_documents compares the other places that have it.)
@@ -71,13 +74,17 @@ SONAME = libertime.so.$(MAJOR)
 REAL = libertime.so.$(VERSION)
 PROGRAMS = $(if $(is_native),ertime ertaudit)
 PAGES1 = $(addsuffix .1,$(PROGRAMS))
-PAGES3 = ertime.3
+PAGES3 = ertime.3 ertime_text.3
 PAGES5 = $(if $(is_native),ertime-scenario.5 ertime-history.5)
 PAGES = $(addprefix $(B)/man/,$(PAGES1) $(PAGES3) $(PAGES5))
 EXAMPLES = examples/c/event_loop.c examples/c/seats.c examples/c/repeating.c examples/c/threads.c \
   $(if $(is_native),examples/ertime/timer_expires.json examples/races/two_cancels.json examples/ertaudit/early_expiry.txt)
 DOCUMENTS = CHANGELOG.md EMBEDDING.md
-LIBRARIES = $(B)/libertime.a $(B)/$(REAL)
+HEADERS = ertime.h ertime_text.h
+ARCHIVES = libertime.a libertime_text.a
+LIBRARIES = $(addprefix $(B)/,$(ARCHIVES) $(REAL))
+# Where the modules for browsers go.
+W = $(B)/wasm
 
 # The page is made of the programs as a module of WebAssembly (`make wasm`), for which Debian's binaryen is needed:
 # without it all else is made.
@@ -86,7 +93,7 @@ PLAYGROUND = $(B)/page/ertime.html
 PLAYGROUND_SOURCES = packaging/page $(wildcard tools/web/*.mjs tools/web/page/* tools/web/picture/*.mjs tools/playing/*.py) \
   docs/GUIDE.md docs/FORMATS.md docs/scenario.schema.json
 
-.PHONY: all prove pages page install install-strip uninstall dist deb html release clean
+.PHONY: all prove pages install install-strip uninstall dist deb page html wasm release clean
 .DELETE_ON_ERROR:
 
 all: $(if $(is_native),$(ERTIME) $(ERTAUDIT)) $(LIBRARIES) pages $(B)/THIRD-PARTY $(addprefix $(B)/doc/,$(DOCUMENTS)) \
@@ -95,15 +102,17 @@ pages: $(PAGES)
 page: $(PLAYGROUND)
 
 # What exists is taken as it is: proofs take long, so none begins because a file has a newer date.
-PROVED = crates/ert_cli/out/ert_cli crates/ert_audit/out/ert_audit crates/ert_c/out/libert_c.a
+PROVED = crates/ert_cli/out/ert_cli crates/ert_audit_cli/out/ert_audit_cli crates/ert_c/out/libert_c.a \
+  crates/ert_text/out/libert_text.a
 $(PROVED) &:
-	packaging/prove $(filter $(PROVED),$(ERTIME) $(ERTAUDIT) $(ARCHIVE))
+	packaging/prove $(filter $(PROVED),$(ERTIME) $(ERTAUDIT) $(ARCHIVE) $(TEXT_ARCHIVE))
 .PRECIOUS: $(PROVED)
 
-# Over what was proved, the library is built for another processor.
-crates/ert_c/out/aarch64-unknown-linux-gnu/libert_c.a:
-	.ci/build_archive aarch64-unknown-linux-gnu
-.PRECIOUS: crates/ert_c/out/aarch64-unknown-linux-gnu/libert_c.a
+# Over what was proved, the libraries are built for another processor.
+OTHERS = $(foreach it,ert_c ert_text,crates/$(it)/out/aarch64-unknown-linux-gnu/lib$(it).a)
+$(OTHERS):
+	.ci/build_archive --crate $(patsubst lib%.a,%,$(@F)) aarch64-unknown-linux-gnu
+.PRECIOUS: $(OTHERS)
 
 $(B)/heap.o: packaging/heap.c
 	mkdir -p $(B)
@@ -112,36 +121,49 @@ $(B)/heap.o: packaging/heap.c
 prove:
 	packaging/prove --anew $(PROVED)
 
-# The functions of the header. No other name of the library can be seen from outside.
-$(B)/symbols: include/ertime.h
+# The functions of a header. No other name of its library can be seen from outside.
+$(B)/%.symbols: include/%.h
 	mkdir -p $(B)
 	sed -n 's/^u\{0,1\}int32_t \(ert_[a-z_]*\)(.*/\1/p' $< >$@
 
-# The library's code in one section, and the tables by which a backtrace goes on through it.
-$(B)/bare.o: $(ARCHIVE) packaging/text.ld
+# A library's code in one section, and the tables by which a backtrace goes on through it.
+$(B)/ertime.bare.o: $(ARCHIVE)
+$(B)/ertime_text.bare.o: $(TEXT_ARCHIVE)
+$(B)/ertime.bare.o $(B)/ertime_text.bare.o: packaging/text.ld
 	mkdir -p $(B)
-	$(LD) -r -T packaging/text.ld --whole-archive $(ARCHIVE) -o $@
+	$(LD) -r -T packaging/text.ld --whole-archive $(filter %.a,$^) -o $@
 
-$(B)/unwind.o: $(B)/bare.o packaging/unwind
-	$(PYTHON) packaging/unwind --objdump '$(OBJDUMP)' $< >$(B)/unwind.s
-	$(CC) -c $(B)/unwind.s -o $@
+$(B)/%.unwind.o: $(B)/%.bare.o packaging/unwind
+	$(PYTHON) packaging/unwind --objdump '$(OBJDUMP)' $< >$(@:.o=.s)
+	$(CC) -c $(@:.o=.s) -o $@
 
-# Both archives as one object, in which every other name is local. (Whoever installs may not have the toolchain on
-# the path: so nothing here depends on a file of it.) The linker takes the tables as they are: it would ask that those
-# of an object stand in it.
-$(B)/ertime.o: $(B)/bare.o $(if $(is_native),$(B)/unwind.o,$(B)/heap.o) $(B)/symbols
+# A library's archive and that of the heap as one object, in which every other name is local. (Whoever installs may not
+# have the toolchain on the path: so nothing here depends on a file of it.) The linker takes the tables as they are: it
+# would ask that those of an object stand in it.
+OBJECTS = $(B)/ertime.o $(B)/ertime_text.o
+$(OBJECTS): $(B)/%.o: $(B)/%.bare.o $(if $(is_native),$(B)/%.unwind.o,$(B)/heap.o) $(B)/%.symbols
 	@[ -f '$(HEAP)' ] || { echo "there is no $(HEAP): rt isn't on the path, or HEAP has to say where it is"; exit 1; }
-	$(LD) -r --traditional-format --whole-archive $(B)/bare.o $(if $(is_native),$(B)/unwind.o) $(HEAP) -o $@
-	$(OBJCOPY) --keep-global-symbols=$(B)/symbols $@
+	$(LD) -r --traditional-format --whole-archive $(filter %.bare.o %.unwind.o,$^) $(HEAP) -o $@
+	$(OBJCOPY) --keep-global-symbols=$(B)/$*.symbols $@
+.SECONDARY: $(OBJECTS) $(OBJECTS:.o=.bare.o) $(OBJECTS:.o=.unwind.o)
 
-$(B)/libertime.a: $(B)/ertime.o
+$(B)/lib%.a: $(B)/%.o
 	rm -f $@
 	$(AR) rcsD $@ $<
 
 $(B)/$(REAL): $(B)/ertime.o
 	$(CC) -shared -Wl,-soname,$(SONAME) -Wl,-z,defs -Wl,-z,relro -Wl,-z,now $(LDFLAGS) -o $@ $<
 
-$(B)/man/%: man/%.in man/render docs/FORMATS.md include/ertime.h
+# The commands over texts as modules for browsers and node, with what loads them. Not proved: packaging/wasm/build tells
+# how they are made, and .ci/check_wasm compares them with the programs.
+wasm: $(W)/ertime.wasm $(W)/ertime.mjs
+$(W)/ertime.wasm: crates/ert_text/out/libert_text.a $(wildcard packaging/wasm/*)
+	packaging/wasm/build $(W)
+$(W)/ertime.mjs: tools/web/ertime.mjs
+	mkdir -p $(W)
+	cp $< $@
+
+$(B)/man/%: man/%.in man/render docs/FORMATS.md $(addprefix include/,$(HEADERS))
 	mkdir -p $(B)/man
 	$(PYTHON) man/render --version $(VERSION) $< >$@
 
@@ -156,7 +178,7 @@ $(B)/THIRD-PARTY: packaging/notices crates.txt
 	mkdir -p $(B)
 	$(PYTHON) packaging/notices $(KIT) >$@
 
-$(PLAYGROUND): $(B)/wasm/ertime.wasm $(B)/THIRD-PARTY LICENSE $(PLAYGROUND_SOURCES)
+$(PLAYGROUND): $(W)/ertime.wasm $(B)/THIRD-PARTY LICENSE $(PLAYGROUND_SOURCES)
 	mkdir -p $(@D)
 	$(PYTHON) packaging/page $< $(B)/THIRD-PARTY $(VERSION) $@
 
@@ -165,6 +187,9 @@ pc_prefix = $(prefix)
 below = $(patsubst $(prefix)/%,$${prefix}/%,$(1))
 from_cmake = $(shell realpath -m --relative-to='$(cmakedir)' '$(1)')
 FILL = sed -e 's|@VERSION@|$(VERSION)|' -e 's|@TARGET@|$(TARGET)|' -e 's|@MAJOR@|$(MAJOR)|' -e 's|@MINOR@|$(MINOR)|'
+
+PKGCONFIG = ertime.pc ertime_text.pc
+in = $(foreach it,$(2),"$(DESTDIR)$($(1))/$(it)")
 
 D1 = $(DESTDIR)$(mandir)/man1
 D3 = $(DESTDIR)$(mandir)/man3
@@ -187,16 +212,18 @@ ifneq ($(PROGRAMS),)
 	$(INSTALL_DATA) docs/scenario.schema.json $(if $(HAS_PLAYGROUND),$(PLAYGROUND)) "$(DESTDIR)$(docdir)"
 	@$(if $(HAS_PLAYGROUND),:,echo 'There is no wasm-opt (binaryen), so the page to play with time is left out.' >&2)
 endif
-	$(INSTALL_DATA) include/ertime.h "$(DESTDIR)$(includedir)"
+	$(INSTALL_DATA) $(addprefix include/,$(HEADERS)) "$(DESTDIR)$(includedir)"
 	$(INSTALL_DATA) $(LIBRARIES) "$(DESTDIR)$(libdir)"
 	ln -sf $(REAL) "$(DESTDIR)$(libdir)/$(SONAME)"
 	ln -sf $(SONAME) "$(DESTDIR)$(libdir)/libertime.so"
-	$(FILL) -e 's|@prefix@|$(pc_prefix)|' -e 's|@libdir@|$(call below,$(libdir))|' \
-	  -e 's|@includedir@|$(call below,$(includedir))|' packaging/ertime.pc.in >"$(DESTDIR)$(pkgconfigdir)/ertime.pc"
+	for it in $(PKGCONFIG); do \
+	  $(FILL) -e 's|@prefix@|$(pc_prefix)|' -e 's|@libdir@|$(call below,$(libdir))|' \
+	    -e 's|@includedir@|$(call below,$(includedir))|' packaging/$$it.in >"$(DESTDIR)$(pkgconfigdir)/$$it" || exit; \
+	done
 	$(FILL) -e 's|@libdir@|$(call from_cmake,$(libdir))|' -e 's|@includedir@|$(call from_cmake,$(includedir))|' \
 	  packaging/ertime-config.cmake.in >"$(DESTDIR)$(cmakedir)/ertime-config.cmake"
 	$(FILL) packaging/ertime-config-version.cmake.in >"$(DESTDIR)$(cmakedir)/ertime-config-version.cmake"
-	chmod 644 "$(DESTDIR)$(pkgconfigdir)/ertime.pc" "$(DESTDIR)$(cmakedir)"/*.cmake
+	chmod 644 $(call in,pkgconfigdir,$(PKGCONFIG)) "$(DESTDIR)$(cmakedir)"/*.cmake
 	$(INSTALL_DATA) $(addprefix $(B)/man/,$(PAGES3)) "$(D3)"
 	$(INSTALL_DATA) tools/gdb/ertime.py "$(DESTDIR)$(gdbdir)/$(REAL)-gdb.py"
 	$(INSTALL_DATA) LICENSE $(B)/THIRD-PARTY $(addprefix $(B)/doc/,$(DOCUMENTS)) "$(DESTDIR)$(docdir)"
@@ -207,12 +234,11 @@ install-strip:
 	$(MAKE) INSTALL_PROGRAM='$(INSTALL_PROGRAM) -s' install
 
 # Removes the files, and then the folders that held them and are empty, up to the prefix.
-in = $(foreach it,$(2),"$(DESTDIR)$($(1))/$(it)")
 FOLDERS = $(bindir) $(includedir) $(pkgconfigdir) $(cmakedir) $(libdir) $(mandir)/man1 $(mandir)/man3 $(mandir)/man5 \
   $(docdir)/examples $(docdir) $(bashcompletiondir) $(zshcompletiondir) $(fishcompletiondir) $(gdbdir)
 uninstall:
-	rm -f $(call in,bindir,$(PROGRAMS)) $(call in,includedir,ertime.h) $(call in,pkgconfigdir,ertime.pc)
-	rm -f $(call in,libdir,libertime.a libertime.so $(SONAME) $(REAL))
+	rm -f $(call in,bindir,$(PROGRAMS)) $(call in,includedir,$(HEADERS)) $(call in,pkgconfigdir,$(PKGCONFIG))
+	rm -f $(call in,libdir,$(ARCHIVES) libertime.so $(SONAME) $(REAL))
 	rm -f $(call in,mandir,$(addprefix man1/,$(PAGES1)) $(addprefix man3/,$(PAGES3)) $(addprefix man5/,$(PAGES5)))
 	rm -f $(call in,bashcompletiondir,$(PROGRAMS)) $(call in,zshcompletiondir,$(addprefix _,$(PROGRAMS)))
 	rm -f $(call in,fishcompletiondir,$(addsuffix .fish,$(PROGRAMS)))

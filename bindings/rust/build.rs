@@ -1,10 +1,12 @@
-//! Links the library that pkg-config finds as `ertime`.
+//! Links the library that pkg-config finds as `ertime`, and with the feature `text` the one that it finds as `ertime_text`.
 use std::error::Error;
 use std::process::Command;
 
 fn main() -> Result<(), Box<dyn Error>> {
+    let with_text = std::env::var_os("CARGO_FEATURE_TEXT").is_some();
     let asked = Command::new("pkg-config")
         .args(["--libs", "ertime"])
+        .args(with_text.then_some("ertime_text"))
         .output()
         .map_err(|why| format!("pkg-config didn't run: {why}"))?;
     if !asked.status.success() {

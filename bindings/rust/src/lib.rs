@@ -25,6 +25,8 @@
 
 mod ffi;
 mod shards;
+#[cfg(feature = "text")]
+pub mod text;
 
 use std::fmt;
 use std::ptr;

@@ -102,7 +102,7 @@ fn write_line<O: Sink>(output: &mut O, line: &[u8]) -> bool
 }
 
 /// The status that tells a verdict.
-fn status_of(verdict: Verdict) -> AuditStatus
+pub fn status_of(verdict: Verdict) -> AuditStatus
     ensures { result ≡ status_telling verdict }
 {
     match verdict {

@@ -37,8 +37,9 @@ pub fn explain<E: Sink>(alloc: Global, audited: &Audited, errors: &mut E)
     }
 }
 
-/// The message on a text, where an audit of it ended so.
-fn message_on(alloc: Global, status: AuditStatus, text: &[u8]) -> Option<String>
+/// The message on a text, where an audit of it ended so: there is one where the history isn't legal or the text spells
+/// none, unless memory runs out.
+pub fn message_on(alloc: Global, status: AuditStatus, text: &[u8]) -> Option<String>
     ensures { IfSome result (λ message. IsMessage status text.now (string_bytes message)) }
 {
     match status {

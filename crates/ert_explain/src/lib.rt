@@ -1,7 +1,8 @@
 //! Why bytes are no scenario, for a person: at which line and column, at which op, and what is wrong.
 //!
-//! `explain` writes the message that explains a refusal to a sink. It stands on `ert_scenario`, which says which refusal
-//! bytes have, on `serde_json`, which reads them, on `strsim`, which finds the nearest known name, and on `ert_io`.
+//! `explain` writes the message that explains a refusal to a sink, and `message_on` gives it. The crate stands on
+//! `ert_scenario`, which says which refusal bytes have, on `serde_json`, which reads them, on `strsim`, which finds the
+//! nearest known name, and on `ert_io`.
 //! `specs/Explained` says when an explanation is true of bytes: it is of the very refusal, its cause is what is wrong
 //! with the value at that place (`specs/FieldShapes`, `specs/FieldRanges`, `specs/OpShapes`, `specs/OpRanges`,
 //! `specs/Labels`, `specs/Excesses`), its position lies in the bytes (`specs/Positions`), and what it shows of them is
@@ -55,4 +56,4 @@ pub use op_shape::OpShape;
 pub use param::{Param, Signature};
 pub use place::ListName;
 pub use position::Position;
-pub use telling::explain;
+pub use telling::{explain, message_on};

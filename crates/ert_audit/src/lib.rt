@@ -1,0 +1,24 @@
+//! What the program `ertaudit` does, over any source and sink of bytes: it reads a history of the clock and timer
+//! service that was written down, and tells whether it is legal.
+//!
+//! `audit` is the whole of that; its contract says what each status means, by the spelling of histories
+//! (`ert_spelling`) and the model of the service (`ert_defs`). `explain` tells why a history isn't legal, or why a text
+//! spells none; its contract says that what is told is so. Without streams, `verdict_on` gives the verdict on a text,
+//! `write_verdict` its line, and `message_on` the message. The crate stands on `ert_spelling`, which reads, on
+//! `ert_judge`, which finds the first entry that isn't legal and the condition that it breaks, and on `ert_io`; of the
+//! service itself it has only the clock's rules on plain numbers.
+//!
+//! The crate `ert_audit_cli` hands it the standard streams of the machine.
+#![tactic(auto)]
+
+mod auditing;
+mod explaining;
+mod lines;
+mod refusing;
+mod status;
+mod verdict;
+
+pub use auditing::{Audited, audit, status_of};
+pub use explaining::{explain, message_on};
+pub use status::AuditStatus;
+pub use verdict::{Verdict, one_verdict, verdict_on, write_verdict};
