@@ -38,11 +38,14 @@ def _put(text: str, place: str, made: str) -> str:
     return text.replace(place, made)
 
 
-def _data(module: bytes, licences: str) -> str:
-    """What the page is built with, as JSON that can stand in HTML."""
-    packed = gzip.compress(limited(module, MEMORY), 9, mtime=0)
+def _packed(data: bytes) -> str:
+    """Data that can stand in HTML."""
+    return base64.b64encode(gzip.compress(data, 9, mtime=0)).decode()
+
+
+def _built(licences: str) -> bytes:
+    """What the page is built with beside the module, as JSON."""
     built = {
-        "module": base64.b64encode(packed).decode(),
         "worker": joined(PAGE / "worker.mjs"),
         "schema": json.loads((TOP / "docs/scenario.schema.json").read_text()),
         "spelling": spelling(),
@@ -50,7 +53,7 @@ def _data(module: bytes, licences: str) -> str:
         "marks": (PAGE / "marks.css").read_text(),
         "licences": licences,
     }
-    return json.dumps(built, ensure_ascii=False, separators=(",", ":")).replace("<", "\\u003c")
+    return json.dumps(built, ensure_ascii=False, separators=(",", ":")).encode()
 
 
 def one_file(module: bytes, licences: str, version: str) -> str:
@@ -65,5 +68,6 @@ def one_file(module: bytes, licences: str, version: str) -> str:
     text = _put(text, 'href="icon.svg"', f'href="data:image/svg+xml;base64,{icon}"')
     text = _put(text, '<link rel="stylesheet" href="page.css">', f"<style>{style}</style>")
     text = _put(text, "@VERSION@", version)
-    text = _put(text, ' id="built"></script>', f' id="built">{_data(module, licences)}</script>')
+    for name, data in (("module", limited(module, MEMORY)), ("built", _built(licences))):
+        text = _put(text, f' id="{name}"></script>', f' id="{name}">{_packed(data)}</script>')
     return _put(text, '<script type="module" src="page.mjs"></script>', f"<script>{script}</script>")

@@ -1,29 +1,26 @@
 """What the page says of texts, beside what the programs say that were built: each status, output and message is the same."""
 from __future__ import annotations
 
-import importlib.machinery
-import importlib.util
-import json
 import os
 import pathlib
-import random
-import subprocess
+import sys
 import unittest
-from collections.abc import Iterator
-from types import ModuleType
 from typing import Any
 
 from playing import TOP
 
 from .chromium import PageTest
 
+sys.path.insert(0, str(TOP / ".ci"))
+
+import texts  # noqa: E402
+
 # How many changed texts there are, beside those that stand in files.
 COUNT = 1000
-SEED = 1
+SEED = 2
 # How many texts the page is given at once.
 BATCH = 50
-COMMANDS = {"scenario": ("ERTIME", ["run"]), "history": ("ERTAUDIT", [])}
-KINDS = {"ertime": "scenario", "ertaudit": "history"}
+KINDS = {"run": "scenario", "judge": "history"}
 ASKED = """const [texts, done] = arguments, made = [];
 (async () => {
   for (const [kind, text] of texts) {
@@ -33,67 +30,40 @@ ASKED = """const [texts, done] = arguments, made = [];
   done(made);
 })();"""
 
-Text = tuple[str, str]
 
-
-def messages() -> ModuleType:
-    """The check of the messages, which has texts and changes them."""
-    loader = importlib.machinery.SourceFileLoader("check_messages", str(TOP / ".ci/check_messages"))
-    spec = importlib.util.spec_from_loader("check_messages", loader)
-    assert spec is not None
-    module = importlib.util.module_from_spec(spec)
-    loader.exec_module(module)
-    return module
-
-
-def whole(text: Any) -> str:
-    """A text of the corpus, in which a part may stand for many."""
-    said = text if isinstance(text, str) else "".join(it if isinstance(it, str) else it[0] * it[1] for it in text)
-    return said.encode(errors="surrogatepass").decode(errors="replace")
-
-
-def files() -> Iterator[Text]:
-    """The examples, and the corpus of messages; each text as both kinds."""
-    for path in sorted((TOP / "examples").rglob("*")):
-        if path.suffix in (".json", ".txt") and path.parent.name != "messages":
-            text = path.read_text(errors="replace")
-            yield from (("scenario", text), ("history", text))
-    for path in sorted((TOP / "examples/messages").glob("*.json")):
-        for it in json.loads(path.read_text()):
-            yield KINDS[it["program"]], whole(it["input"])
-
-
-def changed() -> Iterator[Text]:
-    """Texts that are no scenario and no history, or hardly."""
-    check = messages()
-    seeds = check.seeds({name: pathlib.Path(os.environ[name.upper()]) for name in KINDS})
-    for number in range(COUNT):
-        seed = seeds[number % len(seeds)]
-        given = check.changed(seed.given, random.Random(f"{SEED}/{number}"))
-        yield KINDS[seed.program], given.decode(errors="replace")
+def written() -> list[tuple[texts.Text, str]]:
+    """The texts of .ci/check_wasm that can be written into a page: UTF-8, and of a length that programs take."""
+    texts.messages.BUILT.update({name: pathlib.Path(os.environ[name.upper()]) for name in ("ertime", "ertaudit")})
+    found = []
+    for it in texts.texts(COUNT, SEED):
+        try:
+            found.append((it, it.given.decode()))
+        except UnicodeDecodeError:
+            continue
+    return [(it, text) for it, text in found if len(it.given) < texts.TOO_LONG]
 
 
 class Corpus(PageTest):
     """The module in the page, and the programs."""
 
     def test_same_as_the_programs(self) -> None:
-        texts = [*files(), *changed()]
+        asked = written()
+        self.assertGreater(len(asked), 1_500)
         counts: dict[str, int] = {}
-        for start in range(0, len(texts), BATCH):
-            batch = texts[start : start + BATCH]
-            answers = self.browser.execute_async_script(ASKED, batch)
-            for (kind, text), answer in zip(batch, answers):
-                self.check(kind, text, answer)
+        wanted = texts.answers([it for it, _ in asked])
+        for start in range(0, len(asked), BATCH):
+            batch = asked[start : start + BATCH]
+            answers = self.browser.execute_async_script(ASKED, [(KINDS[it.command], text) for it, text in batch])
+            for (it, text), ran, answer in zip(batch, wanted[start:], answers):
+                self.check(f"{it.command}: {text[:300]!r}", ran, answer)
                 counts[answer["outcome"]] = counts.get(answer["outcome"], 0) + 1
+        self.assertEqual(sum(counts.values()), len(asked))
         told = ", ".join(f"{count} {name}" for name, count in sorted(counts.items()))
-        print(f"playground: {len(texts)} texts are answered as by the programs: {told}")
+        print(f"playground: {len(asked)} texts are answered as by the programs: {told}")
 
-    def check(self, kind: str, text: str, answer: dict[str, Any]) -> None:
+    def check(self, about: str, ran: Any, answer: dict[str, Any]) -> None:
         """One text."""
-        variable, words = COMMANDS[kind]
-        ran = subprocess.run([os.environ[variable], *words], input=text.encode(), capture_output=True, check=False)
-        about = f"{kind}: {text[:300]!r}"
-        said = {"status": ran.returncode, "output": ran.stdout.decode(), "errors": ran.stderr.decode()}
+        said = {"status": ran.status, "output": ran.output.decode(), "errors": ran.errors.decode()}
         self.assertEqual(answer["said"], said, about)
         self.assertIn(answer["outcome"], ("ran", "legal", "illegal", "refused"), about)
         self.assertEqual(answer["fault"] is not None, answer["outcome"] in ("illegal", "refused"), about)

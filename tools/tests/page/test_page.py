@@ -211,8 +211,8 @@ class Looks(PageTest):
         """Beside the page itself nothing was loaded but what it made; and the policy of the page keeps it so."""
         self.tab("history")
         names = self.run_script("return performance.getEntries().map(it => it.name).filter(it => it.includes(':'))")
-        self.assertIn(self.address, names)
-        self.assertEqual([it for it in names if it != self.address and not it.startswith(("blob:", "data:"))], [])
+        self.assertIn(self.address, {it.partition("#")[0] for it in names})
+        self.assertEqual([it for it in names if not it.startswith((self.address, "blob:", "data:"))], [])
         asked = "const done = arguments[0]; fetch('https://example.org/').then(() => done('sent'), (it) => done(it.name))"
         self.assertEqual(self.browser.execute_async_script(asked), "TypeError")
         said = [it["message"] for it in self.browser.get_log("browser")]

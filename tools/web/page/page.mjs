@@ -21,17 +21,15 @@ function tell(text) {
 
 for (const event of ["keydown", "pointerdown"]) document.addEventListener(event, () => tell(""), {capture: true});
 
-/** What the page is built with (`packaging/page`): the module and the worker, lists, texts and styles. */
-const built = JSON.parse(find("built").textContent);
-
-/** The bytes of the module, which is packed. */
-async function unpacked(text) {
-  const bytes = Uint8Array.from(atob(text), (it) => it.charCodeAt(0));
-  const stream = new Blob([bytes]).stream().pipeThrough(new DecompressionStream("gzip"));
-  return new Uint8Array(await new Response(stream).arrayBuffer());
+/** What stands packed in an element, as bytes. */
+function unpacked(id) {
+  const bytes = Uint8Array.from(atob(find(id).textContent), (it) => it.charCodeAt(0));
+  return new Response(new Blob([bytes]).stream().pipeThrough(new DecompressionStream("gzip")));
 }
 
-const module = await unpacked(built.module);
+/** What the page is built with (`packaging/page`): the module, and the worker, lists, texts and styles. */
+const module = new Uint8Array(await unpacked("module").arrayBuffer());
+const built = await unpacked("built").json();
 const worker = URL.createObjectURL(new Blob([built.worker], {type: "text/javascript"}));
 
 /** What runs the programs, in a worker that it begins when it is first asked. */
