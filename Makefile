@@ -158,6 +158,7 @@ $(B)/$(REAL): $(B)/ertime.o
 # how they are made, and .ci/check_wasm compares them with the programs.
 wasm: $(W)/ertime.wasm $(W)/ertime.mjs
 $(W)/ertime.wasm: crates/ert_text/out/libert_text.a $(wildcard packaging/wasm/*)
+	[ -f $(dir $<)module.bc ] || .ci/build_archive --crate ert_text
 	packaging/wasm/build $(W)
 $(W)/ertime.mjs: tools/web/ertime.mjs
 	mkdir -p $(W)

@@ -14,7 +14,8 @@
  *
  * Memory. A call takes memory by malloc, and has freed all of it when it returns. Without memory for the whole answer
  * the status is ERT_TEXT_NO_MEMORY, and nothing is told. (The programs may have written the front of an answer then, and
- * leave out the message that explains it.)
+ * leave out the message that explains it.) A message that has too little memory may leave out the piece of the text that
+ * it would show, and the name that it would propose; what it says is true.
  *
  * Threads. The calls share nothing and keep nothing, so any number of threads may make them at the same time. A signal
  * handler must not make any. No call throws, and none calls back.
