@@ -10,7 +10,7 @@ LOOP = """const Plain = Worker;
 const code = "onmessage = ({data}) => { if (data.module) postMessage({isReady: true}); else for (;;); };";
 window.Worker = class extends Plain { constructor() { super(URL.createObjectURL(new Blob([code]))); } };"""
 # Gives the answer to a text, and the longest time in milliseconds in which the page did nothing else.
-ASKED = """const [part, count, done] = arguments, text = part.repeat(count);
+ASKED = """const [head, part, count, tail, done] = arguments, text = head + part.repeat(count) + tail;
 let [last, longest] = [performance.now(), 0];
 const beat = setInterval(() => { longest = Math.max(longest, performance.now() - last); last = performance.now(); }, 10);
 ertime.answer("scenario", text).then(({said, answer}) => {
@@ -19,6 +19,10 @@ ertime.answer("scenario", text).then(({said, answer}) => {
 });"""
 # The longest text that the programs take, in bytes.
 MOST = 2**24
+HEAD = '{"format":1,"first":[0,0],"ops":['
+# Hostile texts, each as a beginning, a part that is repeated up to MOST, and an end: some are refused at once, some take
+# more memory than there is, and some take long.
+HOSTILE = (("", "[", ""), ("", '["time"],', ""), ("", HEAD, ""), ("", "9", ""), ("", " ", ""), (HEAD, "0,", "0]}"), (HEAD, '["time"],', '["time"]]}'), ('{"', "\\u0041", '":1}'))
 # Milliseconds that the page may be busy on a machine with other work.
 PATIENCE = 1500
 
@@ -48,10 +52,10 @@ class Limits(PageTest):
         self.wait(lambda: self.text == text and self.lines == ["time 0", "end 0"])
 
     def test_hostile_texts(self) -> None:
-        """Sixteen mebibytes of brackets, of ops, of digits and of nothing: each has an answer by name, or is stopped."""
-        for part in ("[", '["time"],', "9", " ", '{"format":1,"first":[0,0],"ops":['):
-            self.browser.set_script_timeout(60)
-            outcome, message, status, longest = self.browser.execute_async_script(ASKED, part, MOST // len(part))
+        """Each has an answer by name, or is stopped, and meanwhile the page is not held up."""
+        for head, part, tail in HOSTILE:
+            count = (MOST - len(head) - len(tail)) // len(part)
+            outcome, message, status, longest = self.browser.execute_async_script(ASKED, head, part, count, tail)
             if outcome == "refused":
                 self.assertEqual(status, 3)
             else:
@@ -59,7 +63,7 @@ class Limits(PageTest):
             self.assertLess(longest, PATIENCE, part)
 
     def test_a_text_that_is_longer_than_the_programs_take(self) -> None:
-        outcome, message, status, _ = self.browser.execute_async_script(ASKED, " ", MOST + 1)
+        outcome, message, status, _ = self.browser.execute_async_script(ASKED, "", " ", MOST + 1, "")
         self.assertEqual((outcome, message, status), ("failed", "ertime ended with status 8: the input is too long", 8))
 
     def test_a_loop_is_stopped(self) -> None:
