@@ -284,7 +284,7 @@ deb: all
 
 # All documents, the pages and the references as a site, with the page to play with time where it is built or its proved
 # crate is there. Nothing is proved for it. The search needs a server: `python3 -m http.server -d build/site` is one.
-IN_SITE = $(or $(wildcard $(PLAYGROUND)),$(and $(HAS_PLAYGROUND),$(wildcard crates/ert_text/out/kept)))
+IN_SITE = $(or $(wildcard $(PLAYGROUND)),$(and $(HAS_PLAYGROUND),$(wildcard crates/ert_text/out/libert_text.a)))
 html: pages $(if $(IN_SITE),$(PLAYGROUND))
 	$(PYTHON) packaging/site $(B)/site $(B)/man $(if $(IN_SITE),$(PLAYGROUND))
 
