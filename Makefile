@@ -126,26 +126,27 @@ $(B)/%.symbols: include/%.h
 	mkdir -p $(B)
 	sed -n 's/^u\{0,1\}int32_t \(ert_[a-z_]*\)(.*/\1/p' $< >$@
 
-# A library's code in one section, and the tables by which a backtrace goes on through it.
+# A library's code in one section, and of the one for timers the tables by which a backtrace goes on through it.
 $(B)/ertime.bare.o: $(ARCHIVE)
 $(B)/ertime_text.bare.o: $(TEXT_ARCHIVE)
 $(B)/ertime.bare.o $(B)/ertime_text.bare.o: packaging/text.ld
 	mkdir -p $(B)
 	$(LD) -r -T packaging/text.ld --whole-archive $(filter %.a,$^) -o $@
 
-$(B)/%.unwind.o: $(B)/%.bare.o packaging/unwind
-	$(PYTHON) packaging/unwind --objdump '$(OBJDUMP)' $< >$(@:.o=.s)
-	$(CC) -c $(@:.o=.s) -o $@
+$(B)/unwind.o: $(B)/ertime.bare.o packaging/unwind
+	$(PYTHON) packaging/unwind --objdump '$(OBJDUMP)' $< >$(B)/unwind.s
+	$(CC) -c $(B)/unwind.s -o $@
 
 # A library's archive and that of the heap as one object, in which every other name is local. (Whoever installs may not
 # have the toolchain on the path: so nothing here depends on a file of it.) The linker takes the tables as they are: it
 # would ask that those of an object stand in it.
 OBJECTS = $(B)/ertime.o $(B)/ertime_text.o
-$(OBJECTS): $(B)/%.o: $(B)/%.bare.o $(if $(is_native),$(B)/%.unwind.o,$(B)/heap.o) $(B)/%.symbols
+$(B)/ertime.o: $(if $(is_native),$(B)/unwind.o)
+$(OBJECTS): $(B)/%.o: $(B)/%.bare.o $(B)/%.symbols $(if $(is_native),,$(B)/heap.o)
 	@[ -f '$(HEAP)' ] || { echo "there is no $(HEAP): rt isn't on the path, or HEAP has to say where it is"; exit 1; }
-	$(LD) -r --traditional-format --whole-archive $(filter %.bare.o %.unwind.o,$^) $(HEAP) -o $@
+	$(LD) -r --traditional-format --whole-archive $(filter %bare.o %unwind.o,$^) $(HEAP) -o $@
 	$(OBJCOPY) --keep-global-symbols=$(B)/$*.symbols $@
-.SECONDARY: $(OBJECTS) $(OBJECTS:.o=.bare.o) $(OBJECTS:.o=.unwind.o)
+.SECONDARY: $(OBJECTS) $(OBJECTS:.o=.bare.o) $(B)/unwind.o
 
 $(B)/lib%.a: $(B)/%.o
 	rm -f $@
