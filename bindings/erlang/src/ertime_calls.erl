@@ -40,7 +40,7 @@
 %% What OTP's behaviours, and those of Elixir where it is loaded, need of modules with calls about time.
 -spec presets(otp) -> [module()].
 presets(otp) ->
-    [gen, gen_server, gen_statem, gen_event, gen_fsm, supervisor, proc_lib, timer, calendar, logger] ++
+    [gen, gen_server, gen_statem, gen_event, gen_fsm, supervisor, proc_lib, timer, calendar, logger, raw_file_io_delayed] ++
         case code:ensure_loaded('Elixir.System') of
             {module, _} ->
                 [
