@@ -4,6 +4,8 @@
 
 -export([run/2, set_up/1, tear_down/1]).
 
+-include("ertime.hrl").
+
 -define(LIMIT, 60000).
 
 run(Options, Fun) ->
@@ -17,7 +19,8 @@ run(Options, Fun) ->
 open(Options) ->
     Advance = maps:get(advance, Options, by_hand),
     Limit = maps:get(limit, Options, ?LIMIT),
-    ertime_watch:is_good(Advance, Limit) orelse error(badarg, [Options]),
+    Wrong = ertime_options:wrong(Options),
+    Wrong =:= none orelse ?BADARG([Options], 1, Wrong),
     {ertime:open(maps:without([advance, limit], Options)), Advance, Limit}.
 
 %% For the calling process, which a test framework has started for a test: opens a clock, and closes it when the process ends.
@@ -69,7 +72,7 @@ under(Clock, Fun, Advance, Limit) ->
         exit(Watch, kill)
     end.
 
-%% The reason tells processes that are linked to it to end quietly.
+%% The reason tells processes that are linked to it to end quietly. What reports a failure takes the outermost call for the test.
 in_process(Clock, Callers, Fun) ->
     receive {?MODULE, go} -> ok end,
     put('$callers', Callers),
@@ -78,7 +81,7 @@ in_process(Clock, Callers, Fun) ->
     exit({shutdown, try Fun(Clock) of
         Result -> {?MODULE, returned, Result}
     catch
-        Class:Reason:Stack -> {?MODULE, raised, Class, Reason, Stack}
+        Class:Reason:Stack -> {?MODULE, raised, Class, Reason, [Frame || Frame <- Stack, element(1, Frame) =/= ?MODULE]}
     end}).
 
 guard(Caller, Pid) ->
