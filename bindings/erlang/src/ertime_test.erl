@@ -2,34 +2,55 @@
 %% A test under a clock of its own: in a process of its own (`ertime:test/2'), or in one that a test framework has started.
 -module(ertime_test).
 
--export([run/2, set_up/1, tear_down/1]).
+-export([run/2, outcome/2, set_up/1, set_up/2, tear_down/1, clear/2]).
 
 -define(LIMIT, 60000).
+-define(STILL, 10).
 
+%% Under the clock of the options, or those of the seeds that the environment asks for.
 run(Options, Fun) ->
-    {Clock, Advance, Limit} = open(Options),
+    case {ertime_seeds:asked(), is_map_key(schedule, Options)} of
+        {Asked, false} when Asked =/= none -> ertime_seeds:suite(Asked, Options, Fun);
+        _ -> returned(outcome(Options, Fun))
+    end.
+
+returned({returned, Result, _}) -> Result;
+returned({raised, Class, Reason, Stack, _}) -> erlang:raise(Class, Reason, Stack).
+
+%% What the test returns or raises, which faults were done, and, with the option `record', when timers were due.
+-spec outcome(map(), fun((ertime:clock()) -> term())) -> ertime_seeds:outcome().
+outcome(Options, Fun) ->
+    {Clock, Rest} = open(Options),
     try
-        under(Clock, Fun, Advance, Limit)
+        under(Clock, Fun, Rest)
     after
         ertime:close(Clock)
     end.
 
+%% The clock, and how it is moved.
 open(Options) ->
-    Advance = maps:get(advance, Options, by_hand),
-    Limit = maps:get(limit, Options, ?LIMIT),
+    Own = #{advance => by_hand, limit => ?LIMIT, schedule => none, always => none, record => false, output => none},
+    #{advance := Advance, limit := Limit, schedule := Schedule0, always := Always} = Rest = maps:merge(Own, maps:with(maps:keys(Own), Options)),
     ertime_watch:is_good(Advance, Limit) orelse error(badarg, [Options]),
-    {ertime:open(maps:without([advance, limit], Options)), Advance, Limit}.
+    Always =:= none orelse is_function(Always, 1) orelse ertime_faults:refuse("always: wants a function of the clock", [Options]),
+    Schedule =
+        case Schedule0 of
+            none when Always =:= none -> none;
+            none -> [];
+            _ -> ertime_faults:check(Schedule0, Options, [Options])
+        end,
+    {ertime_clock:open_for(Schedule, maps:without(maps:keys(Own), Options)), Rest#{schedule := Schedule}}.
 
 %% For the calling process, which a test framework has started for a test: opens a clock, and closes it when the process ends.
 set_up(Options) ->
-    {Clock, Advance, Limit} = open(Options),
+    set_up(Options, self()).
+
+%% Where the process `Asker' wants to know which faults were done.
+set_up(Options, Asker) ->
+    {Clock, Rest} = open(Options),
     Self = self(),
-    _ = ertime_watch:start(Clock, Self, #{
-        advance => Advance,
-        limit => Limit,
-        tell => fun(Reason) -> exit(Self, Reason) end,
-        gone => fun() -> ertime:close(Clock) end
-    }),
+    _ = drive(Clock, Self, Asker, Rest, fun(Reason) -> exit(Self, Reason) end),
+    _ = watch(Clock, Self, Rest, fun(Reason) -> exit(Self, Reason) end),
     _ = ertime:use(Clock),
     Clock.
 
@@ -37,36 +58,80 @@ set_up(Options) ->
 tear_down(Clock) ->
     ertime:close(Clock).
 
--dialyzer({no_return, under/4}).
-under(Clock, Fun, Advance, Limit) ->
+drive(_, _, _, #{schedule := none}, _) ->
+    none;
+drive(Clock, Owner, Asker, Rest, Tell) ->
+    ertime_drive:start(Clock, Owner, Asker, (maps:with([schedule, always, record], Rest))#{tell => Tell}).
+
+watch(Clock, Owner, #{advance := Advance, limit := Limit}, Tell) ->
+    ertime_watch:start(Clock, Owner, #{advance => Advance, limit => Limit, tell => Tell, gone => fun() -> ertime:close(Clock) end}).
+
+under(Clock, Fun, Rest) ->
     Self = self(),
     Callers = [Self | case get('$callers') of undefined -> []; Before -> Before end],
     {Pid, Monitor} = spawn_monitor(fun() -> in_process(Clock, Callers, Fun) end),
-    Watch = ertime_watch:start(Clock, Pid, #{
-        advance => Advance,
-        limit => Limit,
-        tell => fun(Reason) -> Self ! {?MODULE, Monitor, Reason} end,
-        gone => fun() -> ertime:close(Clock) end
-    }),
+    maps:get(output, Rest) =:= none orelse group_leader(maps:get(output, Rest), Pid),
+    Tell = fun(Reason) -> Self ! {?MODULE, Monitor, Reason} end,
+    Drive = drive(Clock, Pid, Self, Rest, Tell),
+    Watch = watch(Clock, Pid, Rest, Tell),
     %% Whoever ends this process, as a limit of the time of tests does, ends the other one too.
     Guard = spawn(fun() -> guard(Self, Pid) end),
     Pid ! {?MODULE, go},
     try
-        receive
-            {?MODULE, Monitor, Reason} ->
-                Stack = stack(Pid),
-                kill(Pid, Monitor),
-                erlang:raise(error, Reason, Stack);
-            {'DOWN', Monitor, process, Pid, {shutdown, {?MODULE, returned, Result}}} ->
-                Result;
-            {'DOWN', Monitor, process, Pid, {shutdown, {?MODULE, raised, Class, Reason, Stack}}} ->
-                erlang:raise(Class, Reason, Stack);
-            {'DOWN', Monitor, process, Pid, Reason} ->
-                exit(Reason)
-        end
+        ended(Pid, Monitor, Drive)
     after
         exit(Guard, kill),
-        exit(Watch, kill)
+        exit(Watch, kill),
+        maps:get(schedule, Rest) =:= none orelse clear(Clock, Pid)
+    end.
+
+ended(Pid, Monitor, Drive) ->
+    receive
+        {?MODULE, Monitor, {raised, Class, Reason, Stack}} ->
+            kill(Pid, Monitor),
+            {raised, Class, Reason, Stack, done(Drive)};
+        {?MODULE, Monitor, Reason} ->
+            Stack = stack(Pid),
+            kill(Pid, Monitor),
+            {raised, error, Reason, Stack, done(Drive)};
+        {'DOWN', Monitor, process, Pid, {shutdown, {?MODULE, returned, Result}}} ->
+            {returned, Result, done(Drive)};
+        {'DOWN', Monitor, process, Pid, {shutdown, {?MODULE, raised, Class, Reason, Stack}}} ->
+            {raised, Class, Reason, Stack, done(Drive)};
+        {'DOWN', Monitor, process, Pid, Reason} ->
+            {raised, exit, Reason, [], done(Drive)}
+    end.
+
+done(none) -> {[], []};
+done(Drive) -> ertime_drive:stop(Drive).
+
+%% Waits until the processes that a test has left end, as those that are linked to it do, and ends the rest: whoever runs it again
+%% finds their names free. They are those that it, or one of them, has spawned, and those that see its clock and are younger.
+-spec clear(ertime:clock(), pid()) -> ok.
+clear(Clock, Test) ->
+    Left = lists:foldl(fun(Pid, Sum) -> [Pid || is_left(Pid, Clock, [Test | Sum])] ++ Sum end, [], [Pid || Pid <- lists:sort(processes()), Pid > Test]),
+    Monitors = maps:from_list([{erlang:monitor(process, Pid), Pid} || Pid <- Left]),
+    clear(Monitors, ?STILL, fun(Pids) -> [exit(Pid, kill) || Pid <- Pids] end).
+
+is_left(Pid, _, _) when Pid =:= self() ->
+    false;
+is_left(Pid, Clock, Before) ->
+    case process_info(Pid, [parent, dictionary]) of
+        [{parent, Parent}, {dictionary, Dictionary}] ->
+            lists:member(Parent, Before) orelse lists:keyfind('$ertime', 1, Dictionary) =:= {'$ertime', Clock};
+        undefined ->
+            false
+    end.
+
+%% None has ended for so many real milliseconds: then they are ended, once.
+clear(Monitors, _, _) when map_size(Monitors) =:= 0 ->
+    ok;
+clear(Monitors, Wait, Otherwise) ->
+    receive
+        {'DOWN', Monitor, process, _, _} when is_map_key(Monitor, Monitors) -> clear(maps:remove(Monitor, Monitors), Wait, Otherwise)
+    after Wait ->
+        _ = Otherwise(maps:values(Monitors)),
+        clear(Monitors, infinity, Otherwise)
     end.
 
 %% The reason tells processes that are linked to it to end quietly.

@@ -90,7 +90,7 @@ replace_on() ->
     %% Who waits for a module to be loaded would seem to rest.
     ok = code:ensure_modules_loaded([
         ertime, ertime_times, ertime_timers, ertime_monitors, ertime_clock, ertime_timer, ertime_calls, ertime_keeper, ertime_rest,
-        ertime_watch, ertime_test
+        ertime_watch, ertime_test, ertime_drive
     ]),
     persistent_term:put(?EPOCH, atomics:new(1, [])),
     ertime_keeper:start(),
