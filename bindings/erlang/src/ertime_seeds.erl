@@ -2,7 +2,7 @@
 %% Runs a test under the clocks of many seeds. The schedule of the first seed that fails is made smaller and told.
 -module(ertime_seeds).
 
--export([check/3, run/3, asked/0, suite/3, first_seeds/1, explore/3, options/2, told/1]).
+-export([check/3, run/3, asked/0, suite/3, first/1, explore/4, told/1]).
 
 -export_type([report/0, outcome/0]).
 
@@ -47,20 +47,26 @@ raise(Report = #{raised := {Class, Reason, Stack}}) ->
 check(Seeds, Options, Fun) when is_list(Options) ->
     check(Seeds, maps:from_list(Options), Fun);
 check(Seeds, Options, Fun) when is_map(Options), is_function(Fun, 1) ->
-    explore(Seeds, Options, fun(Under) -> ertime_test:outcome(Under, Fun) end);
+    Defaults = #{advance => auto, mode => multi_time_warp, correction => true, limit => ?LIMIT},
+    case explore(Seeds, maps:merge(Defaults, Options), fun(Under) -> ertime_test:outcome(Under, Fun) end, infinity) of
+        {passed, Passed, _} -> {passed, Passed};
+        Failed -> Failed
+    end;
 check(_, Options, _) ->
     ertime_faults:refuse("seeds: wants seeds, a map or list of options, and a function of the clock", [Options]).
 
-%% The same with a function that runs the test with such options, however that is done.
--spec explore(pos_integer() | {integer(), integer()} | [integer()], map(), fun((map()) -> outcome())) ->
-    {passed, non_neg_integer()} | {failed, report()}.
-explore(Seeds0, Options, Run) ->
+%% The same with a function that runs the test with such options, however that is done, and for so many real milliseconds, or
+%% `suite' for as many as a test has that knows nothing of seeds. Answers what the last run returned, too.
+-spec explore(pos_integer() | {integer(), integer()} | [integer()], map(), fun((map()) -> outcome()), pos_integer() | infinity | suite) ->
+    {passed, non_neg_integer(), term()} | {failed, report()}.
+explore(Seeds0, Options, Run, Milliseconds) ->
     Seeds = seeds(Seeds0),
-    {Own, Test} = options(Options, #{advance => auto, mode => multi_time_warp, correction => true, limit => ?LIMIT}),
-    case with_schedulers(Own, fun() -> all(Seeds, Own, Test, Run, infinity) end) of
-        {passed, Passed, _} -> {passed, Passed};
-        Failed -> Failed
-    end.
+    {Own, Test} = options(Options),
+    with_schedulers(Own, fun() -> all(Seeds, Own, Test, Run, until(Milliseconds)) end).
+
+until(infinity) -> infinity;
+until(suite) -> until(?SUITE_TIME);
+until(Milliseconds) -> erlang:monotonic_time(millisecond) + Milliseconds.
 
 seeds(Count) when is_integer(Count), Count > 0 -> lists:seq(1, Count);
 seeds({From, To}) when is_integer(From), is_integer(To), From =< To -> lists:seq(From, To);
@@ -71,9 +77,9 @@ seeds(Other) ->
     ertime_faults:refuse(io_lib:format("seeds: ~0tp is no count, no {From, To} and no list of seeds", [Other]), [Other]).
 
 %% Those of the seeds, and those of each test.
--spec options(map(), map()) -> {map(), map()}.
-options(Options, Defaults) ->
-    Test = maps:merge(Defaults, maps:without(?OWN, Options)),
+-spec options(map()) -> {map(), map()}.
+options(Options) ->
+    Test = maps:without(?OWN, Options),
     maps:is_key(schedule, Options) andalso ertime_faults:refuse("schedule: stands beside seeds, which draw one", [Options]),
     Own = #{
         kinds => ertime_faults:kinds(maps:get(faults, Options, silent), Test),
@@ -206,11 +212,11 @@ with_schedulers(#{deterministic := true}, Run) ->
 
 %% What the environment asks of every test: ERTIME_SEEDS (`200', `1..200') or ERTIME_SEED, with ERTIME_FAULTS (`silent', or
 %% names with commas between).
--spec asked() -> none | {[integer()], [atom()]}.
+-spec asked() -> none | {pos_integer() | {integer(), integer()} | [integer()], [atom()]}.
 asked() ->
     case {os:getenv("ERTIME_SEED"), os:getenv("ERTIME_SEEDS")} of
         {false, false} -> none;
-        {false, Range} -> {seeds(range(Range)), faults_asked()};
+        {false, Range} -> {range(Range), faults_asked()};
         {Seed, _} -> {[number("ERTIME_SEED", Seed)], faults_asked()}
     end.
 
@@ -231,20 +237,19 @@ faults_asked() ->
 
 %% Runs a test that knows nothing of seeds under those that the environment asks for, and answers or raises what it does.
 suite({Seeds, Faults}, Options, Fun) ->
-    {Own, Test} = options(Options#{faults => Faults}, #{}),
-    Until = erlang:monotonic_time(millisecond) + ?SUITE_TIME,
-    case all(Seeds, Own, Test, fun(Under) -> ertime_test:outcome(Under, Fun) end, Until) of
+    case explore(Seeds, Options#{faults => Faults}, fun(Under) -> ertime_test:outcome(Under, Fun) end, suite) of
         {passed, _, Result} -> Result;
         {failed, Report} -> raise(Report)
     end.
 
 %% The schedule of the first seed, for a test that runs once.
-first_seeds(Options) ->
+first(Options) ->
     case asked() of
         none ->
             Options;
-        {[Seed | _], Faults} ->
-            {Own, Test} = options(Options#{faults => Faults}, #{}),
+        {Seeds, Faults} ->
+            Seed = hd(seeds(Seeds)),
+            {Own, Test} = options(Options#{faults => Faults}),
             Test#{schedule => drawn(Seed, Own#{moments => []})}
     end.
 

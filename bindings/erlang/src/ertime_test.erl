@@ -2,7 +2,7 @@
 %% A test under a clock of its own: in a process of its own (`ertime:test/2'), or in one that a test framework has started.
 -module(ertime_test).
 
--export([run/2, outcome/2, set_up/1, set_up/2, tear_down/1, clear/2]).
+-export([run/2, outcome/2, set_up/1, set_up/2, done/1, tear_down/1, clear/2]).
 
 -define(LIMIT, 60000).
 -define(STILL, 10).
@@ -43,16 +43,17 @@ open(Options) ->
 
 %% For the calling process, which a test framework has started for a test: opens a clock, and closes it when the process ends.
 set_up(Options) ->
-    set_up(Options, self()).
+    {Clock, _} = set_up(Options, self()),
+    Clock.
 
-%% Where the process `Asker' wants to know which faults were done.
+%% The same, with the process that `done/1' asks which faults were done, and which ends with the process `Asker'.
 set_up(Options, Asker) ->
     {Clock, Rest} = open(Options),
     Self = self(),
-    _ = drive(Clock, Self, Asker, Rest, fun(Reason) -> exit(Self, Reason) end),
+    Drive = drive(Clock, Self, Asker, Rest, fun(Reason) -> exit(Self, Reason) end),
     _ = watch(Clock, Self, Rest, fun(Reason) -> exit(Self, Reason) end),
     _ = ertime:use(Clock),
-    Clock.
+    {Clock, Drive}.
 
 %% In any process.
 tear_down(Clock) ->
