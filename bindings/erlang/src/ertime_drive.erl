@@ -41,9 +41,10 @@ start(Clock, Owner, Asker, #{schedule := Schedule, always := Always, record := R
             record = Record,
             tell = Tell
         },
-        publish(Drive),
+        Begun = begin_at(0, Drive),
+        publish(Begun),
         Self ! {?MODULE, self()},
-        serve(Drive)
+        serve(Begun)
     end),
     receive
         {?MODULE, Pid} -> Pid
@@ -186,6 +187,13 @@ publish(#drive{clock = Clock, events = Events, always = Always, record = Record}
             [] -> ?NEVER
         end,
     ertime_keeper:put({drive, Clock}, {self(), Next, length([resume || {_, {resume, _}} <- Events]), Always, Record}).
+
+%% What is due when the clock has just been opened, is done before the test begins.
+begin_at(At, Drive = #drive{events = [{At, _} | _]}) ->
+    {_, Next} = do_next(Drive, self()),
+    begin_at(At, Next);
+begin_at(_, Drive) ->
+    Drive.
 
 do_next(Drive = #drive{events = []}, _) ->
     {0, Drive};

@@ -1,7 +1,7 @@
 %% @doc Faults of time: what kinds there are, and schedules of them, drawn by a seed or written down.
 %%
 %% A schedule is a list of `{At, Fault}': milliseconds of OS monotonic time since the clock was opened, and what happens then,
-%% after the timers that are due by then.
+%% after the timers that are due by then; at 0, before the test begins.
 %%
 %% <table>
 %% <tr><td>`{leap, Milliseconds}'</td><td>the OS system clock leaps, forward or back, and is checked at once</td></tr>

@@ -1,26 +1,31 @@
 %% @private
-%% A group leader that prints nothing. What its processes write is dropped, and so is what is logged of them: a test that fails is
-%% run hundreds of times while it is made smaller.
+%% Group leaders for the runs of a test, by which its processes are known: one that passes on what they write, and one that drops
+%% it, with what is logged of them. A test is run hundreds of times while it is made smaller.
 -module(ertime_quiet).
 
 -export([with/1]).
 %% @hidden
 -export([drops/2]).
 
-%% Calls a function with such a group leader, which ends with the call or its process.
--spec with(fun((pid()) -> Result)) -> Result.
+%% Calls a function with both, which end with the call or its process.
+-spec with(fun((pid(), pid()) -> Result)) -> Result.
 with(Fun) ->
-    Self = self(),
-    Pid = spawn(fun() ->
-        erlang:put('$ertime', none),
-        serve(erlang:monitor(process, Self))
-    end),
-    ok = logger:add_primary_filter(filter_id(Pid), {fun ?MODULE:drops/2, Pid}),
+    Passing = started(group_leader()),
+    Dropping = started(none),
+    ok = logger:add_primary_filter(filter_id(Dropping), {fun ?MODULE:drops/2, Dropping}),
     try
-        Fun(Pid)
+        Fun(Passing, Dropping)
     after
-        Pid ! {?MODULE, leave}
+        Passing ! {?MODULE, leave},
+        Dropping ! {?MODULE, leave}
     end.
+
+started(To) ->
+    Self = self(),
+    spawn(fun() ->
+        erlang:put('$ertime', none),
+        serve(erlang:monitor(process, Self), To)
+    end).
 
 filter_id(Pid) ->
     list_to_atom("ertime_quiet_" ++ pid_to_list(Pid)).
@@ -29,28 +34,31 @@ filter_id(Pid) ->
 drops(#{meta := #{gl := Pid}}, Pid) -> stop;
 drops(_, _) -> ignore.
 
-%% It stays a while, for what is logged late of processes that have ended.
-serve(Monitor) ->
+serve(Monitor, To) ->
     receive
         {io_request, From, As, Request} ->
-            From ! {io_reply, As, reply(Request)},
-            serve(Monitor);
+            answer(From, As, Request, To),
+            serve(Monitor, To);
         {'DOWN', Monitor, process, _, _} ->
-            leave();
+            leave(To);
         {?MODULE, leave} ->
-            leave();
+            leave(To);
         _ ->
-            serve(Monitor)
+            serve(Monitor, To)
     end.
 
-leave() ->
+%% It stays a while, for what is logged late of processes that have ended.
+leave(To) ->
     receive
         {io_request, From, As, Request} ->
-            From ! {io_reply, As, reply(Request)},
-            leave()
+            answer(From, As, Request, To),
+            leave(To)
     after 100 ->
         logger:remove_primary_filter(filter_id(self()))
     end.
+
+answer(From, As, Request, none) -> From ! {io_reply, As, reply(Request)};
+answer(From, As, Request, To) -> To ! {io_request, From, As, Request}.
 
 reply({put_chars, _, _}) -> ok;
 reply({put_chars, _, _, _, _}) -> ok;

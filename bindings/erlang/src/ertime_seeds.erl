@@ -62,7 +62,11 @@ check(_, Options, _) ->
 explore(Seeds0, Options, Run, Milliseconds) ->
     Seeds = seeds(Seeds0),
     {Own, Test} = options(Options),
-    with_schedulers(Own, fun() -> all(Seeds, Own, Test, Run, until(Milliseconds)) end).
+    with_schedulers(Own, fun() ->
+        ertime_quiet:with(fun(Passing, Dropping) ->
+            all(Seeds, Own#{passing => Passing}, Test#{output => Dropping}, Run, until(Milliseconds))
+        end)
+    end).
 
 until(infinity) -> infinity;
 until(suite) -> until(?SUITE_TIME);
@@ -110,9 +114,9 @@ flag(Name, Other) -> ertime_faults:refuse(io_lib:format("~w: ~0tp is neither tru
 
 %% First without a fault: so it is known when timers are due, and faults can be drawn for these moments.
 all(Seeds, Own, Test, Run, Until) ->
-    case Run(Test#{schedule => serially(Own, []), record => true}) of
+    case Run(Test#{schedule => serially(Own, []), record => true, output => maps:get(passing, Own)}) of
         {returned, _, {_, Moments}} ->
-            ertime_quiet:with(fun(Output) -> each(Seeds, 0, Own#{moments => Moments}, Test#{output => Output}, Run, Until) end);
+            each(Seeds, 0, Own#{moments => Moments}, Test, Run, Until);
         {raised, Class, Reason, Stack, _} ->
             {failed, #{
                 seed => none, passed => 0, drawn => [], schedule => [], tries => 1, again => {1, 1}, options => Test,
@@ -164,7 +168,7 @@ report({Count, Of} = Again, Schedule, Raised, Fails, Own, Test, Run) ->
 
 %% What the smallest one raises.
 last(Run, Least, Own, Test, Before) ->
-    case Run(maps:remove(output, Test#{schedule => serially(Own, Least)})) of
+    case Run(Test#{schedule => serially(Own, Least), output => maps:get(passing, Own)}) of
         {raised, Class, Reason, Stack, _} -> {Class, Reason, Stack};
         _ -> Before
     end.

@@ -2,10 +2,11 @@
 %% A test under a clock of its own: in a process of its own (`ertime:test/2'), or in one that a test framework has started.
 -module(ertime_test).
 
--export([run/2, outcome/2, set_up/1, set_up/2, done/1, tear_down/1, clear/2]).
+-export([run/2, outcome/2, set_up/1, set_up/2, done/1, tear_down/1, clear/3]).
 
 -define(LIMIT, 60000).
 -define(STILL, 10).
+-define(ROUNDS, 20).
 
 %% Under the clock of the options, or those of the seeds that the environment asks for.
 run(Options, Fun) ->
@@ -83,7 +84,7 @@ under(Clock, Fun, Rest) ->
     after
         exit(Guard, kill),
         exit(Watch, kill),
-        maps:get(schedule, Rest) =:= none orelse clear(Clock, Pid)
+        maps:get(schedule, Rest) =:= none orelse clear(Clock, Pid, maps:get(output, Rest))
     end.
 
 ended(Pid, Monitor, Drive) ->
@@ -107,32 +108,96 @@ done(none) -> {[], []};
 done(Drive) -> ertime_drive:stop(Drive).
 
 %% Waits until the processes that a test has left end, as those that are linked to it do, and ends the rest: whoever runs it again
-%% finds their names free. They are those that it, or one of them, has spawned, and those that see its clock and are younger.
--spec clear(ertime:clock(), pid()) -> ok.
-clear(Clock, Test) ->
-    Left = lists:foldl(fun(Pid, Sum) -> [Pid || is_left(Pid, Clock, [Test | Sum])] ++ Sum end, [], [Pid || Pid <- lists:sort(processes()), Pid > Test]),
-    Monitors = maps:from_list([{erlang:monitor(process, Pid), Pid} || Pid <- Left]),
-    clear(Monitors, ?STILL, fun(Pids) -> [exit(Pid, kill) || Pid <- Pids] end).
+%% finds their names free. They are those that it, or one of them, has spawned, and younger ones that see its clock or have the
+%% group leader of its run.
+-spec clear(ertime:clock(), pid(), pid() | none) -> ok.
+clear(Clock, Test, Output) ->
+    Kill = fun(Pids) -> [exit(Pid, kill) || Pid <- Pids] end,
+    {Left, _} = left(Clock, Test, Output),
+    wait_for(watched(Left), ?STILL, Kill),
+    clear_again(Clock, Test, Output, Kill, ?ROUNDS).
 
-is_left(Pid, _, _) when Pid =:= self() ->
-    false;
-is_left(Pid, Clock, Before) ->
-    case process_info(Pid, [parent, dictionary]) of
-        [{parent, Parent}, {dictionary, Dictionary}] ->
-            lists:member(Parent, Before) orelse lists:keyfind('$ertime', 1, Dictionary) =:= {'$ertime', Clock};
-        undefined ->
-            false
+%% Those that are spawned meanwhile, again and again. None of them goes on while it is looked at: to be asked for something else
+%% lets a process run.
+clear_again(_, _, _, _, 0) ->
+    ok;
+clear_again(Clock, Test, Output, Kill, Rounds) ->
+    case left(Clock, Test, Output) of
+        {[], false} ->
+            ok;
+        _ ->
+            Held = hold_younger(Test),
+            {Left, _} = left(Clock, Test, Output),
+            _ = Kill(Left),
+            _ = [is_free(Pid) || Pid <- Held],
+            wait_for(watched(Left), ?STILL, Kill),
+            clear_again(Clock, Test, Output, Kill, Rounds - 1)
     end.
 
+hold_younger(Test) ->
+    Priority = process_flag(priority, high),
+    _ = erlang:system_flag(multi_scheduling, block),
+    Held = [Pid || Pid <- processes(), Pid =/= self(), age(Pid) > age(Test), is_held(Pid)],
+    _ = erlang:system_flag(multi_scheduling, unblock),
+    _ = process_flag(priority, Priority),
+    Held.
+
+%% Before it runs again.
+is_held(Pid) ->
+    try
+        erlang:suspend_process(Pid, [asynchronous])
+    catch
+        error:_ -> false
+    end.
+
+is_free(Pid) ->
+    try
+        erlang:resume_process(Pid)
+    catch
+        error:_ -> false
+    end.
+
+watched(Pids) ->
+    maps:from_list([{erlang:monitor(process, Pid), Pid} || Pid <- Pids]).
+
+%% And whether any process ended while they were looked for, which may have left another one.
+left(Clock, Test, Output) ->
+    Others = [Pid || {_, Pid} <- lists:sort([{age(Pid), Pid} || Pid <- processes(), Pid =/= self()])],
+    lists:foldl(
+        fun(Pid, {Found, Gone}) ->
+            case is_left(Pid, Clock, [Test | Found], Output) of
+                true -> {[Pid | Found], Gone};
+                false -> {Found, Gone};
+                gone -> {Found, true}
+            end
+        end,
+        {[], false},
+        Others
+    ).
+
+is_left(Pid, Clock, [Test | _] = Before, Output) ->
+    case process_info(Pid, [parent, group_leader, dictionary]) of
+        [{parent, Parent}, {group_leader, Leader}, {dictionary, Dictionary}] ->
+            Leader =:= Output orelse lists:member(Parent, Before) orelse
+                (lists:keyfind('$ertime', 1, Dictionary) =:= {'$ertime', Clock} andalso age(Pid) > age(Test));
+        undefined ->
+            gone
+    end.
+
+%% Greater for a younger process.
+age(Pid) ->
+    [_, Number, Serial] = string:lexemes(pid_to_list(Pid), "<>."),
+    {list_to_integer(Serial), list_to_integer(Number)}.
+
 %% None has ended for so many real milliseconds: then they are ended, once.
-clear(Monitors, _, _) when map_size(Monitors) =:= 0 ->
+wait_for(Monitors, _, _) when map_size(Monitors) =:= 0 ->
     ok;
-clear(Monitors, Wait, Otherwise) ->
+wait_for(Monitors, Wait, Otherwise) ->
     receive
-        {'DOWN', Monitor, process, _, _} when is_map_key(Monitor, Monitors) -> clear(maps:remove(Monitor, Monitors), Wait, Otherwise)
+        {'DOWN', Monitor, process, _, _} when is_map_key(Monitor, Monitors) -> wait_for(maps:remove(Monitor, Monitors), Wait, Otherwise)
     after Wait ->
         _ = Otherwise(maps:values(Monitors)),
-        clear(Monitors, infinity, Otherwise)
+        wait_for(Monitors, infinity, Otherwise)
     end.
 
 %% The reason tells processes that are linked to it to end quietly.

@@ -188,7 +188,7 @@ defmodule Ertime.Case do
 
     done = :ertime_test.done(driver)
     left = ExUnit.OnExitHandler.run(pid, 60_000)
-    if clock != :none, do: :ertime_test.clear(clock, pid)
+    if clock != :none, do: :ertime_test.clear(clock, pid, under[:output])
     result(raised, left, done)
   end
 
