@@ -56,7 +56,9 @@
     advance => by_hand | auto,
     limit => non_neg_integer() | infinity,
     schedule => ertime_faults:schedule(),
-    always => fun((clock()) -> term())
+    always => fun((clock()) -> term()),
+    deterministic => boolean(),
+    seen => boolean()
 }.
 
 -include("ertime.hrl").

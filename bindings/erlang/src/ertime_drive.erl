@@ -71,9 +71,15 @@ is_paused(Pid) ->
     {non_neg_integer(), non_neg_integer(), non_neg_integer()} | {again, non_neg_integer()} | atom().
 step(Clock, Left) ->
     case ertime_keeper:get({drive, Clock}) of
-        none -> ertime_nif:step(Clock, Left);
-        {Pid, Next, Wakes, Always, Record} -> noted(Record, Pid, Clock, driven(Clock, Left, Pid, Next, Wakes, Always))
+        none -> seen(Clock, ertime_nif:step(Clock, Left));
+        {Pid, Next, Wakes, Always, Record} -> noted(Record, Pid, Clock, seen(Clock, driven(Clock, Left, Pid, Next, Wakes, Always)))
     end.
+
+seen(Clock, {_, Sent, _} = Answer) when Sent > 0 ->
+    ertime_use:is_seen() andalso ertime_seen:sent(Clock),
+    Answer;
+seen(_, Answer) ->
+    Answer.
 
 noted(true, Pid, Clock, {_, Sent, _} = Answer) when Sent > 0 ->
     case ertime_nif:os_time(Clock) of

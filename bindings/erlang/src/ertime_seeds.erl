@@ -2,7 +2,7 @@
 %% Runs a test under the clocks of many seeds. The schedule of the first seed that fails is made smaller and told.
 -module(ertime_seeds).
 
--export([check/3, run/3, asked/0, suite/3, first/1, explore/4, told/1]).
+-export([check/3, run/3, asked/0, suite/3, first/1, explore/4, told/1, with_schedulers/2, serially/2]).
 
 -export_type([report/0, outcome/0]).
 
@@ -61,10 +61,11 @@ check(_, Options, _) ->
     {passed, non_neg_integer(), term()} | {failed, report()}.
 explore(Seeds0, Options, Run, Milliseconds) ->
     Seeds = seeds(Seeds0),
-    {Own, Test} = options(Options),
+    {Own, Test0} = options(Options),
+    Test = case Own of #{deterministic := true} -> Test0#{deterministic => true}; _ -> Test0 end,
     with_schedulers(Own, fun() ->
         ertime_quiet:with(fun(Passing, Dropping) ->
-            all(Seeds, Own#{passing => Passing}, Test#{output => Dropping}, Run, until(Milliseconds))
+            all(Seeds, Own#{passing => Passing}, Test#{output => Dropping, show => false}, Run, until(Milliseconds))
         end)
     end).
 
@@ -114,7 +115,7 @@ flag(Name, Other) -> ertime_faults:refuse(io_lib:format("~w: ~0tp is neither tru
 
 %% First without a fault: so it is known when timers are due, and faults can be drawn for these moments.
 all(Seeds, Own, Test, Run, Until) ->
-    case Run(Test#{schedule => serially(Own, []), record => true, output => maps:get(passing, Own)}) of
+    case Run(Test#{schedule => serially(Own, []), record => true, output => maps:get(passing, Own), show => true}) of
         {returned, _, {_, Moments}} ->
             each(Seeds, 0, Own#{moments => Moments}, Test, Run, Until);
         {raised, Class, Reason, Stack, _} ->
@@ -140,6 +141,7 @@ each([Seed | Seeds], Passed, Own, Test, Run, Until) ->
 drawn(Seed, Own = #{kinds := Kinds}) ->
     serially(Own, ertime_faults:draw(Seed, Kinds, maps:with([over, most, moments], Own))).
 
+%% One message a step.
 serially(#{deterministic := true}, Schedule) -> lists:usort([{0, serial} | Schedule]);
 serially(_, Schedule) -> lists:usort(Schedule).
 
@@ -164,13 +166,16 @@ report({Count, Of} = Again, Schedule, Raised, Fails, Own, Test, Run) ->
     %% Where it fails at times alone, one that passes is given another chance.
     Often = fun(It) -> lists:any(fun(_) -> Fails(It) end, lists:seq(1, case Count of Of -> 1; _ -> Of end)) end,
     {Least, Tries} = ertime_shrink:least(Schedule, Often, {?SHRINK_TRIES, ?SHRINK_TIME}),
-    #{again => Again, schedule => Least, tries => Tries + Of, raised => last(Run, Least, Own, Test, Raised), options => Test}.
+    %% That its timers are noted in all runs alike keeps processes in the same order.
+    #{again => Again, schedule => Least, tries => Tries + Of, raised => last(?AGAIN, Run, Least, Own, Test, Raised), options => Test}.
 
-%% What the smallest one raises.
-last(Run, Least, Own, Test, Before) ->
-    case Run(Test#{schedule => serially(Own, Least), output => maps:get(passing, Own)}) of
+%% What the smallest one raises, and with it what its clock has seen.
+last(0, _, _, _, _, Before) ->
+    Before;
+last(Times, Run, Least, Own, Test, Before) ->
+    case Run(Test#{schedule => serially(Own, Least), output => maps:get(passing, Own), show => true}) of
         {raised, Class, Reason, Stack, _} -> {Class, Reason, Stack};
-        _ -> Before
+        _ -> last(Times - 1, Run, Least, Own, Test, Before)
     end.
 
 fails({raised, Class, Reason, Stack, _}, Sign) -> sign(Class, Reason, Stack) =:= Sign;
@@ -190,6 +195,7 @@ line(_) -> none.
 
 %% Processes that race on several schedulers run in another order each time. The number of schedulers is of the whole node, and
 %% comes back when this process ends, too.
+-spec with_schedulers(map(), fun(() -> Result)) -> Result.
 with_schedulers(#{deterministic := false}, Run) ->
     Run();
 with_schedulers(#{deterministic := true}, Run) ->
@@ -283,11 +289,11 @@ raced(#{again := {Count, Of}}) ->
     ].
 
 in_erlang(#{schedule := Schedule, options := Options}) ->
-    Shown = maps:with([advance, mode, correction, os_time, slots, drift, start], Options),
+    Shown = maps:with([advance, mode, os_time, slots, drift, start, deterministic], Options),
     io_lib:format("~0tp", [maps:merge(Shown, #{schedule => Schedule})]).
 
-in_elixir(#{schedule := Schedule}) ->
-    ["@tag schedule: [", lists:join(", ", [["{", elixir(At), ", ", elixir(Fault), "}"] || {At, Fault} <- Schedule]), "]"].
+in_elixir(#{schedule := Schedule, options := Options}) ->
+    [["@tag deterministic: true, schedule: [" || is_map_key(deterministic, Options)], ["@tag schedule: [" || not is_map_key(deterministic, Options)], lists:join(", ", [["{", elixir(At), ", ", elixir(Fault), "}"] || {At, Fault} <- Schedule]), "]"].
 
 elixir(Tuple) when is_tuple(Tuple) -> ["{", lists:join(", ", [elixir(Item) || Item <- tuple_to_list(Tuple)]), "}"];
 elixir(Number) when is_integer(Number), Number < 0 -> ["-", elixir(-Number)];

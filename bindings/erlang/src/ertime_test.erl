@@ -12,7 +12,7 @@
 run(Options, Fun) ->
     case {ertime_seeds:asked(), is_map_key(schedule, Options)} of
         {Asked, false} when Asked =/= none -> ertime_seeds:suite(Asked, Options, Fun);
-        _ -> returned(outcome(Options, Fun))
+        _ -> returned(ertime_seeds:with_schedulers(maps:merge(#{deterministic => false}, Options), fun() -> outcome(Options, Fun) end))
     end.
 
 returned({returned, Result, _}) -> Result;
@@ -23,24 +23,44 @@ returned({raised, Class, Reason, Stack, _}) -> erlang:raise(Class, Reason, Stack
 outcome(Options, Fun) ->
     {Clock, Rest} = open(Options),
     try
-        under(Clock, Fun, Rest)
+        told(Clock, Rest, under(Clock, Fun, Rest))
     after
+        ertime_seen:stop(Clock),
         ertime:close(Clock)
     end.
 
+%% What its clock has seen of a test that fails.
+told(Clock, #{seen := true, show := true} = Rest, {raised, _, Reason, Stack, {Done, _}} = Outcome) ->
+    ertime_seen:failed(Clock, name(maps:get(name, Rest), Stack), Reason, Done),
+    Outcome;
+told(_, _, Outcome) ->
+    Outcome.
+
+%% A test's own, or that of the function that called the test: the last of this package stands above it.
+name(none, Stack) ->
+    case [{Module, Name} || {Module, Name, _, _} <- lists:reverse(Stack), not lists:prefix("ertime_test", atom_to_list(Module))] of
+        [{Module, Name} | _] -> io_lib:format("~ts.~ts", [Module, Name]);
+        [] -> "a test"
+    end;
+name(Name, _) ->
+    Name.
+
 %% The clock, and how it is moved.
 open(Options) ->
-    Own = #{advance => by_hand, limit => ?LIMIT, schedule => none, always => none, record => false, output => none},
-    #{advance := Advance, limit := Limit, schedule := Schedule0, always := Always} = Rest = maps:merge(Own, maps:with(maps:keys(Own), Options)),
+    Own = #{advance => by_hand, limit => ?LIMIT, schedule => none, always => none, record => false, output => none, seen => true, show => true, name => none, deterministic => false},
+    #{advance := Advance, limit := Limit, schedule := Schedule0, always := Always, deterministic := Deterministic} = Rest = maps:merge(Own, maps:with(maps:keys(Own), Options)),
     ertime_watch:is_good(Advance, Limit) orelse error(badarg, [Options]),
+    is_boolean(Deterministic) orelse ertime_faults:refuse("deterministic: neither true nor false", [Options]),
     Always =:= none orelse is_function(Always, 1) orelse ertime_faults:refuse("always: wants a function of the clock", [Options]),
     Schedule =
         case Schedule0 of
-            none when Always =:= none -> none;
-            none -> [];
-            _ -> ertime_faults:check(Schedule0, Options, [Options])
+            none when Always =:= none, not Deterministic -> none;
+            none -> ertime_seeds:serially(Rest, []);
+            _ -> ertime_seeds:serially(Rest, ertime_faults:check(Schedule0, Options, [Options]))
         end,
-    {ertime_clock:open_for(Schedule, maps:without(maps:keys(Own), Options)), Rest#{schedule := Schedule}}.
+    Clock = ertime_clock:open_for(Schedule, maps:without(maps:keys(Own), Options)),
+    maps:get(seen, Rest) =:= true andalso ertime_seen:start(Clock),
+    {Clock, Rest#{schedule := Schedule}}.
 
 %% For the calling process, which a test framework has started for a test: opens a clock, and closes it when the process ends.
 set_up(Options) ->
@@ -58,6 +78,7 @@ set_up(Options, Asker) ->
 
 %% In any process.
 tear_down(Clock) ->
+    ertime_seen:stop(Clock),
     ertime:close(Clock).
 
 drive(_, _, _, #{schedule := none}, _) ->

@@ -8,7 +8,7 @@
 %% it was found, so a process that changes these looks again.
 -module(ertime_use).
 
--export([clock/0, turn_on/0, lost/0, put_clock/1, put_everywhere/1, everywhere/0, clock_of/1]).
+-export([clock/0, count_seen/1, is_seen/0, turn_on/0, lost/0, put_clock/1, put_everywhere/1, everywhere/0, clock_of/1]).
 
 -define(KEY, '$ertime').
 -define(SEEN, '$ertime_seen').
@@ -80,6 +80,13 @@ seen_before(_, _) -> ok.
 changed() ->
     atomics:add(persistent_term:get(?EPOCH), 1, 1).
 
+%% How many clocks there are whose timers are noted (ertime_seen) stands beside the epoch.
+count_seen(More) ->
+    atomics:add(persistent_term:get(?EPOCH), 2, More).
+
+is_seen() ->
+    atomics:get(persistent_term:get(?EPOCH), 2) > 0.
+
 %% A clock was opened on this node. The module is replaced once and by one process: a second time would purge the first code,
 %% and with it who happens to be in it.
 turn_on() ->
@@ -90,9 +97,9 @@ replace_on() ->
     %% Who waits for a module to be loaded would seem to rest.
     ok = code:ensure_modules_loaded([
         ertime, ertime_times, ertime_timers, ertime_monitors, ertime_clock, ertime_timer, ertime_calls, ertime_keeper, ertime_rest,
-        ertime_watch, ertime_test, ertime_drive
+        ertime_watch, ertime_test, ertime_drive, ertime_seen
     ]),
-    persistent_term:put(?EPOCH, atomics:new(1, [])),
+    persistent_term:put(?EPOCH, atomics:new(2, [])),
     ertime_keeper:start(),
     {ertime_on, Off, File} = code:get_object_code(ertime_on),
     {module, ertime_on} = code:load_binary(ertime_on, File, turned_on(Off)).
