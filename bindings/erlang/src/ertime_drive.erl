@@ -6,7 +6,7 @@
 %% which are free again when it ends, with the test.
 -module(ertime_drive).
 
--export([start/4, stop/1, step/2, is_paused/1]).
+-export([start/4, stop/1, done/1, step/2, is_paused/1]).
 
 -export_type([options/0]).
 
@@ -57,6 +57,19 @@ stop(Pid) ->
     case call(Pid, stop) of
         {ok, Done, Moments} -> {Done, Moments};
         gone -> {[], []}
+    end.
+
+%% The faults that were done to a clock so far.
+-spec done(ertime:clock()) -> ertime_faults:schedule().
+done(Clock) ->
+    case ertime_keeper:get({drive, Clock}) of
+        none ->
+            [];
+        {Pid, _, _, _, _} ->
+            case call(Pid, done) of
+                {ok, Done} -> Done;
+                gone -> []
+            end
     end.
 
 %% Whether a process stands still because of a fault.
@@ -171,6 +184,9 @@ serve(Drive = #drive{monitors = {OfOwner, OfAsker}, done = Done, moments = Momen
             Tell(Reason),
             From ! {Tag, ok},
             serve(Drive#drive{tell = fun(_) -> ok end});
+        {done, From, Tag} ->
+            From ! {Tag, {ok, lists:reverse(Done)}},
+            serve(Drive);
         {stop, From, Tag} ->
             leave(Drive),
             From ! {Tag, {ok, lists:reverse(Done), lists:reverse(Moments)}};
