@@ -11,7 +11,7 @@
 %% <tr><td>`finalize'</td><td>the time offset is finalized; in single time warp mode alone</td></tr>
 %% <tr><td>`{order, Seed}'</td><td>timers that are due at once come in an order that is drawn</td></tr>
 %% <tr><td>`serial'</td><td>timers that are due at once come one by one, each when all processes rest</td></tr>
-%% <tr><td>`{late, Scheduler, Milliseconds}'</td><td>the timers of one of 16 schedulers don't expire for so long</td></tr>
+%% <tr><td>`{late, Scheduler, Milliseconds}'</td><td>the timers of one of four schedulers don't expire for so long</td></tr>
 %% <tr><td>`{stall, Milliseconds}'</td><td>the whole node stands still for so long</td></tr>
 %% <tr><td>`{pause, Process, Milliseconds}'</td><td>one process does: that of a registered name, or the one of a number, as they
 %%     joined the clock, the test's own process left out</td></tr>
@@ -40,7 +40,7 @@
 -define(LOUD, [late, stall, pause, cost]).
 -define(CLOCKS, [leap, late_check, drift, freeze]).
 -define(MOST_TIME, 1000000000000). % milliseconds, some 31 years
--define(SCHEDULERS, 16).
+-define(SCHEDULERS, 4).
 
 %% The greatest number of a fault, where none is given.
 most(leap) -> 86400000;
@@ -131,7 +131,7 @@ is_stopping(_) -> false.
 %% --- by a seed ----------------------------------------------------------------------------------------------------
 
 %% @private The schedule of a seed. `Over' is how many milliseconds the faults lie in, or `any'. `Moments' are those in which the
-%% test had timers due when it ran without a fault: half of the faults are drawn so that they meet one of these.
+%% test had timers due when it ran without a fault: two of three faults are drawn so that they meet one of these.
 -spec draw(integer(), [{atom(), pos_integer() | none}], #{
     over := pos_integer() | any, most := pos_integer(), moments := [non_neg_integer()]
 }) -> schedule().
@@ -175,9 +175,9 @@ several(Kinds, Count, When, Random) ->
     ).
 
 moment(Fault, {Over, Moments}, Random0) ->
-    {Meets, Random1} = rand:uniform_s(2, Random0),
+    {Meets, Random1} = rand:uniform_s(3, Random0),
     case {Meets, Over} of
-        {2, _} when Moments =/= {} ->
+        {Part, _} when Part > 1, Moments =/= {} ->
             {Which, Random2} = rand:uniform_s(tuple_size(Moments), Random1),
             {Before, Random3} = rand:uniform_s(before(Fault), Random2),
             {max(0, element(Which, Moments) - Before), Random3};
@@ -201,7 +201,7 @@ fault(Name, Most, Random0) when Name =:= leap; Name =:= late_check; Name =:= dri
     {Sign, Random2} = rand:uniform_s(2, Random1),
     {{Name, case Sign of 1 -> By; 2 -> -By end}, Random2};
 fault(late, Most, Random0) ->
-    {Scheduler, Random1} = of_any_size(?SCHEDULERS, Random0),
+    {Scheduler, Random1} = rand:uniform_s(?SCHEDULERS, Random0),
     {Long, Random2} = of_any_size(Most, Random1),
     {{late, Scheduler, Long}, Random2};
 fault(pause, Most, Random0) ->
@@ -233,6 +233,7 @@ text([]) ->
 text(Schedule) ->
     lists:join(", and ", [text_of(At, Fault) || {At, Fault} <- Schedule]).
 
+text_of(At, {on, Node, Fault}) -> [io_lib:format("on ~ts ", [Node]), text_of(At, Fault)];
 text_of(_, {order, Seed}) -> io_lib:format("timers that are due at once come in another order (drawn by ~w)", [Seed]);
 text_of(_, serial) -> "timers that are due at once come one by one";
 text_of(At, {leap, By}) -> ["the OS system clock leaps ", direction(By), " by ", time(abs(By)), " at ", time(At)];

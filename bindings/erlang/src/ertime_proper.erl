@@ -47,7 +47,7 @@ entry(Types, Kind, Over) -> {up_to(Types, 0, Over), fault(Types, Kind)}.
 
 fault(_, {finalize, _}) -> finalize;
 fault(Types, {Name, Most}) when Name =:= leap; Name =:= late_check; Name =:= drift -> {Name, up_to(Types, -Most, Most)};
-fault(Types, {late, Most}) -> {late, up_to(Types, 1, 16), up_to(Types, 1, Most)};
+fault(Types, {late, Most}) -> {late, up_to(Types, 1, 4), up_to(Types, 1, Most)};
 fault(Types, {pause, Most}) -> {pause, up_to(Types, 1, 20), up_to(Types, 1, Most)};
 fault(Types, {Name, Most}) -> {Name, up_to(Types, 1, Most)}.
 

@@ -38,7 +38,7 @@ told(_, _, Outcome) ->
 
 %% A test's own, or that of the function that called the test: the last of this package stands above it.
 name(none, Stack) ->
-    case [{Module, Name} || {Module, Name, _, _} <- lists:reverse(Stack), not lists:prefix("ertime_test", atom_to_list(Module))] of
+    case [{Module, Name} || {Module, Name, _, _} <- lists:reverse(Stack), Module =/= ?MODULE, not lists:prefix("Elixir.ExUnit.", atom_to_list(Module))] of
         [{Module, Name} | _] -> io_lib:format("~ts.~ts", [Module, Name]);
         [] -> "a test"
     end;

@@ -26,7 +26,7 @@ defmodule Ertime.Generators do
   defp fault({name, most}) when name in [:leap, :late_check, :drift],
     do: tuple([constant(name), number(-most, most)])
 
-  defp fault({:late, most}), do: tuple([constant(:late), number(1, 16), number(1, most)])
+  defp fault({:late, most}), do: tuple([constant(:late), number(1, 4), number(1, most)])
   defp fault({:pause, most}), do: tuple([constant(:pause), number(1, 20), number(1, most)])
   defp fault({name, most}), do: tuple([constant(name), number(1, most)])
 
