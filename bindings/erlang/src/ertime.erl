@@ -303,7 +303,7 @@ use(Clock) ->
 %% @doc Turns modules that are loaded, or can be, as {@link ertime_transform} does it, from their debug information and for the
 %% whole node: a list of them, all of an application, or with `otp' those that the behaviours of Erlang/OTP, and of Elixir where
 %% it is there, need for their timeouts: `gen', `gen_server', `gen_statem', `gen_event', `supervisor', `proc_lib', `timer',
-%% `calendar' and `logger'; `System', `Process', `DateTime', `NaiveDateTime', `Date', `Time', `Task' and more.
+%% `calendar', `logger' and more; `System', `Process', `DateTime', `NaiveDateTime', `Date', `Time', `Task' and more.
 %%
 %% Processes without a clock see the runtime's, as before. It can be called again; a module that is turned stays so. Answers
 %% `ok', or each module that couldn't be, with the reason: `no_object_code', `no_debug_info', `old_code_is_in_use' where a process
@@ -361,7 +361,10 @@ restore(Before) ->
     try
         use(Before)
     catch
-        error:closed -> use(undefined)
+        error:closed ->
+            _ = use(undefined),
+            %% It is told by its next call.
+            erlang:put('$ertime', Before)
     end.
 
 %% @equiv test(#{}, Fun)
@@ -439,12 +442,7 @@ use_everywhere(Clock) ->
 %% @doc The clock that the calling process sees, or `none'.
 -spec clock() -> clock() | none.
 clock() ->
-    case ?CLOCK of
-        none ->
-            none;
-        Clock ->
-            case ertime_nif:os_time(Clock) of
-                {_, _} -> Clock;
-                closed -> ertime_use:lost()
-            end
+    case ertime_on:on() of
+        true -> ertime_use:clock_if_open();
+        false -> none
     end.

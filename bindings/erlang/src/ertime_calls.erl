@@ -37,7 +37,7 @@
     {'Elixir.Process', send_after, 4} => {ertime, elixir_send_after}
 }).
 
--define(OTP, [gen, gen_server, gen_statem, gen_event, gen_fsm, supervisor, proc_lib, timer, calendar, logger]).
+-define(OTP, [gen, gen_server, gen_statem, gen_event, gen_fsm, supervisor, proc_lib, timer, calendar, logger, raw_file_io_delayed]).
 -define(ELIXIR, [
     'Elixir.System', 'Elixir.Process', 'Elixir.DateTime', 'Elixir.NaiveDateTime', 'Elixir.Date', 'Elixir.Time', 'Elixir.Task',
     'Elixir.Task.Supervised', 'Elixir.Task.Supervisor', 'Elixir.GenServer', 'Elixir.DynamicSupervisor', 'Elixir.PartitionSupervisor',

@@ -92,9 +92,13 @@ correction_number(true, _) -> 1;
 correction_number(false, _) -> 0;
 correction_number(_, Arguments) -> error(badarg, Arguments).
 
-%% @doc Closes a clock, and tells whether it was open. Whoever used it goes back to the clock that it would see else. Its timers
-%% never expire then: they can be read and cancelled, and have what was left of them. Whoever waits in a `receive .. after' or
-%% sleeps goes on waiting by the runtime's clock.
+%% @doc Closes a clock, and tells whether it was open. Its timers never expire then: they can be read and cancelled, and have what
+%% was left of them.
+%%
+%% Whoever used it goes back to the clock that it would see else; and so does the process that calls this. Any other process for
+%% which that is the runtime's has outlived its test: its next call about time raises `{clock_closed, Text}', once. Who saw the
+%% clock by {@link ertime:use_everywhere/1} or {@link ertime:allow/2} goes back to the runtime's without an error. Whoever waits
+%% in a `receive .. after' or sleeps goes on waiting by the runtime's clock, and is told by its next call.
 %%
 %% ```
 %% Clock = ertime:open(#{}),
@@ -122,6 +126,7 @@ close(Clock) ->
 %% Nothing works for the clock any more.
 stopped(Clock) ->
     ertime_on:on() andalso begin ertime_watch:stop(Clock), ertime_timer:stop(Clock) end,
+    erlang:get('$ertime') =:= Clock andalso ertime:use(undefined),
     erlang:get(?OWN) =:= Clock andalso erase(?OWN).
 
 %% @equiv advance(clock(), Duration)

@@ -69,17 +69,24 @@ forms(Module, Binary) ->
     case beam_lib:chunks(Binary, [debug_info]) of
         {ok, {_, [{debug_info, {debug_info_v1, Backend, Data}}]}} when Data =/= none ->
             case Backend:debug_info(erlang_v1, Module, Data, []) of
-                {ok, Forms} -> {ok, Forms, source(Binary) ++ options(Backend)};
+                {ok, Forms} -> {ok, Forms, compiled_with(Binary) ++ options(Backend)};
                 {error, Reason} -> {error, Reason}
             end;
         _ ->
             {error, no_debug_info}
     end.
 
-%% Where the source is, as ExUnit's doctests and cover ask for.
-source(Binary) ->
+%% Where the source is, as ExUnit's doctests and cover ask for, and those of the options that it was compiled with which decide
+%% what the code does. What the others do stands in the forms already, or tells of warnings and files.
+compiled_with(Binary) ->
     {ok, {_, [{compile_info, Info}]}} = beam_lib:chunks(Binary, [compile_info]),
-    [{source, File} || {source, File} <- Info].
+    [{source, File} || {source, File} <- Info] ++ [Option || {options, Options} <- Info, Option <- Options, stays(Option)].
+
+stays(Option) when is_tuple(Option), is_atom(element(1, Option)) -> stays(element(1, Option));
+stays(Option) when is_atom(Option) ->
+    lists:member(Option, [export_all, inline, inline_size, inline_effort, inline_unroll, inline_list_funcs, tuple_calls, no_auto_import, no_line_info]) orelse
+        lists:prefix("nowarn_", atom_to_list(Option));
+stays(_) -> false.
 
 %% Elixir's compiler gives this one too.
 options(elixir_erl) -> [no_auto_import];

@@ -171,7 +171,7 @@ function(Module, Name, Arity) ->
     end.
 
 is_library(Module) ->
-    lists:prefix("ertime", atom_to_list(Module)) orelse ertime_calls:is_preset(Module) orelse Module =:= erlang.
+    lists:member(Module, [?MODULE, ertime, ertime_timers, ertime_timer, ertime_calls, ertime_test, erlang]) orelse ertime_calls:is_preset(Module).
 
 %% --- telling ------------------------------------------------------------------------------------------------------
 

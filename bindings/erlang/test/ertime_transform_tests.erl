@@ -2,6 +2,7 @@
 -module(ertime_transform_tests).
 
 -compile({parse_transform, ertime_transform}).
+-export([first/1]).
 
 -include_lib("eunit/include/eunit.hrl").
 
@@ -330,6 +331,45 @@ loaded_test_() ->
         ?assertError(badarg, ertime:transform(ertime_no_such_application)),
         ?assertError(badarg, ertime:transform("a"))
     end}.
+
+%% What the compiler was told in its options, and not in the source, holds for a module that is turned.
+options_test_() ->
+    {timeout, 120, fun() ->
+        Folder = filename:join(os:getenv("TMPDIR", "/tmp"), "ertime_options_" ++ os:getpid()),
+        Name = filename:join(Folder, "ertime_options_code"),
+        ok = filelib:ensure_dir(Name),
+        ok = file:write_file(Name ++ ".erl", "-module(ertime_options_code).\na() -> erlang:monotonic_time().\nb(T) -> T:first().\n"),
+        {ok, ertime_options_code} = compile:file(Name, [export_all, nowarn_export_all, tuple_calls, debug_info, {outdir, Folder}]),
+        true = code:add_patha(Folder),
+        Exports = ertime_options_code:module_info(exports),
+        ?assertEqual(ok, ertime:transform([ertime_options_code])),
+        ?assert(ertime_load:is_turned(ertime_options_code)),
+        ?assertEqual(Exports, ertime_options_code:module_info(exports)),
+        ?assertEqual(5000000, ertime:test(#{start => 5000000}, fun(_) -> ertime_options_code:a() end)),
+        ?assertEqual(first, ertime_options_code:b({?MODULE, first})),
+        true = code:del_path(Folder),
+        ok = file:del_dir_r(Folder)
+    end}.
+
+%% A tuple's module is called with the tuple: what the option `tuple_calls' is for.
+first({?MODULE, It}) -> It.
+
+%% What was written comes into the file when the delay is over.
+delayed_write_test_() ->
+    {setup, fun() -> ok = ertime:transform([raw_file_io_delayed]) end, fun(_) -> ok = ertime:untransform([raw_file_io_delayed]) end, {timeout, 120, fun() ->
+        ?assert(lists:member(raw_file_io_delayed, ertime_calls:presets(otp))),
+        Name = filename:join(os:getenv("TMPDIR", "/tmp"), "ertime_delayed_" ++ os:getpid()),
+        ertime:test(#{}, fun(Clock) ->
+            {ok, File} = file:open(Name, [write, raw, {delayed_write, 65536, 2000}]),
+            ok = file:write(File, "late"),
+            _ = ertime:advance(Clock, 1999),
+            ?assertEqual({ok, <<>>}, file:read_file(Name)),
+            _ = ertime:advance(Clock, 1),
+            ?assertEqual({ok, <<"late">>}, file:read_file(Name)),
+            ok = file:close(File)
+        end),
+        ok = file:delete(Name)
+    end}}.
 
 %% The behaviours by the clock of a test, also where their callers aren't turned.
 behaviours_test_() ->
