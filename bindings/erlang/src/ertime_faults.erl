@@ -22,7 +22,7 @@
 %% timers and monotonic times with them and without. The others are <em>loud</em>.
 -module(ertime_faults).
 
--export([kinds/2, draw/3, check/3, text/1, needs_spread/1, is_stopping/1]).
+-export([kinds/2, draw/3, check/3, text/1, needs_spread/1]).
 %% @hidden
 -export([refuse/2, format_error/2]).
 
@@ -38,6 +38,7 @@
 %% A group, the name of a fault, or that with its greatest number.
 
 -define(LOUD, [late, stall, pause, cost]).
+-define(OF_ALL, [stall, cost]). % not of one of several nodes
 -define(CLOCKS, [leap, late_check, drift, freeze]).
 -define(MOST_TIME, 1000000000000). % milliseconds, some 31 years
 -define(SCHEDULERS, 4).
@@ -47,6 +48,7 @@ most(leap) -> 86400000;
 most(late_check) -> 86400000;
 most(drift) -> 1000;
 most(freeze) -> 60000;
+most(skew) -> 3600000;
 most(late) -> 1000;
 most(stall) -> 20000;
 most(pause) -> 20000;
@@ -65,18 +67,18 @@ kinds(Kind, Options) ->
     kinds([Kind], Options).
 
 kind(silent, Options) ->
-    [{Name, most(Name)} || Name <- silent(mode(Options), maps:get(correction, Options, true))];
-kind(loud, _) ->
-    [{Name, most(Name)} || Name <- ?LOUD];
+    [{Name, most(Name)} || Name <- [skew || is_map_key(nodes, Options)] ++ silent(mode(Options), maps:get(correction, Options, true))];
+kind(loud, Options) ->
+    [{Name, most(Name)} || Name <- ?LOUD, not is_map_key(nodes, Options) orelse not lists:member(Name, ?OF_ALL)];
 kind({Name, Most}, Options) when is_integer(Most), Most > 0 ->
-    case {most(Name), lists:member(Name, ?CLOCKS ++ ?LOUD)} of
-        {_, false} -> refuse(io_lib:format("faults: ~0tp is no kind of fault that has a number", [Name]), [{Name, Most}]);
-        _ -> allowed(Name, Options), [{Name, Most}]
+    case lists:member(Name, [skew | ?CLOCKS ++ ?LOUD]) of
+        false -> refuse(io_lib:format("faults: ~0tp is no kind of fault that has a number", [Name]), [{Name, Most}]);
+        true -> allowed(Name, Options), [{Name, Most}]
     end;
 kind({Name, {Time, Unit}}, Options) when is_atom(Name) ->
     kind({Name, ertime_times:nanoseconds({Time, Unit}, millisecond, [Name]) div 1000000}, Options);
 kind(Name, Options) ->
-    case lists:member(Name, [finalize, order, serial] ++ ?CLOCKS ++ ?LOUD) of
+    case lists:member(Name, [skew, finalize, order, serial] ++ ?CLOCKS ++ ?LOUD) of
         true -> allowed(Name, Options), [{Name, most(Name)}];
         false -> refuse(io_lib:format("faults: ~0tp is no kind of fault", [Name]), [Name])
     end.
@@ -91,8 +93,12 @@ mode(Options) ->
 allowed(finalize, Options) ->
     Mode = mode(Options),
     Mode =:= single_time_warp orelse refuse(io_lib:format("faults: there is no finalize in the mode ~0tp", [Mode]), [finalize]);
-allowed(_, _) ->
-    true.
+allowed(skew, Options) ->
+    is_map_key(nodes, Options) orelse refuse("faults: there is a skew between several nodes alone", [skew]);
+allowed(Fault, Options) ->
+    Name = case Fault of {Kind, _} -> Kind; _ -> Fault end,
+    is_map_key(nodes, Options) andalso lists:member(Name, ?OF_ALL) andalso
+        refuse(io_lib:format("faults: there is no ~w of one node, whose OS monotonic clock goes with the others'", [Name]), [Fault]).
 
 %% @private Whether a list is a schedule for a clock of these options: the same, in order of time.
 -spec check(term(), ertime:options(), term()) -> schedule().
@@ -124,15 +130,11 @@ is_time(Long) ->
 needs_spread(Schedule) ->
     lists:any(fun({_, {late, _, _}}) -> true; (_) -> false end, Schedule).
 
-%% @private Whether it can keep a process from going on, so that who calls it waits.
-is_stopping({_, {pause, _, _}}) -> true;
-is_stopping(_) -> false.
-
 %% --- by a seed ----------------------------------------------------------------------------------------------------
 
 %% @private The schedule of a seed. `Over' is how many milliseconds the faults lie in, or `any'. `Moments' are those in which the
 %% test had timers due when it ran without a fault: two of three faults are drawn so that they meet one of these.
--spec draw(integer(), [{atom(), pos_integer() | none}], #{
+-spec draw(integer() | {integer(), integer(), integer()}, [{atom(), pos_integer() | none}], #{
     over := pos_integer() | any, most := pos_integer(), moments := [non_neg_integer()]
 }) -> schedule().
 draw(Seed, Kinds, #{over := Over, most := Most, moments := Moments}) ->
@@ -168,7 +170,7 @@ several(Kinds, Count, When, Random) ->
             {Name, Most} = lists:nth(Which, Kinds),
             {Fault, Random2} = fault(Name, Most, Random1),
             {At, Random3} = moment(Fault, When, Random2),
-            {{At, Fault}, Random3}
+            {case Fault of {skew, By} -> {0, {leap, By}}; _ -> {At, Fault} end, Random3}
         end,
         Random,
         lists:seq(1, Count)
@@ -196,7 +198,7 @@ before(_) -> 1000.
 
 fault(finalize, _, Random) ->
     {finalize, Random};
-fault(Name, Most, Random0) when Name =:= leap; Name =:= late_check; Name =:= drift ->
+fault(Name, Most, Random0) when Name =:= leap; Name =:= late_check; Name =:= drift; Name =:= skew ->
     {By, Random1} = of_any_size(Most, Random0),
     {Sign, Random2} = rand:uniform_s(2, Random1),
     {{Name, case Sign of 1 -> By; 2 -> -By end}, Random2};
