@@ -24,9 +24,11 @@
 
 -export([kinds/2, draw/3, check/3, text/1, needs_spread/1]).
 %% @hidden
--export([refuse/2, format_error/2]).
+-export([refuse/2]).
 
 -export_type([schedule/0, fault/0, kind/0]).
+
+-include("ertime.hrl").
 
 -type milliseconds() :: integer().
 -type fault() ::
@@ -269,14 +271,7 @@ fraction(Part) -> [".", string:trim(io_lib:format("~3..0w", [Part]), trailing, "
 
 %% --- what is refused ----------------------------------------------------------------------------------------------
 
-%% @private A `badarg' that says what is wrong, as the shell, EUnit and Elixir show it.
+%% @private A `badarg' that says what is wrong, as the shell and Elixir show it.
 -spec refuse(unicode:chardata(), term()) -> no_return().
-refuse(Text, Arguments) ->
-    erlang:error(badarg, [Arguments], [{error_info, #{module => ?MODULE, cause => unicode:characters_to_binary(Text)}}]).
-
-%% @private
-format_error(_, [{_, _, _, Info} | _]) ->
-    case proplists:get_value(error_info, Info) of
-        #{cause := Cause} -> #{general => Cause, reason => Cause};
-        _ -> #{}
-    end.
+refuse(Text, Argument) ->
+    ?BADARG([Argument], 1, lists:flatten(Text)).

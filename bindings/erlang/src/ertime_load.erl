@@ -38,31 +38,49 @@ unload(Modules) ->
 is_turned(Module) ->
     erlang:module_loaded(Module) andalso lists:keymember(ertime_transform, 1, Module:module_info(attributes)).
 
-%% A function that loads it, or tells why it can't be.
+%% A function that loads it, or tells why it can't be. Where there is nothing to turn it stays as it is.
 compiled(_, true) ->
     fun() -> ok end;
 compiled(Module, false) ->
-    Result =
-        case code:get_object_code(Module) of
-            error -> {error, no_object_code};
-            {Module, Binary, File} -> compiled_from(Module, Binary, File)
-        end,
-    case Result of
-        {ok, New, At} -> fun() -> replace(Module, fun() -> load_binary(Module, At, New) end) end;
-        Error -> fun() -> Error end
+    case code:get_object_code(Module) of
+        error ->
+            fun() -> {error, no_object_code} end;
+        {Module, Binary, File} ->
+            case turned_code(Module, Binary) of
+                {ok, <<>>} -> fun() -> ok end;
+                {ok, New} -> fun() -> replace(Module, fun() -> load_binary(Module, File, New) end) end;
+                Error -> fun() -> Error end
+            end
     end.
 
-compiled_from(Module, Binary, File) ->
+turned_code(Module, Binary) ->
+    Name = ertime_cache:name(Module, Binary),
+    case ertime_cache:read(Name) of
+        {ok, Code} ->
+            {ok, Code};
+        none ->
+            Result = compiled_from(Module, Binary),
+            _ = [ertime_cache:write(Name, Code) || {ok, Code} <- [Result]],
+            Result
+    end.
+
+compiled_from(Module, Binary) ->
     case forms(Module, Binary) of
         {ok, Forms, Options} ->
             Turned = turned(Module, Forms),
-            case compile:forms(Turned, [binary, return_errors, debug_info | Options]) of
-                {ok, Module, New} -> {ok, New, File};
-                {ok, Module, New, _} -> {ok, New, File};
-                {error, Errors, _} -> {error, Errors}
+            case ertime_transform:unmarked(Turned) of
+                Forms -> {ok, <<>>};
+                _ -> compiled_forms(Module, Turned, Options)
             end;
         Error ->
             Error
+    end.
+
+compiled_forms(Module, Forms, Options) ->
+    case compile:forms(Forms, [binary, return_errors, debug_info | Options]) of
+        {ok, Module, New} -> {ok, New};
+        {ok, Module, New, _} -> {ok, New};
+        {error, Errors, _} -> {error, Errors}
     end.
 
 forms(Module, Binary) ->

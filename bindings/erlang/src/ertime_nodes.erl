@@ -21,6 +21,8 @@
 
 -export_type([nodes/0]).
 
+-include("ertime.hrl").
+
 -opaque nodes() :: [node()].
 
 -define(ROUNDS, 1000).
@@ -59,7 +61,7 @@ advance(Nodes, until_idle) ->
     until_idle(Nodes, 0);
 advance(Nodes, Duration) ->
     Left = ertime_times:nanoseconds(Duration, millisecond, [Nodes, Duration]),
-    Left >= 0 orelse error(badarg, [Nodes, Duration]),
+    Left >= 0 orelse ?BADARG([Nodes, Duration], 2, "the time doesn't go back: warp/3 lets the OS system clock of a node leap"),
     settle(Nodes),
     steps(Nodes, Left, 0).
 

@@ -1,6 +1,7 @@
 %% @private
 %% Which clock a process sees: the one that it uses; else that of an ancestor or a caller (`$ancestors' and `$callers', which
-%% `proc_lib' and Elixir keep) or of the process that spawned it; else the one for everybody.
+%% `proc_lib' and Elixir keep) or of the process that spawned it; else the one for everybody. Before its ancestors comes the one
+%% that it was allowed by another process.
 %%
 %% A clock that was found by ancestors and callers becomes the process' own, until it is closed. Where then no other is found, the
 %% process is told so by an error at its next call, once, and sees the runtime's clock from there on; and so is one that has none of
@@ -10,7 +11,7 @@
 %% it was found, so a process that changes these looks again.
 -module(ertime_use).
 
--export([clock/0, open_clock/0, clock_if_open/0, count_seen/1, is_seen/0, turn_on/0, lost/0, put_clock/1, put_everywhere/1, everywhere/0, clock_of/2, facts/1]).
+-export([clock/0, open_clock/0, clock_if_open/0, count_seen/1, is_seen/0, turn_on/0, lost/0, put_clock/1, put_everywhere/1, everywhere/0, allow/2, disallow/1, clock_of/2, facts/1]).
 
 -define(KEY, '$ertime').
 -define(SEEN, '$ertime_seen').
@@ -76,24 +77,40 @@ seen() ->
     end.
 
 find(Before, Epoch, Ancestors, Callers) ->
-    case {search(relatives(get(), self()), #{self() => []}, #{}), everywhere()} of
-        {closed, none} ->
+    Found =
+        case allowed(self()) of
+            none -> search(relatives(get(), self()), #{self() => []}, #{});
+            Allowed -> Allowed
+        end,
+    case or_everywhere(Found) of
+        closed ->
             closed;
-        {Nobody, Everywhere} when Nobody =:= none; Nobody =:= closed ->
-            Clock = for_everybody(Everywhere),
+        {for_now, Clock0} ->
+            Clock = for_now(Clock0),
             seen_before(Before, Clock),
             put(?SEEN, {Clock, Epoch, Ancestors, Callers}),
             Clock;
-        {Found, _} ->
-            Clock = own_from_now(Found),
+        Own ->
+            Clock = own_from_now(Own),
             %% Where the process had no clock at first, those below it may keep that answer.
             Before =:= undefined orelse changed(),
             Clock
     end.
 
-for_everybody(none) ->
+%% The clock that was found, where it isn't the process' own from now on.
+or_everywhere({allowed, Clock}) ->
+    {for_now, Clock};
+or_everywhere(Nobody) when Nobody =:= none; Nobody =:= closed ->
+    case everywhere() of
+        none when Nobody =:= closed -> closed;
+        Clock -> {for_now, Clock}
+    end;
+or_everywhere(Own) ->
+    Own.
+
+for_now(none) ->
     none;
-for_everybody(Clock) ->
+for_now(Clock) ->
     case join(Clock) of
         ok -> Clock;
         closed -> none
@@ -141,8 +158,8 @@ turn_on() ->
 replace_on() ->
     %% Who waits for a module to be loaded would seem to rest.
     ok = code:ensure_modules_loaded([
-        ertime, ertime_times, ertime_timers, ertime_monitors, ertime_clock, ertime_timer, ertime_calls, ertime_keeper, ertime_rest,
-        ertime_others, ertime_watch, ertime_test, ertime_drive, ertime_seen, ertime_faults
+        ertime, ertime_times, ertime_timers, ertime_monitors, ertime_clock, ertime_options, ertime_timer, ertime_calls, ertime_keeper,
+        ertime_rest, ertime_others, ertime_watch, ertime_test, ertime_drive, ertime_seen, ertime_faults
     ]),
     persistent_term:put(?EPOCH, atomics:new(2, [])),
     ertime_keeper:start(),
@@ -212,18 +229,46 @@ everywhere() ->
         undefined -> none
     end.
 
+%% --- processes that were allowed a clock --------------------------------------------------------------------------
+
+%% Answers `taken' where the process was allowed another one, which is open.
+allow(Clock, Pid) ->
+    case allowed(Pid) of
+        {allowed, Other} when Other =/= Clock ->
+            taken;
+        _ ->
+            ertime_keeper:allow(Clock, Pid),
+            changed()
+    end.
+
+%% The clock is closed.
+disallow(Clock) ->
+    ertime_keeper:disallow(Clock),
+    changed().
+
+allowed(Pid) ->
+    case ertime_keeper:get({allowed, Pid}) of
+        none -> none;
+        Clock ->
+            case open_or_none(Clock) of
+                none -> none;
+                Clock -> {allowed, Clock}
+            end
+    end.
+
 %% What clock/0 would tell another process of this node, as far as can be seen. The facts of some processes may be known.
 clock_of(Pid, Facts) ->
     case search([Pid], #{}, Facts) of
         real -> none;
         Nobody when Nobody =:= none; Nobody =:= closed -> everywhere();
+        {allowed, Clock} -> Clock;
         Clock -> Clock
     end.
 
 %% What is asked of a process to find its clock.
 facts(Pid) ->
     case process_info(Pid, dictionary) of
-        {dictionary, Dictionary} -> {own(Dictionary), relatives(Dictionary, Pid)};
+        {dictionary, Dictionary} -> {own_or_allowed(Dictionary, Pid), relatives(Dictionary, Pid)};
         undefined -> {none, []}
     end.
 
@@ -251,6 +296,17 @@ own(Dictionary) ->
         {_, none} -> real;
         {_, Clock} -> open_or_closed(Clock);
         false -> none
+    end.
+
+own_or_allowed(Dictionary, Pid) ->
+    case own(Dictionary) of
+        Nobody when Nobody =:= none; Nobody =:= closed ->
+            case allowed(Pid) of
+                none -> Nobody;
+                Allowed -> Allowed
+            end;
+        Own ->
+            Own
     end.
 
 open_or_none(Clock) ->

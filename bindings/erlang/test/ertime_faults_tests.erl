@@ -149,8 +149,8 @@ refused(Fun) ->
         Value -> {no_error, Value}
     catch
         error:badarg:Stack ->
-            #{general := Text} = ertime_faults:format_error(badarg, Stack),
-            Text
+            #{1 := Text} = ertime_options:format_error(badarg, Stack),
+            list_to_binary(Text)
     end.
 
 refused_test_() ->

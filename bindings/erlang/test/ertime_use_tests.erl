@@ -63,6 +63,22 @@ ways() ->
             true = ertime:close(Clock),
             ?assertEqual(told, do(Pid, fun() -> try ertime_timer:send_interval(1000, x) catch error:{clock_closed, _} -> told end end))
         end},
+        {"a process that was allowed a clock, and one below it", fun() ->
+            {Clock, Other} = {ertime:open(), ertime:open()},
+            Pid = start(fun() -> register(ertime_use_allowed, self()) end),
+            Below = child_of(Pid),
+            ?assertEqual([none, none], [seen(Pid), seen(Below)]),
+            ok = ertime:allow(Clock, ertime_use_allowed),
+            ?assertEqual([Clock, Clock, Clock], [seen(Pid), seen(Below), seen(child_of(Pid))]),
+            ?assertError(badarg, ertime:allow(Other, Pid)),
+            ok = ertime:allow(Clock, Pid),
+            true = ertime:close(Clock),
+            ?assertEqual([none, none], [seen(Pid), seen(Below)]),
+            ?assertError(closed, ertime:allow(Clock, Pid)),
+            ok = ertime:allow(Other, Pid),
+            ?assertEqual([Other, Other], [seen(Pid), seen(Below)]),
+            ertime:close(Other)
+        end},
         {"with/2 of a parent", fun() ->
             {First, Second} = {ertime:open(), ertime:open()},
             Child = child(),
