@@ -20,11 +20,19 @@ defmodule Ertime do
   """
 
   @type clock :: reference()
-  @type duration :: integer() | {integer(), System.time_unit()}
+  @type duration :: integer() | {integer(), System.time_unit() | :minute | :hour | :day}
 
-  @doc "Opens a clock: see `ertime:open/1` for the options."
+  @doc "Opens a clock: see `:ertime.open/1` for the options. `os_time:` may be a `DateTime`, too."
   @spec open(keyword()) :: clock()
-  def open(options \\ []), do: :ertime.open(Map.new(options))
+  def open(options \\ []), do: :ertime.open(options(options))
+
+  @doc false
+  def options(options) do
+    Map.new(options, fn
+      {:os_time, %DateTime{} = time} -> {:os_time, {DateTime.to_unix(time, :nanosecond), :nanosecond}}
+      option -> option
+    end)
+  end
 
   @doc "Closes a clock."
   @spec close(clock()) :: boolean()
@@ -51,6 +59,28 @@ defmodule Ertime do
   @spec warp(duration()) :: :ok
   defdelegate warp(by), to: :ertime
 
+  @doc """
+  Lets the OS system clock leap. With `check: false` the runtime notices it when it checks the clock next, as it does in
+  production.
+  """
+  @spec warp(clock(), duration(), keyword()) :: :ok
+  defdelegate warp(clock, by, options), to: :ertime
+
+  @doc "Waits until the processes of the clock rest, and moves nothing."
+  @spec rest(clock()) :: :ok
+  defdelegate rest(clock), to: :ertime
+
+  @doc """
+  A process that the test didn't start, as one of the application, sees the clock until that is closed, and so do those
+  below it. It is given as for `GenServer.call/2`: a pid, a name, `{:global, name}` or `{:via, module, name}`.
+
+      setup %{clock: clock} do
+        Ertime.allow(clock, MyApp.Cache)
+      end
+  """
+  @spec allow(clock(), GenServer.server()) :: :ok
+  defdelegate allow(clock, process), to: :ertime
+
   @doc "From now on the OS system clock drifts by so many parts per million."
   @spec drift(clock(), number()) :: :ok
   defdelegate drift(clock, parts_per_million), to: :ertime
@@ -59,18 +89,23 @@ defmodule Ertime do
   defdelegate use(clock), to: :ertime
 
   @doc """
-  Turns loaded modules, so that their calls see the clock of a test: a list of modules, all of an application, or with
-  `:otp` those that GenServer, Task, Supervisor and the rest, DateTime, NaiveDateTime, Date and Time need.
+  Turns loaded modules, so that their calls see the clock of a test: a list of modules or applications, all of an
+  application, or with `:otp` those that GenServer, Task, Supervisor and the rest, DateTime, NaiveDateTime, Date and Time
+  need. What was turned is kept in `_build`, so the next run takes less time.
 
   It can be called again. Answers `:ok`, or `{:error, [{module, reason}]}`.
   """
   defdelegate transform(modules), to: :ertime
 
+  @doc "Which modules of the project see the clock of a test, and which call functions about time and don't: see `:ertime.report/0`."
+  @spec report() :: %{turned: [module()], unturned: [module()]}
+  defdelegate report(), to: :ertime
+
   @doc "Takes `transform/1` back."
   defdelegate untransform(modules), to: :ertime
 
   @doc "Runs a test in a process and under a clock of its own: see `:ertime.test/2`. In ExUnit `Ertime.Case` is at hand."
-  def test(options \\ [], fun), do: :ertime.test(Map.new(options), fun)
+  def test(options \\ [], fun), do: :ertime.test(options(options), fun)
 
   @doc """
   Runs a test under the clocks of many seeds, with faults of time: see `:ertime.seeds/3`. In ExUnit `Ertime.Case` is at hand.

@@ -10,6 +10,9 @@
 
 -define(TURNING, [ertime_transform, ertime_calls, ertime_load]).
 
+%% Of the MD5 in a name.
+-define(DIGITS, 32).
+
 -type name() :: none | file:filename().
 
 %% Where the module of this code would be.
@@ -55,5 +58,14 @@ write(none, _) ->
 write(Name, Code) ->
     Whole = Name ++ "." ++ os:getpid() ++ "." ++ integer_to_list(erlang:unique_integer([positive])),
     _ = filelib:ensure_dir(Whole),
+    _ = [file:delete(Older) || Older <- older(Name)],
     _ = file:write_file(Whole, [erlang:md5(Code), Code]) =:= ok andalso file:rename(Whole, Name),
     ok.
+
+%% Those of the same module.
+older(Name) ->
+    {Folder, Own} = {filename:dirname(Name), filename:basename(Name)},
+    case file:list_dir(Folder) of
+        {ok, Others} -> [filename:join(Folder, Other) || Other <- Others, length(Other) =:= length(Own), lists:prefix(lists:sublist(Own, length(Own) - ?DIGITS), Other)];
+        _ -> []
+    end.

@@ -79,7 +79,8 @@ correction_number(false) -> 0.
 %% was left of them.
 %%
 %% Whoever used it goes back to the clock that it would see else; and so does the process that calls this. Any other process for
-%% which that is the runtime's has outlived its test: its next call about time raises `{clock_closed, Text}', once. Who saw the
+%% which that is the runtime's has outlived its test: its next call about time raises `{clock_closed, Text}', once, unless it is
+%% terminating, as a supervisor that waits for its children to end. Who saw the
 %% clock by {@link ertime:use_everywhere/1} or {@link ertime:allow/2} goes back to the runtime's without an error. Whoever waits
 %% in a `receive .. after' or sleeps goes on waiting by the runtime's clock, and is told by its next call.
 %%

@@ -6,7 +6,7 @@
 %% code.
 -module(ertime_load).
 
--export([load/1, unload/1, is_turned/1, hidden/1]).
+-export([load/1, load_calls/2, unload/1, is_turned/1, hidden/1]).
 
 -define(BEHAVIOURS, [gen_server, gen_statem, gen_event, gen_fsm]).
 -define(PATIENCE, 1000).
@@ -16,6 +16,19 @@ load(Modules) ->
     case [{Module, Reason} || {Module, Load} <- compiled(lists:usort(Modules)), {error, Reason} <- [Load()]] of
         [] -> ok;
         Failed -> {error, Failed}
+    end.
+
+%% A module whose code is in no file, as that of a test of ExUnit. Each `receive .. after' in it stays as it is.
+-spec load_calls(module(), binary()) -> ok | {error, term()}.
+load_calls(Module, Binary) ->
+    case forms(Module, Binary) of
+        {ok, Forms, Options} ->
+            case compiled_forms(Module, ertime_transform:parse_transform(Forms, [ertime_calls_only]), Options) of
+                {ok, New} -> replace(Module, fun() -> code:load_binary(Module, code:which(Module), New) end);
+                Error -> Error
+            end;
+        Error ->
+            Error
     end.
 
 %% They are compiled side by side, and then loaded one by one.

@@ -99,12 +99,7 @@ options(Options) ->
 over(any) ->
     any;
 over(Duration) ->
-    Over =
-        case Duration of
-            {Time, minute} when is_integer(Time) -> Time * 60000;
-            {Time, hour} when is_integer(Time) -> Time * 3600000;
-            _ -> ertime_times:nanoseconds(Duration, millisecond, [Duration]) div 1000000
-        end,
+    Over = ertime_times:nanoseconds(Duration, millisecond, [Duration]) div 1000000,
     Over > 0 orelse ertime_faults:refuse("over: a duration above 0", [Duration]),
     Over.
 

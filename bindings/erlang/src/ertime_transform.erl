@@ -16,14 +16,16 @@
 -define(COUNT, '$ertime_transform').
 
 -record(names, {
-    own = #{},      % {Name, Arity} of the module's functions
-    imported = #{}  % {Name, Arity} => the module that it is imported from
+    own = #{},       % {Name, Arity} of the module's functions
+    imported = #{},  % {Name, Arity} => the module that it is imported from
+    receives = true  % whether `receive .. after' is turned
 }).
 
-%% @doc The transform, as the compiler calls it.
+%% @doc The transform, as the compiler calls it. With the option `ertime_calls_only' each `receive .. after' stays as it is.
 -spec parse_transform([erl_parse:abstract_form()], list()) -> [erl_parse:abstract_form()].
-parse_transform(Forms, _Options) ->
+parse_transform(Forms, Options) ->
     Names = #names{
+        receives = not lists:member(ertime_calls_only, Options),
         own = maps:from_list([{{Name, Arity}, []} || {function, _, Name, Arity, _} <- Forms]),
         imported = maps:from_list([{FA, M} || {attribute, _, import, {M, FAs}} <- Forms, FA <- FAs])
     },
@@ -280,6 +282,8 @@ own_call(Anno, Module, Name, Arguments) ->
 %% The bodies stand there once, so receives in receives grow no faster than their patterns. The variables that a pattern binds
 %% have other names inside, where not all clauses bind them; those that were bound before keep theirs.
 receive_after(Anno, Clauses, {integer, _, 0} = Time, Body, Bound, Names) ->
+    untimed(Anno, Clauses, Time, Body, Bound, Names);
+receive_after(Anno, Clauses, Time, Body, Bound, Names = #names{receives = false}) ->
     untimed(Anno, Clauses, Time, Body, Bound, Names);
 receive_after(Anno, Clauses, {atom, _, infinity} = Time, Body, Bound, Names) ->
     untimed(Anno, Clauses, Time, Body, Bound, Names);

@@ -459,6 +459,16 @@ behaviours_test_() ->
                     ?assertEqual(5000, ertime:monotonic_time(millisecond) - Before)
                 end)
             end},
+            {"a supervisor that outlives the clock ends in order", timeout, 60, fun() ->
+                Supervisor = ertime:test(#{}, fun(_) ->
+                    {ok, Pid} = supervisor:start_link(ertime_transform_code, {1, 10}),
+                    unlink(Pid),
+                    Pid
+                end),
+                Monitor = erlang:monitor(process, Supervisor),
+                ok = gen_server:stop(Supervisor, shutdown, infinity),
+                ?assertEqual(shutdown, receive {'DOWN', Monitor, _, _, Reason} -> Reason end)
+            end},
             {"a start that takes too long", timeout, 60, fun() ->
                 ertime:test(#{advance => auto}, fun(_) ->
                     ?assertEqual({error, timeout}, gen_server:start(ertime_transform_code, slow, [{timeout, 5000}]))

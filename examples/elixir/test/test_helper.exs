@@ -1,4 +1,3 @@
-# The calls of this application, and those of OTP and Elixir for it, see the clock of a test.
-:ok = Ertime.transform(:lease)
-:ok = Ertime.transform(:otp)
+# The calls of this application see the clock of a test, and so do the timeouts of GenServer and the rest.
+:ok = Ertime.transform([:lease, :otp])
 ExUnit.start()

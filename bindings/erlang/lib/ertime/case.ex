@@ -8,7 +8,7 @@ defmodule Ertime.Case do
 
         test "a lease ends after an hour", %{clock: clock} do
           lease = MyApp.Lease.take()
-          Ertime.advance(clock, 3_600_000)
+          Ertime.advance(clock, {1, :hour})
           refute MyApp.Lease.held?(lease)
         end
       end
@@ -16,6 +16,10 @@ defmodule Ertime.Case do
   The options are those of `Ertime.open/1`. The test uses the clock, as do the processes that it starts; a tag
   `clock: [...]` of a test adds options to those of the module. The clock is closed when the test's process has ended.
   With `advance: :auto` the time goes on by itself; a deadlock, or `limit:` milliseconds of real time, end the test.
+
+  The calls of the test module itself are turned too, before its first test: `System.monotonic_time/0`,
+  `Process.send_after/3` or `:os.system_time/0` see the clock. A `receive .. after` in it stays real, and so do
+  `assert_receive` and `refute_receive`, which wait for what happens.
 
   ## Faults by seed
 
@@ -50,6 +54,14 @@ defmodule Ertime.Case do
 
   defmacro __using__(options) do
     quote do
+      # Modules of tests have none otherwise, and are turned by it.
+      @compile :debug_info
+      @after_compile Ertime.Case
+
+      setup_all do
+        Ertime.Case.turn(__MODULE__)
+      end
+
       @before_compile Ertime.Case
 
       @doc false
@@ -71,6 +83,29 @@ defmodule Ertime.Case do
           Ertime.Case.run(__MODULE__, __ertime__(), context, fn context -> super(context) end)
         end
       end
+    end
+  end
+
+  @doc false
+  def __after_compile__(%{module: module}, bytecode), do: :persistent_term.put({__MODULE__, module}, bytecode)
+
+  # Tests may begin before all of what follows the compilation of their module has been done.
+  @doc false
+  def turn(module) do
+    case :persistent_term.get({__MODULE__, module}, nil) do
+      nil ->
+        Process.sleep(1)
+        turn(module)
+
+      :turned ->
+        :ok
+
+      bytecode ->
+        :persistent_term.put({__MODULE__, module}, :turned)
+
+        with {:error, reason} <- :ertime_load.load_calls(module, bytecode) do
+          raise "#{inspect(module)} can't be turned: #{inspect(reason)}"
+        end
     end
   end
 
@@ -164,7 +199,7 @@ defmodule Ertime.Case do
   defp explicit(own, context), do: Map.merge(Map.new(@defaults), clock_options(own, context))
 
   defp clock_options(own, context) do
-    own |> Keyword.delete(:seeds) |> Keyword.merge(tag(context)) |> Map.new()
+    own |> Keyword.delete(:seeds) |> Keyword.merge(tag(context)) |> Ertime.options()
   end
 
   defp tag(%{ertime: options}), do: options
