@@ -265,7 +265,8 @@ leaves_nothing_test_() ->
         Spawn = fun Spawn() -> spawn(Spawn) end,
         Slowly = fun Slowly() -> timer:sleep(1000), spawn(fun() -> timer:sleep(infinity) end), Slowly() end,
         ?assertEqual({error, real_time_limit}, Failed(fun(_) -> Loop() end)),
-        ?assertEqual({error, deadlock}, Failed(fun(_) -> spawn(Spawn), timer:sleep(infinity) end)),
+        %% None of these lives long enough to be found at work, as a rule.
+        ?assert(lists:member(Failed(fun(_) -> spawn(Spawn), timer:sleep(infinity) end), [{error, deadlock}, {error, real_time_limit}])),
         ?assertEqual({error, real_time_limit}, Failed(fun(_) -> spawn(Slowly), timer:sleep(infinity) end)),
         ?assertEqual({error, deadlock}, Failed(fun(_) -> receive never -> ok end end)),
         ?assertEqual({exit, killed}, Failed(fun(_) -> exit(self(), kill), timer:sleep(1) end)),
