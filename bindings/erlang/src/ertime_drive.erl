@@ -145,7 +145,7 @@ due(Clock, Left, Pid, Wakes) ->
         {_, 0, _} ->
             case call(Pid, do) of
                 {ok, Took} -> {again, max(0, Left - Took)};
-                gone -> closed
+                gone -> driver_gone
             end;
         {_, Sent, Armed} ->
             {Left, Sent, Armed + Wakes};

@@ -26,6 +26,7 @@
 -define(SHRINK_TIME, 10000). % real milliseconds
 -define(SUITE_TIME, 4000).   % the same, for a test of a suite that knows nothing of seeds: EUnit ends a test after five seconds
 -define(LIMIT, 20000).
+-define(AWAKE, 50).
 
 %% --- a test -------------------------------------------------------------------------------------------------------
 
@@ -152,7 +153,11 @@ reported({raised, Class, Reason, Stack, {Done0, _}}, Drawn, Own, Test, Run) ->
     %% What was done has names, and ends where the test did.
     Done = lists:usort(Done0),
     case again(Fails, Done) of
-        {0, _} when Done =/= Drawn -> report(again(Fails, Drawn), Drawn, {Class, Reason, Stack}, Fails, Own, Test, Run);
+        {0, _} when Done =/= Drawn ->
+            case again(Fails, Drawn) of
+                {0, _} = Never -> report(Never, Done, {Class, Reason, Stack}, Fails, Own, Test, Run);
+                Again -> report(Again, Drawn, {Class, Reason, Stack}, Fails, Own, Test, Run)
+            end;
         Again -> report(Again, Done, {Class, Reason, Stack}, Fails, Own, Test, Run)
     end.
 
@@ -200,6 +205,7 @@ with_schedulers(#{deterministic := false}, Run) ->
 with_schedulers(#{deterministic := true}, Run) ->
     Self = self(),
     Before = erlang:system_flag(schedulers_online, 1),
+    awake([]),
     Guard = spawn(fun() ->
         erlang:put('$ertime', none),
         Monitor = erlang:monitor(process, Self),
@@ -207,7 +213,8 @@ with_schedulers(#{deterministic := true}, Run) ->
             {'DOWN', Monitor, process, _, _} -> ok;
             {?MODULE, done} -> ok
         end,
-        erlang:system_flag(schedulers_online, Before)
+        _ = erlang:system_flag(schedulers_online, Before),
+        awake([])
     end),
     try
         Run()
@@ -215,6 +222,21 @@ with_schedulers(#{deterministic := true}, Run) ->
         Ended = erlang:monitor(process, Guard),
         Guard ! {?MODULE, done},
         receive {'DOWN', Ended, process, _, _} -> ok end
+    end.
+
+%% Erlang/OTP 25 may miss to wake a dirty scheduler while their number changes, so that a call on one waits until there is another
+%% call. So calls are made until all have come back.
+awake(Before) ->
+    {_, Monitor} = spawn_monitor(fun() -> erlang:put('$ertime', none), ertime_nif:info(none) end),
+    came([Monitor | Before]).
+
+came([]) ->
+    ok;
+came([Monitor | Monitors]) ->
+    receive
+        {'DOWN', Monitor, process, _, _} -> came(Monitors)
+    after ?AWAKE ->
+        awake([Monitor | Monitors])
     end.
 
 %% --- a suite as it is ---------------------------------------------------------------------------------------------

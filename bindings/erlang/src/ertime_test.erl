@@ -170,9 +170,9 @@ clear_again(Clock, Test, Output, Kill, Rounds) ->
 
 hold_younger(Test) ->
     Priority = process_flag(priority, high),
-    _ = erlang:system_flag(multi_scheduling, block),
+    _ = erlang:system_flag(multi_scheduling, block_normal),
     Held = [Pid || Pid <- processes(), Pid =/= self(), age(Pid) > age(Test), is_held(Pid)],
-    _ = erlang:system_flag(multi_scheduling, unblock),
+    _ = erlang:system_flag(multi_scheduling, unblock_normal),
     _ = process_flag(priority, Priority),
     Held.
 

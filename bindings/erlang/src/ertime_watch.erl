@@ -145,6 +145,8 @@ next(Watch = #watch{clock = Clock, same = Same}) ->
     case led(Clock) of
         closed -> stop_quietly(Clock);
         no_memory -> tell(Watch, {no_memory, who_waits(Clock)});
+        %% Whoever does the faults of time has been ended.
+        driver_gone -> tell(Watch, {driver_gone, who_waits(Clock)});
         other -> is_there(Watch, 1) andalso auto(Watch#watch{since = none});
         {_, 0, 0} -> idle(Watch);
         {false, _, _} when Same >= ?MOST_AT_ONE_TIME -> tell(Watch, {no_progress, who_waits(Clock)});
