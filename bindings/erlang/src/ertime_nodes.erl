@@ -15,7 +15,7 @@
 %% '''
 -module(ertime_nodes).
 
--export([open/1, add/2, up/1, advance/2, warp/3, drift/3, info/2, close/1]).
+-export([open/1, add/2, up/1, advance/2, warp/3, drift/3, info/2, close/1, seeds/4, test/3]).
 %% @hidden
 -export([open_here/1, send_here/0, run_here/1, free_run_here/0, armed_here/0, warp_here/1, drift_here/1, info_here/0, close_here/0, rest_here/0]).
 
@@ -27,7 +27,8 @@
 
 -define(ROUNDS, 1000).
 
-%% @doc Opens a clock on each node, with the options of {@link ertime:open/1}.
+%% @doc Opens a clock on each node, with the options of {@link ertime:open/1}, and with a `schedule' of faults ({@link ertime_faults})
+%% of its own, which may hold neither a stall nor a cost: the OS monotonic clocks go together.
 -spec open([node() | {node(), ertime:options()}]) -> nodes().
 open(Specifications) ->
     lists:foldl(fun(Specification, Nodes) -> add(Nodes, Specification) end, [], Specifications).
@@ -144,6 +145,23 @@ close(Nodes) ->
     _ = on_all(Nodes, close_here, []),
     ok.
 
+%% @doc Runs a test of nodes under the clocks of many seeds: as {@link ertime:seeds/3}, where each fault is one of a node. The test is
+%% a function of the nodes, which have their clocks, and lets their time pass by {@link advance/2}. What it has started on them ends
+%% with it.
+%%
+%% `skew', a leap of one node's OS system clock at the beginning, is a kind of fault here; `stall' and `cost' are none, and of the
+%% options of a test there are those of {@link open/1} and `limit', in real milliseconds.
+-spec seeds(
+    [node() | {node(), ertime:options()}], pos_integer() | {integer(), integer()} | [integer()], map(), fun((nodes()) -> term())
+) -> ok.
+seeds(Specifications, Seeds, Options, Fun) ->
+    ertime_nodes_seeds:run(Specifications, Seeds, Options, Fun).
+
+%% @doc Runs a test of nodes once, with the option `schedule', a list of `{Milliseconds, {on, Node, Fault}}', as seeds that fail tell it.
+-spec test([node() | {node(), ertime:options()}], map(), fun((nodes()) -> Result)) -> Result.
+test(Specifications, Options, Fun) ->
+    ertime_nodes_seeds:test(Specifications, Options, Fun).
+
 %% --- calls of nodes -----------------------------------------------------------------------------------------------
 
 on(Node, Name, Arguments) ->
@@ -171,7 +189,12 @@ values(Answers) ->
 
 %% @private
 open_here(Options) ->
-    ertime:use_everywhere(ertime:open(Options)).
+    ertime:use_everywhere(
+        case maps:take(schedule, Options) of
+            error -> ertime:open(Options);
+            {Schedule, Others} -> ertime_nodes_seeds:open_here(Schedule, Others)
+        end
+    ).
 
 %% @private
 send_here() ->
@@ -186,8 +209,9 @@ run_here(Nanoseconds) ->
 
 %% @private
 free_run_here() ->
-    case ertime_nif:free_run(clock()) of
-        Nanoseconds when is_integer(Nanoseconds) -> Nanoseconds;
+    Clock = clock(),
+    case ertime_nif:free_run(Clock) of
+        Nanoseconds when is_integer(Nanoseconds) -> min(Nanoseconds, ertime_drive:until_next(Clock));
         Reason -> error(Reason)
     end.
 
@@ -209,7 +233,9 @@ info_here() ->
 
 %% @private
 close_here() ->
-    ertime:close(clock()).
+    Clock = clock(),
+    ok = ertime_drive:stop_of(Clock),
+    ertime:close(Clock).
 
 %% @private How much the processes that have called the clock have done, once they rest.
 rest_here() ->

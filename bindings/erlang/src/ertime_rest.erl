@@ -144,7 +144,12 @@ state(Pid, Known = #known{suspended = Suspended}) ->
         undefined -> gone;
         [{_, waiting}, {_, Count}] when map_size(Suspended) =:= 0 -> {Count, Known};
         [{_, waiting}, {_, Count}] -> {Count, Known#known{suspended = maps:remove(Pid, Suspended)}};
-        [{_, suspended}, {_, Count}] -> suspended(Pid, Count, Known);
+        [{_, suspended}, {_, Count}] ->
+            %% One that stands still because of a fault of time does so until the time has passed.
+            case ertime_drive:is_paused(Pid) of
+                true -> {Count, Known};
+                false -> suspended(Pid, Count, Known)
+            end;
         _ -> {busy, Known}
     end.
 

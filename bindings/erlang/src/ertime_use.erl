@@ -11,7 +11,7 @@
 %% it was found, so a process that changes these looks again.
 -module(ertime_use).
 
--export([clock/0, open_clock/0, clock_if_open/0, turn_on/0, lost/0, put_clock/1, put_everywhere/1, everywhere/0, allow/2, disallow/1, clock_of/2, facts/1]).
+-export([clock/0, open_clock/0, clock_if_open/0, count_seen/1, is_seen/0, turn_on/0, lost/0, put_clock/1, put_everywhere/1, everywhere/0, allow/2, disallow/1, clock_of/2, facts/1]).
 
 -define(KEY, '$ertime').
 -define(SEEN, '$ertime_seen').
@@ -148,6 +148,13 @@ seen_before(_, _) -> ok.
 changed() ->
     atomics:add(persistent_term:get(?EPOCH), 1, 1).
 
+%% How many clocks there are whose timers are noted (ertime_seen) stands beside the epoch.
+count_seen(More) ->
+    atomics:add(persistent_term:get(?EPOCH), 2, More).
+
+is_seen() ->
+    atomics:get(persistent_term:get(?EPOCH), 2) > 0.
+
 %% A clock was opened on this node. The module is replaced once and by one process: a second time would purge the first code,
 %% and with it who happens to be in it.
 turn_on() ->
@@ -158,9 +165,9 @@ replace_on() ->
     %% Who waits for a module to be loaded would seem to rest.
     ok = code:ensure_modules_loaded([
         ertime, ertime_times, ertime_timers, ertime_monitors, ertime_clock, ertime_options, ertime_timer, ertime_calls, ertime_keeper,
-        ertime_rest, ertime_others, ertime_watch, ertime_test
+        ertime_rest, ertime_others, ertime_watch, ertime_test, ertime_drive, ertime_seen, ertime_faults
     ]),
-    persistent_term:put(?EPOCH, atomics:new(1, [])),
+    persistent_term:put(?EPOCH, atomics:new(2, [])),
     ertime_keeper:start(),
     {ertime_on, Off, File} = code:get_object_code(ertime_on),
     {module, ertime_on} = code:load_binary(ertime_on, File, turned_on(Off)).

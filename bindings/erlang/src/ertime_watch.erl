@@ -145,6 +145,8 @@ next(Watch = #watch{clock = Clock, same = Same}) ->
     case led(Clock) of
         closed -> stop_quietly(Clock);
         no_memory -> tell(Watch, {no_memory, who_waits(Clock)});
+        %% Whoever does the faults of time has been ended.
+        driver_gone -> tell(Watch, {driver_gone, who_waits(Clock)});
         other -> is_there(Watch, 1) andalso auto(Watch#watch{since = none});
         {_, 0, 0} -> idle(Watch);
         {false, _, _} when Same >= ?MOST_AT_ONE_TIME -> tell(Watch, {no_progress, who_waits(Clock)});
@@ -158,7 +160,7 @@ led(Clock) ->
     case ertime_nif:lead(Clock) of
         true ->
             try
-                moved(Clock, ertime_nif:step(Clock, 0))
+                moved(Clock, ertime_drive:step(Clock, 0))
             after
                 ertime_nif:unlead(Clock)
             end;
@@ -167,10 +169,12 @@ led(Clock) ->
     end.
 
 moved(Clock, {_, 0, Armed}) when Armed > 0 ->
-    case ertime_nif:step(Clock, ?LONGEST) of
+    case ertime_drive:step(Clock, ?LONGEST) of
         {_, Sent, _} -> {true, Sent, Armed};
-        Reason -> Reason
+        Other -> moved(Clock, Other)
     end;
+moved(_, {again, _}) ->
+    {true, 1, 1};
 moved(_, {_, Sent, Armed}) ->
     {false, Sent, Armed};
 moved(_, Reason) ->

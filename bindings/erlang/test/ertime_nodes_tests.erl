@@ -15,7 +15,8 @@ tests(_) ->
         {timeout, 120, fun together/0},
         {timeout, 120, fun node_ends/0},
         {timeout, 120, {"a clock an hour ahead: both write", fun() -> ?assertEqual(2, writers(false)) end}},
-        {timeout, 120, {"a fencing number: one writes", fun() -> ?assertEqual(1, writers(true)) end}}
+        {timeout, 120, {"a fencing number: one writes", fun() -> ?assertEqual(1, writers(true)) end}},
+        {timeout, 300, {"by seed", fun by_seed/0}}
     ].
 
 %% Answers what it has started.
@@ -135,3 +136,27 @@ writes(Store) ->
     receive
         {writes, Writes} -> Writes
     end.
+
+%% A lease by the system clocks of two nodes: within some seeds a node writes with an old lease, and one fault is enough for it; with
+%% fencing none does. `ERTIME_NODE_SEEDS' says how many are tried with fencing.
+by_seed() ->
+    with_nodes(fun(Nodes) ->
+        Test = fun(Fenced) ->
+            fun([A, B] = Opened) ->
+                Store = spawn_link(fun() -> ertime_nodes_lease:store(Fenced) end),
+                _ = erpc:call(A, erlang, spawn, [ertime_nodes_lease, worker, [Store, 60]]),
+                ertime_nodes:advance(Opened, {5, second}),
+                _ = erpc:call(B, erlang, spawn, [ertime_nodes_lease, worker, [Store, 60]]),
+                ertime_nodes:advance(Opened, {175, second}),
+                Store ! {old, self()},
+                ?assertEqual(0, receive {old, Count} -> Count end)
+            end
+        end,
+        Options = #{faults => [skew, leap, drift, freeze], over => {180, second}, most => 4},
+        {failed, Report} = ertime_nodes_seeds:check(Nodes, 50, Options, Test(false)),
+        #{schedule := [{_, {on, Node, _}}] = Schedule} = Report,
+        ?assert(lists:member(Node, Nodes)),
+        ?assertError({assertEqual, _}, ertime_nodes:test(Nodes, #{schedule => Schedule}, Test(false))),
+        ok = ertime_nodes:seeds(Nodes, list_to_integer(os:getenv("ERTIME_NODE_SEEDS", "10")), Options, Test(true)),
+        ?assertError(badarg, ertime_nodes:seeds(Nodes, 1, #{faults => [stall]}, Test(true)))
+    end).
