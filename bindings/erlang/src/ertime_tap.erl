@@ -18,7 +18,7 @@
 -module(ertime_tap).
 -behaviour(gen_server).
 
--export([start/0, start/1, stop/0, timers/1, summary/1, print/1, history/1]).
+-export([start/0, start/1, is_on/0, stop/0, timers/1, summary/1, print/1, history/1]).
 %% @hidden
 -export([init/1, handle_call/3, handle_cast/2, handle_info/2, format_error/2]).
 
@@ -93,6 +93,15 @@ milliseconds({Time, Unit}) ->
 milliseconds(Time) ->
     Time.
 
+%% @doc Whether it traces now: it was started, and hasn't ended by itself.
+-spec is_on() -> boolean().
+is_on() ->
+    try
+        gen_server:call(?MODULE, is_on, infinity)
+    catch
+        exit:{noproc, _} -> false
+    end.
+
 %% @doc Ends the tracing, if it hasn't ended by itself, and returns what it has seen.
 -spec stop() -> {ok, log()} | {error, not_started}.
 stop() ->
@@ -135,6 +144,7 @@ whom(all) -> all;
 whom(_) -> some.
 
 %% @private
+handle_call(is_on, _, State = #state{log = Log}) -> {reply, Log =:= none, State};
 handle_call(stop, _, State = #state{log = Log}) when Log =/= none -> {stop, normal, Log, State};
 handle_call(stop, From, State) -> {noreply, off(stop, State#state{waiting = From})}.
 

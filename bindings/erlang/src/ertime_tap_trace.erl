@@ -107,6 +107,8 @@ told() ->
 functions({none, _}, Function, Spec) -> erlang:trace_pattern(Function, Spec, []);
 functions({Kind, Session}, Function, Spec) -> Kind:function(Session, Function, Spec, []).
 
+%% (The specification of trace_pattern/3 has no 'receive' in all versions.)
+-dialyzer({nowarn_function, messages/2}).
 messages({none, _}, Spec) -> erlang:trace_pattern('receive', Spec, []);
 messages({Kind, Session}, Spec) -> Kind:recv(Session, Spec, []).
 
@@ -148,35 +150,39 @@ collect(Reader = #reader{keeper = Keeper}) ->
 collected(Reader = #reader{messages = Count, most = Count}) ->
     full(messages, Reader);
 collected(Reader = #reader{messages = Count, memory = Most}) when Count rem ?LOOK =:= ?LOOK - 1 ->
-    case process_info(self(), memory) of
-        {memory, Bytes} when Bytes > Most -> full(memory, Reader);
-        _ -> next(Reader)
+    {memory, Bytes} = process_info(self(), memory),
+    case Bytes > Most of
+        true -> full(memory, Reader);
+        false -> next(Reader)
     end;
 collected(Reader) ->
     next(Reader).
 
-next(Reader = #reader{messages = Count}) ->
+next(Reader = #reader{keeper = Keeper, session = Session, messages = Count}) ->
     receive
         Message when element(1, Message) =:= trace_ts -> collected(noted(Message, Reader#reader{messages = Count + 1}));
-        Message -> ended(Message, Reader, fun next/1)
+        {Keeper, over} -> told(Reader);
+        {'DOWN', _, process, Keeper, _} -> forget(Session);
+        _ -> next(Reader)
     end.
 
 full(Why, Reader = #reader{keeper = Keeper}) ->
     Keeper ! {off, Why},
+    told(Reader),
     discarded(Reader).
 
-discarded(Reader) ->
+%% Until the tracing is off.
+discarded(Reader = #reader{keeper = Keeper, session = Session}) ->
     receive
-        Message -> ended(Message, Reader, fun discarded/1)
+        {Keeper, over} -> ok;
+        {'DOWN', _, process, Keeper, _} -> forget(Session);
+        _ -> discarded(Reader)
     end.
 
-%% Asked for what there is; or the keeper was killed.
-ended({Keeper, over}, #reader{keeper = Keeper, messages = Count, timers = Timers}, _) ->
-    Keeper ! {self(), Count, [Timer || {_, Timer} <- lists:sort([{Number, Timer} || Timer = #{number := Number} <- maps:values(Timers)])]};
-ended({'DOWN', _, process, Keeper, _}, #reader{keeper = Keeper, session = Session}, _) ->
-    forget(Session);
-ended(_, Reader, Next) ->
-    Next(Reader).
+told(#reader{keeper = Keeper, messages = Count, timers = Timers}) ->
+    Rows = [Timer || {_, Timer} <- lists:sort([{Number, Timer} || Timer = #{number := Number} <- maps:values(Timers)])],
+    Keeper ! {self(), Count, Rows},
+    ok.
 
 %% A call is kept until it returns; what it raises was no start.
 noted({trace_ts, Pid, call, {_, Name, _}, Told, Scheduler, At}, Reader = #reader{calls = Calls}) ->

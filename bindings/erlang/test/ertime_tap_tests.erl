@@ -20,8 +20,9 @@ tap_test_() ->
             {"by name", fun names/0},
             {"off by time", fun() -> by_itself(time, #{for => {100, millisecond}}) end},
             {"off by messages", fun() -> by_itself(messages, #{most => 100}) end},
-            {"off by memory", fun() -> by_itself(memory, #{memory => 4000000}) end},
+            {"off by memory", fun() -> by_itself(memory, #{memory => 2000000}) end},
             {"off as its keeper is killed", fun killed/0},
+            {"off as its collector is killed", fun collector_killed/0},
             {"somebody else traces", fun traced/0},
             {"once at a time", fun once/0},
             {"bad options", fun bad_options/0}
@@ -143,8 +144,8 @@ names() ->
 
 %% Nothing is traced any more, and what was seen is there.
 by_itself(Why, Options) ->
-    Large = lists:seq(1, 20000),
-    Worker = spawn(fun() -> busy(Large) end),
+    Message = lists:seq(1, 500),
+    Worker = spawn(fun() -> busy(Message) end),
     ok = ertime_tap:start(Options#{processes => [Worker]}),
     quiet(Worker, 500),
     {ok, Log = #{off := Why, messages := Count}} = ertime_tap:stop(),
@@ -162,10 +163,18 @@ busy(Message) ->
     end.
 
 quiet(Worker, Tries) ->
-    case {erlang:trace_info({erlang, start_timer, 3}, traced), erlang:trace_info(Worker, flags)} of
-        {{traced, false}, {flags, []}} -> {match_spec, true} = erlang:trace_info('receive', match_spec);
-        _ when Tries > 0 -> timer:sleep(20), quiet(Worker, Tries - 1)
+    case ertime_tap:is_on() orelse is_traced(Worker) of
+        false -> {match_spec, true} = erlang:trace_info('receive', match_spec);
+        true when Tries > 0 -> timer:sleep(20), quiet(Worker, Tries - 1)
     end.
+
+is_traced(Worker) ->
+    has_sessions() andalso apply(trace, session_info, [Worker]) =/= [] orelse
+        {erlang:trace_info({erlang, start_timer, 3}, traced), erlang:trace_info(Worker, flags)} =/= {{traced, false}, {flags, []}}.
+
+%% From Erlang/OTP 27 on.
+has_sessions() ->
+    code:ensure_loaded(trace) =:= {module, trace} andalso erlang:function_exported(trace, session_create, 3).
 
 killed() ->
     Worker = spawn(fun() -> receive stop -> ok end end),
@@ -175,13 +184,25 @@ killed() ->
     {error, not_started} = ertime_tap:stop(),
     Worker ! stop.
 
+%% As the runtime does where it takes too much memory. It can be found where there are no sessions.
+collector_killed() ->
+    Worker = spawn(fun() -> receive stop -> ok end end),
+    ok = ertime_tap:start(#{processes => [Worker]}),
+    case erlang:trace_info(Worker, tracer) of
+        {tracer, Collector} when is_pid(Collector) ->
+            exit(Collector, kill),
+            quiet(Worker, 500),
+            {ok, #{off := killed, timers := []}} = ertime_tap:stop();
+        {tracer, []} ->
+            ?assert(has_sessions())
+    end,
+    Worker ! stop.
+
 traced() ->
     Worker = spawn(fun() -> receive stop -> ok end end),
     1 = erlang:trace(Worker, true, [procs]),
-    case code:ensure_loaded(trace) of
-        {module, trace} -> ok = ertime_tap:start(#{processes => [Worker]});
-        _ -> {error, {traced, Worker}} = ertime_tap:start(#{processes => [Worker]})
-    end,
+    Answer = ertime_tap:start(#{processes => [Worker]}),
+    ?assertEqual(case has_sessions() of true -> ok; false -> {error, {traced, Worker}} end, Answer),
     _ = ertime_tap:stop(),
     {flags, [procs]} = erlang:trace_info(Worker, flags),
     1 = erlang:trace(Worker, false, [procs]),
