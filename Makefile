@@ -6,6 +6,8 @@
 #     make dist         a tar archive for machines without the toolchain, in build/dist
 #                       (make dist TARGET=aarch64 the one of the C library for that processor, by a cross compiler)
 #     make deb          packages for Debian, in build/deb
+#     make hex          the package for Erlang and Elixir with the C library of both processors, in build/hex (it needs
+#                       the cross compiler too)
 #     make html         all documents as a site with a search, in build/site
 #     make release      checks the version, makes the archive and tags it
 #     make prove        proves what has changed since it was built, and builds it
@@ -78,7 +80,7 @@ EXAMPLES = examples/c/event_loop.c examples/c/seats.c examples/c/repeating.c exa
 DOCUMENTS = CHANGELOG.md EMBEDDING.md
 LIBRARIES = $(B)/libertime.a $(B)/$(REAL)
 
-.PHONY: all prove pages install install-strip uninstall dist deb html release clean
+.PHONY: all prove pages install install-strip uninstall dist deb hex html release clean
 .DELETE_ON_ERROR:
 
 all: $(if $(is_native),$(ERTIME) $(ERTAUDIT)) $(LIBRARIES) pages $(B)/THIRD-PARTY $(addprefix $(B)/doc/,$(DOCUMENTS))
@@ -238,6 +240,12 @@ deb: all
 	  zshcompletiondir=/usr/share/zsh/vendor-completions
 	cd $(DEB) && SOURCE_DATE_EPOCH=$(EPOCH) dpkg-buildpackage -b -us -uc -nc -d
 	@ls $(B)/deb/*.deb
+
+# The library for aarch64 is made by another run of make, in a folder below, of what was built for it.
+OTHER = crates/ert_c/out/aarch64-unknown-linux-gnu/libert_c.a
+hex: $(B)/libertime.a $(B)/THIRD-PARTY
+	$(MAKE) TARGET=aarch64 B=$(B)/aarch64 ARCHIVE=$(OTHER) HEAP=$(B)/aarch64/heap.o $(B)/aarch64/libertime.a
+	$(PYTHON) packaging/hex $(B)/hex $(B)/THIRD-PARTY $(B)/libertime.a $(B)/aarch64/libertime.a
 
 # All documents, the pages and the references as a site. Nothing is proved or built for it. The search needs a server:
 # `python3 -m http.server -d build/site` is one.

@@ -16,11 +16,10 @@
 %% It calls no NIF: `ertime_tap.beam' and `ertime_tap_*.beam' are all that a node needs of this package. What a trace can't tell
 %% stands at {@link ertime_tap_log}.
 -module(ertime_tap).
--behaviour(gen_server).
 
 -export([start/0, start/1, is_on/0, stop/0, timers/1, summary/1, print/1, history/1]).
 %% @hidden
--export([init/1, handle_call/3, handle_cast/2, handle_info/2, format_error/2]).
+-export([format_error/2]).
 
 -export_type([options/0, log/0]).
 
@@ -44,8 +43,6 @@
 -define(DEFAULTS, #{processes => all, for => 60000, most => 100000, memory => 64 bsl 20}).
 -define(LONGEST, 16#FFFFFFFF).
 
--record(state, {trace, from, on = true, ended = #{}, log = none, waiting = none}).
-
 %% @equiv start(#{})
 -spec start() -> ok | {error, already_started | {traced, term()}}.
 start() -> start(#{}).
@@ -56,11 +53,8 @@ start() -> start(#{}).
 start(Options) when is_map(Options) ->
     case [Name || {Name, Value} <- maps:to_list(Options), not is_option(Name, Value)] of
         [] ->
-            case gen_server:start({local, ?MODULE}, ?MODULE, maps:merge(?DEFAULTS, Options), []) of
-                {ok, _} -> ok;
-                {error, {already_started, _}} -> {error, already_started};
-                {error, {shutdown, Reason}} -> {error, Reason}
-            end;
+            #{for := Duration} = All = maps:merge(?DEFAULTS, Options),
+            ertime_tap_keeper:start(All#{for := milliseconds(Duration)});
         [Bad | _] ->
             refuse(Options, io_lib:format("~0tp isn't an option, or its value isn't in its range", [Bad]))
     end;
@@ -95,21 +89,11 @@ milliseconds(Time) ->
 
 %% @doc Whether it traces now: it was started, and hasn't ended by itself.
 -spec is_on() -> boolean().
-is_on() ->
-    try
-        gen_server:call(?MODULE, is_on, infinity)
-    catch
-        exit:{noproc, _} -> false
-    end.
+is_on() -> ertime_tap_keeper:asked(is_on) =:= {ok, true}.
 
 %% @doc Ends the tracing, if it hasn't ended by itself, and returns what it has seen.
 -spec stop() -> {ok, log()} | {error, not_started}.
-stop() ->
-    try
-        {ok, gen_server:call(?MODULE, stop, infinity)}
-    catch
-        exit:{noproc, _} -> {error, not_started}
-    end.
+stop() -> ertime_tap_keeper:asked(stop).
 
 %% @doc The timers that were started meanwhile, in this order.
 -spec timers(log()) -> [ertime_tap_log:timer()].
@@ -126,55 +110,3 @@ print(Log) -> io:put_chars(ertime_tap_log:format(summary(Log))).
 %% @doc The timers as a written history, which `ertaudit' judges: see {@link ertime_tap_history}.
 -spec history(log()) -> iodata().
 history(Log) -> ertime_tap_history:written(Log).
-
-%% --- the keeper: it turns the tracing on and off, and keeps the log ------------------------------------------------
-
-%% @private
-init(#{processes := Processes, for := For, most := Most, memory := Memory}) ->
-    process_flag(priority, high),
-    case ertime_tap_trace:on(Processes, Most, Memory) of
-        {ok, Trace} ->
-            _ = erlang:send_after(milliseconds(For), self(), {off, time}),
-            {ok, #state{trace = Trace, from = erlang:monotonic_time(nanosecond), ended = #{processes => whom(Processes)}}};
-        {error, Reason} ->
-            {stop, {shutdown, Reason}}
-    end.
-
-whom(all) -> all;
-whom(_) -> some.
-
-%% @private
-handle_call(is_on, _, State = #state{log = Log}) -> {reply, Log =:= none, State};
-handle_call(stop, _, State = #state{log = Log}) when Log =/= none -> {stop, normal, Log, State};
-handle_call(stop, From, State) -> {noreply, off(stop, State#state{waiting = From})}.
-
-%% @private
-handle_cast(_, State) -> {noreply, State}.
-
-%% @private
-handle_info({off, Why}, State) ->
-    {noreply, off(Why, State)};
-handle_info(Message, State = #state{trace = Trace}) ->
-    case ertime_tap_trace:read(Trace, Message) of
-        {Messages, Timers} -> done(Messages, Timers, State);
-        gone -> done(0, [], off(killed, State));
-        other -> {noreply, State}
-    end.
-
-off(_, State = #state{on = false}) ->
-    State;
-off(Why, State = #state{trace = Trace, from = From, ended = Ended}) ->
-    ok = ertime_tap_trace:off(Trace),
-    State#state{on = false, ended = Ended#{from => From, to => erlang:monotonic_time(nanosecond), off => Why}}.
-
-done(_, _, State = #state{log = Log}) when Log =/= none ->
-    {noreply, State};
-done(Messages, Timers, State = #state{ended = Ended, waiting = Waiting}) ->
-    Log = ertime_tap_log:made(Ended#{messages => Messages, timers => Timers}),
-    case Waiting of
-        none ->
-            {noreply, State#state{log = Log}};
-        _ ->
-            gen_server:reply(Waiting, Log),
-            {stop, normal, State}
-    end.
