@@ -28,6 +28,7 @@
  * | monitors.c | monitors of the time offset |
  * | times.c, members.c | what the clock tells, who uses it, and what is armed |
  * | step.c, moving.c | the clock goes on from deadline to deadline; it is moved by hand |
+ * | faults.c | what else may happen, for tests: the order of timers that are due at once, lateness, time that code takes |
  */
 #include "ertime_nif.h"
 
@@ -94,6 +95,7 @@ static void unload(ErlNifEnv *env, void *private) {
 
 static ErlNifFunc functions[] = {
     {"open", 7, nif_open, ERL_NIF_DIRTY_JOB_CPU_BOUND},
+    {"open", 8, nif_open, ERL_NIF_DIRTY_JOB_CPU_BOUND},
     {"close", 1, nif_close, ERL_NIF_DIRTY_JOB_CPU_BOUND},
     {"monotonic_time", 1, nif_monotonic_time, 0},
     {"system_time", 1, nif_system_time, 0},
@@ -116,6 +118,10 @@ static ErlNifFunc functions[] = {
     {"drift", 2, nif_drift, 0},
     {"finalize", 1, nif_finalize, 0},
     {"free_run", 1, nif_free_run, 0},
+    {"order", 2, nif_order, 0},
+    {"serial", 2, nif_serial, 0},
+    {"late", 3, nif_late, 0},
+    {"cost", 2, nif_cost, 0},
     {"lead", 1, nif_lead, 0},
     {"unlead", 1, nif_unlead, 0},
     {"join", 1, nif_join, 0},

@@ -27,7 +27,8 @@ enum {
     GROUP_SIZE = 32,     /* messages that share an environment */
     GROUPS = 4,          /* groups that have room, of a clock */
     FIRST_BUCKETS = 64,  /* of the table of receivers */
-    SEGMENTS = 24        /* of the table: FIRST_BUCKETS, and then each as many as all before it */
+    SEGMENTS = 24,       /* of the table: FIRST_BUCKETS, and then each as many as all before it */
+    MOST_WHEELS = 16     /* of a clock */
 };
 
 typedef struct state state;
@@ -121,7 +122,8 @@ struct receiver {
     receiver *next_gone; /* among those that have exited */
     ring timers;
     ring watches;
-    uint32_t count; /* of timers */
+    uint32_t count;  /* of timers */
+    uint16_t number; /* how many there were before it, as far as this counts */
     bool member;
     atomic_bool gone;
     ErlNifPid pid;
@@ -150,6 +152,13 @@ struct state {
     ert_reading os;
     int64_t drift; /* of the OS system clock against the OS monotonic clock, parts per billion */
     int64_t drift_rest;
+    _Atomic int64_t cost; /* nanoseconds that a process takes to read the time */
+    uint64_t seed;        /* of the order of timers that are due at once, or 0 */
+    uint64_t starts;      /* of timers, since the seed was given */
+    uint64_t late[MOST_WHEELS]; /* milliseconds since the start until which a wheel has no turn */
+    bool serial;          /* a step sends one message at most */
+    bool spread;          /* each receiver has a wheel for its timers */
+    uint16_t receivers_made;
     bool apart; /* the OS clocks may have gone apart: the clock is ticked in short steps */
     bool led;
     ErlNifPid leader;
@@ -325,7 +334,16 @@ nif nif_monitor, nif_demonitor, nif_is_monitor;
 bool is_much(const state *s);
 bool enter_to_move(state *s);
 int32_t run_on(state *s, int64_t step);
+void leave_and_tell(ErlNifEnv *env, state *s);
 nif nif_run, nif_leap, nif_tick, nif_drift, nif_finalize, nif_step, nif_free_run;
+
+/* --- faults.c ------------------------------------------------------------------------------------------------- */
+
+uint32_t wheel_for(state *s, const receiver *to);
+void wheels_in_turn(const state *s, uint8_t order[MOST_WHEELS]);
+bool is_late(const state *s, uint32_t wheel);
+bool pay(ErlNifEnv *env, state *s);
+nif nif_order, nif_serial, nif_late, nif_cost;
 
 /* --- times.c and members.c ------------------------------------------------------------------------------------ */
 

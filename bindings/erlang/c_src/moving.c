@@ -59,7 +59,7 @@ int32_t run_on(state *s, int64_t step) {
 }
 
 /* Ends a move under the lock, and tells who has to be told. */
-static void leave_and_tell(ErlNifEnv *env, state *s) {
+void leave_and_tell(ErlNifEnv *env, state *s) {
     change news;
     change_take(s, &news);
     state_leave(s);

@@ -145,13 +145,14 @@ int32_t receiver_of(ErlNifEnv *env, clock_resource *clock, const ErlNifPid *pid,
         if (it == NULL) {
             return ERT_NO_MEMORY;
         }
-        *it = (receiver){.pid = *pid};
+        *it = (receiver){.pid = *pid, .number = s->receivers_made};
         receiver_init(it);
         if (enif_monitor_process(env, clock, pid, &it->monitor) != 0) {
             enif_free(it);
             return ERT_EXITED;
         }
         table_add(&s->receivers, it);
+        s->receivers_made += 1;
     }
     *found = it;
     return ERT_OK;

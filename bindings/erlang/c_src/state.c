@@ -6,7 +6,7 @@
 
 enum {
     WHEEL_SLOTS = 16384,           /* the most slots of a wheel: a start on a full one looks at each */
-    MOST_SLOTS = 16 * WHEEL_SLOTS, /* the most slots of a clock */
+    MOST_SLOTS = MOST_WHEELS * WHEEL_SLOTS, /* the most slots of a clock */
     SLOTS_AT_ONCE = 16384          /* whose memory a scheduler gives back */
 };
 
@@ -90,9 +90,22 @@ static int32_t state_open(state *s) {
     return ERT_OK;
 }
 
-/* open(Mode, Correction, Start, Mono, Sys, Slots, Drift) -> Clock | badarg | no_memory */
+/* As many wheels as there may be for so many slots, and at least so many, of which each has the same part. */
+static uint32_t wheels_for(uint32_t slots, uint32_t least) {
+    for (uint32_t wheels = MOST_WHEELS; wheels > least; wheels--) {
+        if (slots % wheels == 0) {
+            return wheels;
+        }
+    }
+    return least;
+}
+
+/*
+ * open(Mode, Correction, Start, Mono, Sys, Slots, Drift) -> Clock | badarg | no_memory
+ * open(Mode, Correction, Start, Mono, Sys, Slots, Drift, Spread) for a clock with faults: it has several wheels where the
+ * slots can be shared out evenly, and with `true` each receiver has one of them for its timers
+ */
 ERL_NIF_TERM nif_open(ErlNifEnv *env, int argc, const ERL_NIF_TERM argv[]) {
-    UNUSED(argc);
     unsigned mode, correction, slots;
     int64_t start, mono, sys, drift;
     if (!enif_get_uint(env, argv[0], &mode) || !enif_get_uint(env, argv[1], &correction) || !get_int64(env, argv[2], &start) ||
@@ -107,6 +120,10 @@ ERL_NIF_TERM nif_open(ErlNifEnv *env, int argc, const ERL_NIF_TERM argv[]) {
     memset(s, 0, sizeof *s);
     atomic_init(&s->refs, 1);
     uint32_t wheels = (slots + WHEEL_SLOTS - 1) / WHEEL_SLOTS;
+    if (argc == 8) {
+        wheels = wheels_for(slots, wheels);
+        s->spread = enif_is_identical(argv[7], atom_true);
+    }
     s->settings = (ert_settings){
         .size = sizeof s->settings,
         .mode = mode,

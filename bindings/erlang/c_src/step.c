@@ -21,9 +21,11 @@ static int64_t until_due(state *s) {
     int64_t found = INT64_MAX;
     for (uint32_t wheel = 0; wheel < s->settings.schedulers; wheel++) {
         uint64_t due;
-        if (ert_world_next_due(&s->world, wheel, &due) == ERT_OK && (int64_t)due < found) {
-            found = (int64_t)due;
+        if (ert_world_next_due(&s->world, wheel, &due) != ERT_OK) {
+            continue;
         }
+        due = due > s->late[wheel] ? due : s->late[wheel];
+        found = (int64_t)due < found ? (int64_t)due : found;
     }
     if (found == INT64_MAX) {
         return found;
@@ -57,13 +59,35 @@ static int64_t next_step(state *s, int64_t left) {
 
 /* --- step/2 --------------------------------------------------------------------------------------------------- */
 
+/* Both add to `put` how many messages there are then. */
+static int32_t turn(state *s, uint32_t wheel, uint32_t *put) {
+    ert_turned turned = {.put = 0};
+    int32_t status = ert_world_turn(&s->world, wheel, &turned);
+    *put += turned.put;
+    return status;
+}
+
+static int32_t turn_for_one(state *s, uint32_t wheel, uint32_t *put) {
+    ert_turned_some turned;
+    int32_t status;
+    do {
+        turned = (ert_turned_some){.put = 0, .more = 0};
+        status = ert_world_turn_some(&s->world, wheel, 1, &turned);
+        *put += turned.put;
+    } while (status == ERT_OK && turned.put == 0 && turned.more != 0);
+    return status;
+}
+
 static int32_t turn_all(state *s, uint32_t *put) {
     int32_t status = ERT_OK;
+    uint8_t order[MOST_WHEELS];
     *put = 0;
-    for (uint32_t wheel = 0; status == ERT_OK && wheel < s->settings.schedulers; wheel++) {
-        ert_turned turned = {.put = 0};
-        status = ert_world_turn(&s->world, wheel, &turned);
-        *put += turned.put;
+    wheels_in_turn(s, order);
+    for (uint32_t i = 0; status == ERT_OK && i < s->settings.schedulers && !(s->serial && *put > 0); i++) {
+        if (is_late(s, order[i])) {
+            continue;
+        }
+        status = s->serial ? turn_for_one(s, order[i], put) : turn(s, order[i], put);
     }
     return status;
 }

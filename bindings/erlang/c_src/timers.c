@@ -39,47 +39,49 @@ static bool can_be_armed(const timer *it) {
     return is_open(it->state) && it->receiver != NULL && !atomic_load_explicit(&it->receiver->gone, memory_order_relaxed);
 }
 
-/*
- * Starts a timer on the wheel that had room last, and lists it unless its process has exited. Where the wheel is full the
- * next one is for the next try: to find it so, the library has looked at each of its slots. Under the lock.
- */
-static int32_t start_timer(ErlNifEnv *env, clock_resource *clock, timer *it, int64_t when, bool absolute) {
-    state *s = clock->state;
-    receiver *to = &s->others;
-    if (!is_open(s)) {
-        return ERT_CLOSED;
-    }
-    int32_t status = it->by_name ? ERT_OK : receiver_of(env, clock, &it->to.pid, &to);
-    if (status == ERT_NO_MEMORY) {
-        return status;
-    }
-    bool alive = status == ERT_OK;
-    ert_start start = {
-        .when = when,
-        .msg = (uint64_t)(uintptr_t)it,
-        .absolute = absolute,
-        .bare = it->bare,
-        .dest = alive ? ALIVE : EXITED,
-    };
-    status = ert_world_start(&s->world, s->wheel, &start, &it->name);
-    if (status == ERT_FULL) {
-        s->wheel = (s->wheel + 1) % s->settings.schedulers;
-    } else if (status == ERT_OK && alive) {
-        timer_list(s, to, it);
-    }
-    return status;
-}
-
 /* A start that is under way. */
 typedef struct {
     timer *timer;
     ERL_NIF_TERM term; /* keeps the timer as well: once that is listed, another thread may let it go */
     int64_t when;
     bool absolute;
+    bool again; /* the wheel for it was full */
     bool listed;
     group *filled; /* has to be given back, or retired */
     int32_t status;
 } starting;
+
+/*
+ * Starts a timer on its wheel, or on the one that had room last, and lists it unless its process has exited. Where the
+ * wheel is full the next one is for the next try: to find it so, the library has looked at each of its slots. Under the
+ * lock.
+ */
+static int32_t start_timer(ErlNifEnv *env, clock_resource *clock, starting *its) {
+    state *s = clock->state;
+    timer *it = its->timer;
+    receiver *to = &s->others;
+    int32_t status = it->by_name ? ERT_OK : receiver_of(env, clock, &it->to.pid, &to);
+    if (status == ERT_NO_MEMORY) {
+        return status;
+    }
+    bool alive = status == ERT_OK;
+    ert_start start = {
+        .when = its->when,
+        .msg = (uint64_t)(uintptr_t)it,
+        .absolute = its->absolute,
+        .bare = it->bare,
+        .dest = alive ? ALIVE : EXITED,
+    };
+    uint32_t wheel = its->again ? s->wheel : wheel_for(s, to);
+    status = ert_world_start(&s->world, wheel, &start, &it->name);
+    if (status == ERT_FULL) {
+        s->wheel = (wheel + 1) % s->settings.schedulers;
+        its->again = true;
+    } else if (status == ERT_OK && alive) {
+        timer_list(s, to, it);
+    }
+    return status;
+}
 
 /*
  * A timer for a process, or where that is NULL for a name, which isn't listed. Answers false where there is no memory;
@@ -115,7 +117,7 @@ static bool start_try(ErlNifEnv *env, clock_resource *clock, starting *it) {
     }
     it->status = ERT_CLOSED;
     if (is_open(s)) {
-        it->status = start_timer(env, clock, it->timer, it->when, it->absolute);
+        it->status = start_timer(env, clock, it);
         it->listed = it->timer->receiver != NULL;
         if (it->filled != NULL) {
             it->filled = group_give(s, it->filled);

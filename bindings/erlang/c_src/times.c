@@ -1,14 +1,16 @@
 /*
- * What the clock tells. Monotonic time and system time are read without the lock.
+ * What the clock tells. Monotonic time and system time are read without the lock, unless that takes time (nif_cost).
  */
 #include "ertime_nif.h"
 
 /* monotonic_time(Clock) -> integer() | closed | badarg */
 ERL_NIF_TERM nif_monotonic_time(ErlNifEnv *env, int argc, const ERL_NIF_TERM argv[]) {
-    UNUSED(argc);
     clock_resource *clock;
     if (!get_clock(env, argv[0], &clock)) {
         return atom_badarg;
+    }
+    if (atomic_load_explicit(&clock->state->cost, memory_order_relaxed) != 0 && !pay(env, clock->state)) {
+        return elsewhere(env, "monotonic_time", nif_monotonic_time, argc, argv);
     }
     if (!is_open(clock->state)) {
         return atom_closed;
@@ -18,10 +20,12 @@ ERL_NIF_TERM nif_monotonic_time(ErlNifEnv *env, int argc, const ERL_NIF_TERM arg
 
 /* system_time(Clock) -> integer() | closed | badarg */
 ERL_NIF_TERM nif_system_time(ErlNifEnv *env, int argc, const ERL_NIF_TERM argv[]) {
-    UNUSED(argc);
     clock_resource *clock;
     if (!get_clock(env, argv[0], &clock)) {
         return atom_badarg;
+    }
+    if (atomic_load_explicit(&clock->state->cost, memory_order_relaxed) != 0 && !pay(env, clock->state)) {
+        return elsewhere(env, "system_time", nif_system_time, argc, argv);
     }
     if (!is_open(clock->state)) {
         return atom_closed;

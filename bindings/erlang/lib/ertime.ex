@@ -72,6 +72,13 @@ defmodule Ertime do
   @doc "Runs a test in a process and under a clock of its own: see `:ertime.test/2`. In ExUnit `Ertime.Case` is at hand."
   def test(options \\ [], fun), do: :ertime.test(Map.new(options), fun)
 
+  @doc """
+  Runs a test under the clocks of many seeds, with faults of time: see `:ertime.seeds/3`. In ExUnit `Ertime.Case` is at hand.
+
+      Ertime.seeds(200, [faults: [:silent, pause: 20_000]], fn _clock -> ... end)
+  """
+  def seeds(seeds, options, fun), do: :ertime.seeds(seeds, Map.new(options), fun)
+
   @doc "Calls a function with the process using the clock."
   defdelegate with(clock, fun), to: :ertime
 

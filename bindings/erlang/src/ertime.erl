@@ -34,7 +34,7 @@
 %% A clock by hand.
 -export([
     open/0, open/1, close/1, advance/1, advance/2, warp/1, warp/2, warp/3, drift/2, use/1, unuse/1, with/2, use_everywhere/1,
-    transform/1, untransform/1, clock/0, info/0, info/1, rest/1, test/1, test/2
+    transform/1, untransform/1, clock/0, info/0, info/1, rest/1, test/1, test/2, seeds/3
 ]).
 %% For transformed code.
 -export([receive_start/1, receive_stop/1, elixir_send_after/3, elixir_send_after/4]).
@@ -54,7 +54,11 @@
     slots => 1..262144,
     drift => number(),
     advance => by_hand | auto,
-    limit => non_neg_integer() | infinity
+    limit => non_neg_integer() | infinity,
+    schedule => ertime_faults:schedule(),
+    always => fun((clock()) -> term()),
+    deterministic => boolean(),
+    seen => boolean()
 }.
 
 -include("ertime.hrl").
@@ -391,6 +395,36 @@ test(Options, Fun) when is_map(Options), is_function(Fun, 1) ->
     ertime_test:run(Options, Fun);
 test(Options, Fun) ->
     error(badarg, [Options, Fun]).
+
+%% @doc Runs a test under the clocks of many seeds, each with faults of time that its seed draws ({@link ertime_faults}). Where one
+%% fails, the faults are made fewer and smaller as long as it still fails, and printed as terms to paste; then this raises what
+%% the test raised.
+%%
+%% The seeds are a count, `{From, To}' or a list. The options are those of {@link test/2}, where the time goes on by itself in
+%% multi time warp mode if they say nothing else, and
+%%
+%% <ul>
+%% <li>`faults': kinds, of which {@link ertime_faults} has a table: names, `{Name, Most}' with the greatest number, `silent' or
+%%     `loud'; by default `silent';</li>
+%% <li>`over': the faults lie in so much time from the start; by default in the first hours, more of them at the beginning;</li>
+%% <li>`most': how many faults a seed draws at most, by default 8;</li>
+%% <li>`always': a function of the clock that is called whenever all processes rest, and fails the test if it raises or answers
+%%     `false'. It runs in a process of its own;</li>
+%% <li>`deterministic': with `true' the node has one scheduler meanwhile, and each step sends one message, so that a seed gives
+%%     the same run also where processes race;</li>
+%% <li>`shrink': with `false' the first failure is told as it is.</li>
+%% </ul>
+%%
+%% ```
+%% ok = ertime:seeds(20, #{faults => [silent, {stall, 20000}], over => {600, second}}, fun(_) ->
+%%     Begin = ertime:monotonic_time(millisecond),
+%%     ertime:sleep(600000),
+%%     true = ertime:monotonic_time(millisecond) - Begin >= 600000
+%% end).
+%% '''
+-spec seeds(pos_integer() | {integer(), integer()} | [integer()], map() | [{atom(), term()}], fun((clock()) -> term())) -> ok.
+seeds(Seeds, Options, Fun) ->
+    ertime_seeds:run(Seeds, Options, Fun).
 
 %% @doc All processes of the node that see no other clock use this one; with `none', no longer.
 -spec use_everywhere(clock() | none) -> ok.

@@ -2,7 +2,7 @@
 %% The calls that are turned: which function takes the place of which.
 -module(ertime_calls).
 
--export([presets/1, target/3, may_be/3, auto_imported/2, call/3, external_fun/3]).
+-export([presets/1, is_preset/1, target/3, may_be/3, auto_imported/2, call/3, external_fun/3]).
 
 -define(AS_ERLANG(F, A), {erlang, F, A} => {ertime, F}).
 -define(AS_SYSTEM(F, A), {'Elixir.System', F, A} => {ertime, F}).
@@ -37,22 +37,26 @@
     {'Elixir.Process', send_after, 4} => {ertime, elixir_send_after}
 }).
 
+-define(OTP, [gen, gen_server, gen_statem, gen_event, gen_fsm, supervisor, proc_lib, timer, calendar, logger]).
+-define(ELIXIR, [
+    'Elixir.System', 'Elixir.Process', 'Elixir.DateTime', 'Elixir.NaiveDateTime', 'Elixir.Date', 'Elixir.Time', 'Elixir.Task',
+    'Elixir.Task.Supervised', 'Elixir.Task.Supervisor', 'Elixir.GenServer', 'Elixir.DynamicSupervisor', 'Elixir.PartitionSupervisor',
+    'Elixir.Registry', 'Elixir.Stream'
+]).
+
 %% What OTP's behaviours, and those of Elixir where it is loaded, need of modules with calls about time.
 -spec presets(otp) -> [module()].
 presets(otp) ->
-    [gen, gen_server, gen_statem, gen_event, gen_fsm, supervisor, proc_lib, timer, calendar, logger] ++
+    ?OTP ++
         case code:ensure_loaded('Elixir.System') of
-            {module, _} ->
-                [
-                    list_to_atom("Elixir." ++ Name)
-                 || Name <- [
-                        "System", "Process", "DateTime", "NaiveDateTime", "Date", "Time", "Task", "Task.Supervised",
-                        "Task.Supervisor", "GenServer", "DynamicSupervisor", "PartitionSupervisor", "Registry", "Stream"
-                    ]
-                ];
-            {error, _} ->
-                []
+            {module, _} -> ?ELIXIR;
+            {error, _} -> []
         end.
+
+%% Whether a module is one of these, wherever it is.
+-spec is_preset(module()) -> boolean().
+is_preset(Module) ->
+    lists:member(Module, ?OTP ++ ?ELIXIR).
 
 %% The function that takes the place of this one.
 -spec target(module(), atom(), arity()) -> {module(), atom()}.

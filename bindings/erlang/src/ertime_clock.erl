@@ -4,6 +4,8 @@
 -export([
     open/0, open/1, close/1, advance/1, advance/2, warp/1, warp/2, warp/3, drift/2, info/0, info/1, rest/1
 ]).
+%% @hidden
+-export([open_for/2, is_followed/2]).
 
 -include("ertime.hrl").
 
@@ -44,6 +46,10 @@ open() ->
 open(Options) when is_list(Options) ->
     open(maps:from_list(Options));
 open(Options) ->
+    open_for(none, Options).
+
+%% @private For a schedule of faults: then the clock has several wheels, among which the timers may be spread.
+open_for(Schedule, Options) ->
     Defaults = #{
         mode => erlang:system_info(time_warp_mode), correction => erlang:system_info(time_correction), start => ?START, os_time => {?OS_TIME, nanosecond}, slots => 1024, drift => 0,
         advance => by_hand, limit => infinity
@@ -56,17 +62,16 @@ open(Options) ->
     is_number(Drift) orelse error(badarg, [Options]),
     ertime_watch:is_good(Advance, Limit) orelse error(badarg, [Options]),
     Arguments = [Options],
-    case
-        ertime_nif:open(
-            mode_number(Mode, Arguments),
-            correction_number(Correction, Arguments),
-            Start,
-            0,
-            ertime_times:nanoseconds(OsTime, nanosecond, Arguments),
-            Slots,
-            round(Drift * 1000)
-        )
-    of
+    Settings = [
+        mode_number(Mode, Arguments),
+        correction_number(Correction, Arguments),
+        Start,
+        0,
+        ertime_times:nanoseconds(OsTime, nanosecond, Arguments),
+        Slots,
+        round(Drift * 1000)
+    ],
+    case apply(ertime_nif, open, Settings ++ [ertime_faults:needs_spread(Schedule) || Schedule =/= none]) of
         Clock when is_reference(Clock) ->
             ertime_use:turn_on(),
             put(?OWN, Clock),
@@ -227,8 +232,9 @@ at_one_time(Left, Left, Same) -> Same + 1;
 at_one_time(_, _, _) -> 0.
 
 step(Clock, Left) ->
-    case ertime_nif:step(Clock, Left) of
+    case ertime_drive:step(Clock, Left) of
         {_, _, _} = Done -> Done;
+        {again, Rest} -> ertime_rest:wait(Clock), step(Clock, Rest);
         Reason -> refused(Reason)
     end.
 
@@ -267,6 +273,7 @@ warp(Clock, By, Options) ->
         end
     end).
 
+%% @private
 %% Without correction monotonic time would stand still after a leap back. In multi time warp mode the runtime moves the offset
 %% then, whenever it reads the clock.
 is_followed(Clock, Leap) ->

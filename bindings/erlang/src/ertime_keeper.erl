@@ -25,6 +25,7 @@ start() ->
 own(Starter) ->
     true = register(?MODULE, self()),
     ?TABLE = ets:new(?TABLE, [named_table, public, {read_concurrency, true}]),
+    _ = ertime_seen:tables(),
     %% It is no process of the clock of the one that started it.
     _ = erlang:put('$ertime', none),
     Starter ! {?MODULE, self()},

@@ -3,9 +3,9 @@
 -module(ertime_nif).
 
 -export([
-    open/7, close/1, monotonic_time/1, system_time/1, time_offset/1, os_time/1, settings/1, info/1, start/6, cancel/1, stop/1, read/1,
-    is_timer/1, monitor/1, demonitor/1, is_monitor/1, step/2, run/2, leap/3, tick/4, drift/2, finalize/1, free_run/1, lead/1,
-    unlead/1, join/1, leave/1, members/1, timers/1
+    open/7, open/8, close/1, monotonic_time/1, system_time/1, time_offset/1, os_time/1, settings/1, info/1, start/6, cancel/1, stop/1, read/1,
+    is_timer/1, monitor/1, demonitor/1, is_monitor/1, step/2, run/2, leap/3, tick/4, drift/2, finalize/1, free_run/1, order/2,
+    serial/2, late/3, cost/2, lead/1, unlead/1, join/1, leave/1, members/1, timers/1
 ]).
 
 -compile({no_auto_import, [demonitor/1, monitor/1]}).
@@ -21,6 +21,7 @@ priv() ->
     end.
 
 open(_Mode, _Correction, _Start, _Mono, _Sys, _Slots, _Drift) -> not_loaded().
+open(_Mode, _Correction, _Start, _Mono, _Sys, _Slots, _Drift, _Spread) -> not_loaded().
 close(_Clock) -> not_loaded().
 monotonic_time(_Clock) -> not_loaded().
 system_time(_Clock) -> not_loaded().
@@ -43,6 +44,10 @@ tick(_Clock, _Mono, _Sys, _Check) -> not_loaded().
 drift(_Clock, _PartsPerBillion) -> not_loaded().
 finalize(_Clock) -> not_loaded().
 free_run(_Clock) -> not_loaded().
+order(_Clock, _Seed) -> not_loaded().
+serial(_Clock, _IsOn) -> not_loaded().
+late(_Clock, _Wheel, _Milliseconds) -> not_loaded().
+cost(_Clock, _Nanoseconds) -> not_loaded().
 lead(_Clock) -> not_loaded().
 unlead(_Clock) -> not_loaded().
 join(_Clock) -> not_loaded().

@@ -72,7 +72,8 @@ send_after(Time, To, Message, Options) ->
         Clock -> started(ertime_nif:start(Clock, Time, To, Message, true, absolute(Options, Arguments)), send_after, Arguments)
     end.
 
-started(Timer, _, _) when is_reference(Timer) ->
+started(Timer, _, Arguments) when is_reference(Timer) ->
+    ertime_use:is_seen() andalso ertime_seen:armed(Timer, Arguments),
     Timer;
 started(closed, Name, Arguments) ->
     _ = ertime_use:lost(),
@@ -106,7 +107,7 @@ cancel_timer(Timer) ->
         false ->
             erlang:cancel_timer(Timer);
         true ->
-            case ertime_nif:cancel(Timer) of
+            case cancelled(Timer) of
                 badarg -> erlang:cancel_timer(Timer);
                 Left -> Left
             end
@@ -129,16 +130,21 @@ cancel_timer(Timer, Options) ->
         true ->
             case options(Options, #{async => false, info => true}, [Timer, Options]) of
                 #{async := false, info := true} ->
-                    ertime_nif:cancel(Timer);
+                    cancelled(Timer);
                 #{async := false} ->
-                    _ = ertime_nif:cancel(Timer),
+                    _ = cancelled(Timer),
                     ok;
                 #{info := Info} ->
-                    Left = ertime_nif:cancel(Timer),
+                    Left = cancelled(Timer),
                     Info andalso (self() ! {cancel_timer, Timer, Left}),
                     ok
             end
     end.
+
+cancelled(Timer) ->
+    Left = ertime_nif:cancel(Timer),
+    is_integer(Left) andalso ertime_use:is_seen() andalso ertime_seen:cancelled(Timer),
+    Left.
 
 %% @doc As `erlang:read_timer/1', for timers of every clock and of the runtime.
 %%
@@ -226,7 +232,7 @@ receive_stop(none) ->
     ok;
 receive_stop(Timer) ->
     case ertime_nif:stop(Timer) of
-        ok -> ok;
+        ok -> ertime_use:is_seen() andalso ertime_seen:ended(Timer);
         sent -> taken(Timer);
         closed -> ertime_keeper:stop(Timer);
         %% One of the runtime: the clock was closed before it was started.

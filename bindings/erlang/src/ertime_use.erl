@@ -8,7 +8,7 @@
 %% it was found, so a process that changes these looks again.
 -module(ertime_use).
 
--export([clock/0, turn_on/0, lost/0, put_clock/1, put_everywhere/1, everywhere/0, clock_of/1]).
+-export([clock/0, count_seen/1, is_seen/0, turn_on/0, lost/0, put_clock/1, put_everywhere/1, everywhere/0, clock_of/2, facts/1]).
 
 -define(KEY, '$ertime').
 -define(SEEN, '$ertime_seen').
@@ -33,7 +33,7 @@ seen() ->
     end.
 
 find(Before, Epoch, Ancestors, Callers) ->
-    case search(relatives(get(), self()), #{self() => []}) of
+    case search(relatives(get(), self()), #{self() => []}, #{}) of
         none ->
             Clock = for_everybody(everywhere()),
             seen_before(Before, Clock),
@@ -80,6 +80,13 @@ seen_before(_, _) -> ok.
 changed() ->
     atomics:add(persistent_term:get(?EPOCH), 1, 1).
 
+%% How many clocks there are whose timers are noted (ertime_seen) stands beside the epoch.
+count_seen(More) ->
+    atomics:add(persistent_term:get(?EPOCH), 2, More).
+
+is_seen() ->
+    atomics:get(persistent_term:get(?EPOCH), 2) > 0.
+
 %% A clock was opened on this node. The module is replaced once and by one process: a second time would purge the first code,
 %% and with it who happens to be in it.
 turn_on() ->
@@ -90,9 +97,9 @@ replace_on() ->
     %% Who waits for a module to be loaded would seem to rest.
     ok = code:ensure_modules_loaded([
         ertime, ertime_times, ertime_timers, ertime_monitors, ertime_clock, ertime_timer, ertime_calls, ertime_keeper, ertime_rest,
-        ertime_watch, ertime_test
+        ertime_others, ertime_watch, ertime_test, ertime_drive, ertime_seen, ertime_faults
     ]),
-    persistent_term:put(?EPOCH, atomics:new(1, [])),
+    persistent_term:put(?EPOCH, atomics:new(2, [])),
     ertime_keeper:start(),
     {ertime_on, Off, File} = code:get_object_code(ertime_on),
     {module, ertime_on} = code:load_binary(ertime_on, File, turned_on(Off)).
@@ -151,28 +158,35 @@ everywhere() ->
         undefined -> none
     end.
 
-%% What clock/0 would tell another process of this node, as far as can be seen.
-clock_of(Pid) ->
-    case search([Pid], #{}) of
+%% What clock/0 would tell another process of this node, as far as can be seen. The facts of some processes may be known.
+clock_of(Pid, Facts) ->
+    case search([Pid], #{}, Facts) of
         real -> none;
         none -> everywhere();
         Clock -> Clock
     end.
 
-%% Depth first, each process once.
-search([], _) ->
-    none;
-search([Pid | Pids], Searched) when is_map_key(Pid, Searched) ->
-    search(Pids, Searched);
-search([Pid | Pids], Searched) ->
+%% What is asked of a process to find its clock.
+facts(Pid) ->
     case process_info(Pid, dictionary) of
-        undefined ->
-            search(Pids, Searched#{Pid => []});
-        {dictionary, Dictionary} ->
-            case own(Dictionary) of
-                none -> search(relatives(Dictionary, Pid) ++ Pids, Searched#{Pid => []});
-                Found -> Found
-            end
+        {dictionary, Dictionary} -> {own(Dictionary), relatives(Dictionary, Pid)};
+        undefined -> {none, []}
+    end.
+
+%% Depth first, each process once.
+search([], _, _) ->
+    none;
+search([Pid | Pids], Searched, Facts) when is_map_key(Pid, Searched) ->
+    search(Pids, Searched, Facts);
+search([Pid | Pids], Searched, Facts) ->
+    Found =
+        case Facts of
+            #{Pid := Known} -> Known;
+            _ -> facts(Pid)
+        end,
+    case Found of
+        {none, Relatives} -> search(Relatives ++ Pids, Searched#{Pid => []}, Facts);
+        {Clock, _} -> Clock
     end.
 
 own(Dictionary) ->

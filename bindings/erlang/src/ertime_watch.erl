@@ -163,7 +163,7 @@ led(Clock) ->
     case ertime_nif:lead(Clock) of
         true ->
             try
-                moved(Clock, ertime_nif:step(Clock, 0))
+                moved(Clock, ertime_drive:step(Clock, 0))
             after
                 ertime_nif:unlead(Clock)
             end;
@@ -172,10 +172,12 @@ led(Clock) ->
     end.
 
 moved(Clock, {_, 0, Armed}) when Armed > 0 ->
-    case ertime_nif:step(Clock, ?LONGEST) of
+    case ertime_drive:step(Clock, ?LONGEST) of
         {_, Sent, _} -> {true, Sent, Armed};
-        Reason -> Reason
+        Other -> moved(Clock, Other)
     end;
+moved(_, {again, _}) ->
+    {true, 1, 1};
 moved(_, {_, Sent, Armed}) ->
     {false, Sent, Armed};
 moved(_, Reason) ->

@@ -1,0 +1,163 @@
+%% @private
+%% The processes of the node that are no members of a clock, where some of them are at work: whether one is for whom a member
+%% waits, be it through any number of servers.
+%%
+%% Whoever calls a server monitors it until the answer comes. So each that is at work is asked who monitors it, and these who
+%% monitors them, until a member is among them. To be asked is work for a process; the members themselves are not asked, so that
+%% they can be seen to rest meanwhile. Let that be the case from one look at all processes to another, and let each of the others
+%% that wasn't asked in between rest from the one to the other, too. Had a member waited for one at work, then some server
+%% between the two was asked while those before it waited for it all the time, and the answers led to the member.
+%%
+%% A process that sees the clock of another test and works for a server of the node works for that test.
+%%
+%% New processes are found by their numbers, which the runtime gives in order: one that is spawned for nothing tells how far they
+%% have come.
+-module(ertime_others).
+
+-export([new/0, discover/3, ask/3, look/1]).
+
+-define(GRACE, 20).
+-define(LONG, 20000).
+-define(MOST_NEW, 2000).
+-define(HELPERS, 32).
+
+-record(others, {
+    pids = #{},     % pid => []: all that are known
+    pending = [],   % {pid, how often it was looked at}: new, and it hasn't waited for anything yet
+    last = none,    % the number of the newest process
+    seen = #{},     % pid => its count at the first look, of those that waited
+    at_work = [],   % at some time since then, as far as is known, and wasn't asked
+    asked = #{}     % pid => []
+}).
+
+new() ->
+    #others{}.
+
+%% --- the first look -----------------------------------------------------------------------------------------------
+
+%% Looks at all that are known, and then for new ones: which of these are members, of which that isn't clear yet, and what is known
+%% now. Any other new one counts as at work, since it may have been before it was found.
+%%
+%% It yields, so that the process which is spawned for nothing is gone before others look at it, and since there may be a signal to
+%% answer for which another waits.
+discover(Clock, Members, Others0) ->
+    Others = #others{pids = Known, last = Last} = first_look(Others0),
+    Newest = spawn_opt(fun() -> ok end, [{priority, high}]),
+    ahead(fun erlang:yield/0),
+    Number = number(Newest),
+    New =
+        case between(Last, Number) of
+            all -> processes();
+            Pids -> Pids
+        end,
+    classify(
+        [{Pid, 0} || Pid <- New, Pid =/= Newest, Pid =/= self(), not is_map_key(Pid, Members), not is_map_key(Pid, Known)],
+        Clock,
+        Others#others{last = Number}
+    ).
+
+first_look(Others = #others{pids = Pids}) ->
+    Infos = [{Pid, Info} || Pid <- maps:keys(Pids), Info <- [process_info(Pid, [status, reductions])], Info =/= undefined],
+    Others#others{
+        pids = maps:from_keys([Pid || {Pid, _} <- Infos], []),
+        seen = maps:from_list([{Pid, Info} || {Pid, [{_, waiting} | _] = Info} <- Infos]),
+        at_work = [Pid || {Pid, [{_, Status} | _]} <- Infos, Status =/= waiting],
+        asked = #{}
+    }.
+
+%% Whose clock it sees is known once it has waited for something, or run for long; until then it may have to be looked at again.
+classify(New, Clock, Others = #others{pids = Known, pending = Pending, at_work = AtWork}) ->
+    States = [{Pid, Looks, is_settled(Info, Looks)} || {Pid, Looks} <- New ++ Pending, {_, _} = Info <- [state(Pid)]],
+    Asked = [{Pid, IsSettled} || {Pid, Looks, IsSettled} <- States, IsSettled orelse Looks =:= 0],
+    Facts = maps:from_list(parallel(fun({Pid, _}) -> {Pid, ertime_use:facts(Pid)} end, Asked)),
+    Joined = [Pid || {Pid, _} <- Asked, ertime_use:clock_of(Pid, Facts) =:= Clock],
+    Found = [Pid || {Pid, true} <- Asked] -- Joined,
+    Undecided = [{Pid, Looks + 1} || {Pid, Looks, false} <- States, not lists:member(Pid, Joined)],
+    {Joined, [Pid || {Pid, _} <- Undecided], Others#others{pids = maps:merge(Known, maps:from_keys(Found, [])), pending = Undecided, at_work = Found ++ AtWork}}.
+
+is_settled({Status, Count}, Looks) ->
+    Status =:= waiting orelse Looks >= ?GRACE orelse Count >= ?LONG.
+
+state(Pid) ->
+    case process_info(Pid, [status, reductions]) of
+        [{_, Status}, {_, Count}] -> {Status, Count};
+        undefined -> gone
+    end.
+
+%% The processes whose numbers are between these two, as far as they are alive.
+between({First, Serial}, {Last, Serial}) when Last > First, Last - First < ?MOST_NEW ->
+    [list_to_pid("<0." ++ integer_to_list(N) ++ "." ++ integer_to_list(Serial) ++ ">") || N <- lists:seq(First + 1, Last - 1)];
+between(_, _) ->
+    all.
+
+number(Pid) ->
+    [_, Number, Serial] = string:lexemes(pid_to_list(Pid), "<>."),
+    {list_to_integer(Number), list_to_integer(Serial)}.
+
+%% --- who is at work, and for whom ---------------------------------------------------------------------------------
+
+%% Those who have been at work since the first look, and weren't asked: none, or what is known with them.
+look(Others = #others{seen = Seen, asked = Asked}) ->
+    case [Pid || {Pid, Info} <- maps:to_list(Seen), not is_map_key(Pid, Asked), process_info(Pid, [status, reductions]) =/= Info] of
+        [] -> none;
+        AtWork -> Others#others{at_work = AtWork}
+    end.
+
+%% Asks those who are at work for whom they are: which of them work for one of these, or what is known now.
+ask(Clock, Members, Others = #others{at_work = AtWork}) ->
+    ask([{Pid, Pid} || Pid <- AtWork], Clock, Members, Others#others{at_work = []}).
+
+%% Each with the one at work for which it is asked.
+ask([], _, _, Others) ->
+    Others;
+ask(Pairs, Clock, Members, Others = #others{asked = Before}) ->
+    Asked = maps:merge(Before, maps:from_keys([Pid || {Pid, _} <- Pairs], [])),
+    Answers = lists:append(parallel(fun monitoring/1, Pairs)),
+    case lists:usort([Origin || {By, Pid, Origin} <- Answers, is_map_key(By, Members), Pid =:= Origin orelse not is_elsewhere(Origin, Clock)]) of
+        [] -> ask(next(Answers, Asked), Clock, Members, Others#others{asked = Asked});
+        Busy -> {busy, Busy}
+    end.
+
+next(Answers, Asked) ->
+    lists:ukeysort(1, [{By, Origin} || {By, _, Origin} <- Answers, By =/= self(), not is_map_key(By, Asked)]).
+
+monitoring({Pid, Origin}) ->
+    case process_info(Pid, monitored_by) of
+        {monitored_by, Monitors} -> [{By, Pid, Origin} || By <- Monitors, is_pid(By), node(By) =:= node()];
+        undefined -> []
+    end.
+
+is_elsewhere(Pid, Clock) ->
+    not lists:member(ertime_use:clock_of(Pid, #{}), [none, Clock]).
+
+%% --- side by side -------------------------------------------------------------------------------------------------
+
+%% A process answers when it is run next, for which it has to wait its turn: so many are asked at once.
+parallel(Fun, Items) when length(Items) =< 1 ->
+    [Fun(Item) || Item <- Items];
+parallel(Fun, Items) ->
+    ahead(fun() ->
+        Size = (length(Items) + ?HELPERS - 1) div ?HELPERS,
+        Helpers = [spawn_opt(fun() -> exit({?MODULE, [Fun(Item) || Item <- Part]}) end, [monitor, {priority, high}]) || Part <- parts(Items, Size)],
+        lists:append([
+            receive
+                {'DOWN', Monitor, process, Pid, {?MODULE, Answers}} -> Answers;
+                {'DOWN', Monitor, process, Pid, Reason} -> error(Reason)
+            end
+         || {Pid, Monitor} <- Helpers
+        ])
+    end).
+
+parts(Items, Size) when length(Items) =< Size -> [Items];
+parts(Items, Size) ->
+    {Part, Rest} = lists:split(Size, Items),
+    [Part | parts(Rest, Size)].
+
+%% Before those who are at work.
+ahead(Fun) ->
+    Before = process_flag(priority, high),
+    try
+        Fun()
+    after
+        process_flag(priority, Before)
+    end.

@@ -1,0 +1,123 @@
+%% The clock stands still while one of its processes is at work: whatever it does, and whoever does it for it. On a quiet node, and
+%% beside four processes that keep the schedulers busy. So many rounds of each: by hand ERTIME_ROUNDS=1000.
+-module(ertime_rest_tests).
+
+-behaviour(gen_server).
+
+-include_lib("eunit/include/eunit.hrl").
+
+-export([init/1, handle_call/3, handle_cast/2, handle_info/2]).
+
+-define(WORK, 3).
+
+rest_test_() ->
+    [
+        {timeout, 3600, {lists:flatten(io_lib:format("~s, beside ~w", [What, Busy])), fun() -> rounds(Busy, Setup, Do) end}}
+     || Busy <- [0, 4], {What, Setup, Do} <- kinds()
+    ].
+
+kinds() ->
+    [
+        {"loads a module", fun unloaded/0, fun(_) -> sofs:empty_set() end},
+        {"puts a persistent term", fun() -> none end, fun(_) -> persistent_term:put(?MODULE, make_ref()) end},
+        {"calls a server", fun() -> servers([work]) end, fun call/1},
+        {"calls a server that calls another", fun() -> servers([work, call]) end, fun call/1},
+        {"calls one that calls one that calls one", fun() -> servers([work, call, call]) end, fun call/1},
+        {"calls a server that loads a module", fun() -> unloaded(), servers([load, call]) end, fun call/1},
+        {"calls a server that puts a persistent term", fun() -> servers([put, call]) end, fun call/1},
+        {"calls a server for which another process answers", fun() -> servers([work, hand_on, call]) end, fun call/1}
+    ].
+
+rounds(Busy, Setup, Do) ->
+    Rounds = list_to_integer(os:getenv("ERTIME_ROUNDS", case Busy of 0 -> "25"; _ -> "5" end)),
+    Burners = [spawn_link(fun burn/0) || _ <- lists:seq(1, Busy)],
+    Moved = [Time || _ <- lists:seq(1, Rounds), Time <- [took(Setup(), Do)], Time =/= 0],
+    [begin unlink(Pid), exit(Pid, kill) end || Pid <- Burners],
+    ?assertEqual([], Moved).
+
+burn() ->
+    ertime:use(real),
+    (fun Again() -> lists:seq(1, 1000), Again() end)().
+
+%% How much of the clock's time a process of it takes, while a minute passes.
+took(Server, Do) ->
+    Took = ertime:test(#{start => 0}, fun(Clock) ->
+        Test = self(),
+        _ = spawn_link(fun() ->
+            Start = ertime:monotonic_time(millisecond),
+            _ = Do(Server),
+            Test ! {took, ertime:monotonic_time(millisecond) - Start}
+        end),
+        0 = ertime:advance(Clock, 60000),
+        receive {took, Time} -> Time end
+    end),
+    _ = [exit(Pid, kill) || {_, All} <- [Server], Pid <- All],
+    Took.
+
+unloaded() ->
+    _ = code:purge(sofs),
+    _ = code:delete(sofs),
+    _ = code:purge(sofs),
+    none.
+
+call({Server, _}) ->
+    done = gen_server:call(Server, go, infinity).
+
+%% --- servers that see no clock --------------------------------------------------------------------------------------
+
+servers(Kinds) ->
+    lists:foldl(fun started/2, {none, []}, Kinds).
+
+started(Kind, {Next, All}) ->
+    {ok, Pid} = gen_server:start(?MODULE, {Kind, Next}, []),
+    {Pid, [Pid | All]}.
+
+init(State) -> {ok, State}.
+
+handle_call(go, _, {work, _} = State) ->
+    work(),
+    {reply, done, State};
+handle_call(go, _, {load, _} = State) ->
+    _ = sofs:empty_set(),
+    {reply, done, State};
+handle_call(go, _, {put, _} = State) ->
+    persistent_term:put(?MODULE, make_ref()),
+    {reply, done, State};
+handle_call(go, _, {call, Next} = State) ->
+    {reply, gen_server:call(Next, go, infinity), State};
+handle_call(go, From, {hand_on, Next} = State) ->
+    _ = spawn_monitor(fun() -> gen_server:reply(From, gen_server:call(Next, go, infinity)) end),
+    {noreply, State}.
+
+handle_cast(_, State) -> {noreply, State}.
+
+handle_info(_, State) -> {noreply, State}.
+
+work() ->
+    End = os:perf_counter(millisecond) + ?WORK,
+    (fun Again() -> os:perf_counter(millisecond) > End orelse Again() end)().
+
+%% --- whom it doesn't wait for -----------------------------------------------------------------------------------------
+
+%% A process of another test is at work, and is monitored by a server that a process of this one monitors.
+other_clock_test() ->
+    Registry = spawn_link(fun() -> receive {monitor, Pid} -> erlang:monitor(process, Pid), receive stop -> ok end end end),
+    Other = ertime:open(#{}),
+    Busy = spawn_link(fun() -> ertime:use(Other), (fun Again() -> lists:seq(1, 1000), Again() end)() end),
+    Registry ! {monitor, Busy},
+    ertime:test(#{}, fun(Clock) ->
+        _ = erlang:monitor(process, Registry),
+        ?assertEqual(0, ertime:advance(Clock, 1000))
+    end),
+    [begin unlink(Pid), exit(Pid, kill) end || Pid <- [Registry, Busy]],
+    true = ertime:close(Other).
+
+%% One that was suspended for good counts as at rest.
+suspended_test() ->
+    ertime:test(#{}, fun(Clock) ->
+        Pid = spawn_link(fun() -> ertime:sleep(1000) end),
+        ertime:rest(Clock),
+        true = erlang:suspend_process(Pid),
+        ?assertEqual(1, ertime:advance(Clock, 2000)),
+        true = erlang:resume_process(Pid)
+    end).
