@@ -7,7 +7,8 @@
 enum {
     WHEEL_SLOTS = 16384,           /* the most slots of a wheel: a start on a full one looks at each */
     MOST_SLOTS = MOST_WHEELS * WHEEL_SLOTS, /* the most slots of a clock */
-    SLOTS_AT_ONCE = 16384          /* whose memory a scheduler gives back */
+    SLOTS_AT_ONCE = 16384,         /* whose memory a scheduler gives back */
+    FAULT_WHEELS = 4               /* of a clock with faults */
 };
 
 /* --- who has it ----------------------------------------------------------------------------------------------- */
@@ -90,9 +91,9 @@ static int32_t state_open(state *s) {
     return ERT_OK;
 }
 
-/* As many wheels as there may be for so many slots, and at least so many, of which each has the same part. */
+/* So many wheels, or fewer for so few slots or more for so many, of which each has the same part. */
 static uint32_t wheels_for(uint32_t slots, uint32_t least) {
-    for (uint32_t wheels = MOST_WHEELS; wheels > least; wheels--) {
+    for (uint32_t wheels = FAULT_WHEELS; wheels > least; wheels--) {
         if (slots % wheels == 0) {
             return wheels;
         }

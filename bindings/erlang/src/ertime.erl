@@ -34,7 +34,7 @@
 %% A clock by hand.
 -export([
     open/0, open/1, close/1, advance/1, advance/2, warp/1, warp/2, warp/3, drift/2, use/1, unuse/1, with/2, use_everywhere/1,
-    transform/1, untransform/1, clock/0, info/0, info/1, rest/1, test/1, test/2, seeds/3
+    allow/2, transform/1, untransform/1, report/0, clock/0, info/0, info/1, rest/1, test/1, test/2, seeds/3
 ]).
 %% For transformed code.
 -export([receive_start/1, receive_stop/1, elixir_send_after/3, elixir_send_after/4]).
@@ -43,18 +43,19 @@
 
 -type clock() :: reference().
 %% A clock, as {@link open/1} gives it.
--type duration() :: integer() | {integer(), erlang:time_unit()}.
+-type duration() :: integer() | {integer(), erlang:time_unit() | minute | hour | day}.
 %% Milliseconds, or a number with its unit.
 -type mode() :: no_time_warp | single_time_warp | multi_time_warp.
 -type options() :: #{
     mode => mode(),
     correction => boolean(),
     start => integer(),
-    os_time => integer() | {integer(), erlang:time_unit()},
+    os_time => integer() | {integer(), erlang:time_unit() | minute | hour | day},
     slots => 1..262144,
     drift => number(),
     advance => by_hand | auto,
     limit => non_neg_integer() | infinity,
+    unturned => warn | error | ignore,
     schedule => ertime_faults:schedule(),
     always => fun((clock()) -> term()),
     deterministic => boolean(),
@@ -294,16 +295,20 @@ use(Clock) ->
             _ when is_reference(Clock) -> ertime_use:put_clock(Clock);
             _ -> badarg
         end,
-    Answer =:= ok orelse error(Answer, [Clock]),
+    case Answer of
+        ok -> ok;
+        badarg -> ?BADARG([Clock], 1, "neither a clock, real nor undefined");
+        _ -> error(Answer, [Clock])
+    end,
     case Before of
         none -> real;
         _ -> Before
     end.
 
 %% @doc Turns modules that are loaded, or can be, as {@link ertime_transform} does it, from their debug information and for the
-%% whole node: a list of them, all of an application, or with `otp' those that the behaviours of Erlang/OTP, and of Elixir where
+%% whole node: a list of them or of applications, all of an application, or with `otp' those that the behaviours of Erlang/OTP, and of Elixir where
 %% it is there, need for their timeouts: `gen', `gen_server', `gen_statem', `gen_event', `supervisor', `proc_lib', `timer',
-%% `calendar' and `logger'; `System', `Process', `DateTime', `NaiveDateTime', `Date', `Time', `Task' and more.
+%% `calendar', `logger' and more; `System', `Process', `DateTime', `NaiveDateTime', `Date', `Time', `Task' and more.
 %%
 %% Processes without a clock see the runtime's, as before. It can be called again; a module that is turned stays so. Answers
 %% `ok', or each module that couldn't be, with the reason: `no_object_code', `no_debug_info', `old_code_is_in_use' where a process
@@ -314,33 +319,61 @@ use(Clock) ->
 %% ok = ertime:transform([calendar]),
 %% ok = ertime:untransform([calendar]).
 %% '''
--spec transform(otp | atom() | [module()]) -> ok | {error, [{module(), term()}]}.
+-spec transform(otp | atom() | [module() | atom()]) -> ok | {error, [{module(), term()}]}.
 transform(What) ->
-    ertime_load:load(modules(What, transform)).
+    ertime_load:load(modules(What)).
+
+%% @doc Which modules see the clock of a test, and which call functions about time and don't, since they weren't turned: those of
+%% the project, that is in its `_build', and the behaviours of Erlang/OTP that they follow. The latter are told once, by a warning,
+%% when a clock is opened (the option `unturned'). What is in a `receive .. after' alone isn't looked for.
+-spec report() -> #{turned := [module()], unturned := [module()]}.
+report() ->
+    ertime_report:report().
 
 %% @doc Takes {@link transform/1} back: modules that are turned are loaded again as they were compiled. One whose code some
 %% process can't leave, as all processes of `proc_lib' are in that module, stays turned, which nobody without a clock notices.
 -spec untransform(otp | atom() | [module()]) -> ok.
 untransform(What) ->
-    ertime_load:unload(modules(What, untransform)).
+    ertime_load:unload(modules(What)).
 
 %% @doc The same as {@link untransform/1}.
 -spec unuse(otp | atom() | [module()]) -> ok.
 unuse(What) ->
     untransform(What).
 
-modules(Modules, Name) when is_list(Modules) ->
-    lists:all(fun is_atom/1, Modules) orelse error(badarg, [Name, Modules]),
-    Modules;
-modules(otp, _) -> ertime_calls:presets(otp);
-modules(Application, Name) when is_atom(Application) ->
+modules(Names) when is_list(Names) ->
+    case [Other || Other <- Names, not is_atom(Other)] of
+        [] -> lists:append([modules_of(Name) || Name <- Names]);
+        [Other | _] -> ?BADARG([Names], 1, text("~tp is the name of no module", [Other]))
+    end;
+modules(otp) ->
+    ertime_calls:presets(otp);
+modules(Application) when is_atom(Application) ->
+    case application_modules(Application) of
+        none -> ?BADARG([Application], 1, text("there is no application ~tp", [Application]));
+        Modules -> Modules
+    end;
+modules(What) ->
+    ?BADARG([What], 1, "neither otp, an application nor a list").
+
+%% In a list a name is that of a module, or of an application that has no module of its name.
+modules_of(otp) ->
+    ertime_calls:presets(otp);
+modules_of(Name) ->
+    case code:which(Name) =:= non_existing andalso application_modules(Name) of
+        Modules when is_list(Modules) -> Modules;
+        _ -> [Name]
+    end.
+
+application_modules(Application) ->
     _ = application:load(Application),
     case application:get_key(Application, modules) of
         {ok, Modules} -> Modules;
-        undefined -> error(badarg, [Name, Application])
-    end;
-modules(What, Name) ->
-    error(badarg, [Name, What]).
+        undefined -> none
+    end.
+
+text(Format, Arguments) ->
+    lists:flatten(io_lib:format(Format, Arguments)).
 
 %% @doc Calls a function with the calling process using a clock.
 %%
@@ -361,7 +394,10 @@ restore(Before) ->
     try
         use(Before)
     catch
-        error:closed -> use(undefined)
+        error:closed ->
+            _ = use(undefined),
+            %% It is told by its next call.
+            erlang:put('$ertime', Before)
     end.
 
 %% @equiv test(#{}, Fun)
@@ -393,8 +429,10 @@ test(Options, Fun) when is_list(Options) ->
     test(maps:from_list(Options), Fun);
 test(Options, Fun) when is_map(Options), is_function(Fun, 1) ->
     ertime_test:run(Options, Fun);
+test(Options, Fun) when is_map(Options) ->
+    ?BADARG([Options, Fun], 2, "not a function of one argument, the clock");
 test(Options, Fun) ->
-    error(badarg, [Options, Fun]).
+    ?BADARG([Options, Fun], 1, "neither a map nor a list of options").
 
 %% @doc Runs a test under the clocks of many seeds, each with faults of time that its seed draws ({@link ertime_faults}). Where one
 %% fails, the faults are made fewer and smaller as long as it still fails, and printed as terms to paste; then this raises what
@@ -436,15 +474,43 @@ use_everywhere(Clock) ->
         Reason -> error(Reason, [Clock])
     end.
 
+%% @doc A process that neither the test nor one of its processes has started, as one of the application, sees the clock from its
+%% next call on, and so do those below it that see no other one. It ends with the process, or when the clock is closed: then it sees
+%% the runtime's clock again, without an error. The process may be named, as for `gen_server:call/2' on this node.
+%%
+%% It has to be turned; and a timer that it started before is the runtime's. A process can see one clock at a time: where it was
+%% allowed another that is open, this is `badarg'.
+%%
+%% ```
+%% Clock = ertime:open(#{start => 0}),
+%% ok = ertime:allow(Clock, self()),
+%% 0 = ertime:monotonic_time().
+%% '''
+-spec allow(clock(), pid() | atom() | {global, term()} | {via, module(), term()}) -> ok.
+allow(Clock, Process) ->
+    case ertime_nif:os_time(Clock) of
+        {_, _} -> ok;
+        badarg -> ?BADARG([Clock, Process], 1, "no clock");
+        closed -> error(closed, [Clock, Process])
+    end,
+    case process(Process) of
+        Pid when is_pid(Pid), node(Pid) =:= node() ->
+            ertime_use:allow(Clock, Pid) =:= ok orelse ?BADARG([Clock, Process], 2, "the process was allowed another clock, which is open"),
+            ok;
+        _ ->
+            ?BADARG([Clock, Process], 2, "no process of this node, nor the name of one")
+    end.
+
+process(Pid) when is_pid(Pid) -> Pid;
+process(Name) when is_atom(Name) -> whereis(Name);
+process({global, Name}) -> global:whereis_name(Name);
+process({via, Module, Name}) -> Module:whereis_name(Name);
+process(_) -> undefined.
+
 %% @doc The clock that the calling process sees, or `none'.
 -spec clock() -> clock() | none.
 clock() ->
-    case ?CLOCK of
-        none ->
-            none;
-        Clock ->
-            case ertime_nif:os_time(Clock) of
-                {_, _} -> Clock;
-                closed -> ertime_use:lost()
-            end
+    case ertime_on:on() of
+        true -> ertime_use:clock_if_open();
+        false -> none
     end.

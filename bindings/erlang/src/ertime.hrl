@@ -4,3 +4,5 @@
 -define(AFTER, '$ertime_after').
 %% The clock that a process has opened or moved.
 -define(OWN, '$ertime_own').
+%% An argument is bad, and why: the text is what the shell shows, and the message of Elixir's ArgumentError.
+-define(BADARG(Arguments, Position, Text), erlang:error(badarg, Arguments, [{error_info, #{module => ertime_options, cause => {Position, Text}}}])).

@@ -2,7 +2,7 @@
 %% The calls that are turned: which function takes the place of which.
 -module(ertime_calls).
 
--export([presets/1, is_preset/1, target/3, may_be/3, auto_imported/2, call/3, external_fun/3]).
+-export([presets/1, is_preset/1, target/3, is_about_time/3, may_be/3, auto_imported/2, call/3, external_fun/3]).
 
 -define(AS_ERLANG(F, A), {erlang, F, A} => {ertime, F}).
 -define(AS_SYSTEM(F, A), {'Elixir.System', F, A} => {ertime, F}).
@@ -37,7 +37,7 @@
     {'Elixir.Process', send_after, 4} => {ertime, elixir_send_after}
 }).
 
--define(OTP, [gen, gen_server, gen_statem, gen_event, gen_fsm, supervisor, proc_lib, timer, calendar, logger]).
+-define(OTP, [gen, gen_server, gen_statem, gen_event, gen_fsm, supervisor, proc_lib, timer, calendar, logger, raw_file_io_delayed]).
 -define(ELIXIR, [
     'Elixir.System', 'Elixir.Process', 'Elixir.DateTime', 'Elixir.NaiveDateTime', 'Elixir.Date', 'Elixir.Time', 'Elixir.Task',
     'Elixir.Task.Supervised', 'Elixir.Task.Supervisor', 'Elixir.GenServer', 'Elixir.DynamicSupervisor', 'Elixir.PartitionSupervisor',
@@ -65,6 +65,12 @@ target(M, F, Arity) ->
         #{{M, F, Arity} := Target} -> Target;
         _ -> {M, F}
     end.
+
+%% Whether this function tells a time or starts, cancels or reads a timer.
+-spec is_about_time(module(), atom(), arity()) -> boolean().
+is_about_time(M, F, Arity) ->
+    target(M, F, Arity) =/= {M, F} andalso
+        not lists:member(F, [monitor, demonitor, process_info, system_info, system_flag, apply, convert_time_unit]).
 
 %% Whether it may be one of those, where `any' stands for what isn't known before the call.
 -spec may_be(module() | any, atom() | any, arity() | any) -> boolean().

@@ -9,10 +9,6 @@
 
 -include("ertime.hrl").
 
-%% 2026-01-01 00:00:00 UTC
--define(OS_TIME, 1767225600000000000).
-%% The least start time of a clock is -2^58 ns; this is the one of whole milliseconds after it.
--define(START, -288230376151000000).
 -define(LONGEST, 1 bsl 60).
 -define(MOST_AT_ONE_TIME, 20000).
 
@@ -24,9 +20,8 @@ open() ->
 %% @doc Opens a clock. It stands still until it is moved, and is freed when nothing refers to it, or by {@link close/1}.
 %%
 %% <ul>
-%% <li>`mode': the time warp mode, `no_time_warp', `single_time_warp' or `multi_time_warp', by default that of the runtime, which
-%%     begins in multi time warp mode from Erlang/OTP 26 on;</li>
-%% <li>`correction': whether time correction is on, by default as in the runtime;</li>
+%% <li>`mode': the time warp mode, `no_time_warp', `single_time_warp' or by default `multi_time_warp', on each release;</li>
+%% <li>`correction': whether time correction is on, as it is by default;</li>
 %% <li>`start': monotonic time at the opening in nanoseconds, a multiple of a million, by default a great negative number, as in
 %%     the runtime: -288,230,376,151 seconds;</li>
 %% <li>`os_time': what the OS system clock tells at the opening, in nanoseconds or with a unit, by default the beginning of
@@ -35,7 +30,10 @@ open() ->
 %%     there is no slot raises `system_limit';</li>
 %% <li>`drift': by how many parts per million the OS system clock runs faster than the OS monotonic clock, by default 0;</li>
 %% <li>`advance': `by_hand', or `auto' for a clock that goes on by itself, as with {@link advance/2};</li>
-%% <li>`limit': how many milliseconds of real time `auto' may take, by default `infinity'.</li>
+%% <li>`limit': how many milliseconds of real time `auto' may take, by default `infinity';</li>
+%% <li>`unturned': what happens where modules of the project call functions about time and weren't turned, so that they will see
+%%     the runtime's clock ({@link ertime:report/0}): `warn', which the application's environment variable of this name may
+%%     change, names them once on standard error; `error' raises `{unturned, Modules}'; `ignore'.</li>
 %% </ul>
 %%
 %% ```
@@ -50,51 +48,40 @@ open(Options) ->
 
 %% @private For a schedule of faults: then the clock has several wheels, among which the timers may be spread.
 open_for(Schedule, Options) ->
-    Defaults = #{
-        mode => erlang:system_info(time_warp_mode), correction => erlang:system_info(time_correction), start => ?START, os_time => {?OS_TIME, nanosecond}, slots => 1024, drift => 0,
-        advance => by_hand, limit => infinity
-    },
-    maps:size(maps:without(maps:keys(Defaults), Options)) =:= 0 orelse error(badarg, [Options]),
+    Wrong = ertime_options:wrong(Options),
+    Wrong =:= none orelse ?BADARG([Options], 1, Wrong),
     #{
         mode := Mode, correction := Correction, start := Start, os_time := OsTime, slots := Slots, drift := Drift,
-        advance := Advance, limit := Limit
-    } = maps:merge(Defaults, Options),
-    is_number(Drift) orelse error(badarg, [Options]),
-    ertime_watch:is_good(Advance, Limit) orelse error(badarg, [Options]),
-    Arguments = [Options],
+        advance := Advance, limit := Limit, unturned := Unturned
+    } = ertime_options:with_defaults(Options),
     Settings = [
-        mode_number(Mode, Arguments),
-        correction_number(Correction, Arguments),
-        Start,
-        0,
-        ertime_times:nanoseconds(OsTime, nanosecond, Arguments),
-        Slots,
-        round(Drift * 1000)
+        mode_number(Mode), correction_number(Correction), Start, 0, ertime_times:nanoseconds(OsTime, nanosecond, [Options]), Slots, round(Drift * 1000)
     ],
     case apply(ertime_nif, open, Settings ++ [ertime_faults:needs_spread(Schedule) || Schedule =/= none]) of
         Clock when is_reference(Clock) ->
             ertime_use:turn_on(),
+            ertime_report:look(Unturned),
             put(?OWN, Clock),
             Advance =:= auto andalso ertime_watch:start(Clock, self(), auto(Limit)),
             Clock;
         no_memory ->
-            error(system_limit, Arguments);
-        badarg ->
-            error(badarg, Arguments)
+            error(system_limit, [Options])
     end.
 
-mode_number(no_time_warp, _) -> 0;
-mode_number(single_time_warp, _) -> 1;
-mode_number(multi_time_warp, _) -> 2;
-mode_number(_, Arguments) -> error(badarg, Arguments).
+mode_number(no_time_warp) -> 0;
+mode_number(single_time_warp) -> 1;
+mode_number(multi_time_warp) -> 2.
 
-correction_number(true, _) -> 1;
-correction_number(false, _) -> 0;
-correction_number(_, Arguments) -> error(badarg, Arguments).
+correction_number(true) -> 1;
+correction_number(false) -> 0.
 
-%% @doc Closes a clock, and tells whether it was open. Whoever used it goes back to the clock that it would see else. Its timers
-%% never expire then: they can be read and cancelled, and have what was left of them. Whoever waits in a `receive .. after' or
-%% sleeps goes on waiting by the runtime's clock.
+%% @doc Closes a clock, and tells whether it was open. Its timers never expire then: they can be read and cancelled, and have what
+%% was left of them.
+%%
+%% Whoever used it goes back to the clock that it would see else; and so does the process that calls this. Any other process for
+%% which that is the runtime's has outlived its test: its next call about time raises `{clock_closed, Text}', once. Who saw the
+%% clock by {@link ertime:use_everywhere/1} or {@link ertime:allow/2} goes back to the runtime's without an error. Whoever waits
+%% in a `receive .. after' or sleeps goes on waiting by the runtime's clock, and is told by its next call.
 %%
 %% ```
 %% Clock = ertime:open(#{}),
@@ -121,7 +108,8 @@ close(Clock) ->
 
 %% Nothing works for the clock any more.
 stopped(Clock) ->
-    ertime_on:on() andalso begin ertime_watch:stop(Clock), ertime_timer:stop(Clock) end,
+    ertime_on:on() andalso begin ertime_watch:stop(Clock), ertime_timer:stop(Clock), ertime_use:disallow(Clock) end,
+    erlang:get('$ertime') =:= Clock andalso ertime:use(undefined),
     erlang:get(?OWN) =:= Clock andalso erase(?OWN).
 
 %% @equiv advance(clock(), Duration)
@@ -164,7 +152,7 @@ advance(Clock, until_idle) ->
 advance(Clock, Duration) ->
     Arguments = [Clock, Duration],
     Left = ertime_times:nanoseconds(Duration, millisecond, Arguments),
-    Left >= 0 orelse error(badarg, Arguments),
+    Left >= 0 orelse ?BADARG(Arguments, 2, "the time doesn't go back: warp/2 lets the OS system clock leap"),
     led(Clock, Arguments, fun() -> steps(Clock, Left, 0, 0) end).
 
 auto(Limit) ->
@@ -288,7 +276,7 @@ drift(Clock, PartsPerMillion) ->
     case is_number(PartsPerMillion) andalso ertime_nif:drift(Clock, round(PartsPerMillion * 1000)) of
         ok -> ok;
         closed -> error(closed, [Clock, PartsPerMillion]);
-        _ -> error(badarg, [Clock, PartsPerMillion])
+        _ -> ?BADARG([Clock, PartsPerMillion], 2, "not a number from -1000000 to 1000000, or the first is no clock")
     end.
 
 %% @equiv info(clock())

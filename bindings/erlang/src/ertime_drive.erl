@@ -6,7 +6,7 @@
 %% which are free again when it ends, with the test.
 -module(ertime_drive).
 
--export([start/4, stop/1, step/2, is_paused/1]).
+-export([start/4, stop/1, stop_of/1, done/1, until_next/1, step/2, is_paused/1]).
 
 -export_type([options/0]).
 
@@ -30,7 +30,7 @@
 -spec start(ertime:clock(), pid(), pid(), options()) -> pid().
 start(Clock, Owner, Asker, #{schedule := Schedule, always := Always, record := Record, tell := Tell}) ->
     Self = self(),
-    Pid = spawn(fun() ->
+    {Pid, Monitor} = spawn_monitor(fun() ->
         erlang:put('$ertime', none),
         Drive = #drive{
             clock = Clock,
@@ -47,7 +47,8 @@ start(Clock, Owner, Asker, #{schedule := Schedule, always := Always, record := R
         serve(Begun)
     end),
     receive
-        {?MODULE, Pid} -> Pid
+        {?MODULE, Pid} -> erlang:demonitor(Monitor, [flush]), Pid;
+        {'DOWN', Monitor, process, Pid, Reason} -> error(Reason)
     end.
 
 %% What was done to a clock: the faults with their times, each as it was found to be; and the milliseconds in which timers were
@@ -57,6 +58,35 @@ stop(Pid) ->
     case call(Pid, stop) of
         {ok, Done, Moments} -> {Done, Moments};
         gone -> {[], []}
+    end.
+
+%% The same of a clock, if it has faults.
+-spec stop_of(ertime:clock()) -> ok.
+stop_of(Clock) ->
+    case ertime_keeper:get({drive, Clock}) of
+        none -> ok;
+        {Pid, _, _, _, _} -> _ = stop(Pid), ok
+    end.
+
+%% How many nanoseconds of OS monotonic time it is until the next fault; a great number where there is none.
+-spec until_next(ertime:clock()) -> non_neg_integer().
+until_next(Clock) ->
+    case {ertime_keeper:get({drive, Clock}), ertime_nif:os_time(Clock)} of
+        {{_, Next, _, _, _}, {Mono, _}} -> max(0, Next - Mono);
+        _ -> ?NEVER
+    end.
+
+%% The faults that were done to a clock so far.
+-spec done(ertime:clock()) -> ertime_faults:schedule().
+done(Clock) ->
+    case ertime_keeper:get({drive, Clock}) of
+        none ->
+            [];
+        {Pid, _, _, _, _} ->
+            case call(Pid, done) of
+                {ok, Done} -> Done;
+                gone -> []
+            end
     end.
 
 %% Whether a process stands still because of a fault.
@@ -171,6 +201,9 @@ serve(Drive = #drive{monitors = {OfOwner, OfAsker}, done = Done, moments = Momen
             Tell(Reason),
             From ! {Tag, ok},
             serve(Drive#drive{tell = fun(_) -> ok end});
+        {done, From, Tag} ->
+            From ! {Tag, {ok, lists:reverse(Done)}},
+            serve(Drive);
         {stop, From, Tag} ->
             leave(Drive),
             From ! {Tag, {ok, lists:reverse(Done), lists:reverse(Moments)}};

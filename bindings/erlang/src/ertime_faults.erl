@@ -11,7 +11,7 @@
 %% <tr><td>`finalize'</td><td>the time offset is finalized; in single time warp mode alone</td></tr>
 %% <tr><td>`{order, Seed}'</td><td>timers that are due at once come in an order that is drawn</td></tr>
 %% <tr><td>`serial'</td><td>timers that are due at once come one by one, each when all processes rest</td></tr>
-%% <tr><td>`{late, Scheduler, Milliseconds}'</td><td>the timers of one of 16 schedulers don't expire for so long</td></tr>
+%% <tr><td>`{late, Scheduler, Milliseconds}'</td><td>the timers of one of four schedulers don't expire for so long</td></tr>
 %% <tr><td>`{stall, Milliseconds}'</td><td>the whole node stands still for so long</td></tr>
 %% <tr><td>`{pause, Process, Milliseconds}'</td><td>one process does: that of a registered name, or the one of a number, as they
 %%     joined the clock, the test's own process left out</td></tr>
@@ -22,11 +22,13 @@
 %% timers and monotonic times with them and without. The others are <em>loud</em>.
 -module(ertime_faults).
 
--export([kinds/2, draw/3, check/3, text/1, needs_spread/1, is_stopping/1]).
+-export([kinds/2, draw/3, check/3, text/1, needs_spread/1]).
 %% @hidden
--export([refuse/2, format_error/2]).
+-export([refuse/2]).
 
 -export_type([schedule/0, fault/0, kind/0]).
+
+-include("ertime.hrl").
 
 -type milliseconds() :: integer().
 -type fault() ::
@@ -38,15 +40,17 @@
 %% A group, the name of a fault, or that with its greatest number.
 
 -define(LOUD, [late, stall, pause, cost]).
+-define(OF_ALL, [stall, cost]). % not of one of several nodes
 -define(CLOCKS, [leap, late_check, drift, freeze]).
 -define(MOST_TIME, 1000000000000). % milliseconds, some 31 years
--define(SCHEDULERS, 16).
+-define(SCHEDULERS, 4).
 
 %% The greatest number of a fault, where none is given.
 most(leap) -> 86400000;
 most(late_check) -> 86400000;
 most(drift) -> 1000;
 most(freeze) -> 60000;
+most(skew) -> 3600000;
 most(late) -> 1000;
 most(stall) -> 20000;
 most(pause) -> 20000;
@@ -65,18 +69,18 @@ kinds(Kind, Options) ->
     kinds([Kind], Options).
 
 kind(silent, Options) ->
-    [{Name, most(Name)} || Name <- silent(mode(Options), maps:get(correction, Options, true))];
-kind(loud, _) ->
-    [{Name, most(Name)} || Name <- ?LOUD];
+    [{Name, most(Name)} || Name <- [skew || is_map_key(nodes, Options)] ++ silent(mode(Options), maps:get(correction, Options, true))];
+kind(loud, Options) ->
+    [{Name, most(Name)} || Name <- ?LOUD, not is_map_key(nodes, Options) orelse not lists:member(Name, ?OF_ALL)];
 kind({Name, Most}, Options) when is_integer(Most), Most > 0 ->
-    case {most(Name), lists:member(Name, ?CLOCKS ++ ?LOUD)} of
-        {_, false} -> refuse(io_lib:format("faults: ~0tp is no kind of fault that has a number", [Name]), [{Name, Most}]);
-        _ -> allowed(Name, Options), [{Name, Most}]
+    case lists:member(Name, [skew | ?CLOCKS ++ ?LOUD]) of
+        false -> refuse(io_lib:format("faults: ~0tp is no kind of fault that has a number", [Name]), [{Name, Most}]);
+        true -> allowed(Name, Options), [{Name, Most}]
     end;
 kind({Name, {Time, Unit}}, Options) when is_atom(Name) ->
     kind({Name, ertime_times:nanoseconds({Time, Unit}, millisecond, [Name]) div 1000000}, Options);
 kind(Name, Options) ->
-    case lists:member(Name, [finalize, order, serial] ++ ?CLOCKS ++ ?LOUD) of
+    case lists:member(Name, [skew, finalize, order, serial] ++ ?CLOCKS ++ ?LOUD) of
         true -> allowed(Name, Options), [{Name, most(Name)}];
         false -> refuse(io_lib:format("faults: ~0tp is no kind of fault", [Name]), [Name])
     end.
@@ -91,8 +95,12 @@ mode(Options) ->
 allowed(finalize, Options) ->
     Mode = mode(Options),
     Mode =:= single_time_warp orelse refuse(io_lib:format("faults: there is no finalize in the mode ~0tp", [Mode]), [finalize]);
-allowed(_, _) ->
-    true.
+allowed(skew, Options) ->
+    is_map_key(nodes, Options) orelse refuse("faults: there is a skew between several nodes alone", [skew]);
+allowed(Fault, Options) ->
+    Name = case Fault of {Kind, _} -> Kind; _ -> Fault end,
+    is_map_key(nodes, Options) andalso lists:member(Name, ?OF_ALL) andalso
+        refuse(io_lib:format("faults: there is no ~w of one node, whose OS monotonic clock goes with the others'", [Name]), [Fault]).
 
 %% @private Whether a list is a schedule for a clock of these options: the same, in order of time.
 -spec check(term(), ertime:options(), term()) -> schedule().
@@ -124,15 +132,11 @@ is_time(Long) ->
 needs_spread(Schedule) ->
     lists:any(fun({_, {late, _, _}}) -> true; (_) -> false end, Schedule).
 
-%% @private Whether it can keep a process from going on, so that who calls it waits.
-is_stopping({_, {pause, _, _}}) -> true;
-is_stopping(_) -> false.
-
 %% --- by a seed ----------------------------------------------------------------------------------------------------
 
 %% @private The schedule of a seed. `Over' is how many milliseconds the faults lie in, or `any'. `Moments' are those in which the
-%% test had timers due when it ran without a fault: half of the faults are drawn so that they meet one of these.
--spec draw(integer(), [{atom(), pos_integer() | none}], #{
+%% test had timers due when it ran without a fault: two of three faults are drawn so that they meet one of these.
+-spec draw(integer() | {integer(), integer(), integer()}, [{atom(), pos_integer() | none}], #{
     over := pos_integer() | any, most := pos_integer(), moments := [non_neg_integer()]
 }) -> schedule().
 draw(Seed, Kinds, #{over := Over, most := Most, moments := Moments}) ->
@@ -168,16 +172,16 @@ several(Kinds, Count, When, Random) ->
             {Name, Most} = lists:nth(Which, Kinds),
             {Fault, Random2} = fault(Name, Most, Random1),
             {At, Random3} = moment(Fault, When, Random2),
-            {{At, Fault}, Random3}
+            {case Fault of {skew, By} -> {0, {leap, By}}; _ -> {At, Fault} end, Random3}
         end,
         Random,
         lists:seq(1, Count)
     ).
 
 moment(Fault, {Over, Moments}, Random0) ->
-    {Meets, Random1} = rand:uniform_s(2, Random0),
+    {Meets, Random1} = rand:uniform_s(3, Random0),
     case {Meets, Over} of
-        {2, _} when Moments =/= {} ->
+        {Part, _} when Part > 1, Moments =/= {} ->
             {Which, Random2} = rand:uniform_s(tuple_size(Moments), Random1),
             {Before, Random3} = rand:uniform_s(before(Fault), Random2),
             {max(0, element(Which, Moments) - Before), Random3};
@@ -196,12 +200,12 @@ before(_) -> 1000.
 
 fault(finalize, _, Random) ->
     {finalize, Random};
-fault(Name, Most, Random0) when Name =:= leap; Name =:= late_check; Name =:= drift ->
+fault(Name, Most, Random0) when Name =:= leap; Name =:= late_check; Name =:= drift; Name =:= skew ->
     {By, Random1} = of_any_size(Most, Random0),
     {Sign, Random2} = rand:uniform_s(2, Random1),
     {{Name, case Sign of 1 -> By; 2 -> -By end}, Random2};
 fault(late, Most, Random0) ->
-    {Scheduler, Random1} = of_any_size(?SCHEDULERS, Random0),
+    {Scheduler, Random1} = rand:uniform_s(?SCHEDULERS, Random0),
     {Long, Random2} = of_any_size(Most, Random1),
     {{late, Scheduler, Long}, Random2};
 fault(pause, Most, Random0) ->
@@ -233,6 +237,7 @@ text([]) ->
 text(Schedule) ->
     lists:join(", and ", [text_of(At, Fault) || {At, Fault} <- Schedule]).
 
+text_of(At, {on, Node, Fault}) -> [io_lib:format("on ~ts ", [Node]), text_of(At, Fault)];
 text_of(_, {order, Seed}) -> io_lib:format("timers that are due at once come in another order (drawn by ~w)", [Seed]);
 text_of(_, serial) -> "timers that are due at once come one by one";
 text_of(At, {leap, By}) -> ["the OS system clock leaps ", direction(By), " by ", time(abs(By)), " at ", time(At)];
@@ -266,14 +271,7 @@ fraction(Part) -> [".", string:trim(io_lib:format("~3..0w", [Part]), trailing, "
 
 %% --- what is refused ----------------------------------------------------------------------------------------------
 
-%% @private A `badarg' that says what is wrong, as the shell, EUnit and Elixir show it.
+%% @private A `badarg' that says what is wrong, as the shell and Elixir show it.
 -spec refuse(unicode:chardata(), term()) -> no_return().
-refuse(Text, Arguments) ->
-    erlang:error(badarg, [Arguments], [{error_info, #{module => ?MODULE, cause => unicode:characters_to_binary(Text)}}]).
-
-%% @private
-format_error(_, [{_, _, _, Info} | _]) ->
-    case proplists:get_value(error_info, Info) of
-        #{cause := Cause} -> #{general => Cause, reason => Cause};
-        _ -> #{}
-    end.
+refuse(Text, Argument) ->
+    ?BADARG([Argument], 1, lists:flatten(Text)).

@@ -5,7 +5,7 @@
 %% It also wakes those who wait with a timeout of a clock that was closed, by the runtime's clock.
 -module(ertime_keeper).
 
--export([start/0, later/2, put/2, put_new/2, take/1, drop/2, has/1, get/1, resume/1, stop/1]).
+-export([start/0, later/2, put/2, put_new/2, take/1, drop/2, has/1, get/1, allow/2, allowed/1, disallow/1, resume/1, stop/1]).
 
 -compile({no_auto_import, [put/2, get/1]}).
 
@@ -127,3 +127,21 @@ get(Key) ->
 
 has(Key) ->
     ets:member(?TABLE, Key).
+
+%% --- processes that were allowed a clock --------------------------------------------------------------------------
+
+allow(Clock, Pid) ->
+    put({allowed, Pid}, Clock),
+    put({allows, Clock}, true).
+
+%% Of most clocks there are none.
+allowed(Clock) ->
+    case has({allows, Clock}) of
+        true -> lists:sort([Pid || [Pid] <- ets:match(?TABLE, {{allowed, '$1'}, Clock})]);
+        false -> []
+    end.
+
+disallow(Clock) ->
+    true = ets:match_delete(?TABLE, {{allowed, '_'}, Clock}),
+    true = ets:delete(?TABLE, {allows, Clock}),
+    ok.

@@ -38,48 +38,73 @@ unload(Modules) ->
 is_turned(Module) ->
     erlang:module_loaded(Module) andalso lists:keymember(ertime_transform, 1, Module:module_info(attributes)).
 
-%% A function that loads it, or tells why it can't be.
+%% A function that loads it, or tells why it can't be. Where there is nothing to turn it stays as it is.
 compiled(_, true) ->
     fun() -> ok end;
 compiled(Module, false) ->
-    Result =
-        case code:get_object_code(Module) of
-            error -> {error, no_object_code};
-            {Module, Binary, File} -> compiled_from(Module, Binary, File)
-        end,
-    case Result of
-        {ok, New, At} -> fun() -> replace(Module, fun() -> load_binary(Module, At, New) end) end;
-        Error -> fun() -> Error end
+    case code:get_object_code(Module) of
+        error ->
+            fun() -> {error, no_object_code} end;
+        {Module, Binary, File} ->
+            case turned_code(Module, Binary) of
+                {ok, <<>>} -> fun() -> ok end;
+                {ok, New} -> fun() -> replace(Module, fun() -> load_binary(Module, File, New) end) end;
+                Error -> fun() -> Error end
+            end
     end.
 
-compiled_from(Module, Binary, File) ->
+turned_code(Module, Binary) ->
+    Name = ertime_cache:name(Module, Binary),
+    case ertime_cache:read(Name) of
+        {ok, Code} ->
+            {ok, Code};
+        none ->
+            Result = compiled_from(Module, Binary),
+            _ = [ertime_cache:write(Name, Code) || {ok, Code} <- [Result]],
+            Result
+    end.
+
+compiled_from(Module, Binary) ->
     case forms(Module, Binary) of
         {ok, Forms, Options} ->
             Turned = turned(Module, Forms),
-            case compile:forms(Turned, [binary, return_errors, debug_info | Options]) of
-                {ok, Module, New} -> {ok, New, File};
-                {ok, Module, New, _} -> {ok, New, File};
-                {error, Errors, _} -> {error, Errors}
+            case ertime_transform:unmarked(Turned) of
+                Forms -> {ok, <<>>};
+                _ -> compiled_forms(Module, Turned, Options)
             end;
         Error ->
             Error
+    end.
+
+compiled_forms(Module, Forms, Options) ->
+    case compile:forms(Forms, [binary, return_errors, debug_info | Options]) of
+        {ok, Module, New} -> {ok, New};
+        {ok, Module, New, _} -> {ok, New};
+        {error, Errors, _} -> {error, Errors}
     end.
 
 forms(Module, Binary) ->
     case beam_lib:chunks(Binary, [debug_info]) of
         {ok, {_, [{debug_info, {debug_info_v1, Backend, Data}}]}} when Data =/= none ->
             case Backend:debug_info(erlang_v1, Module, Data, []) of
-                {ok, Forms} -> {ok, Forms, source(Binary) ++ options(Backend)};
+                {ok, Forms} -> {ok, Forms, compiled_with(Binary) ++ options(Backend)};
                 {error, Reason} -> {error, Reason}
             end;
         _ ->
             {error, no_debug_info}
     end.
 
-%% Where the source is, as ExUnit's doctests and cover ask for.
-source(Binary) ->
+%% Where the source is, as ExUnit's doctests and cover ask for, and those of the options that it was compiled with which decide
+%% what the code does. What the others do stands in the forms already, or tells of warnings and files.
+compiled_with(Binary) ->
     {ok, {_, [{compile_info, Info}]}} = beam_lib:chunks(Binary, [compile_info]),
-    [{source, File} || {source, File} <- Info].
+    [{source, File} || {source, File} <- Info] ++ [Option || {options, Options} <- Info, Option <- Options, stays(Option)].
+
+stays(Option) when is_tuple(Option), is_atom(element(1, Option)) -> stays(element(1, Option));
+stays(Option) when is_atom(Option) ->
+    lists:member(Option, [export_all, inline, inline_size, inline_effort, inline_unroll, inline_list_funcs, tuple_calls, no_auto_import, no_line_info]) orelse
+        lists:prefix("nowarn_", atom_to_list(Option));
+stays(_) -> false.
 
 %% Elixir's compiler gives this one too.
 options(elixir_erl) -> [no_auto_import];

@@ -24,6 +24,7 @@
     clock,
     members = #{},    % pid => []
     busy = none,      % the member that was found at work last
+    allowed = [],     % those of them that were allowed the clock
     suspended = #{},  % pid => {its reductions, the millisecond in which it was first seen suspended with them}
     others            % what `ertime_others' knows of the node
 }).
@@ -81,8 +82,14 @@ look(Known0 = #known{busy = Last}) ->
             end
     end.
 
-join(Known = #known{clock = Clock, members = Members}) ->
-    Known#known{members = lists:foldl(fun(Pid, Sum) -> Sum#{Pid => []} end, Members, ertime_nif:members(Clock))}.
+join(Known = #known{clock = Clock, members = Members, allowed = Before, others = Others}) ->
+    Allowed = ertime_keeper:allowed(Clock),
+    Known#known{
+        members = lists:foldl(fun(Pid, Sum) -> Sum#{Pid => []} end, Members, Allowed ++ ertime_nif:members(Clock)),
+        allowed = Allowed,
+        %% Those below one that was allowed the clock are members from then on.
+        others = case Allowed of Before -> Others; _ -> ertime_others:new() end
+    }.
 
 between(Known, Seen, true) ->
     confirmed(Known, Seen);

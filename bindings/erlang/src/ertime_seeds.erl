@@ -2,7 +2,7 @@
 %% Runs a test under the clocks of many seeds. The schedule of the first seed that fails is made smaller and told.
 -module(ertime_seeds).
 
--export([check/3, run/3, asked/0, suite/3, first/1, explore/4, told/1, with_schedulers/2, serially/2]).
+-export([check/3, run/3, asked/0, suite/3, first/1, explore/4, raise/1, told/1, with_schedulers/2, serially/2]).
 
 -export_type([report/0, outcome/0]).
 
@@ -20,7 +20,7 @@
     raised := {error | exit | throw, term(), list()}
 }.
 
--define(OWN, [faults, over, most, deterministic, shrink]).
+-define(OWN, [faults, over, most, deterministic, shrink, nodes]).
 -define(AGAIN, 3).
 -define(SHRINK_TRIES, 500).
 -define(SHRINK_TIME, 10000). % real milliseconds
@@ -87,7 +87,8 @@ options(Options) ->
     Test = maps:without(?OWN, Options),
     maps:is_key(schedule, Options) andalso ertime_faults:refuse("schedule: stands beside seeds, which draw one", [Options]),
     Own = #{
-        kinds => ertime_faults:kinds(maps:get(faults, Options, silent), Test),
+        kinds => ertime_faults:kinds(maps:get(faults, Options, silent), maps:with([mode, correction, nodes], Options)),
+        nodes => maps:get(nodes, Options, none),
         over => over(maps:get(over, Options, any)),
         most => count(most, maps:get(most, Options, 8)),
         deterministic => flag(deterministic, maps:get(deterministic, Options, false)),
@@ -138,8 +139,11 @@ each([Seed | Seeds], Passed, Own, Test, Run, Until) ->
             {failed, maps:merge(reported(Raised, Drawn, Own, Test, Run), #{seed => Seed, passed => Passed, drawn => Drawn})}
     end.
 
-drawn(Seed, Own = #{kinds := Kinds}) ->
-    serially(Own, ertime_faults:draw(Seed, Kinds, maps:with([over, most, moments], Own))).
+drawn(Seed, Own = #{kinds := Kinds, nodes := none}) ->
+    serially(Own, ertime_faults:draw(Seed, Kinds, maps:with([over, most, moments], Own)));
+drawn(Seed, Own = #{kinds := Kinds, nodes := Nodes}) ->
+    Draw = fun(Number) -> ertime_faults:draw({Seed, Number, 0}, Kinds, maps:with([over, most, moments], Own)) end,
+    lists:sort([{At, {on, Node, Fault}} || {Number, Node} <- lists:zip(lists:seq(1, length(Nodes)), Nodes), {At, Fault} <- Draw(Number)]).
 
 %% One message a step.
 serially(#{deterministic := true}, Schedule) -> lists:usort([{0, serial} | Schedule]);
@@ -276,9 +280,13 @@ told(Report = #{seed := Seed, passed := Passed, drawn := Drawn, schedule := Sche
         ]),
         "  fails if ", ertime_faults:text(Schedule), "\n",
         raced(Report),
-        "  again in Erlang: ertime:test(", in_erlang(Report), ", Fun)\n",
-        "  again in Elixir: ", in_elixir(Report), "\n"
+        again_by(Report)
     ].
+
+again_by(#{schedule := [{_, {on, _, _}} | _] = Schedule}) ->
+    io_lib:format("  again: ertime_nodes:test(Nodes, #{schedule => ~0tp}, Fun)~n", [Schedule]);
+again_by(Report) ->
+    ["  again in Erlang: ertime:test(", in_erlang(Report), ", Fun)\n", "  again in Elixir: ", in_elixir(Report), "\n"].
 
 raced(#{again := {Of, Of}}) ->
     "";

@@ -171,7 +171,7 @@ function(Module, Name, Arity) ->
     end.
 
 is_library(Module) ->
-    lists:prefix("ertime", atom_to_list(Module)) orelse ertime_calls:is_preset(Module) orelse Module =:= erlang.
+    lists:member(Module, [?MODULE, ertime, ertime_timers, ertime_timer, ertime_calls, ertime_test, erlang]) orelse ertime_calls:is_preset(Module).
 
 %% --- telling ------------------------------------------------------------------------------------------------------
 
@@ -226,17 +226,32 @@ utc(Nanoseconds) ->
 
 -spec text(seen()) -> unicode:chardata().
 text(#{name := Name, clocks := Clocks, now := Now, rows := Rows, faults := Faults, left_out := LeftOut}) ->
-    Events = lists:keysort(1, [{At, [" ** ", ertime_faults:text([{At, Fault}])]} || {At, Fault} <- Faults] ++ [{At, line(Row)} || #{at := At} = Row <- Rows]),
-    Last = last(Events, Rows),
+    Events = lists:keysort(1, [{At, fault, ["** ", ertime_faults:text([{At, Fault}])]} || {At, Fault} <- Faults] ++ [{At, timer, line(Row)} || #{at := At} = Row <- Rows]),
     [
         "\nertime: ", Name, " failed at ", seconds(Now), "; ", Clocks, "\n",
-        [io_lib:format("  ~w earlier timers and faults aren't shown~n", [length(Events) - length(Last)]) || length(Events) > length(Last)],
         ["  more timers were armed than are noted\n" || LeftOut],
-        [["  ", string:pad(seconds(At), 12, leading), "  ", Line, "\n"] || {At, Line} <- Last]
+        shown(lists:zip(lists:seq(1, length(Events)), Events), wanted(Events), 0)
     ].
 
-last(Events, _) ->
-    lists:nthtail(max(0, length(Events) - ?LINES), Events).
+%% The numbers of the events that are shown: the last ones, and the faults with what is around them.
+wanted(Events) when length(Events) =< ?LINES ->
+    lists:seq(1, length(Events));
+wanted(Events) ->
+    Count = length(Events),
+    Faults = lists:sublist([N || {N, {_, fault, _}} <- lists:zip(lists:seq(1, Count), Events)], ?LINES div 5),
+    Around = [Near || N <- Faults, Near <- lists:seq(N - 2, N + 2), Near > 0, Near =< Count],
+    Left = ?LINES - length(lists:usort(Around)),
+    lists:usort(Around ++ lists:seq(max(1, Count - Left + 1), Count)).
+
+shown([], _, 0) -> "";
+shown([], _, Skipped) -> skipped(Skipped);
+shown([{Number, {At, _, Line}} | Events], [Number | Wanted], Skipped) ->
+    [skipped(Skipped), "  ", string:pad(seconds(At), 12, leading), "  ", Line, "\n", shown(Events, Wanted, 0)];
+shown([_ | Events], Wanted, Skipped) ->
+    shown(Events, Wanted, Skipped + 1).
+
+skipped(0) -> "";
+skipped(Count) -> io_lib:format("                  .. ~w more~n", [Count]).
 
 line(#{at := At, due := Due, who := Who, to := To, where := Where, fate := Fate}) ->
     [

@@ -75,11 +75,11 @@ each(Index, {Schedule, Tries0}) ->
     {At, Tries} = rounder(At0, fun(It) -> Before ++ [{It, Fault} | After] end, Tries1),
     {Before ++ [{At, Fault} | After], Tries}.
 
-smaller({order, Seed}, In, Tries0) ->
-    case first([In({order, Other}) || Other <- lists:seq(1, 9), Other < Seed], Tries0) of
-        {none, Tries} -> {{order, Seed}, Tries};
-        {Schedule, Tries} -> {hd([Order || {_, {order, _} = Order} <- Schedule]), Tries}
-    end;
+smaller({on, Node, Fault}, In, Tries0) ->
+    {Smaller, Tries} = smaller(Fault, fun(It) -> In({on, Node, It}) end, Tries0),
+    {{on, Node, Smaller}, Tries};
+smaller({order, Seed}, In, Tries) ->
+    seed(lists:seq(1, min(9, Seed - 1)), Seed, In, Tries);
 smaller({Name, Number}, In, Tries) when is_integer(Number), Number < 0 ->
     {Least, After} = number(-Number, fun(It) -> In({Name, -It}) end, Tries),
     {{Name, -Least}, After};
@@ -91,6 +91,14 @@ smaller({Name, Who, Number}, In, Tries) ->
     {{Name, Who, Least}, After};
 smaller(Fault, _, Tries) ->
     {Fault, Tries}.
+
+seed([], Seed, _, Tries) ->
+    {{order, Seed}, Tries};
+seed([Other | Others], Seed, In, Tries0) ->
+    case try_it(In({order, Other}), Tries0) of
+        {true, Tries} -> {{order, Other}, Tries};
+        {false, Tries} -> seed(Others, Seed, In, Tries)
+    end.
 
 %% The smallest multiple that fails, of a unit of time or of a power of ten that gives it as few digits as there can be.
 number(Number, In, Tries) ->

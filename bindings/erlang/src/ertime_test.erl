@@ -4,6 +4,8 @@
 
 -export([run/2, outcome/2, set_up/1, set_up/2, done/1, tear_down/1, clear/3]).
 
+-include("ertime.hrl").
+
 -define(LIMIT, 60000).
 -define(STILL, 10).
 -define(ROUNDS, 20).
@@ -38,7 +40,7 @@ told(_, _, Outcome) ->
 
 %% A test's own, or that of the function that called the test: the last of this package stands above it.
 name(none, Stack) ->
-    case [{Module, Name} || {Module, Name, _, _} <- lists:reverse(Stack), not lists:prefix("ertime_test", atom_to_list(Module))] of
+    case [{Module, Name} || {Module, Name, _, _} <- lists:reverse(Stack), Module =/= ?MODULE, not lists:prefix("Elixir.ExUnit.", atom_to_list(Module))] of
         [{Module, Name} | _] -> io_lib:format("~ts.~ts", [Module, Name]);
         [] -> "a test"
     end;
@@ -47,9 +49,9 @@ name(Name, _) ->
 
 %% The clock, and how it is moved.
 open(Options) ->
-    Own = #{advance => by_hand, limit => ?LIMIT, schedule => none, always => none, record => false, output => none, seen => true, show => true, name => none, deterministic => false},
-    #{advance := Advance, limit := Limit, schedule := Schedule0, always := Always, deterministic := Deterministic} = Rest = maps:merge(Own, maps:with(maps:keys(Own), Options)),
-    ertime_watch:is_good(Advance, Limit) orelse error(badarg, [Options]),
+    #{schedule := Schedule0, always := Always, deterministic := Deterministic} = Rest = maps:merge(own(), maps:with(maps:keys(own()), Options)),
+    Wrong = ertime_options:wrong(maps:with([advance, limit], Options)),
+    Wrong =:= none orelse ?BADARG([Options], 1, Wrong),
     is_boolean(Deterministic) orelse ertime_faults:refuse("deterministic: neither true nor false", [Options]),
     Always =:= none orelse is_function(Always, 1) orelse ertime_faults:refuse("always: wants a function of the clock", [Options]),
     Schedule =
@@ -58,9 +60,20 @@ open(Options) ->
             none -> ertime_seeds:serially(Rest, []);
             _ -> ertime_seeds:serially(Rest, ertime_faults:check(Schedule0, Options, [Options]))
         end,
-    Clock = ertime_clock:open_for(Schedule, maps:without(maps:keys(Own), Options)),
+    Clock = ertime_clock:open_for(Schedule, maps:without(maps:keys(own()), Options)),
     maps:get(seen, Rest) =:= true andalso ertime_seen:start(Clock),
     {Clock, Rest#{schedule := Schedule}}.
+
+%% The options of a test that are none of a clock, and how the clock is moved.
+own() ->
+    #{
+        advance => by_hand, limit => ?LIMIT, schedule => none, always => none, deterministic => false,
+        record => false,  % whether it is noted when timers are due
+        output => none,   % a group leader
+        seen => true,     % whether what it does with time is noted
+        show => true,     % and told, if it fails
+        name => none
+    }.
 
 %% For the calling process, which a test framework has started for a test: opens a clock, and closes it when the process ends.
 set_up(Options) ->
@@ -221,7 +234,7 @@ wait_for(Monitors, Wait, Otherwise) ->
         wait_for(Monitors, infinity, Otherwise)
     end.
 
-%% The reason tells processes that are linked to it to end quietly.
+%% The reason tells processes that are linked to it to end quietly. What reports a failure takes the outermost call for the test.
 in_process(Clock, Callers, Fun) ->
     receive {?MODULE, go} -> ok end,
     put('$callers', Callers),
@@ -230,7 +243,7 @@ in_process(Clock, Callers, Fun) ->
     exit({shutdown, try Fun(Clock) of
         Result -> {?MODULE, returned, Result}
     catch
-        Class:Reason:Stack -> {?MODULE, raised, Class, Reason, Stack}
+        Class:Reason:Stack -> {?MODULE, raised, Class, Reason, [Frame || Frame <- Stack, element(1, Frame) =/= ?MODULE]}
     end}).
 
 guard(Caller, Pid) ->

@@ -148,7 +148,7 @@ tc(M, F, Arguments, Unit) -> timed(Unit, fun() -> ertime_calls:call(M, F, Argume
 
 %% By the clock that the process sees, if it is the same before and after; else by the runtime's.
 timed(Unit, Do) ->
-    {Clock, Start, Real} = {ertime:clock(), ertime:monotonic_time(), erlang:monotonic_time()},
+    {Clock, Start, Real} = {ertime_use:open_clock(), ertime:monotonic_time(), erlang:monotonic_time()},
     Result = Do(),
     Took =
         case ertime:clock() of
@@ -160,7 +160,7 @@ timed(Unit, Do) ->
 %% --- asking -------------------------------------------------------------------------------------------------------
 
 ask(Request, Name, Arguments) ->
-    case ertime:clock() of
+    case ertime_use:open_clock() of
         none ->
             real(Name, Arguments);
         Clock ->
@@ -263,7 +263,12 @@ seeing(Clock) ->
 loop(Clock, Timers) when map_size(Timers) =:= 0 ->
     ertime_keeper:drop({timer, Clock}, self());
 loop(Clock, Timers) ->
-    loop(Clock, request_taken(Timers)).
+    try request_taken(Timers) of
+        New -> loop(Clock, New)
+    catch
+        %% Whoever closed the clock ends this process, too.
+        error:{clock_closed, _} -> ok
+    end.
 
 request_taken(Timers) ->
     receive

@@ -251,10 +251,25 @@ convert(Time, From, To, Arguments) ->
         error:badarg -> error(badarg, Arguments)
     end.
 
-nanoseconds({Time, Unit}, _, Arguments) when is_integer(Time) ->
-    convert(Time, unit(Unit), nanosecond, Arguments);
+%% The last of the arguments is the time.
 nanoseconds(Time, Unit, Arguments) when is_integer(Time) ->
-    convert(Time, Unit, nanosecond, Arguments);
+    nanoseconds({Time, Unit}, Unit, Arguments);
+nanoseconds({Time, Unit}, _, Arguments) when is_integer(Time) ->
+    case seconds(Unit) of
+        1 -> converted(Time, unit(Unit), Arguments);
+        Seconds -> Time * Seconds * 1000000000
+    end;
 nanoseconds(_, _, Arguments) ->
-    error(badarg, Arguments).
+    ?BADARG(Arguments, length(Arguments), "not a whole number, or one with its unit").
 
+converted(Time, Unit, Arguments) ->
+    try
+        erlang:convert_time_unit(Time, Unit, nanosecond)
+    catch
+        error:badarg -> ?BADARG(Arguments, length(Arguments), "an unknown unit of time")
+    end.
+
+seconds(minute) -> 60;
+seconds(hour) -> 3600;
+seconds(day) -> 86400;
+seconds(_) -> 1.

@@ -10,7 +10,7 @@
 
 -export([parse_transform/2]).
 %% @hidden
--export([marked/1]).
+-export([marked/1, unmarked/1]).
 
 -define(AFTER, '$ertime_after').
 -define(COUNT, '$ertime_transform').
@@ -38,6 +38,12 @@ marked(Forms) ->
 
 mark({attribute, Anno, module, _}) -> [{attribute, Anno, ertime_transform, true}];
 mark(_) -> [].
+
+unmarked(Forms) ->
+    [Form || Form <- Forms, not is_mark(Form)].
+
+is_mark({attribute, _, ertime_transform, true}) -> true;
+is_mark(_) -> false.
 
 form({function, Anno, Name, Arity, Clauses}, Names) ->
     {New, _} = clauses(Clauses, #{}, Names),

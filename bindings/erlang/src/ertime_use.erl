@@ -1,25 +1,69 @@
 %% @private
 %% Which clock a process sees: the one that it uses; else that of an ancestor or a caller (`$ancestors' and `$callers', which
-%% `proc_lib' and Elixir keep) or of the process that spawned it; else the one for everybody.
+%% `proc_lib' and Elixir keep) or of the process that spawned it; else the one for everybody. Before its ancestors comes the one
+%% that it was allowed by another process.
 %%
-%% A clock that was found by ancestors and callers becomes the process' own, until it is closed. The answers "none" and "the
+%% A clock that was found by ancestors and callers becomes the process' own, until it is closed. Where then no other is found, the
+%% process is told so by an error at its next call, once, and sees the runtime's clock from there on; and so is one that has none of
+%% its own below a process whose clock is closed. The answers "none" and "the
 %% one for everybody" are kept too, in the dictionary of the process, and hold as long as nobody on the node has taken or left
 %% a clock since: each such step counts up an epoch. Beside the epoch the answer keeps the `$ancestors' and `$callers' by which
 %% it was found, so a process that changes these looks again.
 -module(ertime_use).
 
--export([clock/0, count_seen/1, is_seen/0, turn_on/0, lost/0, put_clock/1, put_everywhere/1, everywhere/0, clock_of/2, facts/1]).
+-export([clock/0, open_clock/0, clock_if_open/0, count_seen/1, is_seen/0, turn_on/0, lost/0, put_clock/1, put_everywhere/1, everywhere/0, allow/2, disallow/1, clock_of/2, facts/1]).
 
 -define(KEY, '$ertime').
 -define(SEEN, '$ertime_seen').
 -define(EPOCH, '$ertime_epoch').
+-define(OUTLIVED, "this process has outlived the clock that it saw: end it with its test, or let it call ertime:use(real)").
 
 %% The clock of the calling process, or none. It is asked for where a clock was opened on the node (ertime_on).
 clock() ->
     case get(?KEY) of
-        undefined -> seen();
+        undefined -> told(seen());
         Clock -> Clock
     end.
+
+%% The same; where it is closed, the one that the process has now.
+open_clock() ->
+    case ertime_on:on() andalso clock() of
+        Clock when is_reference(Clock) ->
+            case open_or_none(Clock) of
+                none -> lost();
+                Clock -> Clock
+            end;
+        _ ->
+            none
+    end.
+
+%% Its clock, if that is open: without an error.
+clock_if_open() ->
+    case get(?KEY) of
+        none -> none;
+        undefined -> if_any(seen());
+        Own ->
+            case open_or_none(Own) of
+                none ->
+                    erase(?KEY),
+                    Answer = if_any(seen()),
+                    Answer =:= none andalso put(?KEY, Own),
+                    Answer;
+                Own ->
+                    Own
+            end
+    end.
+
+if_any(closed) -> none;
+if_any(Clock) -> Clock.
+
+-spec told(closed | none | ertime:clock()) -> none | ertime:clock().
+told(closed) ->
+    erase(?SEEN),
+    put(?KEY, none),
+    error({clock_closed, ?OUTLIVED});
+told(Clock) ->
+    Clock.
 
 %% The epoch is read before the search, and counted up after each change. So an answer that is kept under the epoch of now was
 %% found after the last change.
@@ -33,22 +77,40 @@ seen() ->
     end.
 
 find(Before, Epoch, Ancestors, Callers) ->
-    case search(relatives(get(), self()), #{self() => []}, #{}) of
-        none ->
-            Clock = for_everybody(everywhere()),
+    Found =
+        case allowed(self()) of
+            none -> search(relatives(get(), self()), #{self() => []}, #{});
+            Allowed -> Allowed
+        end,
+    case or_everywhere(Found) of
+        closed ->
+            closed;
+        {for_now, Clock0} ->
+            Clock = for_now(Clock0),
             seen_before(Before, Clock),
             put(?SEEN, {Clock, Epoch, Ancestors, Callers}),
             Clock;
-        Found ->
-            Clock = own_from_now(Found),
+        Own ->
+            Clock = own_from_now(Own),
             %% Where the process had no clock at first, those below it may keep that answer.
             Before =:= undefined orelse changed(),
             Clock
     end.
 
-for_everybody(none) ->
+%% The clock that was found, where it isn't the process' own from now on.
+or_everywhere({allowed, Clock}) ->
+    {for_now, Clock};
+or_everywhere(Nobody) when Nobody =:= none; Nobody =:= closed ->
+    case everywhere() of
+        none when Nobody =:= closed -> closed;
+        Clock -> {for_now, Clock}
+    end;
+or_everywhere(Own) ->
+    Own.
+
+for_now(none) ->
     none;
-for_everybody(Clock) ->
+for_now(Clock) ->
     case join(Clock) of
         ok -> Clock;
         closed -> none
@@ -59,7 +121,7 @@ own_from_now(real) ->
 own_from_now(Clock) ->
     case join(Clock) of
         ok -> put_own(Clock);
-        closed -> clock()
+        closed -> seen()
     end.
 
 join(Clock) ->
@@ -96,8 +158,8 @@ turn_on() ->
 replace_on() ->
     %% Who waits for a module to be loaded would seem to rest.
     ok = code:ensure_modules_loaded([
-        ertime, ertime_times, ertime_timers, ertime_monitors, ertime_clock, ertime_timer, ertime_calls, ertime_keeper, ertime_rest,
-        ertime_others, ertime_watch, ertime_test, ertime_drive, ertime_seen, ertime_faults
+        ertime, ertime_times, ertime_timers, ertime_monitors, ertime_clock, ertime_options, ertime_timer, ertime_calls, ertime_keeper,
+        ertime_rest, ertime_others, ertime_watch, ertime_test, ertime_drive, ertime_seen, ertime_faults
     ]),
     persistent_term:put(?EPOCH, atomics:new(2, [])),
     ertime_keeper:start(),
@@ -117,11 +179,20 @@ turned_on(Off) ->
     {ok, On} = beam_lib:build_module(lists:keyreplace("AtU8", 1, Chunks, New)),
     On.
 
-%% The clock that the process had is closed: the one that it has now.
+%% The clock that the process had is closed: the one that it has now. Where that is none, and it was its own, the process is told.
 lost() ->
-    erase(?KEY),
     erase(?SEEN),
-    clock().
+    case erase(?KEY) of
+        undefined ->
+            clock();
+        none ->
+            put_own(none);
+        _ ->
+            case seen() of
+                none -> told(closed);
+                Clock -> told(Clock)
+            end
+    end.
 
 %% Answers `ok', or why the process can't use the clock; then all is as it was.
 put_clock(Clock) when is_reference(Clock) ->
@@ -158,48 +229,96 @@ everywhere() ->
         undefined -> none
     end.
 
+%% --- processes that were allowed a clock --------------------------------------------------------------------------
+
+%% Answers `taken' where the process was allowed another one, which is open.
+allow(Clock, Pid) ->
+    case allowed(Pid) of
+        {allowed, Other} when Other =/= Clock ->
+            taken;
+        _ ->
+            ertime_keeper:allow(Clock, Pid),
+            changed()
+    end.
+
+%% The clock is closed.
+disallow(Clock) ->
+    ertime_keeper:disallow(Clock),
+    changed().
+
+allowed(Pid) ->
+    case ertime_keeper:get({allowed, Pid}) of
+        none -> none;
+        Clock ->
+            case open_or_none(Clock) of
+                none -> none;
+                Clock -> {allowed, Clock}
+            end
+    end.
+
 %% What clock/0 would tell another process of this node, as far as can be seen. The facts of some processes may be known.
 clock_of(Pid, Facts) ->
     case search([Pid], #{}, Facts) of
         real -> none;
-        none -> everywhere();
+        Nobody when Nobody =:= none; Nobody =:= closed -> everywhere();
+        {allowed, Clock} -> Clock;
         Clock -> Clock
     end.
 
 %% What is asked of a process to find its clock.
 facts(Pid) ->
     case process_info(Pid, dictionary) of
-        {dictionary, Dictionary} -> {own(Dictionary), relatives(Dictionary, Pid)};
+        {dictionary, Dictionary} -> {own_or_allowed(Dictionary, Pid), relatives(Dictionary, Pid)};
         undefined -> {none, []}
     end.
 
-%% Depth first, each process once.
-search([], _, _) ->
-    none;
-search([Pid | Pids], Searched, Facts) when is_map_key(Pid, Searched) ->
-    search(Pids, Searched, Facts);
-search([Pid | Pids], Searched, Facts) ->
-    Found =
+%% Depth first, each process once. It is `closed' where there was no other clock on the way than closed ones.
+search(Pids, Searched, Facts) -> search(Pids, Searched, Facts, none).
+
+search([], _, _, Nobody) ->
+    Nobody;
+search([Pid | Pids], Searched, Facts, Nobody) when is_map_key(Pid, Searched) ->
+    search(Pids, Searched, Facts, Nobody);
+search([Pid | Pids], Searched, Facts, Nobody) ->
+    Known =
         case Facts of
-            #{Pid := Known} -> Known;
+            #{Pid := Before} -> Before;
             _ -> facts(Pid)
         end,
-    case Found of
-        {none, Relatives} -> search(Relatives ++ Pids, Searched#{Pid => []}, Facts);
+    case Known of
+        {none, Relatives} -> search(Relatives ++ Pids, Searched#{Pid => []}, Facts, Nobody);
+        {closed, Relatives} -> search(Relatives ++ Pids, Searched#{Pid => []}, Facts, closed);
         {Clock, _} -> Clock
     end.
 
 own(Dictionary) ->
     case lists:keyfind(?KEY, 1, Dictionary) of
         {_, none} -> real;
-        {_, Clock} -> open_or_none(Clock);
+        {_, Clock} -> open_or_closed(Clock);
         false -> none
+    end.
+
+own_or_allowed(Dictionary, Pid) ->
+    case own(Dictionary) of
+        Nobody when Nobody =:= none; Nobody =:= closed ->
+            case allowed(Pid) of
+                none -> Nobody;
+                Allowed -> Allowed
+            end;
+        Own ->
+            Own
     end.
 
 open_or_none(Clock) ->
     case ertime_nif:os_time(Clock) of
         {_, _} -> Clock;
         _ -> none
+    end.
+
+open_or_closed(Clock) ->
+    case open_or_none(Clock) of
+        none -> closed;
+        Clock -> Clock
     end.
 
 relatives(Dictionary, Pid) ->

@@ -7,7 +7,7 @@
 %% but itself would let pass. In both cases it ends with the owner.
 -module(ertime_watch).
 
--export([is_good/2, start/3, stop/1, is_auto/1, is_left/1]).
+-export([start/3, stop/1, is_auto/1, is_left/1]).
 
 -export_type([options/0]).
 
@@ -30,11 +30,6 @@
 -define(MOST_AT_ONE_TIME, 20000).
 
 -record(watch, {clock, owner, options, monitor, started, since = none, seen = none, same = 0}).
-
-%% Whether these may be options of `ertime:open/1'.
--spec is_good(term(), term()) -> boolean().
-is_good(Advance, Limit) ->
-    lists:member(Advance, [by_hand, auto]) andalso (Limit =:= infinity orelse (is_integer(Limit) andalso Limit >= 0)).
 
 -spec start(ertime:clock(), pid(), options()) -> pid().
 start(Clock, Owner, Options = #{advance := Advance}) ->

@@ -1,6 +1,6 @@
 %% Another process closes the clock amid a call, just before one of the calls of the NIF that it makes: before the first, before
-%% the second, and so on as far as there are any. The call then answers what it answers without a clock, or raises `closed' with
-%% its arguments, and nothing else.
+%% the second, and so on as far as there are any. The call then answers what it answers without a clock, or tells the process that
+%% its clock was closed, or raises `closed' with its arguments, and nothing else.
 -module(ertime_closed_tests).
 
 -export([nif/2]).
@@ -60,7 +60,7 @@ nif(F, Arguments) ->
     apply(ertime_nif, F, Arguments).
 
 close(Clock) ->
-    {Pid, Monitor} = spawn_monitor(fun() -> true = ertime:close(Clock) end),
+    {Pid, Monitor} = spawn_monitor(fun() -> true = is_boolean(ertime:close(Clock)) end),
     receive {'DOWN', Monitor, process, Pid, Reason} -> normal = Reason end.
 
 closed_before_each(Options, Do, MayRaise) ->
@@ -85,6 +85,7 @@ closed_before(N, Options, Do, MayRaise) ->
     atomics:get(Left, 1) =< 0.
 
 judged({answers, _}, _) -> good;
+judged({raises, error, {clock_closed, [_ | _]}, _}, _) -> good;
 judged({raises, error, closed, {_, _, Arguments, _}}, true) when is_list(Arguments) -> good;
 judged(Other, _) -> Other.
 

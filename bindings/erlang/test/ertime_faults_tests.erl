@@ -88,7 +88,7 @@ late_test() ->
         end)
     end,
     ?assertEqual(lists:duplicate(8, 1000), Came([])),
-    Late = Came([{900, {late, Scheduler, 700}} || Scheduler <- [2, 3, 4]]),
+    Late = Came([{900, {late, 3, 700}}]),
     ?assertEqual([1000, 1600], lists:usort(Late)).
 
 %% Timers that are due at once: each seed has its order, the same one each time. Other deadlines keep theirs.
@@ -149,8 +149,8 @@ refused(Fun) ->
         Value -> {no_error, Value}
     catch
         error:badarg:Stack ->
-            #{general := Text} = ertime_faults:format_error(badarg, Stack),
-            Text
+            #{1 := Text} = ertime_options:format_error(badarg, Stack),
+            list_to_binary(Text)
     end.
 
 refused_test_() ->
@@ -275,3 +275,27 @@ leaves_nothing_test_() ->
         ?assertEqual(Online, erlang:system_info(schedulers_online)),
         ?assertEqual([], [Filter || Filter = {Id, _} <- maps:get(filters, logger:get_primary_config()), lists:prefix("ertime_quiet", atom_to_list(Id))])
     end}.
+
+%% --- a suite as it is ---------------------------------------------------------------------------------------------
+
+with_environment(Variables, Do) ->
+    _ = [os:putenv(Name, Value) || {Name, Value} <- Variables],
+    try
+        Do()
+    after
+        [os:unsetenv(Name) || {Name, _} <- Variables]
+    end.
+
+%% A test that knows nothing of seeds runs without a fault, and once for each; it returns what it does, and raises what it raises.
+suite_test() ->
+    Test = self(),
+    Run = fun(_) -> Test ! ran, timer:sleep(1000), erlang:system_time(second) - 1767225600 end,
+    Suite = fun(Variables) -> with_environment(Variables, fun() -> ertime:test(#{advance => auto, mode => multi_time_warp}, Run) end) end,
+    ?assertEqual(1, Suite([])),
+    ?assertEqual([ran], taken()),
+    _ = Suite([{"ERTIME_SEEDS", "1..20"}]),
+    ?assertEqual(21, length(taken())),
+    _ = Suite([{"ERTIME_SEED", "17"}, {"ERTIME_FAULTS", "leap,drift"}]),
+    ?assertEqual(2, length(taken())),
+    ?assertEqual(<<"faults: jumps is no kind of fault">>, refused(fun() -> Suite([{"ERTIME_SEED", "17"}, {"ERTIME_FAULTS", "jumps"}]) end)),
+    ?assertEqual(<<"ERTIME_SEEDS: some is no number">>, refused(fun() -> Suite([{"ERTIME_SEEDS", "some"}]) end)).

@@ -8,7 +8,7 @@
 
 %% fenced: the store refuses writes with a number below the greatest that it has given.
 store(Fenced) ->
-    store(Fenced, #{holder => none, ends => 0, number => 0, writes => []}).
+    store(Fenced, #{holder => none, ends => 0, number => 0, writes => [], old => 0}).
 
 store(Fenced, State = #{holder := Holder, ends := Ends, number := Number, writes := Writes}) ->
     receive
@@ -21,9 +21,13 @@ store(Fenced, State = #{holder := Holder, ends := Ends, number := Number, writes
         {write, From, With} when Fenced, With < Number ->
             From ! refused,
             store(Fenced, State);
-        {write, From, _} ->
+        {write, From, With} ->
             From ! written,
-            store(Fenced, State#{writes := [node(From) | Writes]});
+            Old = case With < Number of true -> 1; false -> 0 end,
+            store(Fenced, State#{writes := [node(From) | Writes], old := maps:get(old, State) + Old});
+        {old, From} ->
+            From ! {old, maps:get(old, State)},
+            store(Fenced, State);
         {writes, From} ->
             From ! {writes, lists:reverse(Writes)},
             store(Fenced, State)

@@ -13,8 +13,10 @@ tests(none) ->
 tests(_) ->
     [
         {timeout, 120, fun together/0},
+        {timeout, 120, fun node_ends/0},
         {timeout, 120, {"a clock an hour ahead: both write", fun() -> ?assertEqual(2, writers(false)) end}},
-        {timeout, 120, {"a fencing number: one writes", fun() -> ?assertEqual(1, writers(true)) end}}
+        {timeout, 120, {"a fencing number: one writes", fun() -> ?assertEqual(1, writers(true)) end}},
+        {timeout, 300, {"by seed", fun by_seed/0}}
     ].
 
 %% Answers what it has started.
@@ -62,7 +64,7 @@ with_nodes(Do) ->
     try
         Do([Node || {_, Node} <- Peers])
     after
-        [peer:stop(Peer) || {Peer, _} <- Peers]
+        [peer:stop(Peer) || {Peer, _} <- Peers, is_process_alive(Peer)]
     end.
 
 %% Messages between the nodes come at the time at which they were sent.
@@ -79,6 +81,33 @@ together() ->
         ?assertMatch(#{os_system_time := Time} when Time > (?BEGIN + 61) * 1000000000, ertime_nodes:info(Nodes, A)),
         ok = ertime_nodes:drift(Nodes, A, 100),
         ok = ertime_nodes:close(Nodes)
+    end).
+
+%% The time of the other node goes on.
+node_ends() ->
+    with_nodes(fun([A, B]) ->
+        Nodes = ertime_nodes:open([{A, #{start => 0}}, {B, #{start => 0}}]),
+        ?assertEqual([A, B], ertime_nodes:up(Nodes)),
+        ?assertError(badarg, ertime_nodes:advance(Nodes, forever)),
+        Test = self(),
+        _ = erpc:call(A, erlang, spawn, [ertime_nodes_tests_code, relay, [Test, 1000]]),
+        _ = erpc:call(B, erlang, spawn, [ertime_nodes_tests_code, relay, [Test, 1000]]),
+        true = erlang:monitor_node(B, true),
+        ok = erpc:cast(B, erlang, halt, []),
+        receive {nodedown, B} -> ok end,
+        ?assertEqual(0, ertime_nodes:advance(Nodes, 900)),
+        ?assertEqual(1, ertime_nodes:advance(Nodes, until_idle)),
+        ?assertMatch({relayed, [{A, 1000, _}]}, receive Message -> Message after 0 -> none end),
+        ?assertEqual([A], ertime_nodes:up(Nodes)),
+        [?assertError({node_down, B}, Do()) || Do <- [
+            fun() -> ertime_nodes:warp(Nodes, B, 1000) end, fun() -> ertime_nodes:drift(Nodes, B, 1) end, fun() -> ertime_nodes:info(Nodes, B) end
+        ]],
+        ok = ertime_nodes:close(Nodes),
+        ?assertEqual([], ertime_nodes:up(Nodes)),
+        Again = ertime_nodes:add(Nodes, {A, #{start => 0}}),
+        ?assertEqual([A], ertime_nodes:up(Again)),
+        ?assertEqual(0, ertime_nodes:advance(Again, 1000)),
+        ok = ertime_nodes:close(Again)
     end).
 
 %% How many nodes write in the hour after the clock of the one, which is an hour ahead, has come into play.
@@ -107,3 +136,27 @@ writes(Store) ->
     receive
         {writes, Writes} -> Writes
     end.
+
+%% A lease by the system clocks of two nodes: within some seeds a node writes with an old lease, and one fault is enough for it; with
+%% fencing none does. `ERTIME_NODE_SEEDS' says how many are tried with fencing.
+by_seed() ->
+    with_nodes(fun(Nodes) ->
+        Test = fun(Fenced) ->
+            fun([A, B] = Opened) ->
+                Store = spawn_link(fun() -> ertime_nodes_lease:store(Fenced) end),
+                _ = erpc:call(A, erlang, spawn, [ertime_nodes_lease, worker, [Store, 60]]),
+                ertime_nodes:advance(Opened, {5, second}),
+                _ = erpc:call(B, erlang, spawn, [ertime_nodes_lease, worker, [Store, 60]]),
+                ertime_nodes:advance(Opened, {175, second}),
+                Store ! {old, self()},
+                ?assertEqual(0, receive {old, Count} -> Count end)
+            end
+        end,
+        Options = #{faults => [skew, leap, drift, freeze], over => {180, second}, most => 4},
+        {failed, Report} = ertime_nodes_seeds:check(Nodes, 50, Options, Test(false)),
+        #{schedule := [{_, {on, Node, _}}] = Schedule} = Report,
+        ?assert(lists:member(Node, Nodes)),
+        ?assertError({assertEqual, _}, ertime_nodes:test(Nodes, #{schedule => Schedule}, Test(false))),
+        ok = ertime_nodes:seeds(Nodes, list_to_integer(os:getenv("ERTIME_NODE_SEEDS", "10")), Options, Test(true)),
+        ?assertError(badarg, ertime_nodes:seeds(Nodes, 1, #{faults => [stall]}, Test(true)))
+    end).

@@ -32,7 +32,7 @@ main([Time, Folder, Name]) ->
 
 %% Where all rest, and wait for something that isn't of the clock, that is no deadlock here.
 by_itself() ->
-    Clock = ertime:open(#{slots => ?MOST_SLOTS}),
+    Clock = ertime:open(#{slots => ?MOST_SLOTS, mode => erlang:system_info(time_warp_mode), correction => erlang:system_info(time_correction)}),
     ok = ertime:transform(otp),
     ok = ertime:use_everywhere(Clock),
     _ = spawn(fun() -> ertime:use(real), mover(Clock) end),

@@ -97,6 +97,22 @@ work() ->
     End = os:perf_counter(millisecond) + ?WORK,
     (fun Again() -> os:perf_counter(millisecond) > End orelse Again() end)().
 
+%% A process that was allowed the clock is one of it, and so is one that it started before.
+allowed_test() ->
+    Pid = spawn_link(fun() ->
+        Below = spawn_link(fun() -> receive {go, Test} -> Start = ertime:monotonic_time(), work(), Test ! {took, ertime:monotonic_time() - Start} end end),
+        receive {go, Test} -> Below ! {go, Test} end,
+        receive stop -> ok end
+    end),
+    Took = ertime:test(#{}, fun(Clock) ->
+        ok = ertime:allow(Clock, Pid),
+        Pid ! {go, self()},
+        0 = ertime:advance(Clock, 60000),
+        receive {took, Time} -> Time end
+    end),
+    ?assertEqual(0, Took),
+    Pid ! stop.
+
 %% --- whom it doesn't wait for -----------------------------------------------------------------------------------------
 
 %% A process of another test is at work, and is monitored by a server that a process of this one monitors.

@@ -16,7 +16,7 @@ same(Do) ->
 
 same(Do, Late) ->
     Real = result(Do, erlang, fun(Milliseconds) -> timer:sleep(Milliseconds + Late) end),
-    Clock = ertime:open(#{os_time => erlang:system_time()}),
+    Clock = ertime:open(#{os_time => erlang:system_time(), mode => erlang:system_info(time_warp_mode), correction => erlang:system_info(time_correction)}),
     Ours = ertime:with(Clock, fun() -> result(Do, ertime, fun(Milliseconds) -> ertime:advance(Clock, Milliseconds) end) end),
     ertime:close(Clock),
     case Real of

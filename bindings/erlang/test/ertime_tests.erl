@@ -141,13 +141,13 @@ several_wheels_test_() ->
         end)
     end}.
 
-%% Without options a clock is as the runtime's.
+%% Without options a clock is the same on each release.
 defaults_test_() ->
     {timeout, 120, fun defaults/0}.
 
 defaults() ->
     #{mode := Mode, correction := Correction, start := Start} = ertime:info(ertime:open()),
-    ?assertEqual([erlang:system_info(time_warp_mode), erlang:system_info(time_correction)], [Mode, Correction]),
+    ?assertEqual([multi_time_warp, true], [Mode, Correction]),
     ?assert(Start < -1000000000000000 andalso erlang:system_info(start_time) < 0).
 
 bad_options_test_() ->
@@ -158,14 +158,48 @@ bad_options() ->
         #{mode => no}, #{correction => 1}, #{start => 5}, #{start => a}, #{slots => 0}, #{slots => 262145}, #{os_time => x}, #{drift => x},
         #{clock => 1}, [{mode, 1}]
     ],
-    [?assertError(badarg, ertime:open(Options)) || Options <- Bad].
+    [?assertError(badarg, ertime:open(Options)) || Options <- Bad],
+    [?assertError(badarg, ertime:test(Options, fun(_) -> ok end)) || Options <- Bad].
+
+%% What the shell, and Elixir, tell of a bad argument names it.
+texts_test_() ->
+    Rows = [
+        {"os_tme", 1, fun(_) -> ertime:open(#{os_tme => 5}) end},
+        {"slots is a number from 1 to 262144, and not 0", 1, fun(_) -> ertime:test([{slots, 0}], fun(_) -> ok end) end},
+        {"one argument", 2, fun(_) -> ertime:test(#{}, fun() -> ok end) end},
+        {"unit", 2, fun(Clock) -> ertime:advance(Clock, {1, fortnight}) end},
+        {"go back", 2, fun(Clock) -> ertime:advance(Clock, -1) end},
+        {"no_such", 1, fun(_) -> ertime:transform(no_such_application) end},
+        {"module", 1, fun(_) -> ertime:transform([lists, "a"]) end},
+        {"clock", 1, fun(_) -> ertime:use(5) end},
+        {"name", 2, fun(Clock) -> ertime:allow(Clock, no_such_name) end}
+    ],
+    [
+        {Part, fun() ->
+            Clock = ertime:open(),
+            Told = try Do(Clock) catch error:badarg:Stack -> ertime_options:format_error(badarg, Stack) end,
+            true = ertime:close(Clock),
+            ?assertMatch(#{Position := [_ | _]}, Told),
+            ?assertNotEqual({Told, nomatch}, {Told, string:find(maps:get(Position, Told), Part)})
+        end}
+     || {Part, Position, Do} <- Rows
+    ].
+
+%% Beside those of the runtime.
+units_test() ->
+    with_clock(#{start => 0}, fun(Clock) ->
+        0 = ertime:advance(Clock, {2, hour}),
+        0 = ertime:advance(Clock, {3, minute}),
+        0 = ertime:advance(Clock, {1, day}),
+        ?assertEqual(86400 + 7200 + 180, ertime:monotonic_time(second))
+    end).
 
 bad_times_test_() ->
     {timeout, 120, fun bad_times/0}.
 
 bad_times() ->
     with_clock(#{}, fun(Clock) ->
-        [?assertError(badarg, ertime:advance(Clock, Time)) || Time <- [-1, 1.0, x, {1, hour}, {a, second}]],
+        [?assertError(badarg, ertime:advance(Clock, Time)) || Time <- [-1, 1.0, x, {1, fortnight}, {a, second}]],
         ?assertError(badarg, ertime:warp(Clock, x)),
         ?assertError(badarg, ertime:warp(Clock, 1, [{check, 1}])),
         ?assertError(badarg, ertime:warp(Clock, 1 bsl 62)),

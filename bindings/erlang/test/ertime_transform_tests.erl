@@ -2,6 +2,7 @@
 -module(ertime_transform_tests).
 
 -compile({parse_transform, ertime_transform}).
+-export([first/1]).
 
 -include_lib("eunit/include/eunit.hrl").
 
@@ -330,6 +331,93 @@ loaded_test_() ->
         ?assertError(badarg, ertime:transform(ertime_no_such_application)),
         ?assertError(badarg, ertime:transform("a"))
     end}.
+
+%% What the compiler was told in its options, and not in the source, holds for a module that is turned.
+options_test_() ->
+    {timeout, 120, fun() ->
+        Folder = filename:join(os:getenv("TMPDIR", "/tmp"), "ertime_options_" ++ os:getpid()),
+        Name = filename:join(Folder, "ertime_options_code"),
+        ok = filelib:ensure_dir(Name),
+        ok = file:write_file(Name ++ ".erl", "-module(ertime_options_code).\na() -> erlang:monotonic_time().\nb(T) -> T:first().\n"),
+        {ok, ertime_options_code} = compile:file(Name, [export_all, nowarn_export_all, tuple_calls, debug_info, {outdir, Folder}]),
+        true = code:add_patha(Folder),
+        Exports = ertime_options_code:module_info(exports),
+        ?assertEqual(ok, ertime:transform([ertime_options_code])),
+        ?assert(ertime_load:is_turned(ertime_options_code)),
+        ?assertEqual(Exports, ertime_options_code:module_info(exports)),
+        ?assertEqual(5000000, ertime:test(#{start => 5000000}, fun(_) -> ertime_options_code:a() end)),
+        ?assertEqual(first, ertime_options_code:b({?MODULE, first})),
+        true = code:del_path(Folder),
+        ok = file:del_dir_r(Folder)
+    end}.
+
+%% A tuple's module is called with the tuple: what the option `tuple_calls' is for.
+first({?MODULE, It}) -> It.
+
+%% What was turned is kept in a file, which is read where the module is the same; what has nothing to turn stays as it is.
+kept_test_() ->
+    {timeout, 120, fun() ->
+        Folder = filename:join(os:getenv("TMPDIR", "/tmp"), "ertime_kept_" ++ os:getpid()),
+        ok = application:set_env(ertime, cache, Folder),
+        ?assertEqual(ok, ertime:transform([calendar, string])),
+        ?assertEqual([true, false], [ertime_load:is_turned(Module) || Module <- [calendar, string]]),
+        {ok, Names} = file:list_dir(Folder),
+        ?assertMatch(["calendar-" ++ _, "string-" ++ _], lists:sort(Names)),
+        ?assertEqual(16, filelib:file_size(filename:join(Folder, lists:last(lists:sort(Names))))),
+        ?assertEqual(ok, ertime:untransform([calendar])),
+        %% One that is damaged is made again.
+        File = filename:join(Folder, hd(lists:sort(Names))),
+        {ok, Kept} = file:read_file(File),
+        ok = file:write_file(File, binary:part(Kept, 0, 100)),
+        ?assertEqual(ok, ertime:transform([calendar])),
+        ?assert(ertime_load:is_turned(calendar)),
+        ?assertEqual({ok, Kept}, file:read_file(File)),
+        ?assertEqual(ok, ertime:untransform([calendar])),
+        ok = application:unset_env(ertime, cache),
+        ok = file:del_dir_r(Folder)
+    end}.
+
+%% Modules of the project that call functions about time, and the behaviours that they follow.
+report_test_() ->
+    {timeout, 120, fun() ->
+        Folder = filename:join([os:getenv("TMPDIR", "/tmp"), "project_" ++ os:getpid(), "_build"]),
+        Compile = fun(Name, Text, Options) ->
+            File = filename:join(Folder, Name),
+            ok = filelib:ensure_dir(File),
+            ok = file:write_file(File ++ ".erl", ["-module(", Name, ").\n", Text]),
+            {ok, _} = compile:file(File, [debug_info, export_all, nowarn_export_all, {outdir, Folder} | Options])
+        end,
+        Compile("project_late", "a() -> erlang:send_after(1, self(), x).\n", []),
+        Compile("project_turned", "a() -> os:timestamp().\n", [{parse_transform, ertime_transform}]),
+        Compile("project_timeless", "a() -> lists:seq(1, 2).\n", []),
+        Compile("project_server", "-behaviour(gen_statem).\ncallback_mode() -> state_functions.\ninit(_) -> {ok, a, none}.\n", []),
+        true = code:add_patha(Folder),
+        Ours = fun(#{turned := Turned, unturned := Unturned}) -> [[M || M <- Modules, lists:prefix("project", atom_to_list(M)) orelse M =:= gen_statem] || Modules <- [Turned, Unturned]] end,
+        ?assertEqual([[project_turned], [project_late, gen_statem]], Ours(ertime:report())),
+        ?assertError({unturned, [_ | _]}, ertime:open(#{unturned => error})),
+        ok = ertime:transform([project_late, gen_statem]),
+        ?assertEqual([[project_late, project_turned, gen_statem], []], Ours(ertime:report())),
+        ok = ertime:untransform([gen_statem]),
+        true = code:del_path(Folder),
+        ok = file:del_dir_r(filename:dirname(Folder))
+    end}.
+
+%% What was written comes into the file when the delay is over.
+delayed_write_test_() ->
+    {setup, fun() -> ok = ertime:transform([raw_file_io_delayed]) end, fun(_) -> ok = ertime:untransform([raw_file_io_delayed]) end, {timeout, 120, fun() ->
+        ?assert(lists:member(raw_file_io_delayed, ertime_calls:presets(otp))),
+        Name = filename:join(os:getenv("TMPDIR", "/tmp"), "ertime_delayed_" ++ os:getpid()),
+        ertime:test(#{}, fun(Clock) ->
+            {ok, File} = file:open(Name, [write, raw, {delayed_write, 65536, 2000}]),
+            ok = file:write(File, "late"),
+            _ = ertime:advance(Clock, 1999),
+            ?assertEqual({ok, <<>>}, file:read_file(Name)),
+            _ = ertime:advance(Clock, 1),
+            ?assertEqual({ok, <<"late">>}, file:read_file(Name)),
+            ok = file:close(File)
+        end),
+        ok = file:delete(Name)
+    end}}.
 
 %% The behaviours by the clock of a test, also where their callers aren't turned.
 behaviours_test_() ->

@@ -28,7 +28,56 @@ ways() ->
             ertime:use(undefined),
             ?assertEqual(Clock, seen(Child)),
             true = ertime:close(Clock),
+            ?assertEqual([told, not_told], [told(Child), told(Child)]),
             ?assertEqual(none, seen(Child))
+        end},
+        {"a clock that somebody else closes", fun() ->
+            Clock = ertime:open(),
+            Middle = start(fun() -> ertime:use(Clock) end),
+            {Before, After} = {child_of(Middle), child_of(Middle)},
+            Asked = child_of(Middle),
+            ?assertEqual([Clock, Clock], [seen(Before), seen(Asked)]),
+            true = ertime:close(Clock),
+            ?assertEqual(none, do(Asked, fun ertime:clock/0)),
+            ?assertEqual([told, told, told, told], [told(Pid) || Pid <- [Before, After, Asked, Middle]]),
+            ?assertEqual([none, none, none, none, none], [seen(Pid) || Pid <- [Before, After, Asked, Middle, child_of(Middle)]])
+        end},
+        {"whoever closes its own clock", fun() ->
+            Clock = ertime:open(),
+            Pid = child(),
+            do(Pid, fun() -> ertime:use(Clock) end),
+            ?assertEqual(Clock, seen(Pid)),
+            ?assertEqual(true, do(Pid, fun() -> ertime:close(Clock) end)),
+            ?assertEqual(none, seen(Pid))
+        end},
+        {"with/2, and the clock from before is closed", fun() ->
+            {First, Second} = {ertime:open(), ertime:open()},
+            Pid = child(),
+            do(Pid, fun() -> ertime:use(First), ertime:with(Second, fun() -> elsewhere(fun() -> ertime:close(First) end) end) end),
+            ?assertEqual([told, not_told], [told(Pid), told(Pid)])
+        end},
+        {"timers of a clock that somebody else closes", fun() ->
+            Clock = ertime:open(),
+            Pid = child(),
+            do(Pid, fun() -> ertime:use(Clock) end),
+            true = ertime:close(Clock),
+            ?assertEqual(told, do(Pid, fun() -> try ertime_timer:send_interval(1000, x) catch error:{clock_closed, _} -> told end end))
+        end},
+        {"a process that was allowed a clock, and one below it", fun() ->
+            {Clock, Other} = {ertime:open(), ertime:open()},
+            Pid = start(fun() -> register(ertime_use_allowed, self()) end),
+            Below = child_of(Pid),
+            ?assertEqual([none, none], [seen(Pid), seen(Below)]),
+            ok = ertime:allow(Clock, ertime_use_allowed),
+            ?assertEqual([Clock, Clock, Clock], [seen(Pid), seen(Below), seen(child_of(Pid))]),
+            ?assertError(badarg, ertime:allow(Other, Pid)),
+            ok = ertime:allow(Clock, Pid),
+            true = ertime:close(Clock),
+            ?assertEqual([none, none], [seen(Pid), seen(Below)]),
+            ?assertError(closed, ertime:allow(Clock, Pid)),
+            ok = ertime:allow(Other, Pid),
+            ?assertEqual([Other, Other], [seen(Pid), seen(Below)]),
+            ertime:close(Other)
         end},
         {"with/2 of a parent", fun() ->
             {First, Second} = {ertime:open(), ertime:open()},
@@ -152,6 +201,20 @@ seen(Pid) ->
         ?assertEqual(Clock =:= none, abs(hd(Times) - erlang:monotonic_time()) < 60000000000),
         Clock
     end).
+
+%% Whether its next call tells that its clock was closed.
+told(Pid) ->
+    do(Pid, fun() ->
+        try ertime:monotonic_time() of
+            _ -> not_told
+        catch
+            error:{clock_closed, Text} -> ?assert(io_lib:printable_list(Text)), told
+        end
+    end).
+
+elsewhere(Do) ->
+    {Pid, Monitor} = spawn_monitor(fun() -> exit({done, Do()}) end),
+    receive {'DOWN', Monitor, process, Pid, {done, Result}} -> Result end.
 
 wait_for(Is) ->
     Is() orelse begin erlang:yield(), wait_for(Is) end.

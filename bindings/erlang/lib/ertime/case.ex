@@ -96,7 +96,7 @@ defmodule Ertime.Case do
   def run(module, options, context, body) do
     case asked(options, context) do
       nil ->
-        body.(context)
+        shown(body, context)
 
       {seeds, options, milliseconds} ->
         # Its clock, and what the setups have started, are for a run that doesn't come.
@@ -105,6 +105,21 @@ defmodule Ertime.Case do
         explored(:ertime_seeds.explore(seeds, options, &once(module, context, body, &1), milliseconds))
     end
   end
+
+  # What the clock has seen of a test that fails is printed.
+  defp shown(body, context) do
+    body.(context)
+  catch
+    kind, reason ->
+      show(context, reason)
+      :erlang.raise(kind, reason, __STACKTRACE__)
+  end
+
+  defp show(%{clock: clock} = context, reason) do
+    :ertime_seen.failed(clock, name(context), reason, :ertime_drive.done(clock))
+  end
+
+  defp name(context), do: "#{inspect(context.module)}.#{context.test}" |> to_charlist()
 
   defp explored({:passed, _, _}), do: :ok
 
@@ -170,7 +185,7 @@ defmodule Ertime.Case do
         if under[:output], do: Process.group_leader(self(), under[:output])
         ExUnit.OnExitHandler.register(self())
         Process.put({__MODULE__, :under}, {Map.delete(under, :output), parent})
-        exit({:shutdown, {__MODULE__, outcome(module, context, body)}})
+        exit({:shutdown, {__MODULE__, outcome(module, context, body, under[:show])}})
       end)
 
     raised =
@@ -199,8 +214,9 @@ defmodule Ertime.Case do
   defp kind_of(kind) when kind in [:error, :exit, :throw], do: kind
   defp kind_of(_), do: :exit
 
-  defp outcome(module, context, body) do
-    {:returned, body.(module.__ex_unit__(:setup, context))}
+  defp outcome(module, context, body, shows) do
+    context = module.__ex_unit__(:setup, context)
+    {:returned, if(shows, do: shown(body, context), else: body.(context))}
   catch
     kind, reason -> {:raised, kind, reason, __STACKTRACE__}
   end
