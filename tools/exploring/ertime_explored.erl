@@ -3,11 +3,13 @@
 %%
 %%     erl -noshell -run ertime_explored main real MODULE..
 %%     erl -noshell -run ertime_explored main clock MODULE..
+%%     erl -noshell -run ertime_explored main schedule SCHEDULE MODULE..
 %%     erl -noshell -run ertime_explored main FAULTS FIRST LAST MODULE..
 %%
-%% By a clock all processes of the node see it, and it goes on as real time does while they don't rest. FAULTS are kinds of
-%% `ertime:seeds/3', with a comma between; all tests are run under the clock of each seed. A line for each test that failed has how
-%% often it did, and with which seed first; the last line has how many passed and failed in all runs, and the seconds.
+%% By a clock all processes of the node see it, and it goes on as real time does while they don't rest. SCHEDULE is a list of
+%% faults, and FAULTS are kinds of `ertime:seeds/3', with a comma between; all tests are run under the clock of each seed. A
+%% line for each test that failed has how often it did, and with which seed first; the last line has how many passed and failed in all
+%% runs, and the seconds.
 -module(ertime_explored).
 -behaviour(eunit_listener).
 
@@ -25,11 +27,18 @@ main(["clock" | Names]) ->
     Began = os:perf_counter(millisecond),
     {Result, _} = under([], modules(Names)),
     done([{none, Result}], Began);
+main(["schedule", Text | Names]) ->
+    {ok, Tokens, _} = erl_scan:string(Text ++ "."),
+    {ok, Schedule} = erl_parse:parse_term(Tokens),
+    ready(),
+    Began = os:perf_counter(millisecond),
+    {Result, _} = under(Schedule, modules(Names)),
+    done([{none, Result}], Began);
 main([Faults, First, Last | Names]) ->
     ready(),
     Modules = modules(Names),
-    %% When timers are due without a fault, so that some faults meet them.
-    {_, Moments} = under([], Modules),
+    %% When timers are due without a fault, so that some faults meet them; for one seed alone nothing is run before.
+    {_, Moments} = case First of Last -> {none, []}; _ -> under([], Modules) end,
     Kinds = ertime_faults:kinds([list_to_atom(Kind) || Kind <- string:lexemes(Faults, ",")], #{mode => multi_time_warp}),
     Began = os:perf_counter(millisecond),
     Runs = [
@@ -55,11 +64,13 @@ ready() ->
 
 done(Runs, Began) ->
     Seconds = (os:perf_counter(millisecond) - Began) / 1000,
+    %% A program may have left a line without an end.
+    io:nl(),
     Failed = lists:append([[{Test, Seed, Why} || {Test, Why} <- Of] || {Seed, {_, Of}} <- Runs]),
     lists:foreach(
         fun(Test) ->
             [{_, Seed, Why} | _] = All = [It || It = {Its, _, _} <- Failed, Its =:= Test],
-            io:format("failed ~w of ~w ~0p seed ~w: ~0P~n", [length(All), length(Runs), Test, Seed, Why, ?SHOWN])
+            io:format("failed ~w ~0p seed ~w: ~0P~n", [length(All), Test, Seed, Why, ?SHOWN])
         end,
         lists:usort([Test || {Test, _, _} <- Failed])
     ),
@@ -123,6 +134,10 @@ handle_cancel(_, Data, State = {To, Passed, Failed}) ->
     end.
 
 name(Data) ->
-    {proplists:get_value(source, Data), proplists:get_value(line, Data), proplists:get_value(desc, Data)}.
+    case {proplists:get_value(source, Data), proplists:get_value(desc, Data)} of
+        {{Module, Name, _}, undefined} -> {Module, Name};
+        {{Module, _, _}, Text} -> {Module, Text};
+        {_, Text} -> {group, Text}
+    end.
 
 terminate(_, {To, Passed, Failed}) -> To ! {?MODULE, Passed, lists:reverse(Failed)}.

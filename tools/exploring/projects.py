@@ -27,7 +27,11 @@ class Project:
     own: bool = False  # whether the tests are of this repository: Debian's sources have none
     real: dict[str, str] | None = field(default_factory=dict)  # the environment in real time; none where that takes too long
     is_fresh: bool = False  # whether a seed needs a node of its own, since tests leave something behind
-    needs: str = ""  # a program that is started beside
+    needs: str = ""  # a program that is started beside, and the port at which it is ready
+    port: int = 0
+    applications: str = ""  # of a program that is there as beams, the folders of its applications in Debian's package `source`
+    turned: tuple[str, ...] = ()  # those of them that are turned
+    environment: dict[str, str] = field(default_factory=dict)  # `@` is the folder of a run
 
 
 EUNIT = ("-DTEST", "-I", "include")
@@ -72,6 +76,7 @@ PROJECTS = (
         (Part("eredis-*", ("src/*.erl", "test/*.erl"), options=(*EUNIT, "-Dnamespaced_types")),),
         ("eredis_tests", "eredis_sub_tests", "eredis_parser_tests"),
         needs="redis-server",
+        port=6379,
     ),
     Project(
         "p1_utils",
@@ -79,6 +84,18 @@ PROJECTS = (
         "erlang-p1-utils_*.orig.tar.gz",
         (Part("p1_utils-*", ("src/*.erl", "test/*.erl"), ("src/p1_server.erl",), (*EUNIT, "-DHAVE_RAND")),),
         ("p1_queue_test",),
+    ),
+    Project(
+        "p1_shaper",
+        "erlang-p1-utils",
+        "erlang-p1-utils_*.orig.tar.gz",
+        (
+            Part("p1_utils-*", first=("src/p1_server.erl",), options=("-I", "include", "-DHAVE_RAND")),
+            Part("", ("p1_shaper_rate_tests.erl",)),
+        ),
+        ("p1_shaper_rate_tests",),
+        own=True,
+        real={"SECONDS": "10"},
     ),
     Project(
         "cache_tab",
@@ -89,6 +106,7 @@ PROJECTS = (
             Part("cache_tab-*", ("src/*.erl", "test/*.erl"), options=EUNIT, nif="c_src/ets_cache.c"),
         ),
         ("cache_tab_test",),
+        is_fresh=True,
     ),
     Project(
         "ets_cache",
@@ -124,5 +142,36 @@ PROJECTS = (
         ("ra_elections_tests",),
         own=True,
         real={"ROUNDS": "3", "BETWEEN": "1000"},
+    ),
+    Project(
+        "rabbitmq",
+        "rabbitmq-server",
+        "rabbitmq-server_*_all.deb",
+        (Part("", ("broker_ttl_tests.erl",)),),
+        ("broker_ttl_tests",),
+        own=True,
+        is_fresh=True,
+        real={"TTL": "2000"},
+        applications="usr/lib/rabbitmq/lib/*/plugins/*/ebin",
+        turned=tuple(
+            "rabbit rabbit_common amqp_client rabbitmq_prelaunch ra aten gen_batch_server osiris sysmon_handler seshat"
+            " credentials_obfuscation ranch".split()
+        ),
+        environment={
+            "RABBITMQ_NODENAME": "explored@localhost",
+            "RABBITMQ_MNESIA_BASE": "@/mnesia",
+            "RABBITMQ_MNESIA_DIR": "@/mnesia/explored",
+            "RABBITMQ_QUORUM_DIR": "@/quorum",
+            "RABBITMQ_STREAM_DIR": "@/stream",
+            "RABBITMQ_LOG_BASE": "@/log",
+            "RABBITMQ_LOGS": "@/log.txt",
+            "RABBITMQ_FEATURE_FLAGS_FILE": "@/feature_flags",
+            "RABBITMQ_ENABLED_PLUGINS_FILE": "@/enabled_plugins",
+            "RABBITMQ_CONFIG_FILE": "@/rabbitmq",
+            "RABBITMQ_GENERATED_CONFIG_DIR": "@/generated",
+            "RABBITMQ_PID_FILE": "@/pid",
+            "RABBITMQ_NODE_PORT": "35672",
+            "RABBITMQ_DIST_PORT": "35673",
+        },
     ),
 )
