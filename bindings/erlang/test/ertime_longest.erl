@@ -37,7 +37,9 @@ often(Count, Do) -> [Do() || _ <- lists:seq(1, Count)].
 ask(Clock) ->
     often(fun() ->
         [ertime_nif:monotonic_time(Clock), ertime_nif:system_time(Clock), ertime_nif:time_offset(Clock), ertime_nif:os_time(Clock),
-         ertime_nif:settings(Clock), ertime_nif:is_timer(Clock), ertime_nif:is_monitor(Clock), ertime_nif:drift(Clock, 0)]
+         ertime_nif:settings(Clock), ertime_nif:is_timer(Clock), ertime_nif:is_monitor(Clock), ertime_nif:drift(Clock, 0),
+         ertime_nif:order(Clock, 7), ertime_nif:order(Clock, 0), ertime_nif:serial(Clock, false), ertime_nif:late(Clock, 0, 0),
+         ertime_nif:cost(Clock, 0)]
     end).
 
 %% All that moves it.

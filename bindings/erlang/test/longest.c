@@ -35,6 +35,10 @@
     EACH(nif_drift) \
     EACH(nif_finalize) \
     EACH(nif_free_run) \
+    EACH(nif_order) \
+    EACH(nif_serial) \
+    EACH(nif_late) \
+    EACH(nif_cost) \
     EACH(nif_lead) \
     EACH(nif_unlead) \
     EACH(nif_join) \

@@ -1,7 +1,8 @@
 defmodule FaultsTest do
   # Faults of time by seed: each right version passes all seeds, each wrong one is found, and made small.
   use ExUnit.Case
-  use Ertime.Case, seeds: 200, faults: [:silent]
+  # The environment may ask for more seeds.
+  use Ertime.Case, seeds: String.to_integer(System.get_env("EXAMPLE_SEEDS", "50")), faults: [:silent]
   @moduletag :capture_log
 
   @hour 3_600_000

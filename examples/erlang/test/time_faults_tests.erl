@@ -8,7 +8,7 @@
 
 %% The environment may ask for more.
 seeds() ->
-    list_to_integer(os:getenv("EXAMPLE_SEEDS", "200")).
+    list_to_integer(os:getenv("EXAMPLE_SEEDS", "50")).
 
 faults_test_() ->
     {setup, fun() -> ok = ertime:transform(otp) end, fun(_) -> ok end, [
