@@ -6,6 +6,8 @@
 #     make dist         a tar archive for machines without the toolchain, in build/dist
 #                       (make dist TARGET=aarch64 the one of the C library for that processor, by a cross compiler)
 #     make deb          packages for Debian, in build/deb
+#     make hex          the package for Erlang and Elixir with the C library of both processors, in build/hex (it needs
+#                       the cross compiler too)
 #     make wasm         the programs as modules for browsers and node, in build/wasm
 #     make page         the page to play with time, one file that a browser opens from the disk, in build/page
 #     make html         all documents as a site with a search, in build/site
@@ -93,7 +95,7 @@ PLAYGROUND = $(B)/page/ertime.html
 PLAYGROUND_SOURCES = packaging/page $(wildcard tools/web/*.mjs tools/web/page/* tools/web/picture/*.mjs tools/playing/*.py) \
   docs/GUIDE.md docs/FORMATS.md docs/scenario.schema.json
 
-.PHONY: all prove pages install install-strip uninstall dist deb page html wasm release clean
+.PHONY: all prove pages install install-strip uninstall dist deb hex page html wasm release clean
 .DELETE_ON_ERROR:
 
 all: $(if $(is_native),$(ERTIME) $(ERTAUDIT)) $(LIBRARIES) pages $(B)/THIRD-PARTY $(addprefix $(B)/doc/,$(DOCUMENTS)) \
@@ -282,6 +284,12 @@ deb: all
 	  zshcompletiondir=/usr/share/zsh/vendor-completions
 	cd $(DEB) && SOURCE_DATE_EPOCH=$(EPOCH) dpkg-buildpackage -b -us -uc -nc -d
 	@ls $(B)/deb/*.deb
+
+# The library for aarch64 is made by another run of make, in a folder below, of what was built for it.
+OTHER = crates/ert_c/out/aarch64-unknown-linux-gnu/libert_c.a
+hex: $(B)/libertime.a $(B)/THIRD-PARTY
+	$(MAKE) TARGET=aarch64 B=$(B)/aarch64 ARCHIVE=$(OTHER) HEAP=$(B)/aarch64/heap.o $(B)/aarch64/libertime.a
+	$(PYTHON) packaging/hex $(B)/hex $(B)/THIRD-PARTY $(B)/libertime.a $(B)/aarch64/libertime.a
 
 # All documents, the pages and the references as a site, with the page to play with time where it is built or its proved
 # crate is there. Nothing is proved for it. The search needs a server: `python3 -m http.server -d build/site` is one.
