@@ -9,14 +9,10 @@ mod Stored
 mod Unsplice
 mod Writes
 pub mod Calls
-pub mod Cascade
-pub mod Cascading
 pub mod Climbing
 pub mod Closer
 pub mod Collect
 pub mod Following
-pub mod LevelBits
-pub mod Levels
 pub mod Lists
 pub mod Looking
 pub mod MarkBits
@@ -26,3 +22,4 @@ pub mod Parts
 pub mod Ranks
 pub mod Reaching
 pub mod Views
+pub mod Times

@@ -98,7 +98,7 @@ pub record BeginsIn (keys : List (Option Key)) (home : Key → ℕ) (bucket time
   pub key : Key
   pub has : key_in keys slot ≡ Some key
   pub at_home : home key ≡ bucket
-  pub begin : time ≡ key.deadline / 512 ^ (bucket / 512) * 512 ^ (bucket / 512)
+  pub begin : time ≡ key.deadline / 512 ^ (bucket / 1024) * 512 ^ (bucket / 1024)
 
 -- how early a row of a bucket may be due: the least deadline, or the begin of the bucket's window, and None where it has
 -- no row

@@ -95,6 +95,7 @@
 #![tactic(auto)]
 
 mod chains;
+mod falling;
 mod kept;
 mod keys;
 mod laws;
@@ -105,6 +106,7 @@ mod oldest;
 mod row;
 mod walk;
 mod wheel;
+mod windows;
 
 pub use laws::answers_come_closer;
 pub use row::{BUCKETS, HeldRow, Key, Row};
