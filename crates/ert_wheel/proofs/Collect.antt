@@ -4,7 +4,7 @@ use Rattle.std.proofs.Common.{◌≡◌, ◌≢◌, ℕ, ◌+◌, ◌-◌, ◌<�
 use Rattle.std.proofs.lemmas.Bool.{cases_eq, cases_lt, eq-eqb, ne_eqb, and_right, lt-ltb, le-ltb}
 use Rattle.std.proofs.lemmas.Bool.Decides.{eqb_tells}
 use Rattle.std.proofs.lemmas.List.Sums.{sum_by_push}
-use Rattle.ert_wheel.proofs.Cascading.{orders_left}
+use Rattle.ert_wheel.proofs.Orders.{orders_left}
 use Rattle.ert_wheel.proofs.Looking.{InBucket, key_low}
 use Rattle.ert_wheel.proofs.Views.{place_is, held_in}
 use Rattle.ert_wheel.specs.Rings.{Rings, Place, AreChains, StandsIn, order_of, FindsOldest}

@@ -99,6 +99,7 @@ mod falling;
 mod kept;
 mod keys;
 mod laws;
+mod levels;
 mod links;
 mod marked;
 mod marks;
