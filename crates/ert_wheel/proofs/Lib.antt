@@ -18,6 +18,7 @@ pub mod Looking
 pub mod MarkBits
 pub mod Least
 pub mod NextDue
+pub mod Orders
 pub mod Parts
 pub mod Ranks
 pub mod Reaching
