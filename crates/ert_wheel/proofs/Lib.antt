@@ -7,6 +7,7 @@ mod Replacing
 mod Splice
 mod Stored
 mod Unsplice
+mod WindowBits
 mod Writes
 pub mod Calls
 pub mod Climbing
