@@ -23,5 +23,6 @@ pub mod Orders
 pub mod Parts
 pub mod Ranks
 pub mod Reaching
+pub mod Standing
 pub mod Views
 pub mod Times

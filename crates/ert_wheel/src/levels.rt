@@ -86,7 +86,10 @@ fn early_on<T: Copy>(
     let from = window_on(level, next_time) + 1;
     let end = windows_end(level, next_time);
     let window = chains.first_window(level, from, end);
-    if window == end || begin_of(level, window) >= before {
+    if window == end {
+        return before;
+    }
+    if begin_of(level, window) >= before {
         return before;
     }
     early_in(chains, kept, bucket_of_window(level, window)).min(before)
