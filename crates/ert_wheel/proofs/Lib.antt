@@ -4,6 +4,7 @@ mod KeptSlots
 mod Opening
 mod Reached
 mod Replacing
+mod Seen
 mod Splice
 mod Stored
 mod Unsplice

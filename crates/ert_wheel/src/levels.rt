@@ -32,9 +32,8 @@ pub fn collect_level<T: Copy>(
         → AreCollected (held_keys chains.now kept.now.keys) levels level to rows.new.items }
     ensures capacity { vec_capacity rows.new ≡ vec_capacity rows.old }
 {
-    let now = window_on(level, next_time);
     // Above the lowest level no row is in the window of the next time.
-    let from = if level == 0 { now } else { now + 1 };
+    let from = window_on(level, next_time) + level.min(1) as u64;
     let last = window_on(level, to.min(LAST).max(next_time));
     let end = (last + 1).min(windows_end(level, next_time));
     let mut window = chains.first_window(level, from, end);
