@@ -23,3 +23,4 @@ pub mod Ranks
 pub mod Reaching
 pub mod Views
 pub mod Times
+pub mod Turning
