@@ -27,3 +27,4 @@ pub mod Reaching
 pub mod Standing
 pub mod Views
 pub mod Times
+pub mod Turning
