@@ -14,6 +14,7 @@ pub mod Calls
 pub mod Climbing
 pub mod Closer
 pub mod Collect
+pub mod Falls
 pub mod Following
 pub mod Lists
 pub mod Looking

@@ -1,6 +1,6 @@
 -- Windows of levels: how those of one level stand to those of the levels above, and to the buckets.
 
-use Rattle.std.proofs.Common.{◌≡◌, ℕ, zero, suc, ◌+◌, ◌-◌, ◌*◌, ◌/◌, ◌%◌, ◌^◌, ◌<◌, ◌≤◌, sym, ◌∙◌, ap, inl, inr, refl, arith}
+use Rattle.std.proofs.Common.{◌≡◌, ℕ, zero, suc, ◌+◌, ◌-◌, ◌*◌, ◌/◌, ◌%◌, ◌^◌, ◌<◌, ◌≤◌, sym, subst, ◌∙◌, ap, inl, inr, refl, arith}
 use Rattle.std.proofs.Math.Nat.{pow-succ', div-div-eq-div-mul, div-mul-le_self}
 use Rattle.std.proofs.lemmas.Bool.{cases_eq}
 use Rattle.std.proofs.lemmas.Nat.{le-div}
@@ -32,34 +32,22 @@ later (suc level) n t up = omega (arith, above level n, above level t, later lev
 -- times in one window of a level are in one of each level above
 pub one_above : (low more n t : ℕ) → n / 512 ^ low ≡ t / 512 ^ low → n / 512 ^ (more + low) ≡ t / 512 ^ (more + low)
 one_above low zero n t same =
-    let e : 0 + low ≡ low = omega arith in
-    omega (arith, same, ap (λ m. n / 512 ^ m) e, ap (λ m. t / 512 ^ m) e)
+    let e : low ≡ 0 + low = omega arith in
+    subst (λ (l : ℕ). n / 512 ^ l ≡ t / 512 ^ l) e same
 one_above low (suc more) n t same =
-    let e : suc more + low ≡ suc (more + low) = omega arith in
-    omega (
-      arith,
-      ap (λ m. n / 512 ^ m) e,
-      ap (λ m. t / 512 ^ m) e,
-      above (more + low) n,
-      above (more + low) t,
-      one_above low more n t same,
-    )
+    let e : suc (more + low) ≡ suc more + low = omega arith in
+    subst (λ (l : ℕ). n / 512 ^ l ≡ t / 512 ^ l) e
+    (omega (arith, above (more + low) n, above (more + low) t, one_above low more n t same))
 
 -- and times in windows that come one after the other are so, or in one window, on each level above
 pub near_above : (low more n t : ℕ) → t / 512 ^ low ≤ n / 512 ^ low + 1 → t / 512 ^ (more + low) ≤ n / 512 ^ (more + low) + 1
 near_above low zero n t near =
-    let e : 0 + low ≡ low = omega arith in
-    omega (arith, near, ap (λ m. n / 512 ^ m) e, ap (λ m. t / 512 ^ m) e)
+    let e : low ≡ 0 + low = omega arith in
+    subst (λ (l : ℕ). t / 512 ^ l ≤ n / 512 ^ l + 1) e near
 near_above low (suc more) n t near =
-    let e : suc more + low ≡ suc (more + low) = omega arith in
-    omega (
-      arith,
-      ap (λ m. n / 512 ^ m) e,
-      ap (λ m. t / 512 ^ m) e,
-      above (more + low) n,
-      above (more + low) t,
-      near_above low more n t near,
-    )
+    let e : suc (more + low) ≡ suc more + low = omega arith in
+    subst (λ (l : ℕ). t / 512 ^ l ≤ n / 512 ^ l + 1) e
+    (omega (arith, above (more + low) n, above (more + low) t, near_above low more n t near))
 
 -- windows of a level that may be in use at one time have buckets of their own
 pub one_window : (next v w : ℕ) → next ≤ v → next ≤ w → v / 512 ≤ next / 512 + 1 → w / 512 ≤ next / 512 + 1
