@@ -40,7 +40,7 @@ found chains keys home bucket bound (Some slot) f =
     record { key = k.0; has = k.1; at_home = ap (λ (p : Place). p.home) k.2 ∙ s.at_home }
 
 -- no key passes a test that is false at it
-passing_none : (test : Key → Bool) (o : Option Key) → ((k : Key) → o ≡ Some k → test k ≡ false) → passing test o ≡ 0
+pub passing_none : (test : Key → Bool) (o : Option Key) → ((k : Key) → o ≡ Some k → test k ≡ false) → passing test o ≡ 0
 passing_none test None h = refl
 passing_none test (Some k) h = ap (λ b. cond b 1 0) (h k refl)
 
