@@ -2,7 +2,6 @@ mod Due
 mod Fieldless
 mod KeptSlots
 mod Opening
-mod Reached
 mod Replacing
 mod Seen
 mod Splice
@@ -20,6 +19,7 @@ pub mod Lists
 pub mod Looking
 pub mod MarkBits
 pub mod Least
+pub mod Near
 pub mod NextDue
 pub mod Orders
 pub mod Parts

@@ -1,75 +1,68 @@
-use Rattle.std.proofs.Common.{◌≢◌, ◌<◌, ◌≡◌, ℕ, MatchOption, count_by, ap, subst, inl, rules, arith}
+use Rattle.std.proofs.Common.{◌≢◌, ◌<◌, ◌≤◌, ◌≡◌, ◌/◌, ℕ, List, Option, count_by, ap, subst, sym, ◌∙◌, rules, arith}
 use Rattle.std.specs.Option.{is_some}
-use Rattle.ert_wheel.proofs.Least.{answer_is, no_row, has_row, may_walk, visits_bucket, sees_early}
-use Rattle.ert_wheel.proofs.NextDue.{first_is, home_low, early_due, due_next, least_due, none_before_least, due_at_of}
+use Rattle.ert_wheel.proofs.Least.{no_row, has_row}
+use Rattle.ert_wheel.proofs.Near.{due_by_next, near_due, above_near, above_none, early_next}
+use Rattle.ert_wheel.proofs.Standing.{wheel_stands, end_of, end_after}
+use Rattle.ert_wheel.proofs.Times.{lowest}
 use Rattle.ert_wheel.proofs.Writes.{sees, keys_of, passed_of}
 use Rattle.ert_wheel.proofs.wheel.Wheel.next_due.Goals as goal
-use Rattle.ert_wheel.specs.NextDue.{NoRow, HasSomeRow, IsNextDue}
-use Rattle.ert_wheel.specs.declared.row.TheConstants.{BUCKETS}
+use Rattle.ert_wheel.proofs.wheel.Wheel.next_due.Goals.{then-near-end, else-near-end}
+use Rattle.ert_wheel.specs.FirstDue.{IsDueBy}
+use Rattle.ert_wheel.specs.NextDue.{NoneBefore, IsEarly, IsNextDue, MayLookAbove}
+use Rattle.ert_wheel.specs.Wheels.{home_on, places}
+use Rattle.ert_wheel.specs.declared.row.Key.{Key}
 
 pub returns-then-is_empty : goal.returns-then-is_empty
 returns-then-is_empty g c = no_row c.args.self.now.keys (search rules)
 
-pub early_in-requires-clause-bucket : goal.early_in-requires-clause-bucket
-early_in-requires-clause-bucket g c =
-    let some : count_by is_some c.args.self.now.keys ≢ 0 = λ none. (search (rules, none)) in
-    let f = first_is (sees c.self.invariant.rows c.self.view_is).wheel c.first_bucket-first.ensures.is c.first_used-home.ensures.first in
-    let low : c.first_used-home.result < BUCKETS = home_low f (has_row c.args.self.now.keys some) in
-    low
-
-pub early_in-requires-clause-may : goal.early_in-requires-clause-may
-early_in-requires-clause-may g c =
-    may_walk c.self.inside.kept.keys (sees c.self.invariant.rows c.self.view_is).wheel (ap keys_of c.self.view_is)
-
-pub returns-then-home-first : goal.returns-then-home-first
-returns-then-home-first g c =
+pub due_at_once-requires : goal.due_at_once-requires
+due_at_once-requires g c =
     let keys = c.args.self.now.keys in
-    let some : count_by is_some keys ≢ 0 = λ none. (search (rules, none)) in
-    let w = (sees c.self.invariant.rows c.self.view_is).wheel in
-    let f = first_is w c.first_bucket-first.ensures.is c.first_used-home.ensures.first in
-    subst (λ (n : ℕ). MatchOption c.early_in.result (NoRow keys) (IsNextDue keys n)) (ap passed_of c.self.view_is)
-    (early_due c.early_in.result f c.if-home-first.true (has_row keys some)
-    (sees_early c.first_used-home.result c.early_in.result c.self.inside.kept.keys w (ap keys_of c.self.view_is) c.early_in.ensures))
+    let next = c.self.inside.next_time in
+    let look = wheel_stands (sees c.self.invariant.rows c.self.view_is).wheel in
+    let first = c.first_window-near.ensures.first (places (home_on next look.level) keys) look.stand.are in
+    subst (λ (n : ℕ). IsDueBy keys n) (ap passed_of c.self.view_is)
+    (due_by_next look.stand first c.first_window-near.ensures.up c.first_window-near.ensures.low (omega (arith, c.windows_end-end.ensures))
+    (omega (arith, c.if-near-self.true, c.windows_end-end.ensures, end_after 0 next (omega arith) look.stand.time, lowest next)) c.if-near-self.true)
 
-pub returns-then-self : goal.returns-then-self
-returns-then-self g c =
+pub returns-then-near-self-2 : goal.returns-then-near-self-2
+returns-then-near-self-2 g c =
     let keys = c.args.self.now.keys in
-    let some : count_by is_some keys ≢ 0 = λ none. (search (rules, none)) in
-    let s = sees c.self.invariant.rows c.self.view_is in
-    let f = first_is s.wheel c.first_bucket-first.ensures.is c.first_used-home.ensures.first in
-    let same : c.first_used-home.result ≡ c.first_bucket-first.result = omega (arith, c.if-home-first.false, c.first_used-home.ensures.up) in
-    subst (λ (n : ℕ). IsNextDue keys n c.self.inside.next_time) (ap passed_of c.self.view_is)
-    (due_next f same (has_row keys some) s.above c.if-self.true)
+    let next = c.self.inside.next_time in
+    let look = wheel_stands (sees c.self.invariant.rows c.self.view_is).wheel in
+    let first = c.first_window-near.ensures.first (places (home_on next look.level) keys) look.stand.are in
+    subst (λ (n : ℕ). IsNextDue keys n c.first_window-near.result) (ap passed_of c.self.view_is)
+    (near_due look.stand first c.first_window-near.ensures.up c.first_window-near.ensures.low (omega (arith, c.windows_end-end.ensures))
+    (omega (arith, c.if-near-self.false, c.first_window-near.ensures.up)) (omega (arith, c.if-near-self-2.true)) c.windows_end-end.ensures)
 
-pub least_in-requires-clause-bucket : goal.least_in-requires-clause-bucket
-least_in-requires-clause-bucket g c =
-    let some : count_by is_some c.args.self.now.keys ≢ 0 = λ none. (search (rules, none)) in
-    let f = first_is (sees c.self.invariant.rows c.self.view_is).wheel c.first_bucket-first.ensures.is c.first_used-home.ensures.first in
-    let low : c.first_used-home.result < BUCKETS = home_low f (has_row c.args.self.now.keys some) in
-    low
-
-pub least_in-requires-clause-may : goal.least_in-requires-clause-may
-least_in-requires-clause-may g c =
-    may_walk c.self.inside.kept.keys (sees c.self.invariant.rows c.self.view_is).wheel (ap keys_of c.self.view_is)
+pub early_above-requires-clause-may : goal.early_above-requires-clause-may
+early_above-requires-clause-may g c =
+    let keys = c.args.self.now.keys in
+    let next = c.self.inside.next_time in
+    let buckets = c.self.inside.buckets in
+    let look = wheel_stands (sees c.self.invariant.rows c.self.view_is).wheel in
+    let first = c.first_window-near.ensures.first (places (home_on next look.level) keys) look.stand.are in
+    let few : c.windows_end-end.result ≤ end_of 0 next = omega (arith, c.windows_end-end.ensures) in
+    let may : MayLookAbove next buckets keys c.if-near-end.near =
+    elim c.if-near-end.branch [
+      | then-near-end w ↦
+          subst (λ (n : ℕ). MayLookAbove next buckets keys n) (sym w.near-is)
+          (above_near look.stand first c.first_window-near.ensures.up c.first_window-near.ensures.low few w.if-near-end.true
+          (omega (arith, c.if-near-self.false, c.first_window-near.ensures.up)))
+      | else-near-end w ↦
+          subst (λ (n : ℕ). MayLookAbove next buckets keys n) (sym w.near-is)
+          (above_none look.stand first c.first_window-near.ensures.up c.first_window-near.ensures.low few w.if-near-end.false c.windows_end-end.ensures)
+    ] in
+    subst (λ (ks : List (Option Key)). MayLookAbove next buckets ks c.if-near-end.near) (sym (ap keys_of c.self.view_is)) may
 
 pub returns : goal.returns
 returns g c =
     let keys = c.args.self.now.keys in
+    let next = c.self.inside.next_time in
     let some : count_by is_some keys ≢ 0 = λ none. (search (rules, none)) in
-    let row : HasSomeRow keys = has_row keys some in
-    let w = (sees c.self.invariant.rows c.self.view_is).wheel in
-    let f = first_is w c.first_bucket-first.ensures.is c.first_used-home.ensures.first in
-    answer_is (NoRow keys) c.least_in.result c.least_in.ensures.all c.least_in.ensures.least (λ least looked.
-    let looks = visits_bucket c.self.inside.kept.keys w (ap keys_of c.self.view_is) looked in
-    let due = least_due f (home_low f row) looks in
-    record {
-      some = row;
-      none_before = none_before_least f looks due;
-      near = inl (due_at_of due);
-    })
-
-pub early_in-requires-clause-kept : goal.early_in-requires-clause-kept
-early_in-requires-clause-kept g c = c.self.invariant.alike.records
-
-pub least_in-requires-clause-kept : goal.least_in-requires-clause-kept
-least_in-requires-clause-kept g c = c.self.invariant.alike.records
+    let look = wheel_stands (sees c.self.invariant.rows c.self.view_is).wheel in
+    let time = c.early_above.result in
+    subst (λ (n : ℕ). IsNextDue keys n time) (ap passed_of c.self.view_is)
+    (early_next time look.stand (has_row keys some)
+    (subst (λ (ks : List (Option Key)). NoneBefore ks time) (ap keys_of c.self.view_is) c.early_above.ensures.none_before)
+    (subst (λ (ks : List (Option Key)). IsEarly ks next time) (ap keys_of c.self.view_is) c.early_above.ensures.early))
