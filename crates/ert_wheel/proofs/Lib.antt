@@ -1,6 +1,7 @@
 mod Due
 mod Fieldless
 mod KeptSlots
+mod MovesOn
 mod Opening
 mod Reached
 mod Replacing
@@ -13,6 +14,7 @@ pub mod Calls
 pub mod Climbing
 pub mod Closer
 pub mod Collect
+pub mod Empties
 pub mod Falls
 pub mod Following
 pub mod Lists
