@@ -15,6 +15,7 @@ pub mod Climbing
 pub mod Closer
 pub mod Collect
 pub mod Empties
+pub mod Enters
 pub mod Falls
 pub mod Following
 pub mod Lists
