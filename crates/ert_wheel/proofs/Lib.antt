@@ -29,3 +29,4 @@ pub mod Ranks
 pub mod Reaching
 pub mod Views
 pub mod Times
+pub mod Turning

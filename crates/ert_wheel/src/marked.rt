@@ -154,8 +154,9 @@ impl MarkedChains {
         let base = level * 1024;
         let at = (from & 1023) as u32;
         let stop = at + (end - from) as u32;
-        let found = self.first_used(base + at, base + stop.min(1024));
-        if found < base + stop.min(1024) || stop <= 1024 {
+        let last = base + stop.min(1024);
+        let found = self.first_used(base + at, last);
+        if found < last || stop <= 1024 {
             return from + (found - base - at) as u64;
         }
         // The windows take the buckets in turn: those that are left begin with the first bucket.

@@ -1,4 +1,4 @@
-ghost use Rattle.std.specs.Prelude.{◌≡◌, ◌+◌, ◌/◌, ◌^◌, ◌<◌, ◌≤◌, ℕ};
+ghost use Rattle.std.specs.Prelude.{◌≡◌, ◌+◌, ◌/◌, ◌^◌, ◌<◌, ◌≤◌, ℕ, bit_or};
 ghost use Rattle.std.specs.Int.{bit_at};
 
 use crate::row::BUCKETS;
@@ -49,8 +49,8 @@ impl Marks {
         let was = self.words[at as usize];
         self.words[at as usize] = was | 1 << (bucket % 64);
         // Few words have no mark, so this is rarely taken, whichever buckets have one.
-        if was == 0 && at < 64 {
-            self.used |= 1 << at;
+        if was == 0 {
+            note(&mut self.used, at);
         }
     }
 
@@ -127,6 +127,17 @@ impl Marks {
                 self.used |= 1 << at;
             }
         }
+    }
+}
+
+/// Notes that a word has a mark, where it is one of the first 64.
+#[inline]
+fn note(used: &mut u64, at: u32)
+    ensures near { at < 64 → used.new ≡ bit_or used.old (2 ^ at) }
+    ensures far { 64 ≤ at → used.new ≡ used.old }
+{
+    if at < 64 {
+        *used |= 1 << at;
     }
 }
 
