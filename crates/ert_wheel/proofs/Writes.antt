@@ -240,7 +240,7 @@ left_levelled : (next : ℕ) (seen : List (Option Key)) (slot : ℕ) (level : Ke
 left_levelled next seen slot level low a =
     let was : (j : ℕ) (k : Key) → key_in (set seen slot None) j ≡ Some k → key_in seen j ≡ Some k =
     λ j k has. elim (key_set seen slot None j k low has)
-        [ inl (e, none) ↦ let no : None ≡ Some k = none in cc | inr (ne, was) ↦ was ] in
+    [ inl (e, none) ↦ let no : None ≡ Some k = none in cc | inr (ne, was) ↦ was ] in
     record {
       fit = λ j k has. a.fit j k (was j k has);
       falls = λ i j x y has has' less same. a.falls i j x y (was i x has) (was j y has') less same;

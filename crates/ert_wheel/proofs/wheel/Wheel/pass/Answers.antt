@@ -39,10 +39,10 @@ invariant_of-self g c = record {
   alike = alike_after c.self.invariant.alike refl refl (c.fall_ahead-self-inside.ensures.slots ∙ c.move_on.ensures.slots)
       (c.fall_ahead-self-inside.ensures.written ∙ c.move_on.ensures.written) refl refl;
   rows = is_kept (moved c.args.to (c.min-after.result + 1) (sees c.self.invariant.rows c.self.view_is) c.requires (omega (arith, c.min-after.ensures)) c.max-self-inside.ensures
-    (omega (arith, c.max-next_time.ensures, c.min-after.ensures, c.self.invariant.rows.wheel.time))
-    (c.fall_ahead-self-inside.ensures.slots ∙ c.move_on.ensures.slots) (c.fall_ahead-self-inside.ensures.homes ∙ c.move_on.ensures.homes)
-    (subst (λ (keys : List (Option Key)). AreLevelChains c.max-next_time.result 1 c.fall_ahead-self-inside.new.chains keys) (ap keys_of c.self.view_is)
-    (told_again c.self.inside.buckets c.move_on.new.chains c.self.inside.kept.keys c.move_on.ensures.slots c.move_on.ensures.moved c.fall_ahead-self-inside.ensures.moved)));
+      (omega (arith, c.max-next_time.ensures, c.min-after.ensures, c.self.invariant.rows.wheel.time))
+      (c.fall_ahead-self-inside.ensures.slots ∙ c.move_on.ensures.slots) (c.fall_ahead-self-inside.ensures.homes ∙ c.move_on.ensures.homes)
+      (subst (λ (keys : List (Option Key)). AreLevelChains c.max-next_time.result 1 c.fall_ahead-self-inside.new.chains keys) (ap keys_of c.self.view_is)
+      (told_again c.self.inside.buckets c.move_on.new.chains c.self.inside.kept.keys c.move_on.ensures.slots c.move_on.ensures.moved c.fall_ahead-self-inside.ensures.moved)));
 }
 
 pub returns-clause-keys : goal.returns-clause-keys
