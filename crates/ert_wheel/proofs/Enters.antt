@@ -1,6 +1,6 @@
 -- A newest row comes to the least level on which it may stand.
 
-use Rattle.std.proofs.Common.{◌≡◌, ◌≢◌, ℕ, suc, ◌+◌, ◌-◌, ◌/◌, ◌^◌, ◌<◌, ◌≤◌, max, List, Option, Some, None, IfSome, length, set, sym, subst, ◌∙◌, ap, inl, inr, refl, arith}
+use Rattle.std.proofs.Common.{◌≡◌, ◌≢◌, ℕ, suc, ◌+◌, ◌-◌, ◌/◌, ◌^◌, ◌<◌, ◌≤◌, max, List, Option, Some, IfSome, length, set, sym, subst, ◌∙◌, ap, inl, inr, refl, arith}
 use Rattle.std.proofs.lemmas.Bool.{cases_eq}
 use Rattle.ert_wheel.proofs.Falls.{at_level, at_here, at_there, same_other}
 use Rattle.ert_wheel.proofs.Parts.{with_place_here, with_place_there}
