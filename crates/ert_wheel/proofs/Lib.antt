@@ -1,6 +1,7 @@
 mod Due
 mod Fieldless
 mod KeptSlots
+mod MovesOn
 mod Opening
 mod Replacing
 mod Seen
@@ -13,6 +14,8 @@ pub mod Calls
 pub mod Climbing
 pub mod Closer
 pub mod Collect
+pub mod Empties
+pub mod Enters
 pub mod Falls
 pub mod Following
 pub mod Lists

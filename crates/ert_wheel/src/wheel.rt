@@ -1,11 +1,11 @@
 ghost use Rattle.std.specs.Prelude.{◌≡◌, min};
 
 use crate::chains::Chains;
+use crate::falling::{fall_ahead, move_on};
 use crate::kept::Kept;
 use crate::marked::MarkedChains;
-use crate::falling::{fall_ahead, move_on};
-use crate::windows::bucket;
 use crate::row::{HeldRow, LAST, Row};
+use crate::windows::bucket;
 use ert_defs::NoMemory;
 use std::alloc::Global;
 use std::marker::Model;

@@ -1,7 +1,7 @@
 //! A slot's row that another takes the place of.
 use super::{Wheel, lower};
-use crate::windows::bucket;
 use crate::row::Row;
+use crate::windows::bucket;
 
 impl<T: Copy> Wheel<T> {
     ghost use Rattle.std.specs.Prelude.{◌≡◌, ◌<◌, ℕ, Some, IfSome, IsSome, slice_set};
