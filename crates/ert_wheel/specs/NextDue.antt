@@ -49,6 +49,12 @@ pub record IsNextDue (keys : List (Option Key)) (passed time : ℕ) : Type 0 whe
   pub none_before : NoneBefore keys time
   pub near : IsDueAt keys time ⊎ WindowBegins keys passed time
 
+-- a deadline is in a window of a level that begins at a time; a window of the lowest level is the deadline itself
+pub record Tells (deadline time : ℕ) : Type 0 where
+  pub level : ℕ
+  pub highest : level ≤ 4
+  pub begin : time ≡ deadline / 512 ^ level * 512 ^ level
+
 -- the least deadline of the rows
 pub record IsLeastDeadline (keys : List (Option Key)) (least : ℕ) : Type 0 where
   pub due : IsDueAt keys least

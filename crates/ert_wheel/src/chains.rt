@@ -192,8 +192,9 @@ impl Chains {
     #[inline]
     pub fn older(&self, slot: u32) -> Option<u32>
         requires { slot < self.now.written }
-        ensures { (places : ℕ → Option Place) (place : Place) → AreChains self.now places
+        ensures finds { (places : ℕ → Option Place) (place : Place) → AreChains self.now places
             → places slot ≡ Some place → Finds self.now places place.home place.order result }
+        ensures written { IfSome result (λ slot. slot < self.now.written) }
     {
         self.slot_at(next_of(&self.links, self.homes + slot))
     }

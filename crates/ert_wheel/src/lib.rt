@@ -105,6 +105,7 @@ mod marked;
 mod marks;
 mod oldest;
 mod row;
+mod telling;
 mod walk;
 mod wheel;
 mod windows;

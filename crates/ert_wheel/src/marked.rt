@@ -26,7 +26,7 @@ impl Model for MarkedChains {
 }
 
 impl MarkedChains {
-    ghost use Rattle.std.specs.Prelude.{◌≡◌, ◌↔◌, ◌+◌, ◌*◌, ◌<◌, ◌≤◌, ◌^◌, ℕ, Option, None, IfOk, IsTrue};
+    ghost use Rattle.std.specs.Prelude.{◌≡◌, ◌↔◌, ◌+◌, ◌*◌, ◌<◌, ◌≤◌, ◌^◌, ℕ, Option, None, IfOk, IfSome, IsTrue};
     ghost use Rattle.ert_wheel.specs.Links.{next_at};
     ghost use Rattle.ert_wheel.specs.Marks.{FirstUsed, FirstWindow};
     ghost use Rattle.ert_wheel.specs.Rings.{Place, AreChains, MayPut, Puts, PutsInHome, PutsOldestInHome, MayTake, GivesUpPlace, MovesSlot, Finds, FindsOldest};
@@ -181,8 +181,9 @@ impl MarkedChains {
     #[inline]
     pub fn newest(&self, home: u32) -> Option<u32>
         requires { home < BUCKETS }
-        ensures { (places : ℕ → Option Place) → AreChains self.now places
+        ensures finds { (places : ℕ → Option Place) → AreChains self.now places
             → Finds self.now places home (2 ^ 64) result }
+        ensures written { IfSome result (λ slot. slot < self.now.written) }
     {
         self.chains.newest(home)
     }
@@ -201,8 +202,9 @@ impl MarkedChains {
     #[inline]
     pub fn older(&self, slot: u32) -> Option<u32>
         requires { slot < self.now.written }
-        ensures { (places : ℕ → Option Place) (place : Place) → AreChains self.now places
+        ensures finds { (places : ℕ → Option Place) (place : Place) → AreChains self.now places
             → places slot ≡ Some place → Finds self.now places place.home place.order result }
+        ensures written { IfSome result (λ slot. slot < self.now.written) }
     {
         self.chains.older(slot)
     }

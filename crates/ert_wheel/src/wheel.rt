@@ -35,8 +35,11 @@ mod replacing;
 pub struct Wheel<T> {
     // The next time: the first that wasn't passed.
     next_time: u64,
-    // No row has an earlier deadline. It is the next time unless a row was put in late since that moved on.
+    // No row has an earlier deadline. It is the next time, or later where it was told as when the next row is due, unless a
+    // row was put in late.
     floor: u64,
+    // The slot whose row told the floor; any other where none did. Whoever reads it looks whether it does.
+    teller: u32,
     len: u32,
     // How many rows have fallen from the next window of level 1 ahead of time.
     fallen: u32,
@@ -91,6 +94,7 @@ impl<T: Copy> Wheel<T> {
         Ok(Wheel {
             next_time: 0,
             floor: 0,
+            teller: 0,
             len: 0,
             fallen: 0,
             kept,
@@ -188,7 +192,7 @@ impl<T: Copy> Wheel<T> {
         let home = bucket(self.next_time, row.deadline.max(self.next_time));
         self.buckets.put(row.slot, home);
         self.kept.set(row, value);
-        lower(&mut self.floor, row.deadline);
+        lower(&mut self.floor, &mut self.teller, row);
         self.len += 1;
     }
 
@@ -306,12 +310,13 @@ impl<T: Copy> Wheel<T> {
     }
 }
 
-/// Lowers a floor to a deadline that is below it. Most deadlines are above it, and then nothing is written.
+/// Lowers a floor to the deadline of a row that is below it. Most deadlines are above it, and then nothing is written.
 #[inline]
-fn lower(floor: &mut u64, deadline: u64)
-    ensures { floor.new ≡ min floor.old deadline }
+fn lower(floor: &mut u64, teller: &mut u32, row: Row)
+    ensures { floor.new ≡ min floor.old row.deadline }
 {
-    if deadline < *floor {
-        *floor = deadline;
+    if row.deadline < *floor {
+        *floor = row.deadline;
+        *teller = row.slot;
     }
 }

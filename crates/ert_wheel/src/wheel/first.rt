@@ -15,11 +15,15 @@ impl<T: Copy> Wheel<T> {
     /// Whether a row may be due at `to`: one is due by then or by the next time, or a window begins by then that has one. False
     /// comes only where none is due by then.
     ///
-    /// Within the next time's window of 512 milliseconds it looks at a few words, and at no row; else it asks for the next due row.
+    /// Before the time that `next_due` told last it is one comparison. Within the next time's window of 512 milliseconds it
+    /// looks at a few words, and at no row; else it looks for the next due row.
     #[inline]
     pub fn may_be_due(&self, to: u64) -> bool
         ensures { MatchBool result (MayBeDue self.now.keys self.now.passed to) (NoRowDue self.now.keys to) }
     {
+        if to < self.floor {
+            return false;
+        }
         if to >> 9 > self.next_time >> 9 {
             return self.begins_by(to);
         }
@@ -33,7 +37,7 @@ impl<T: Copy> Wheel<T> {
         requires { self.now.passed ≤ to }
         ensures { MatchBool result (MayBeDue self.now.keys self.now.passed to) (NoRowDue self.now.keys to) }
     {
-        match self.next_due() {
+        match self.earliest() {
             Some(time) => time <= to,
             None => false,
         }

@@ -1,6 +1,7 @@
 //! When the next row is due.
 use super::Wheel;
 use crate::levels::early_above;
+use crate::telling::{find_teller, tells};
 use crate::windows::{bucket_of_window, windows_end};
 use crate::row::NEVER;
 use crate::walk::least_in;
@@ -20,7 +21,39 @@ impl<T: Copy> Wheel<T> {
     /// It looks at the first window that has a row, of each level that may have an earlier one, and there at 64 rows at most;
     /// where these are all, the answer is exact. Only where a row was put in late since the last pass does it look at each late
     /// row, and at those of the next time.
-    pub fn next_due(&self) -> Option<u64>
+    ///
+    /// The answer is kept, with the slot whose row told it. Until time comes to it, an earlier row is put in or that slot's row
+    /// goes or moves on, a call is a few comparisons.
+    pub fn next_due(&mut self) -> Option<u64>
+        ensures due { MatchOption result (NoRow self.old.keys) (IsNextDue self.old.keys self.old.passed) }
+        ensures keys { self.new.keys ≡ self.old.keys }
+        ensures owners { self.new.owners ≡ self.old.owners }
+        ensures values { self.new.values ≡ self.old.values }
+        ensures passed { self.new.passed ≡ self.old.passed }
+    {
+        if self.floor > self.next_time && self.is_told() {
+            return Some(self.floor);
+        }
+        let time = self.earliest()?;
+        self.floor = time;
+        self.teller = find_teller(&self.buckets, &self.kept, time);
+        Some(time)
+    }
+
+    /// Whether the row of a slot tells the floor.
+    #[inline]
+    fn is_told(&self) -> bool {
+        if self.teller as usize >= self.kept.len() {
+            return false;
+        }
+        if self.buckets.is_alone(self.teller) {
+            return false;
+        }
+        tells(self.kept.deadline(self.teller), self.floor)
+    }
+
+    /// How early the next row may be due.
+    pub(super) fn earliest(&self) -> Option<u64>
         ensures { MatchOption result (NoRow self.now.keys) (IsNextDue self.now.keys self.now.passed) }
     {
         if self.is_empty() {

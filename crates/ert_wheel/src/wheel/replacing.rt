@@ -26,6 +26,6 @@ impl<T: Copy> Wheel<T> {
         let home = bucket(self.next_time, row.deadline.max(self.next_time));
         self.buckets.renew(row.slot, home);
         self.kept.set(row, value);
-        lower(&mut self.floor, row.deadline);
+        lower(&mut self.floor, &mut self.teller, row);
     }
 }

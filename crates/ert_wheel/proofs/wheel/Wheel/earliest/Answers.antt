@@ -5,8 +5,8 @@ use Rattle.ert_wheel.proofs.Near.{due_by_next, near_due, above_near, above_none,
 use Rattle.ert_wheel.proofs.Standing.{wheel_stands, end_of, end_after}
 use Rattle.ert_wheel.proofs.Times.{lowest}
 use Rattle.ert_wheel.proofs.Writes.{sees, keys_of, passed_of}
-use Rattle.ert_wheel.proofs.wheel.Wheel.next_due.Goals as goal
-use Rattle.ert_wheel.proofs.wheel.Wheel.next_due.Goals.{then-near-end, else-near-end}
+use Rattle.ert_wheel.proofs.wheel.Wheel.earliest.Goals as goal
+use Rattle.ert_wheel.proofs.wheel.Wheel.earliest.Goals.{then-near-end, else-near-end}
 use Rattle.ert_wheel.specs.FirstDue.{IsDueBy}
 use Rattle.ert_wheel.specs.NextDue.{NoneBefore, IsEarly, IsNextDue, MayLookAbove}
 use Rattle.ert_wheel.specs.Wheels.{home_on, places}
