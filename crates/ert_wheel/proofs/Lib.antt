@@ -32,3 +32,4 @@ pub mod Standing
 pub mod Views
 pub mod Times
 pub mod Turning
+pub mod Tellers

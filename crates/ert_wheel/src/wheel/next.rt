@@ -7,9 +7,10 @@ use crate::row::NEVER;
 use crate::walk::least_in;
 
 impl<T: Copy> Wheel<T> {
+    ghost use Rattle.std.specs.Bool.{OnTrue};
     ghost use Rattle.std.specs.Prelude.{◌≡◌, ◌≤◌, ℕ, MatchOption};
     ghost use Rattle.ert_wheel.specs.FirstDue.{IsDueBy};
-    ghost use Rattle.ert_wheel.specs.NextDue.{NoRow, IsNextDue};
+    ghost use Rattle.ert_wheel.specs.NextDue.{NoRow, NoneBefore, IsNextDue};
 
     /// How early the next row may be due, in milliseconds; None exactly where there is no row.
     ///
@@ -31,7 +32,7 @@ impl<T: Copy> Wheel<T> {
         ensures values { self.new.values ≡ self.old.values }
         ensures passed { self.new.passed ≡ self.old.passed }
     {
-        if self.floor > self.next_time && self.is_told() {
+        if self.is_told(self.floor) {
             return Some(self.floor);
         }
         let time = self.earliest()?;
@@ -40,16 +41,19 @@ impl<T: Copy> Wheel<T> {
         Some(time)
     }
 
-    /// Whether the row of a slot tells the floor.
+    /// Whether a time before which no row is due is when the next one is, as far as the row of the kept slot tells.
     #[inline]
-    fn is_told(&self) -> bool {
-        if self.teller as usize >= self.kept.len() {
+    fn is_told(&self, time: u64) -> bool
+        requires { NoneBefore self.now.keys time }
+        ensures { OnTrue result (IsNextDue self.now.keys self.now.passed time) }
+    {
+        if time <= self.next_time || self.teller as usize >= self.kept.len() {
             return false;
         }
-        if self.buckets.is_alone(self.teller) {
-            return false;
+        match self.row(self.teller) {
+            Some(row) => tells(row.deadline, time),
+            None => false,
         }
-        tells(self.kept.deadline(self.teller), self.floor)
     }
 
     /// How early the next row may be due.

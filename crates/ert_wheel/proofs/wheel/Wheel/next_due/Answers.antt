@@ -1,0 +1,17 @@
+use Rattle.std.proofs.Common.{List, Option, subst, sym, ap}
+use Rattle.ert_wheel.proofs.Writes.{sees, keys_of}
+use Rattle.ert_wheel.proofs.wheel.Wheel.next_due.Goals as goal
+use Rattle.ert_wheel.specs.NextDue.{NoneBefore}
+use Rattle.ert_wheel.specs.declared.row.Key.{Key}
+
+pub is_told-requires : goal.is_told-requires
+is_told-requires g c = (sees c.self.invariant.rows c.self.view_is).above
+
+pub invariant_of-self : goal.invariant_of-self
+invariant_of-self g c = record {
+  rows = record {
+    wheel = c.self.invariant.rows.wheel;
+    above = subst (λ (keys : List (Option Key)). NoneBefore keys c.in_ok-time.time) (sym (ap keys_of c.self.view_is)) c.in_ok-time.ensures.none_before;
+  };
+  alike = c.self.invariant.alike;
+}
