@@ -6,14 +6,14 @@ use Rattle.ert_wheel.proofs.Falls.{at_level, at_here, at_there, same_other}
 use Rattle.ert_wheel.proofs.Parts.{with_place_here, with_place_there}
 use Rattle.ert_wheel.proofs.Times.{above, near_above}
 use Rattle.ert_wheel.proofs.Views.{key_set, chains_set}
-use Rattle.ert_wheel.specs.Levels.{bucket_on, FitsLevel, IsLeastLevel}
+use Rattle.ert_wheel.specs.Levels.{bucket_on, MayStand, IsLeastLevel}
 use Rattle.ert_wheel.specs.Rings.{Rings, Place, AreChains, with_place}
 use Rattle.ert_wheel.specs.Rows.{key_in}
 use Rattle.ert_wheel.specs.Wheels.{home_on, place_of, places, AreLevelled}
 use Rattle.ert_wheel.specs.declared.row.Key.{Key}
 
 -- the least level is one that fits
-least_fits : (next l t : ℕ) → IsLeastLevel next l t → FitsLevel next 1 l t
+least_fits : (next l t : ℕ) → IsLeastLevel next l t → MayStand next 1 l t
 least_fits next l t least = record {
   highest = least.highest;
   near = least.near;
@@ -21,7 +21,7 @@ least_fits next l t least = record {
 }
 
 -- a time that may stand below a level is in the window of the next time there, or in the one after it
-near_top : (next k l t : ℕ) → FitsLevel next 1 k t → k < l → t / 512 ^ l ≤ next / 512 ^ l + 1
+near_top : (next k l t : ℕ) → MayStand next 1 k t → k < l → t / 512 ^ l ≤ next / 512 ^ l + 1
 near_top next k l t fits less =
     let e : l - suc k + suc k ≡ l = omega arith in
     subst (λ (n : ℕ). t / 512 ^ n ≤ next / 512 ^ n + 1) e
@@ -48,11 +48,11 @@ entered {next} {l} {slot} {keys} {key} level e a =
       fit = λ j y has. elim (key_set keys slot (Some key) j y e.low has) [
         | inl (at, is) ↦
             let same : key ≡ y = cc in
-            subst (λ (k : Key). FitsLevel next 1 (at_level level key.order l k) (max k.deadline next)) same
-            (subst (λ (n : ℕ). FitsLevel next 1 n (max key.deadline next)) (sym (at_here level key.order l key refl))
+            subst (λ (k : Key). MayStand next 1 (at_level level key.order l k) (max k.deadline next)) same
+            (subst (λ (n : ℕ). MayStand next 1 n (max key.deadline next)) (sym (at_here level key.order l key refl))
             (least_fits next l (max key.deadline next) e.least))
         | inr (ne, was) ↦
-            subst (λ (n : ℕ). FitsLevel next 1 n (max y.deadline next)) (sym (at_there level key.order l y (apart j y was))) (a.fit j y was)
+            subst (λ (n : ℕ). MayStand next 1 n (max y.deadline next)) (sym (at_there level key.order l y (apart j y was))) (a.fit j y was)
       ];
       falls = λ i j x y has has' less same. elim (key_set keys slot (Some key) i x e.low has) [
         | inl (at, is) ↦

@@ -12,7 +12,7 @@ bucket_on level time = bucket_of_window level (time / 512 ^ level)
 
 -- A time may stand on a level where 512 of the level's windows, in which the next time is, and the 512 after these have it.
 -- From the level `high` on, its own window is later than that of the next time, but on the lowest level.
-pub record FitsLevel (next high level time : ℕ) : Type 0 where
+pub record MayStand (next high level time : ℕ) : Type 0 where
   pub highest : level ≤ 4
   pub near : time / 512 ^ level / 512 ≤ next / 512 ^ level / 512 + 1
   pub ahead : 1 ≤ level → high ≤ level → next / 512 ^ level < time / 512 ^ level

@@ -4,7 +4,7 @@ use Rattle.std.specs.Prelude.{◌≡◌, ℕ, ◌/◌, ◌<◌, ◌≤◌, ◌^�
 use Rattle.std.specs.List.{range_with_len, slice_get}
 use Rattle.std.specs.Option.{is_some}
 use Rattle.ert_wheel.specs.Kept.{KeptSlots, AreAlike}
-use Rattle.ert_wheel.specs.Levels.{bucket_on, FitsLevel}
+use Rattle.ert_wheel.specs.Levels.{bucket_on, MayStand}
 use Rattle.ert_wheel.specs.Links.{next_at}
 use Rattle.ert_wheel.specs.Rings.{Rings, Place, AreChains}
 use Rattle.ert_wheel.specs.Rows.{key_in}
@@ -39,7 +39,7 @@ places home keys slot = place_of home (key_in keys slot)
 -- Each key stands on a level on which it may. Of two that are in one window of a level, where one stands on that level and
 -- one below it, the one below is newer.
 pub record AreLevelled (next high : ℕ) (keys : List (Option Key)) (level : Key → ℕ) : Type 0 where
-  pub fit : (slot : ℕ) (key : Key) → key_in keys slot ≡ Some key → FitsLevel next high (level key) (max key.deadline next)
+  pub fit : (slot : ℕ) (key : Key) → key_in keys slot ≡ Some key → MayStand next high (level key) (max key.deadline next)
   pub falls : (i j : ℕ) (x y : Key) → key_in keys i ≡ Some x → key_in keys j ≡ Some y → level y < level x
       → max x.deadline next / 512 ^ level x ≡ max y.deadline next / 512 ^ level x → x.order < y.order
 
