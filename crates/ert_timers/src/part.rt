@@ -252,8 +252,9 @@ impl WheelPart {
     }
 
     /// How early the first row may be due.
-    pub(crate) fn first_due(&self) -> Option<u64>
-        ensures { IsNextHeld self.now result }
+    pub(crate) fn first_due(&mut self) -> Option<u64>
+        ensures held { IsNextHeld self.old result }
+        ensures part { self.new ≡ self.old }
     {
         self.wheel.next_due()
     }

@@ -237,16 +237,6 @@ pub record IsPastWords (words : List ℕ) (from at : ℕ) : Type 0 where
   pub low : at ≤ 67
   pub below : (i : ℕ) → from ≤ i → i < at → get_or words i 0 ≡ 0
 
--- none of the first 64 has one, as far as their bits tell
-pub no_near : (words : List ℕ) (used from : ℕ) → AreSummed words used → from < 64 → IsFirstBit used from 64
-    → IsPastWords words from 64
-no_near words used from sums low first = record {
-  up = omega arith;
-  high = omega arith;
-  low = omega arith;
-  below = λ i up less. sums.none i less (first.below i up less);
-}
-
 pub past_more : (words : List ℕ) (from at : ℕ) → IsPastWords words from at → at < 67 → get_or words at 0 ≡ 0
     → IsPastWords words from (at + 1)
 past_more words from at past low none = record {

@@ -1,6 +1,6 @@
 -- How early a row of a level above the lowest may be due: that of the first window that has one.
 
-use Rattle.std.proofs.Common.{◌≡◌, ℕ, ◌+◌, ◌*◌, ◌/◌, ◌<◌, ◌≤◌, ◌^◌, ◌⊎◌, max, min, suc, List, Option, Some, sym, subst, ◌∙◌, ap, inl, inr, arith}
+use Rattle.std.proofs.Common.{◌≡◌, ℕ, ◌+◌, ◌*◌, ◌/◌, ◌<◌, ◌≤◌, ◌^◌, max, min, suc, List, Option, Some, sym, subst, ◌∙◌, ap, inl, inr, arith}
 use Rattle.std.proofs.Math.Nat.{lt-div-mul-add, suc-mul, mul-le-mul_right}
 use Rattle.std.proofs.lemmas.Bool.{cases_eq, cases_lt}
 use Rattle.ert_wheel.proofs.Least.{at_place}
@@ -10,7 +10,7 @@ use Rattle.ert_wheel.proofs.Times.{some_wide}
 use Rattle.ert_wheel.proofs.Views.{place_is}
 use Rattle.ert_wheel.specs.Levels.{bucket_of_window}
 use Rattle.ert_wheel.specs.Marks.{FirstWindow}
-use Rattle.ert_wheel.specs.NextDue.{IsDueAt, WindowBegins, IsDueIn, IsLeastIn, BeginsIn, IsEarlyIn, IsEarly, NoneOn, NoneBefore}
+use Rattle.ert_wheel.specs.NextDue.{IsDueAt, WindowBegins, IsDueIn, IsLeastIn, BeginsIn, IsEarlyIn, IsEarlyOrNever, NoneOn, NoneBefore}
 use Rattle.ert_wheel.specs.Rings.{Rings, Place, AreChains}
 use Rattle.ert_wheel.specs.Rows.{key_in}
 use Rattle.ert_wheel.specs.Walks.{StandOnLevels}
@@ -181,7 +181,7 @@ module _ {next level found : ℕ} {keys : List (Option Key)} {chains : Rings} {l
       ]
 
   pub early_is : (time : ℕ) → found < end_of level next → IsEarlyIn keys (home_on next levels) (bucket_of_window level found) time
-      → IsEarly keys next time
+      → IsEarlyOrNever keys next time
   early_is time low told =
       elim told [
         | inl looks ↦ inl (inl (due_at_of (least_due time low looks)))
@@ -189,11 +189,11 @@ module _ {next level found : ℕ} {keys : List (Option Key)} {chains : Rings} {l
       ]
 
 -- the earlier of two
-pub earlier_is : (keys : List (Option Key)) (next a b : ℕ) → IsEarly keys next a → IsEarly keys next b → IsEarly keys next (min a b)
+pub earlier_is : (keys : List (Option Key)) (next a b : ℕ) → IsEarlyOrNever keys next a → IsEarlyOrNever keys next b → IsEarlyOrNever keys next (min a b)
 earlier_is keys next a b first second =
     elim (cases_lt a b) [
-      | inl less ↦ let e : a ≡ min a b = omega arith in subst (λ n. IsEarly keys next n) e first
-      | inr more ↦ let e : b ≡ min a b = omega arith in subst (λ n. IsEarly keys next n) e second
+      | inl less ↦ let e : a ≡ min a b = omega arith in subst (λ n. IsEarlyOrNever keys next n) e first
+      | inr more ↦ let e : b ≡ min a b = omega arith in subst (λ n. IsEarlyOrNever keys next n) e second
     ]
 
 -- no row stands on a level before a time, if none does before a later one
@@ -204,10 +204,6 @@ none_sooner keys levels level time sooner up none = λ slot key has on. omega (a
 -- no row that stands below a level is due before a time
 abbrev pub NoneBelow : List (Option Key) → (Key → ℕ) → ℕ → ℕ → Type 0
 NoneBelow keys levels level time = (slot : ℕ) (key : Key) → key_in keys slot ≡ Some key → levels key < level → time ≤ key.deadline
-
--- below level 1 is the lowest
-pub none_lowest : (keys : List (Option Key)) (levels : Key → ℕ) (time : ℕ) → NoneOn keys levels 0 time → NoneBelow keys levels 1 time
-none_lowest keys levels time none = λ slot key has low. none slot key has (omega (arith, low))
 
 -- one more level
 pub none_more : (keys : List (Option Key)) (levels : Key → ℕ) (level time sooner : ℕ) → sooner ≤ time → NoneBelow keys levels level time

@@ -216,8 +216,10 @@ behind_oldest r places slot home order can below =
   where
     head : ℕ
     head = r.slots + home
+
     node : ℕ
     node = prev_at r.links head
+
     -- what comes after another node of the home is a slot
     passed : (x : ℕ) → (shape r.slots r.homes places).on x ≡ true → (shape r.slots r.homes places).home x ≡ home → x ≢ node
         → order < (shape r.slots r.homes places).low (next_at r.links x)

@@ -17,7 +17,7 @@ pub record IsFirstRowDue (keys : List (Option Key)) (to : ℕ) (row : Row) : Typ
   pub first : (slot : ℕ) (key : Key) → key_in keys slot ≡ Some key → comes_before (row_at slot key) row ≡ false
 
 -- some row is due by a time
-pub record IsDueBy (keys : List (Option Key)) (to : ℕ) : Type 0 where
+pub record SomeRowDue (keys : List (Option Key)) (to : ℕ) : Type 0 where
   pub slot : ℕ
   pub key : Key
   pub has : key_in keys slot ≡ Some key
@@ -31,7 +31,7 @@ pub record BeginsBy (keys : List (Option Key)) (passed to : ℕ) : Type 0 where
 
 -- A row may be due by a time: one is due by then or by the next time, or a window begins by then in which one is due.
 abbrev pub MayBeDue : List (Option Key) → ℕ → ℕ → Type 0
-MayBeDue keys passed to = IsDueBy keys (max to passed) ⊎ BeginsBy keys passed to
+MayBeDue keys passed to = SomeRowDue keys (max to passed) ⊎ BeginsBy keys passed to
 
 -- the least deadline is at most `to`, and it is no later than the first time that wasn't passed
 pub record IsReached (keys : List (Option Key)) (to passed least : ℕ) : Type 0 where

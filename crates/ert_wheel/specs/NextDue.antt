@@ -112,8 +112,8 @@ abbrev pub IsEarlyIn : List (Option Key) → (Key → ℕ) → ℕ → ℕ → T
 IsEarlyIn keys home bucket time = IsLeastIn keys home bucket NEVER time ⊎ BeginsIn keys home bucket time
 
 -- some row is due at a time, or a window begins there that has one, or it is the end of all times
-abbrev pub IsEarly : List (Option Key) → ℕ → ℕ → Type 0
-IsEarly keys passed time = (IsDueAt keys time ⊎ WindowBegins keys passed time) ⊎ (time ≡ NEVER)
+abbrev pub IsEarlyOrNever : List (Option Key) → ℕ → ℕ → Type 0
+IsEarlyOrNever keys passed time = (IsDueAt keys time ⊎ WindowBegins keys passed time) ⊎ (time ≡ NEVER)
 
 -- no row that stands on a level is due before a time
 abbrev pub NoneOn : List (Option Key) → (Key → ℕ) → ℕ → ℕ → Type 0
@@ -124,4 +124,4 @@ pub record MayLookAbove (next : ℕ) (chains : Rings) (keys : List (Option Key))
   pub level : Key → ℕ
   pub stand : StandOnLevels next chains keys level
   pub none : NoneOn keys level 0 near
-  pub early : IsEarly keys next near
+  pub early : IsEarlyOrNever keys next near

@@ -1,17 +1,17 @@
 //! The rows of a level: which of them are due, and how early one may be.
 
 ghost use Rattle.std.specs.Prelude.{◌≡◌, ◌+◌, ◌<◌, ◌≤◌, ℕ, length, vec_capacity};
-ghost use Rattle.ert_wheel.specs.NextDue.{NoneBefore, MayLookAbove, IsEarly, NoneOn};
+ghost use Rattle.ert_wheel.specs.NextDue.{NoneBefore, MayLookAbove, IsEarlyOrNever, NoneOn};
 ghost use Rattle.ert_wheel.specs.Walks.{StandOnLevels, AreCollected, MayCollectLevel, MayLook};
 ghost use Rattle.ert_wheel.specs.Wheels.{held_keys};
 ghost use Rattle.ert_wheel.specs.declared.row.Key.{Key};
 ghost use Rattle.ert_wheel.specs.declared.row.TheConstants.{NEVER};
 
 use crate::kept::Kept;
-use crate::windows::{begin_of, bucket_of_window, window_on, windows_end};
 use crate::marked::MarkedChains;
 use crate::row::{HeldRow, LAST};
 use crate::walk::{collect, early_in};
+use crate::windows::{begin_of, bucket_of_window, window_on, windows_end};
 
 /// Adds the due rows of a level, where those of the levels above are there.
 pub fn collect_level<T: Copy>(
@@ -48,7 +48,7 @@ pub fn early_above<T: Copy>(chains: &MarkedChains, kept: &Kept<T>, next_time: u6
     requires may { MayLookAbove next_time chains.now (held_keys chains.now kept.now.keys) near }
     requires kept { length kept.now.keys ≡ chains.now.written }
     ensures none_before { NoneBefore (held_keys chains.now kept.now.keys) result }
-    ensures early { IsEarly (held_keys chains.now kept.now.keys) next_time result }
+    ensures early { IsEarlyOrNever (held_keys chains.now kept.now.keys) next_time result }
 {
     let mut earliest = near;
     let mut level = 1;
@@ -74,10 +74,10 @@ fn early_on<T: Copy>(
     requires level { 1 ≤ level }
     requires highest { level ≤ 4 }
     requires may { MayLook next_time chains.now (held_keys chains.now kept.now.keys) }
-    requires early { IsEarly (held_keys chains.now kept.now.keys) next_time before }
+    requires early { IsEarlyOrNever (held_keys chains.now kept.now.keys) next_time before }
     requires kept { length kept.now.keys ≡ chains.now.written }
     ensures low { result ≤ before }
-    ensures early { IsEarly (held_keys chains.now kept.now.keys) next_time result }
+    ensures early { IsEarlyOrNever (held_keys chains.now kept.now.keys) next_time result }
     ensures none { (levels : Key → ℕ)
         → StandOnLevels next_time chains.now (held_keys chains.now kept.now.keys) levels
         → NoneOn (held_keys chains.now kept.now.keys) levels level result }

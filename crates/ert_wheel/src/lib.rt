@@ -63,14 +63,18 @@
 //! for each of the 35 words. So no look comes to an empty bucket: it reads three words at most, however far the next row
 //! is.
 //!
-//! **A step of time** visits the buckets that have rows, up to the bucket of the time that it comes to, and each from its
-//! oldest row to its newest. Rows of one deadline have one bucket, so these are collected in order of start, and a sort by
+//! **A step of time** visits the buckets that have rows: on each level those of the windows up to that of the time that it
+//! comes to, and each from its oldest row to its newest. It begins on the highest level. Rows of one deadline that stand on
+//! one level have one bucket, and those on a higher level are older, so they are collected in order of start, and a sort by
 //! deadline and then by rank, the place where a row was collected, puts all into order. It takes no memory, and one pass
-//! where the deadlines come in order already, as they do from the lowest level where no row was late.
+//! where the deadlines come in order already, as they do from the lowest level where no row was late. Where the time that
+//! it comes to is in the next time's window of 512 milliseconds, all that are due stand on the lowest level.
 //!
-//! **The next due row** (`next_due`) is in the first bucket that has one. On the lowest level the bucket tells its
-//! deadline. Above it the rows of the bucket are looked at, 64 at most. Where there are more the begin of the bucket's
-//! window is told: when time comes to it, the bucket's rows go to lower levels, and the next answer is closer. Late rows
+//! **The next due row** (`next_due`) is in the first bucket of a level that has one. On the lowest level the bucket tells its
+//! deadline; in the next time's window of 512 milliseconds this is the answer, since no row of another level is there.
+//! Else a row above may be earlier. Level by level, until no window that is left begins before what is known, the rows of
+//! the first bucket that has one are looked at, 64 at most. Where there are more the begin of the bucket's window is told:
+//! when time comes to it, the bucket's rows go to lower levels, and the next answer is closer. Late rows
 //! have the bucket of the next time and deadlines of any age, so all rows of that bucket are looked at where a late one was
 //! put in since the next time moved on. A floor below all deadlines tells whether that was so. Those rows are due at once,
 //! or at the next millisecond, so that the next advance takes them.

@@ -2,9 +2,9 @@
 ghost use Rattle.std.specs.Prelude.{◌≡◌};
 
 use super::Wheel;
-use crate::windows::bucket_of_window;
 use crate::oldest::oldest_due;
 use crate::row::HeldRow;
+use crate::windows::bucket_of_window;
 
 impl<T: Copy> Wheel<T> {
     ghost use Rattle.std.specs.Prelude.{◌≡◌, ◌≤◌, MatchBool, MatchOption, max};

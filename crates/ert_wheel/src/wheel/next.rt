@@ -1,15 +1,15 @@
 //! When the next row is due.
 use super::Wheel;
 use crate::levels::early_above;
-use crate::telling::{find_teller, tells};
-use crate::windows::{bucket_of_window, windows_end};
 use crate::row::NEVER;
+use crate::telling::{find_teller, tells};
 use crate::walk::least_in;
+use crate::windows::{bucket_of_window, windows_end};
 
 impl<T: Copy> Wheel<T> {
     ghost use Rattle.std.specs.Bool.{OnTrue};
     ghost use Rattle.std.specs.Prelude.{◌≡◌, ◌≤◌, ℕ, MatchOption};
-    ghost use Rattle.ert_wheel.specs.FirstDue.{IsDueBy};
+    ghost use Rattle.ert_wheel.specs.FirstDue.{SomeRowDue};
     ghost use Rattle.ert_wheel.specs.NextDue.{NoRow, NoneBefore, IsNextDue};
 
     /// How early the next row may be due, in milliseconds; None exactly where there is no row.
@@ -73,18 +73,13 @@ impl<T: Copy> Wheel<T> {
             return Some(near);
         }
         let near = if near < end { near } else { NEVER };
-        Some(early_above(
-            &self.buckets,
-            &self.kept,
-            self.next_time,
-            near,
-        ))
+        Some(early_above(&self.buckets, &self.kept, self.next_time, near))
     }
 
     /// The least deadline, where a row is late or due at the next time.
     #[inline]
     fn due_at_once(&self) -> Option<u64>
-        requires { IsDueBy self.now.keys self.now.passed }
+        requires { SomeRowDue self.now.keys self.now.passed }
         ensures { MatchOption result (NoRow self.now.keys) (IsNextDue self.now.keys self.now.passed) }
     {
         if self.floor >= self.next_time {

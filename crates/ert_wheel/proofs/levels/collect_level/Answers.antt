@@ -1,11 +1,10 @@
-use Rattle.std.proofs.Common.{◌≡◌, ◌≤◌, ◌<◌, ◌+◌, ◌*◌, ◌/◌, ◌^◌, ℕ, max, min, Option, List, ap, ◌∙◌, subst, sym, arith}
+use Rattle.std.proofs.Common.{◌<◌, ◌+◌, ◌/◌, ◌^◌, ℕ, max, ap, ◌∙◌, subst, sym, arith}
 use Rattle.ert_wheel.proofs.Seen.{seen_start, seen_skip, may_collect, seen_more, seen_end}
 use Rattle.ert_wheel.proofs.Standing.{end_after, end_low, end_of}
 use Rattle.ert_wheel.proofs.Times.{later}
 use Rattle.ert_wheel.proofs.levels.collect_level.Goals as goal
 use Rattle.ert_wheel.specs.Walks.{MayCollect, Collects}
 use Rattle.ert_wheel.specs.Wheels.{held_keys, home_on, places}
-use Rattle.ert_wheel.specs.declared.row.TheConstants.{LAST}
 
 pub first_window-window-requires-clause-from : goal.first_window-window-requires-clause-from
 first_window-window-requires-clause-from g c =
@@ -61,12 +60,12 @@ loop-window-preserved g c = record {
       let seen = c.loop-window.invariant.sees levels stand so_far in
       let collects = subst (λ (b : ℕ). MayCollect c.args.chains.now keys home b c.args.to c.loop-window.rows.items
       → Collects keys home b c.args.to c.loop-window.rows.items c.collect.new.rows.items) c.bucket_of_window.ensures.is (c.collect.ensures.collects home) in
-      seen_skip stand (c.loop-window.window + 1) c.min-end.result c.first_window-window-in-loop-window.result c.collect.new.rows.items
+      seen_skip {keys = keys} stand (c.loop-window.window + 1) c.min-end.result c.first_window-window-in-loop-window.result c.collect.new.rows.items
       c.first_window-window-in-loop-window.ensures.up c.first_window-window-in-loop-window.ensures.low
       (omega (arith, c.min-end.ensures, c.windows_end.ensures))
       (c.first_window-window-in-loop-window.ensures.first (places home keys) stand.are)
-      (seen_more stand c.loop-window.window c.loop-window.rows.items c.loop-window.invariant.from_on low seen c.collect.new.rows.items
-      (collects (may_collect stand c.loop-window.window c.loop-window.rows.items c.loop-window.invariant.from_on low seen)));
+      (seen_more {keys = keys} stand c.loop-window.window c.loop-window.rows.items c.loop-window.invariant.from_on low seen c.collect.new.rows.items
+      (collects (may_collect {keys = keys} stand c.loop-window.window c.loop-window.rows.items c.loop-window.invariant.from_on low seen)));
 }
 
 pub returns-clause-collects : goal.returns-clause-collects

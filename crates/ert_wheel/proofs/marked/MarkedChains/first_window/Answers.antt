@@ -1,4 +1,4 @@
-use Rattle.std.proofs.Common.{◌≡◌, ◌⊎◌, ◌+◌, ◌-◌, ◌*◌, ◌%◌, ◌<◌, ◌≤◌, ℕ, min, inl, inr, bit_and, ap, arith}
+use Rattle.std.proofs.Common.{◌≡◌, ◌+◌, ◌*◌, ◌%◌, inl, inr, bit_and, ap}
 use Rattle.std.proofs.lemmas.Nat.{and_mask}
 use Rattle.ert_wheel.proofs.Turning.{near_window, far_window}
 use Rattle.ert_wheel.proofs.marked.MarkedChains.first_window.Goals as goal

@@ -1,5 +1,4 @@
-use Rattle.std.proofs.Common.{◌≡◌, ◌/◌, ◌^◌, ℕ, subst, sym, inl, inr, arith}
-use Rattle.std.proofs.lemmas.Bool.{cases_lt}
+use Rattle.std.proofs.Common.{◌/◌, arith}
 use Rattle.ert_wheel.proofs.MarkBits.{with_mark, with_mark-some, marked_here, marked_others, sums_noted, sums_near}
 use Rattle.ert_wheel.proofs.marks.Marks.set.Goals as goal
 

@@ -1,4 +1,4 @@
-use Rattle.std.proofs.Common.{◌≡◌, ◌≤◌, ◌+◌, ◌/◌, ℕ, List, Option, Some, get_or, ap, subst, sym, ◌∙◌, rules, arith}
+use Rattle.std.proofs.Common.{◌≡◌, ℕ, Some, get_or, ap, subst, sym, ◌∙◌, rules, arith}
 use Rattle.std.specs.List.Sorted.{IsSortedBy}
 use Rattle.ert_wheel.proofs.Due.{near_start, far_start, level_may, level_more, due_each, due_rows, due_sorted, ranks_before}
 use Rattle.ert_wheel.proofs.Ranks.{told_each}

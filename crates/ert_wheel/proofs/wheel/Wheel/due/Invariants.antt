@@ -1,4 +1,4 @@
-use Rattle.std.proofs.Common.{◌≡◌, ◌≤◌, ◌-◌, ℕ, vec_capacity}
+use Rattle.std.proofs.Common.{◌≡◌, ◌≤◌, ℕ, vec_capacity}
 use Rattle.ert_wheel.proofs.wheel.Wheel.due.Given as goal
 use Rattle.ert_wheel.specs.Walks.{StandOnLevels, AreCollected}
 use Rattle.ert_wheel.specs.declared.row.Key.{Key}

@@ -1,4 +1,4 @@
-use Rattle.std.proofs.Common.{◌≢◌, ◌<◌, ◌≤◌, ◌≡◌, ◌/◌, ℕ, List, Option, count_by, ap, subst, sym, ◌∙◌, rules, arith}
+use Rattle.std.proofs.Common.{◌≢◌, ◌≤◌, ℕ, List, Option, count_by, ap, subst, sym, rules, arith}
 use Rattle.std.specs.Option.{is_some}
 use Rattle.ert_wheel.proofs.Least.{no_row, has_row}
 use Rattle.ert_wheel.proofs.Near.{due_by_next, near_due, above_near, above_none, early_next}
@@ -7,8 +7,8 @@ use Rattle.ert_wheel.proofs.Times.{lowest}
 use Rattle.ert_wheel.proofs.Writes.{sees, keys_of, passed_of}
 use Rattle.ert_wheel.proofs.wheel.Wheel.earliest.Goals as goal
 use Rattle.ert_wheel.proofs.wheel.Wheel.earliest.Goals.{then-near-end, else-near-end}
-use Rattle.ert_wheel.specs.FirstDue.{IsDueBy}
-use Rattle.ert_wheel.specs.NextDue.{NoneBefore, IsEarly, IsNextDue, MayLookAbove}
+use Rattle.ert_wheel.specs.FirstDue.{SomeRowDue}
+use Rattle.ert_wheel.specs.NextDue.{NoneBefore, IsEarlyOrNever, IsNextDue, MayLookAbove}
 use Rattle.ert_wheel.specs.Wheels.{home_on, places}
 use Rattle.ert_wheel.specs.declared.row.Key.{Key}
 
@@ -21,7 +21,7 @@ due_at_once-requires g c =
     let next = c.self.inside.next_time in
     let look = wheel_stands (sees c.self.invariant.rows c.self.view_is).wheel in
     let first = c.first_window-near.ensures.first (places (home_on next look.level) keys) look.stand.are in
-    subst (λ (n : ℕ). IsDueBy keys n) (ap passed_of c.self.view_is)
+    subst (λ (n : ℕ). SomeRowDue keys n) (ap passed_of c.self.view_is)
     (due_by_next look.stand first c.first_window-near.ensures.up c.first_window-near.ensures.low (omega (arith, c.windows_end-end.ensures))
     (omega (arith, c.if-near-self.true, c.windows_end-end.ensures, end_after 0 next (omega arith) look.stand.time, lowest next)) c.if-near-self.true)
 
@@ -65,4 +65,4 @@ returns g c =
     subst (λ (n : ℕ). IsNextDue keys n time) (ap passed_of c.self.view_is)
     (early_next time look.stand (has_row keys some)
     (subst (λ (ks : List (Option Key)). NoneBefore ks time) (ap keys_of c.self.view_is) c.early_above.ensures.none_before)
-    (subst (λ (ks : List (Option Key)). IsEarly ks next time) (ap keys_of c.self.view_is) c.early_above.ensures.early))
+    (subst (λ (ks : List (Option Key)). IsEarlyOrNever ks next time) (ap keys_of c.self.view_is) c.early_above.ensures.early))
