@@ -94,10 +94,10 @@ impl<T: Copy> Wheel<T> {
         ensures passed { self.old.passed ≤ self.new.passed }
         ensures no_further { self.new.passed ≤ max self.old.passed to }
     {
-        let mut time = self.next_due()?;
+        let mut time = self.earliest()?;
         while time > self.next_time && time <= to {
             self.pass(time - 1);
-            time = self.next_due()?;
+            time = self.earliest()?;
         }
         if time > to {
             return None;
