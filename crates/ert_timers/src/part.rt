@@ -51,8 +51,8 @@ pub struct WheelPart {
     alloc: Global,
 }
 
-// The place of a part in a vector of parts is one shift.
-const _: () = prove!(size_of::<WheelPart>() == 512);
+// Most of it are the marks of the buckets.
+const _: () = prove!(size_of::<WheelPart>() == 776);
 
 /// How many timers of a wheel there were.
 #[derive(Clone, Copy, Debug, PartialEq, Eq)]
