@@ -37,9 +37,10 @@ impl Shard {
     /// It tells an event loop how long it may sleep: no armed timer of the wheel is due before it. It is the deadline of
     /// a timer that is held, or the begin of a window, after the time of the last advance, in which one is due
     /// (`ert_wheel`, `Wheel::next_due`). A timer that another shard cancelled is held until it would be due.
-    pub fn next_due(&self) -> Option<u64>
-        ensures held { IsNextHeld self.now.wheel result }
-        ensures armed { NoneArmedBefore (state self.now.settings self.now.history) self.now.share.number result }
+    pub fn next_due(&mut self) -> Option<u64>
+        ensures held { IsNextHeld self.old.wheel result }
+        ensures armed { NoneArmedBefore (state self.old.settings self.old.history) self.old.share.number result }
+        ensures same { self.new ≡ self.old }
     {
         self.wheel.next_due()
     }

@@ -51,8 +51,8 @@ pub struct WheelPart {
     alloc: Global,
 }
 
-// The place of a part in a vector of parts is one shift.
-const _: () = prove!(size_of::<WheelPart>() == 512);
+// Most of it are the marks of the buckets.
+const _: () = prove!(size_of::<WheelPart>() == 776);
 
 /// How many timers of a wheel there were.
 #[derive(Clone, Copy, Debug, PartialEq, Eq)]
@@ -252,8 +252,9 @@ impl WheelPart {
     }
 
     /// How early the first row may be due.
-    pub(crate) fn first_due(&self) -> Option<u64>
-        ensures { IsNextHeld self.now result }
+    pub(crate) fn first_due(&mut self) -> Option<u64>
+        ensures held { IsNextHeld self.old result }
+        ensures part { self.new ≡ self.old }
     {
         self.wheel.next_due()
     }

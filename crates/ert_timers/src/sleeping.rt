@@ -2,7 +2,7 @@
 use crate::part::WheelPart;
 
 impl WheelPart {
-    ghost use Rattle.std.specs.Prelude.{List};
+    ghost use Rattle.std.specs.Prelude.{◌≡◌, List};
     ghost use Rattle.ert_defs.specs.States.{state};
     ghost use Rattle.ert_defs.specs.declared.entry.Entry.{Entry};
     ghost use Rattle.ert_defs.specs.declared.settings.Settings.{Settings};
@@ -17,11 +17,15 @@ impl WheelPart {
     /// time of the last advance, in which one is due (`ert_wheel`, `Wheel::next_due`). A timer that another
     /// thread cancelled is held until it is due, so the answer may be too early for its sake, and never too
     /// late. No entry is made.
-    pub fn next_due(&self) -> Option<u64>
-        ensures held { IsNextHeld self.now result }
-        ensures armed { (g : Settings) (h : List Entry) → PartStands g h self.now → NoneArmedBefore (state g h) self.now.number result }
-        ensures nearest { (g : Settings) (h : List Entry) → PartStands g h self.now → IsTidy (state g h) self.now
-            → IsNearest (state g h) self.now.number self.now.passed result }
+    ///
+    /// The answer is kept: until time comes to it, an earlier timer is started or its own timer goes, a call is a few
+    /// comparisons.
+    pub fn next_due(&mut self) -> Option<u64>
+        ensures held { IsNextHeld self.old result }
+        ensures armed { (g : Settings) (h : List Entry) → PartStands g h self.old → NoneArmedBefore (state g h) self.old.number result }
+        ensures nearest { (g : Settings) (h : List Entry) → PartStands g h self.old → IsTidy (state g h) self.old
+            → IsNearest (state g h) self.old.number self.old.passed result }
+        ensures part { self.new ≡ self.old }
     {
         self.first_due()
     }

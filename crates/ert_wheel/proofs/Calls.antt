@@ -6,11 +6,11 @@ use Rattle.std.proofs.lemmas.List.FromFn.{get_or-map-range_with_len}
 use Rattle.std.specs.Bool.{IsTrue}
 use Rattle.std.specs.List.{range_with_len}
 use Rattle.std.specs.Option.{IsSome}
-use Rattle.ert_wheel.proofs.Parts.{IsSlot, IsHead, slot_is, head_is, node_is, placed_apart, put_chains, take_chains}
+use Rattle.ert_wheel.proofs.Parts.{IsSlot, IsHead, slot_is, head_is, node_is, placed_apart, behind_head, behind_oldest, put_chains, take_chains}
 use Rattle.ert_wheel.specs.Chained.{Shape, Spliced, Unspliced}
-use Rattle.ert_wheel.proofs.Stored.{spliced_seen, stored_low, unspliced_seen, written_spliced, written_unspliced}
-use Rattle.ert_wheel.specs.Links.{next_at, prev_at, lone_link, no_link, seen_links, AreWritten}
-use Rattle.ert_wheel.specs.Rings.{Rings, rings, seen_rings, Place, order_of, shape, AreChains, MayPut, Puts, PutsInHome, GivesUpPlace, node_slot, Finds, FindsOldest}
+use Rattle.ert_wheel.proofs.Stored.{spliced_seen, spliced_behind, last_node, stored_low, unspliced_seen, written_spliced, written_unspliced}
+use Rattle.ert_wheel.specs.Links.{next_at, prev_at, lone_link, no_link, stored_node, seen_links, AreWritten}
+use Rattle.ert_wheel.specs.Rings.{Rings, rings, seen_rings, Place, order_of, shape, AreChains, MayPut, Puts, PutsInHome, PutsOldestInHome, GivesUpPlace, node_slot, Finds, FindsOldest}
 use Rattle.ert_wheel.specs.declared.links.Link.{Link}
 
 -- a slot is put in: `lent` is what the links are while they are written
@@ -28,8 +28,21 @@ pub puts : (old : Rings) (slots homes written : ℕ) (before after : List Link) 
     → PutsInHome old (rings slots homes written after) slot home
 puts old slots homes written before after slot home is low in_range spliced =
     subst (λ (r : Rings). PutsInHome old r slot home) (sym (ap (λ (r : Rings). let n : Rings = record r { links = after } in n) is))
-    (λ places order are out fits apart above. put_chains old places slot home order after
-    (record { are = are; low = low; in_range = in_range; out = out; fits = fits; apart = apart; above = above })
+    (λ places order are out fits apart above. put_chains old places slot home order (old.slots + home) after
+    (behind_head old places slot home order
+    (record { are = are; low = low; in_range = in_range; out = out; fits = fits; apart = apart }) above)
+    spliced)
+
+-- and with an order below all others of the home
+pub puts_oldest : (old : Rings) (slots homes written : ℕ) (before after : List Link) (slot home : ℕ)
+    → rings slots homes written before ≡ old → slot < old.slots → home < old.homes
+    → Spliced (next_at old.links) (prev_at old.links) (next_at after) (prev_at after) (prev_at old.links (old.slots + home)) slot
+    → PutsOldestInHome old (rings slots homes written after) slot home
+puts_oldest old slots homes written before after slot home is low in_range spliced =
+    subst (λ (r : Rings). PutsOldestInHome old r slot home) (sym (ap (λ (r : Rings). let n : Rings = record r { links = after } in n) is))
+    (λ places order are out fits apart below. put_chains old places slot home order (prev_at old.links (old.slots + home)) after
+    (behind_oldest old places slot home order
+    (record { are = are; low = low; in_range = in_range; out = out; fits = fits; apart = apart }) below)
     spliced)
 
 -- and with an order above all others
@@ -76,6 +89,36 @@ put_stored now slots homes cap before lent after slot home is may low w e long s
       spliced = spliced;
       in_home = subst (λ n. PutsInHome now (rings slots homes (n - homes) (seen_links slots homes after)) slot home) (sym long')
           (puts now slots homes (length before - homes) (seen_links slots homes before) (seen_links slots homes after) slot home is may.low may.in_range spliced);
+    }
+
+-- and as the oldest of its home
+pub record IsPutOldest (now : Rings) (slots homes cap : ℕ) (after : List Link) (slot home : ℕ) : Type 0 where
+  pub written : AreWritten slots homes after cap
+  pub spliced : Spliced (next_at now.links) (prev_at now.links) (next_at (seen_links slots homes after)) (prev_at (seen_links slots homes after))
+      (prev_at now.links (now.slots + home)) slot
+  pub in_home : PutsOldestInHome now (seen_rings slots homes after) slot home
+
+pub put_oldest_stored : (now : Rings) (slots homes cap : ℕ) (before lent after : List Link) (slot home last : ℕ)
+    → seen_rings slots homes before ≡ now → MayPut now slot home → slot < now.written
+    → AreWritten slots homes before cap → lent ≡ before → length after ≡ length lent → last ≡ prev_at before home
+    → Spliced (next_at lent) (prev_at lent) (next_at after) (prev_at after) last (homes + slot) → IsPutOldest now slots homes cap after slot home
+put_oldest_stored now slots homes cap before lent after slot home last is may low w e long is_last s =
+    let put : MayPut (seen_rings slots homes before) slot home = subst (λ (r : Rings). MayPut r slot home) (sym is) may in
+    let here : homes + slot < length before = stored_low slots homes before now slot is low in
+    let at : last < length before = omega (arith, is_last, w.prev home (omega (arith, w.heads, put.in_range))) in
+    let s' = subst (λ (l : List Link). Spliced (next_at l) (prev_at l) (next_at after) (prev_at after) last (homes + slot)) e s in
+    let long' : length after ≡ length before = long ∙ ap length e in
+    let node : stored_node slots homes last ≡ prev_at (seen_links slots homes before) (slots + home) =
+    ap (stored_node slots homes) is_last ∙ sym (last_node slots homes cap before home w put.in_range) in
+    let seen = subst (λ (n : ℕ). Spliced (next_at (seen_links slots homes before)) (prev_at (seen_links slots homes before)) (next_at (seen_links slots homes after)) (prev_at (seen_links slots homes after)) n slot) node
+    (spliced_behind slots homes cap before after last slot w put.low at long' here s') in
+    let spliced : Spliced (next_at now.links) (prev_at now.links) (next_at (seen_links slots homes after)) (prev_at (seen_links slots homes after)) (prev_at now.links (now.slots + home)) slot =
+    subst (λ (r : Rings). Spliced (next_at r.links) (prev_at r.links) (next_at (seen_links slots homes after)) (prev_at (seen_links slots homes after)) (prev_at r.links (r.slots + home)) slot) is seen in
+    record {
+      written = written_spliced slots homes cap before after last (homes + slot) w at here long' s';
+      spliced = spliced;
+      in_home = subst (λ n. PutsOldestInHome now (rings slots homes (n - homes) (seen_links slots homes after)) slot home) (sym long')
+          (puts_oldest now slots homes (length before - homes) (seen_links slots homes before) (seen_links slots homes after) slot home is may.low may.in_range spliced);
     }
 
 -- a slot is taken out where it is stored

@@ -2,7 +2,7 @@
 
 use Rattle.std.proofs.Common.{◌≡◌, ◌≢◌, ℕ, ◌+◌, ◌-◌, ◌<◌, ◌≤◌, ◌^◌, List, Option, Some, None, IfSome, length, get_or, sym, subst, ◌∙◌, ap, inl, inr, refl, arith}
 use Rattle.std.proofs.lemmas.Bool.{cases_lt}
-use Rattle.ert_wheel.proofs.Cascading.{orders_left}
+use Rattle.ert_wheel.proofs.Orders.{orders_left}
 use Rattle.ert_wheel.proofs.Looking.{InBucket, key_low, told_alone}
 use Rattle.ert_wheel.proofs.Views.{place_is, held_in}
 use Rattle.ert_wheel.specs.FirstDue.{NoneDueIn, IsOldestDue}

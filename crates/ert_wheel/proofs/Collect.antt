@@ -4,7 +4,7 @@ use Rattle.std.proofs.Common.{◌≡◌, ◌≢◌, ℕ, ◌+◌, ◌-◌, ◌<�
 use Rattle.std.proofs.lemmas.Bool.{cases_eq, cases_lt, eq-eqb, ne_eqb, and_right, lt-ltb, le-ltb}
 use Rattle.std.proofs.lemmas.Bool.Decides.{eqb_tells}
 use Rattle.std.proofs.lemmas.List.Sums.{sum_by_push}
-use Rattle.ert_wheel.proofs.Cascading.{orders_left}
+use Rattle.ert_wheel.proofs.Orders.{orders_left}
 use Rattle.ert_wheel.proofs.Looking.{InBucket, key_low}
 use Rattle.ert_wheel.proofs.Views.{place_is, held_in}
 use Rattle.ert_wheel.specs.Rings.{Rings, Place, AreChains, StandsIn, order_of, FindsOldest}
@@ -40,7 +40,7 @@ found chains keys home bucket bound (Some slot) f =
     record { key = k.0; has = k.1; at_home = ap (λ (p : Place). p.home) k.2 ∙ s.at_home }
 
 -- no key passes a test that is false at it
-passing_none : (test : Key → Bool) (o : Option Key) → ((k : Key) → o ≡ Some k → test k ≡ false) → passing test o ≡ 0
+pub passing_none : (test : Key → Bool) (o : Option Key) → ((k : Key) → o ≡ Some k → test k ≡ false) → passing test o ≡ 0
 passing_none test None h = refl
 passing_none test (Some k) h = ap (λ b. cond b 1 0) (h k refl)
 

@@ -1,6 +1,6 @@
 -- The marks of the buckets follow the chains.
 
-use Rattle.std.proofs.Common.{◌≡◌, ◌≢◌, ℕ, ◌+◌, ◌<◌, ◌≤◌, ◌^◌, cond, List, Option, Some, None, MatchOption, sym, subst, ◌∙◌, ap, inl, inr, refl, arith}
+use Rattle.std.proofs.Common.{true, ◌≡◌, ◌≢◌, ℕ, ◌+◌, ◌<◌, ◌≤◌, ◌^◌, cond, List, Option, Some, None, MatchOption, sym, subst, ◌∙◌, ap, inl, inr, refl, arith}
 use Rattle.std.proofs.lemmas.Bool.{cases_eq, cases_lt, lt-ltb, le-ltb}
 use Rattle.ert_wheel.proofs.Calls.{newest_at}
 use Rattle.ert_wheel.proofs.MarkBits.{IsFirstMark}
@@ -64,6 +64,68 @@ put_marked old new slot home marks marks' m same homes low s here others =
           elim (cases_eq h home) [
             | inl is ↦ absurd (omega (arith, here, sym (ap (mark_of marks') is) ∙ zero))
             | inr ne ↦ omega (arith, same, stays h ne, m.clear h in_range (sym (others h ne) ∙ zero))
+          ];
+    }
+
+-- the node before the head of a bucket: the head itself just where its chain is empty
+record LastOf (r : Rings) (home : ℕ) : Type 0 where
+  -- no head of another bucket
+  own : (h : ℕ) → h < r.homes → r.slots + h ≡ prev_at r.links (r.slots + home) → h ≡ home
+  some : prev_at r.links (r.slots + home) ≢ r.slots + home → newest_node r home < r.slots
+
+last_of : (r : Rings) (places : ℕ → Option Place) (home : ℕ) → AreChains r places → home < r.homes → LastOf r home
+last_of r places home are in_range =
+    let a : Shape = shape r.slots r.homes places in
+    let head : ℕ = r.slots + home in
+    let last : ℕ = prev_at r.links head in
+    let h : IsHead r.slots r.homes places head = head_is r.slots r.homes places head (omega arith) (omega (arith, in_range)) in
+    let at_home : a.home head ≡ home = omega (arith, h.at_home) in
+    let on : a.on last ≡ true = are.chained.before_on head h.on in
+    let next : next_at r.links last ≡ head = are.chained.after_before head h.on in
+    let last_home : a.home last ≡ home = sym (are.chained.home last on) ∙ ap a.home next ∙ at_home in
+    let first : ℕ = next_at r.links head in
+    record {
+      own = λ o low is.
+          let t : IsHead r.slots r.homes places (r.slots + o) = head_is r.slots r.homes places (r.slots + o) (omega arith) (omega (arith, low)) in
+          omega (arith, t.at_home, ap a.home is, last_home);
+      some = λ ne. elim (node_is r.slots r.homes places first (are.chained.after_on head h.on)) [
+        | inl (p, s) ↦ s.low
+        | inr t ↦
+            let same : a.home first ≡ home = are.chained.home head h.on ∙ at_home in
+            let is : first ≡ head = omega (arith, same, t.at_home, t.high) in
+            absurd (ne (sym (ap (prev_at r.links) is) ∙ are.chained.before_after head h.on))
+      ];
+    }
+
+-- a slot is put in as the oldest, and its bucket is marked
+pub put_oldest_marked : (old new : Rings) (slot home : ℕ) (marks marks' : List ℕ) (places : ℕ → Option Place) → AreMarked old marks
+    → new.slots ≡ old.slots → new.homes ≡ old.homes → AreChains old places → slot < old.slots → home < old.homes
+    → Spliced (next_at old.links) (prev_at old.links) (next_at new.links) (prev_at new.links) (prev_at old.links (old.slots + home)) slot
+    → mark_of marks' home ≡ 1
+    → ((other : ℕ) → other ≢ home → mark_of marks' other ≡ mark_of marks other) → AreMarked new marks'
+put_oldest_marked old new slot home marks marks' places m same homes are low in_range s here others =
+    let l = last_of old places home are in_range in
+    let last : ℕ = prev_at old.links (old.slots + home) in
+    let at_head : (h : ℕ) → newest_node new h ≡ next_at new.links (old.slots + h) =
+    λ h. ap (λ n. next_at new.links (n + h)) same in
+    let stays : (h : ℕ) → old.slots + h ≢ last → newest_node new h ≡ newest_node old h =
+    λ h ne. at_head h ∙ s.others_after (old.slots + h) (λ bad. absurd (omega arith)) ne in
+    let own : (h : ℕ) → h < BUCKETS → h ≢ home → old.slots + h ≢ last =
+    λ h few ne bad. ne (l.own h (omega (arith, m.homes)) bad) in
+    record {
+      homes = homes ∙ m.homes;
+      used = λ h few set.
+          elim (cases_eq h home) [
+            | inl is ↦ elim (cases_eq (old.slots + h) last) [
+              | inl at ↦ omega (arith, same, at_head h, ap (next_at new.links) at, s.head_after)
+              | inr ne ↦ omega (arith, same, stays h ne, ap (newest_node old) is, l.some (λ bad. ne (ap (λ n. old.slots + n) is ∙ sym bad)))
+            ]
+            | inr ne ↦ omega (arith, same, stays h (own h few ne), m.used h few (sym (others h ne) ∙ set))
+          ];
+      clear = λ h few zero.
+          elim (cases_eq h home) [
+            | inl is ↦ absurd (omega (arith, here, sym (ap (mark_of marks') is) ∙ zero))
+            | inr ne ↦ omega (arith, same, stays h (own h few ne), m.clear h few (sym (others h ne) ∙ zero))
           ];
     }
 

@@ -6,10 +6,10 @@ use Rattle.std.proofs.lemmas.List.Sums.{sum_by-cons}
 use Rattle.std.specs.Option.{is_some, IsSome}
 use Rattle.ert_wheel.proofs.Looking.{InBucket, Steps, key_low, found, at_key}
 use Rattle.ert_wheel.proofs.Views.{held_in}
-use Rattle.ert_wheel.specs.NextDue.{MayWalk, NoRow, HasSomeRow, IsDueIn, IsLeastIn, BeginsIn, IsEarlyIn}
+use Rattle.ert_wheel.specs.NextDue.{NoRow, HasSomeRow, IsDueIn, IsLeastIn, BeginsIn}
 use Rattle.ert_wheel.specs.Rings.{Rings, Place, AreChains, bound_of, order_of, Finds}
 use Rattle.ert_wheel.specs.Rows.{key_in}
-use Rattle.ert_wheel.specs.Wheels.{held_keys, home_by, place_of, places, IsWheel}
+use Rattle.ert_wheel.specs.Wheels.{held_keys, place_of, places}
 use Rattle.ert_wheel.specs.declared.row.Key.{Key}
 
 -- where none is counted there is no row, and else there is one
@@ -131,45 +131,24 @@ pub answer_is : (P : Type 0) {X Q : ℕ → Type 0} (answer : Option ℕ) → Is
 answer_is P None some least f = (let clash : false ≡ true = some in absurd cc)
 answer_is P (Some n) some least f = f n least
 
--- the chains may be walked: `lent` is the stored keys as they are lent
-pub may_walk : {next count : ℕ} {keys : List (Option Key)} {chains : Rings} (lent : List Key) → IsWheel next count keys chains
-    → held_keys chains lent ≡ keys → MayWalk chains (held_keys chains lent)
-may_walk {next = next} {chains = chains} lent w is =
-    subst (λ (ks : List (Option Key)). MayWalk chains ks) (sym is) (record { slots = w.slots; home = home_by next; are = w.are })
-
--- what a bucket has
-pub visits_bucket : {next count bucket : ℕ} {keys : List (Option Key)} {chains : Rings} {least new : ℕ} (lent : List Key)
-    → IsWheel next count keys chains → held_keys chains lent ≡ keys
-    → ((home : Key → ℕ) → AreChains chains (places home (held_keys chains lent))
-    → IsLeastIn (held_keys chains lent) home bucket least new)
-    → IsLeastIn keys (home_by next) bucket least new
-visits_bucket {next = next} {bucket = bucket} {chains = chains} {least = least} {new = new} lent w is looks =
-    subst (λ (ks : List (Option Key)). IsLeastIn ks (home_by next) bucket least new) is
-    (looks (home_by next) (subst (λ (ks : List (Option Key)). AreChains chains (places (home_by next) ks)) (sym is) w.are))
-
--- and how early one of its rows may be due
-pub sees_early : {next count : ℕ} {keys : List (Option Key)} {chains : Rings} (bucket : ℕ) (answer : Option ℕ) (lent : List Key)
-    → IsWheel next count keys chains → held_keys chains lent ≡ keys
-    → ((home : Key → ℕ) → AreChains chains (places home (held_keys chains lent)) → IsEarlyIn (held_keys chains lent) home bucket answer)
-    → IsEarlyIn keys (home_by next) bucket answer
-sees_early {next = next} {chains = chains} bucket answer lent w is looks =
-    subst (λ (ks : List (Option Key)). IsEarlyIn ks (home_by next) bucket answer) is
-    (looks (home_by next) (subst (λ (ks : List (Option Key)). AreChains chains (places (home_by next) ks)) (sym is) w.are))
-
 -- a bucket in which no slot is found has no row
-pub none_in : (chains : Rings) (keys : List (Option Key)) (home : Key → ℕ) (bucket : ℕ)
+pub none_in : (chains : Rings) (keys : List (Option Key)) (home : Key → ℕ) (bucket bound : ℕ)
     → length keys ≡ chains.slots → AreChains chains (places home keys)
-    → Finds chains (places home keys) bucket (2 ^ 64) None → IsEarlyIn keys home bucket None
-none_in chains keys home bucket slots are f = λ j key has same.
-    let place : Place = record { home = home key; order = key.order } in
-    let at : places home keys j ≡ Some place = at_place keys home j key has in
-    absurd (omega (arith, f.greatest j place (omega (arith, slots, key_low keys j key has)) at same (are.orders j place at)))
+    → Finds chains (places home keys) bucket (2 ^ 64) None → IsLeastIn keys home bucket bound bound
+none_in chains keys home bucket bound slots are f = record {
+  low = omega arith;
+  below = λ j key has same.
+      let place : Place = record { home = home key; order = key.order } in
+      let at : places home keys j ≡ Some place = at_place keys home j key has in
+      absurd (omega (arith, f.greatest j place (omega (arith, slots, key_low keys j key has)) at same (are.orders j place at)));
+  near = inr refl;
+}
 
 -- the slot that is found there tells the begin of its window
 pub begins_in : (chains : Rings) (stored : List Key) (home : Key → ℕ) (bucket slot : ℕ) (d : Key)
     → Finds chains (places home (held_keys chains stored)) bucket (2 ^ 64) (Some slot)
     → (slot < length stored)
-    × BeginsIn (held_keys chains stored) home bucket ((get_or stored slot d).deadline / 512 ^ (bucket / 512) * 512 ^ (bucket / 512))
+    × BeginsIn (held_keys chains stored) home bucket ((get_or stored slot d).deadline / 512 ^ (bucket / 1024) * 512 ^ (bucket / 1024))
 begins_in chains stored home bucket slot d f =
     let s : InBucket (held_keys chains stored) home bucket slot = found chains (held_keys chains stored) home bucket (2 ^ 64) (Some slot) f in
     let h : (slot < length stored) × (s.key ≡ get_or stored slot d) = held_in chains stored slot d s.key s.has in (
@@ -179,6 +158,6 @@ begins_in chains stored home bucket slot d f =
         key = s.key;
         has = s.has;
         at_home = s.at_home;
-        begin = ap (λ (k : Key). k.deadline / 512 ^ (bucket / 512) * 512 ^ (bucket / 512)) (sym h.1);
+        begin = ap (λ (k : Key). k.deadline / 512 ^ (bucket / 1024) * 512 ^ (bucket / 1024)) (sym h.1);
       },
     )

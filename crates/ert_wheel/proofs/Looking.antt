@@ -75,7 +75,7 @@ at_key chains stored home bucket slot here next d t =
     }
 
 -- the orders don't depend on the homes
-bound_same : (g h : Key → ℕ) (keys : List (Option Key)) (next : Option ℕ)
+pub bound_same : (g h : Key → ℕ) (keys : List (Option Key)) (next : Option ℕ)
     → bound_of (places g keys) next ≡ bound_of (places h keys) next
 bound_same g h keys None = refl
 bound_same g h keys (Some slot) =

@@ -1,10 +1,10 @@
 -- The marks of buckets by the bits of words.
 
-use Rattle.std.proofs.Common.{◌≡◌, ◌≢◌, ℕ, ◌+◌, ◌-◌, ◌*◌, ◌/◌, ◌%◌, ◌^◌, ◌<◌, ◌≤◌, min, List, length, get_or, set, replicate, w64, bit_and, bit_or, sym, ap, ◌∙◌, inl, inr, arith, get_or-set_same, get_or-set_other}
-use Rattle.std.proofs.Math.Nat.{div-div-eq-div-mul, div-le_self}
+use Rattle.std.proofs.Common.{subst, ◌≡◌, ◌≢◌, ℕ, ◌+◌, ◌-◌, ◌*◌, ◌/◌, ◌%◌, ◌^◌, ◌<◌, ◌≤◌, min, List, length, get_or, set, replicate, w64, bit_and, bit_or, sym, ap, ◌∙◌, inl, inr, arith, get_or-set_same, get_or-set_other}
+use Rattle.std.proofs.Math.Nat.{div-div-eq-div-mul, div-le_self, mod-eq_of_lt}
 use Rattle.std.proofs.lemmas.Bool.{cases_eq, cases_lt}
 use Rattle.std.proofs.lemmas.List.{get_or-replicate, length-replicate, length-set}
-use Rattle.std.proofs.lemmas.Nat.{pow-add}
+use Rattle.std.proofs.lemmas.Nat.{pow-add, pow_below}
 use Rattle.std.proofs.lemmas.Nat.Bits.{bit_at-zero, bit_at-trailing_zeros, bit_at_above, bit_at_set_same, bit_at_set_other, bit_at_clear_same, bit_at_clear_other}
 use Rattle.std.specs.Int.{bit_at, bit_not, trailing_zeros}
 use Rattle.ert_wheel.specs.Marks.{mark_of, AreSummed}
@@ -48,9 +48,9 @@ with_mark-some words bucket zero =
     absurd (omega (arith, sym (bit_at_set_same w64 (get_or words (bucket / 64) 0) (bucket % 64) (omega arith)) ∙ (ap (λ n. bit_at n (bucket % 64)) zero ∙ bit_at-zero (bucket % 64))))
 
 -- no bucket is marked in words of 0
-pub no_mark : (bucket : ℕ) → bucket < BUCKETS → mark_of (replicate 35 0) bucket ≡ 0
+pub no_mark : (bucket : ℕ) → bucket < BUCKETS → mark_of (replicate 67 0) bucket ≡ 0
 no_mark bucket low =
-    ap (λ n. bit_at n (bucket % 64)) (get_or-replicate 35 (bucket / 64) 0 0 (omega arith)) ∙ bit_at-zero (bucket % 64)
+    ap (λ n. bit_at n (bucket % 64)) (get_or-replicate 67 (bucket / 64) 0 0 (omega arith)) ∙ bit_at-zero (bucket % 64)
 
 -- what is shifted
 bit_at_shr : (word from i : ℕ) → bit_at (word / 2 ^ from) i ≡ bit_at word (from + i)
@@ -100,15 +100,23 @@ some_bit word from low fits some =
     }
 
 -- words of 0 have no mark
-pub sums_none : AreSummed (replicate 35 0) 0
+pub sums_none : AreSummed (replicate 67 0) 0
 sums_none = record {
-  wide = length-replicate {A = ℕ} 35 0;
-  none = λ at low _. get_or-replicate 35 at 0 0 low;
+  wide = length-replicate {A = ℕ} 67 0;
+  none = λ at low _. get_or-replicate 67 at 0 0 (omega arith);
   some = λ at low one. absurd (omega (arith, sym one ∙ bit_at-zero at));
 }
 
+-- the words of the highest level aren't noted
+pub sums_far : (words : List ℕ) (used at word : ℕ) → AreSummed words used → 64 ≤ at → AreSummed (set words at word) used
+sums_far words used at word sums far = record {
+  wide = length-set words at word ∙ sums.wide;
+  none = λ i less clear. get_or-set_other words at i word 0 (omega arith) ∙ sums.none i less clear;
+  some = λ i less one. rw (get_or-set_other words at i word 0 (omega arith)) (sums.some i less one);
+}
+
 -- a word that isn't 0 is noted
-pub sums_set : (words : List ℕ) (used at word : ℕ) → AreSummed words used → at < 35 → word ≢ 0
+pub sums_set : (words : List ℕ) (used at word : ℕ) → AreSummed words used → at < 64 → word ≢ 0
     → AreSummed (set words at word) (bit_or used (1 * 2 ^ at % 2 ^ 64))
 sums_set words used at word sums low some = record {
   wide = length-set words at word ∙ sums.wide;
@@ -125,7 +133,7 @@ sums_set words used at word sums low some = record {
 }
 
 -- a word that has a mark gets another
-pub sums_kept : (words : List ℕ) (used at word : ℕ) → AreSummed words used → at < 35 → get_or words at 0 ≢ 0 → word ≢ 0
+pub sums_kept : (words : List ℕ) (used at word : ℕ) → AreSummed words used → at < 64 → get_or words at 0 ≢ 0 → word ≢ 0
     → AreSummed (set words at word) used
 sums_kept words used at word sums low had some = record {
   wide = length-set words at word ∙ sums.wide;
@@ -142,7 +150,7 @@ sums_kept words used at word sums low had some = record {
 }
 
 -- a word of 0 is noted
-pub sums_clear : (words : List ℕ) (used at : ℕ) → AreSummed words used → at < 35
+pub sums_clear : (words : List ℕ) (used at : ℕ) → AreSummed words used → at < 64
     → AreSummed (set words at 0) (bit_and used (bit_not w64 (1 * 2 ^ at % 2 ^ 64)))
 sums_clear words used at sums low = record {
   wide = length-set words at 0 ∙ sums.wide;
@@ -157,6 +165,27 @@ sums_clear words used at sums low = record {
         | inr apart ↦ rw (get_or-set_other words at i 0 0 apart) (sums.some i less (sym (bit_at_clear_other w64 used at (omega (arith, low)) i (omega (arith, less)) apart) ∙ one))
       ];
 }
+
+-- a word gets a mark, and that is noted
+pub sums_noted : (words : List ℕ) (used noted at word : ℕ) → AreSummed words used → (at < 64 → noted ≡ bit_or used (2 ^ at))
+    → (64 ≤ at → noted ≡ used) → word ≢ 0 → AreSummed (set words at word) noted
+sums_noted words used noted at word sums near far some =
+    elim (cases_lt at 64) [
+      | inl low ↦
+          let one : 1 * 2 ^ at ≡ 2 ^ at = omega arith in
+          let e : 1 * 2 ^ at % 2 ^ 64 ≡ 2 ^ at = mod-eq_of_lt (omega (arith, one, pow_below at 64 low)) ∙ one in
+          subst (λ (n : ℕ). AreSummed (set words at word) n) (ap (bit_or used) e ∙ sym (near low)) (sums_set words used at word sums low some)
+      | inr high ↦ subst (λ (n : ℕ). AreSummed (set words at word) n) (sym (far high)) (sums_far words used at word sums high)
+    ]
+
+-- a word that has a mark gets another, near or far
+pub sums_near : (words : List ℕ) (used at word : ℕ) → AreSummed words used → get_or words at 0 ≢ 0 → word ≢ 0
+    → AreSummed (set words at word) used
+sums_near words used at word sums had some =
+    elim (cases_lt at 64) [
+      | inl low ↦ sums_kept words used at word sums low had some
+      | inr high ↦ sums_far words used at word sums high
+    ]
 
 -- no bucket is marked from one on, below another
 pub record IsPast (words : List ℕ) (from bucket : ℕ) : Type 0 where
@@ -200,3 +229,22 @@ first_found words from end bucket bit past less most first small =
           ∙ ap (λ w. bit_at (get_or words w 0) ((bucket / 64 * 64 + bit) % 64)) e
           ∙ ap (bit_at (get_or words (bucket / 64) 0)) m ∙ first.here small;
     }
+
+-- no word has a mark from one on, below another of the highest level
+pub record IsPastWords (words : List ℕ) (from at : ℕ) : Type 0 where
+  pub up : from ≤ at
+  pub high : 64 ≤ at
+  pub low : at ≤ 67
+  pub below : (i : ℕ) → from ≤ i → i < at → get_or words i 0 ≡ 0
+
+pub past_more : (words : List ℕ) (from at : ℕ) → IsPastWords words from at → at < 67 → get_or words at 0 ≡ 0
+    → IsPastWords words from (at + 1)
+past_more words from at past low none = record {
+  up = omega (arith, past.up);
+  high = omega (arith, past.high);
+  low = omega arith;
+  below = λ i up less. elim (cases_eq i at) [
+    | inl is ↦ ap (λ j. get_or words j 0) is ∙ none
+    | inr ne ↦ past.below i up (omega arith)
+  ];
+}

@@ -1,196 +1,234 @@
--- When the next row of a wheel may be due: that of the first bucket that has one.
+-- How early a row of a level above the lowest may be due: that of the first window that has one.
 
-use Rattle.std.proofs.Common.{◌≡◌, ℕ, ◌*◌, ◌/◌, ◌%◌, ◌<◌, ◌≤◌, ◌^◌, ◌⊎◌, max, suc, List, Option, Some, None, MatchOption, sym, ◌∙◌, ap, inl, inr, arith}
-use Rattle.std.proofs.Math.Nat.{div-mul-le_self, lt-div-mul-add, suc-mul, mul-le-mul_right}
+use Rattle.std.proofs.Common.{◌≡◌, ℕ, ◌+◌, ◌*◌, ◌/◌, ◌<◌, ◌≤◌, ◌^◌, max, min, suc, List, Option, Some, sym, subst, ◌∙◌, ap, inl, inr, arith}
+use Rattle.std.proofs.Math.Nat.{lt-div-mul-add, suc-mul, mul-le-mul_right}
 use Rattle.std.proofs.lemmas.Bool.{cases_eq, cases_lt}
+use Rattle.ert_wheel.proofs.Least.{at_place}
 use Rattle.ert_wheel.proofs.Looking.{key_low}
-use Rattle.ert_wheel.proofs.LevelBits.{bucket_low, pos512}
-use Rattle.ert_wheel.proofs.Levels.{home_up, home_next, home_near, window_of, one_window, later_window}
+use Rattle.ert_wheel.proofs.Standing.{end_of, begins, not_late, stands_at, window_before_end, window_later}
+use Rattle.ert_wheel.proofs.Times.{some_wide}
 use Rattle.ert_wheel.proofs.Views.{place_is}
-use Rattle.ert_wheel.specs.Marks.{FirstUsed}
-use Rattle.ert_wheel.specs.NextDue.{NoRow, HasSomeRow, NoneBefore, IsDueAt, WindowBegins, IsNextDue, IsDueIn, IsLeastIn, BeginsIn, IsEarlyIn}
+use Rattle.ert_wheel.specs.Levels.{bucket_of_window}
+use Rattle.ert_wheel.specs.Marks.{FirstWindow}
+use Rattle.ert_wheel.specs.NextDue.{IsDueAt, WindowBegins, IsDueIn, IsLeastIn, BeginsIn, IsEarlyIn, IsEarlyOrNever, NoneOn, NoneBefore}
 use Rattle.ert_wheel.specs.Rings.{Rings, Place, AreChains}
 use Rattle.ert_wheel.specs.Rows.{key_in}
-use Rattle.ert_wheel.specs.Wheels.{bucket_of, home_by, places, IsWheel}
+use Rattle.ert_wheel.specs.Walks.{StandOnLevels}
+use Rattle.ert_wheel.specs.Wheels.{home_on, places}
 use Rattle.ert_wheel.specs.declared.row.Key.{Key}
-use Rattle.ert_wheel.specs.declared.row.TheConstants.{NEVER, BUCKETS}
-use Rattle.ert_wheel.proofs.Least.{at_place}
-
--- the first bucket that has a row
-pub record IsFirst (next count from home : ℕ) (keys : List (Option Key)) (chains : Rings) : Type 0 where
-  pub wheel : IsWheel next count keys chains
-  pub first : from ≡ bucket_of next next
-  pub used : FirstUsed chains (places (home_by next) keys) from BUCKETS home
-
-pub first_is : {next count from home : ℕ} {keys : List (Option Key)} {chains : Rings} → IsWheel next count keys chains
-    → from ≡ bucket_of next next
-    → ((places : ℕ → Option Place) → AreChains chains places → FirstUsed chains places from BUCKETS home)
-    → IsFirst next count from home keys chains
-first_is {next = next} {keys = keys} w e used = record { wheel = w; first = e; used = used (places (home_by next) keys) w.are }
-
--- no row has a bucket below it
-row_home : {next count first home : ℕ} {keys : List (Option Key)} {chains : Rings} (j : ℕ) (key : Key)
-    → IsFirst next count first home keys chains → key_in keys j ≡ Some key → home ≤ home_by next key
-row_home {next = next} {keys = keys} j key f has =
-    f.used.none_below j (record { home = home_by next key; order = key.order })
-    (omega (arith, f.wheel.slots, key_low keys j key has)) (at_place keys (home_by next) j key has)
-    (omega (arith, f.first, home_up 4 next next (max key.deadline next) (omega arith) (omega arith)))
-    (bucket_low next (max key.deadline next) (omega (arith, f.wheel.low j key has, f.wheel.time)))
-
--- where there is a row it is one of the buckets
-pub home_low : {next count first home : ℕ} {keys : List (Option Key)} {chains : Rings}
-    → IsFirst next count first home keys chains → HasSomeRow keys → home < BUCKETS
-home_low {next = next} f row =
-    omega (
-      arith,
-      row_home row.slot row.key f row.has,
-      bucket_low next (max row.key.deadline next) (omega (arith, f.wheel.low row.slot row.key row.has, f.wheel.time)),
-    )
-
--- a row of a lower bucket isn't due later
-later_bucket : (next : ℕ) (key other : Key) → home_by next key < home_by next other → key.deadline ≤ other.deadline
-later_bucket next key other less =
-    elim (cases_lt other.deadline key.deadline) [
-      | inl early ↦ absurd (omega (arith, home_up 4 next (max other.deadline next) (max key.deadline next) (omega arith) (omega arith)))
-      | inr late ↦ late
-    ]
-
--- a row of a later bucket than that of the next time isn't late
-not_late : (next first : ℕ) (key : Key) → first ≡ bucket_of next next → first < home_by next key
-    → max key.deadline next ≡ key.deadline
-not_late next first key e less =
-    elim (cases_lt next key.deadline) [
-      | inl late ↦ omega arith
-      | inr early ↦
-          let m : max key.deadline next ≡ next = omega arith in
-          absurd (omega (arith, ap (bucket_of next) m))
-    ]
-
--- none is due before the begin of the window of one of its rows
-pub none_before_window : {next count first home time : ℕ} {keys : List (Option Key)} {chains : Rings}
-    → IsFirst next count first home keys chains → first < home → BeginsIn keys (home_by next) home time → NoneBefore keys time
-none_before_window {next = next} {first = first} {home = home} {keys = keys} f less b j other has =
-    let key : Key = b.key in
-    let l : ℕ = home / 512 in
-    let low : key.deadline / 512 ^ l * 512 ^ l ≤ key.deadline = div-mul-le_self key.deadline (512 ^ l) in
-    elim (cases_eq (home_by next other) home) [
-      | inl e ↦
-          let x : max key.deadline next ≡ key.deadline = not_late next first key f.first (omega (arith, b.at_home)) in
-          let y : max other.deadline next ≡ other.deadline = not_late next first other f.first (omega arith) in
-          let one : max key.deadline next / 512 ^ l ≡ max other.deadline next / 512 ^ l =
-          one_window 4 l (max key.deadline next) (max other.deadline next) next (b.at_home ∙ sym e) (omega (arith, b.at_home)) (omega (arith, b.at_home)) in
-          let same : key.deadline / 512 ^ l ≡ other.deadline / 512 ^ l =
-          ap (λ d. d / 512 ^ l) (sym x) ∙ one ∙ ap (λ d. d / 512 ^ l) y in
-          omega (arith, b.begin, ap (λ q. q * 512 ^ l) same, div-mul-le_self other.deadline (512 ^ l))
-      | inr ne ↦ omega (arith, b.begin, later_bucket next key other (omega (arith, b.at_home, row_home j other f has)))
-    ]
-
--- a time in an earlier window is before the begin of a later one
-before_window : (n d p : ℕ) → 1 ≤ p → n / p < d / p → n < d / p * p
-before_window n d p some less =
-    let up : suc (n / p) ≤ d / p = less in
-    omega (arith, lt-div-mul-add {a = n} some, suc-mul (n / p) p, mul-le-mul_right p up)
-
--- and that is the deadline itself, or the begin of a window that wasn't passed
-pub near_window : {next count first home time : ℕ} {keys : List (Option Key)} {chains : Rings}
-    → IsFirst next count first home keys chains → first < home → home < BUCKETS → BeginsIn keys (home_by next) home time
-    → IsDueAt keys time ⊎ WindowBegins keys next time
-near_window {next = next} {first = first} {home = home} f less low b =
-    let key : Key = b.key in
-    let level : ℕ = home / 512 in
-    elim (cases_eq level 0) [
-      | inl e ↦
-          let p : ◌≡◌ {A = ℕ} (512 ^ level) 1 = ap (λ l. 512 ^ l) e in
-          let whole : key.deadline / 512 ^ level * 512 ^ level ≡ key.deadline =
-          ap (λ m. key.deadline / m * m) p ∙ omega arith in
-          inl (record { slot = b.slot; key = key; has = b.has; at = sym (b.begin ∙ whole) })
-      | inr ne ↦
-          let x : max key.deadline next ≡ key.deadline = not_late next first key f.first (omega (arith, b.at_home)) in
-          let window : next / 512 ^ level < max key.deadline next / 512 ^ level =
-          later_window 4 level (max key.deadline next) next (omega arith) (omega arith) (omega arith) (omega (arith, b.at_home)) in
-          let after : next / 512 ^ level < key.deadline / 512 ^ level = omega (arith, ap (λ d. d / 512 ^ level) x) in
-          inr (record {
-            later = omega (arith, b.begin, before_window next key.deadline (512 ^ level) (pos512 level) after);
-            level = level;
-            above = omega arith;
-            highest = omega arith;
-            window = key.deadline / 512 ^ level;
-            begin = b.begin;
-            slot = b.slot;
-            key = key;
-            has = b.has;
-            within = omega (arith, b.begin, lt-div-mul-add {a = key.deadline} (pos512 level));
-          })
-    ]
-
--- the least of the first bucket's rows is the least of all
-pub least_due : {next count first home least : ℕ} {keys : List (Option Key)} {chains : Rings}
-    → IsFirst next count first home keys chains → home < BUCKETS → IsLeastIn keys (home_by next) home NEVER least
-    → IsDueIn keys (home_by next) home least
-least_due {next = next} {home = home} {least = least} {keys = keys} f low looks =
-    elim looks.near [
-      | inl due ↦ due
-      | inr e ↦
-          let h = f.used.has_slot low in
-          let k = place_is (home_by next) (key_in keys h.slot) h.stands.place h.stands.has in
-          let at : home_by next k.0 ≡ home = ap (λ (p : Place). p.home) k.2 ∙ h.stands.at_home in
-          absurd (omega (arith, looks.below h.slot k.0 k.1 at, f.wheel.low h.slot k.0 k.1))
-    ]
-
-pub none_before_least : {next count first home least : ℕ} {keys : List (Option Key)} {chains : Rings}
-    → IsFirst next count first home keys chains → IsLeastIn keys (home_by next) home NEVER least
-    → IsDueIn keys (home_by next) home least → NoneBefore keys least
-none_before_least {next = next} {home = home} f looks due j key has =
-    elim (cases_eq (home_by next key) home) [
-      | inl e ↦ looks.below j key has e
-      | inr ne ↦ omega (arith, due.at, later_bucket next due.key key (omega (arith, due.at_home, row_home j key f has)))
-    ]
+use Rattle.ert_wheel.specs.declared.row.TheConstants.{NEVER}
 
 pub due_at_of : {keys : List (Option Key)} {home : Key → ℕ} {bucket time : ℕ} → IsDueIn keys home bucket time → IsDueAt keys time
 due_at_of d = record { slot = d.slot; key = d.key; has = d.has; at = d.at }
 
--- a bucket that has a row isn't told to have none
-pub some_early : {next count first home : ℕ} {keys : List (Option Key)} {chains : Rings}
-    → IsFirst next count first home keys chains → home < BUCKETS → IsEarlyIn keys (home_by next) home None → ⊥
-some_early {next = next} {home = home} {keys = keys} f low none =
-    let h = f.used.has_slot low in
-    let k = place_is (home_by next) (key_in keys h.slot) h.stands.place h.stands.has in
-    none h.slot k.0 k.1 (ap (λ (p : Place). p.home) k.2 ∙ h.stands.at_home)
+-- a time in an earlier window is before the begin of a later one
+before_window : (n w p : ℕ) → 1 ≤ p → n / p < w → n < w * p
+before_window n w p some less =
+    let up : suc (n / p) ≤ w = less in
+    omega (arith, lt-div-mul-add {a = n} some, suc-mul (n / p) p, mul-le-mul_right p up)
 
--- what is told of the first bucket is told of all
-pub early_due : {next count first home : ℕ} {keys : List (Option Key)} {chains : Rings} (answer : Option ℕ)
-    → IsFirst next count first home keys chains → first < home → HasSomeRow keys → IsEarlyIn keys (home_by next) home answer
-    → MatchOption answer (NoRow keys) (IsNextDue keys next)
-early_due None f less row told = absurd (some_early f (home_low f row) told)
-early_due {next = next} {keys = keys} (Some time) f less row told =
-    elim told [
-      | inl looks ↦
-          let due = least_due f (home_low f row) looks in
-          record { some = row; none_before = none_before_least f looks due; near = inl (due_at_of due) }
-      | inr begins ↦
-          record {
-            some = row;
-            none_before = none_before_window f less begins;
-            near = near_window f less (home_low f row) begins;
-          }
+-- the first window of a level above the lowest that has a row, of those after that of the next time
+pub record IsFirst (next level found : ℕ) (keys : List (Option Key)) (chains : Rings) (levels : Key → ℕ) : Type 0 where
+  pub stand : StandOnLevels next chains keys levels
+  pub above : 1 ≤ level
+  pub highest : level ≤ 4
+  pub after : next / 512 ^ level < found
+  pub first : FirstWindow chains (places (home_on next levels) keys) level (next / 512 ^ level + 1) (end_of level next) found
+
+pub first_is : {next level from end found : ℕ} {keys : List (Option Key)} {chains : Rings} {levels : Key → ℕ} → StandOnLevels next chains keys levels
+    → 1 ≤ level → level ≤ 4 → from ≡ next / 512 ^ level → end ≡ end_of level next → from + 1 ≤ found
+    → ((places : ℕ → Option Place) → AreChains chains places → FirstWindow chains places level (from + 1) end found)
+    → IsFirst next level found keys chains levels
+first_is {next = next} {level = level} {from = from} {end = end} {found = found} {keys = keys} {chains = chains} {levels = levels} stand above highest now last up first = record {
+  stand = stand;
+  above = above;
+  highest = highest;
+  after = omega (arith, now, up);
+  first = subst (λ (end : ℕ). FirstWindow chains (places (home_on next levels) keys) level (next / 512 ^ level + 1) end found) last
+      (subst (λ (begin : ℕ). FirstWindow chains (places (home_on next levels) keys) level (begin + 1) end found) now
+      (first (places (home_on next levels) keys) stand.are));
+}
+
+-- what is told of a bucket that is known by another name
+pub told_there : {keys : List (Option Key)} {home : Key → ℕ} {bucket time : ℕ} (level window : ℕ) → bucket ≡ bucket_of_window level window
+    → IsEarlyIn keys home bucket time → IsEarlyIn keys home (bucket_of_window level window) time
+told_there {keys = keys} {home = home} {time = time} level window same told = subst (λ (b : ℕ). IsEarlyIn keys home b time) same told
+
+module _ {next level found : ℕ} {keys : List (Option Key)} {chains : Rings} {levels : Key → ℕ} (f : IsFirst next level found keys chains levels) where
+  -- a row of the level is in no earlier window
+  pub window_from : (slot : ℕ) (key : Key) → key_in keys slot ≡ Some key → levels key ≡ level → found ≤ max key.deadline next / 512 ^ level
+  window_from slot key has on =
+      let t : ℕ = max key.deadline next in
+      let fit = f.stand.levelled.fit slot key has in
+      let e : t / 512 ^ levels key ≡ t / 512 ^ level = ap (λ l. t / 512 ^ l) on in
+      let n : next / 512 ^ levels key ≡ next / 512 ^ level = ap (λ l. next / 512 ^ l) on in
+      let here : next / 512 ^ levels key < t / 512 ^ levels key = fit.ahead (omega (arith, on, f.above)) (omega (arith, on, f.above)) in
+      let low = window_before_end next (levels key) t (omega (arith, f.stand.low slot key has, f.stand.time)) fit in
+      let home : home_on next levels key ≡ bucket_of_window level (t / 512 ^ level) =
+      ap (λ l. bucket_of_window l (t / 512 ^ l)) on in
+      f.first.none_below (t / 512 ^ level) slot (record { home = home_on next levels key; order = key.order })
+      (omega (arith, f.stand.slots, key_low keys slot key has)) (at_place keys (home_on next levels) slot key has)
+      (omega (arith, here, e, n)) (omega (arith, low, e, ap (λ l. end_of l next) on)) home
+
+  -- so none is due before a time up to the begin of that window
+  pub none_early : (time : ℕ) → time ≤ found * 512 ^ level → NoneOn keys levels level time
+  none_early time early = λ slot key has on.
+      let t : ℕ = max key.deadline next in
+      let fit = f.stand.levelled.fit slot key has in
+      let same : t ≡ key.deadline = not_late next (levels key) key.deadline (omega (arith, on, f.above)) fit in
+      omega (arith, early, same, begins level found t (window_from slot key has on))
+
+  -- and where there is none, at all
+  pub none_at_end : (time : ℕ) → end_of level next ≤ found → NoneOn keys levels level time
+  none_at_end time none = λ slot key has on.
+      let t : ℕ = max key.deadline next in
+      let low = window_before_end next (levels key) t (omega (arith, f.stand.low slot key has, f.stand.time)) (f.stand.levelled.fit slot key has) in
+      absurd (omega (arith, none, low, window_from slot key has on, ap (λ l. end_of l next) on, ap (λ l. t / 512 ^ l) on))
+
+  -- a row of the window's bucket
+  pub record IsThere (slot : ℕ) (key : Key) : Type 0 where
+    pub has : key_in keys slot ≡ Some key
+    pub at_home : home_on next levels key ≡ bucket_of_window level found
+    pub on : levels key ≡ level
+    pub window : key.deadline / 512 ^ level ≡ found
+
+  there : (slot : ℕ) (key : Key) → found < end_of level next → key_in keys slot ≡ Some key
+      → home_on next levels key ≡ bucket_of_window level found → IsThere slot key
+  there slot key low has at =
+      let t : ℕ = max key.deadline next in
+      let fit = f.stand.levelled.fit slot key has in
+      let s = stands_at next (levels key) level t found (omega arith) fit (omega (arith, f.after)) low at in
+      let same : t ≡ key.deadline = not_late next (levels key) key.deadline (omega (arith, s.level_is, f.above)) fit in
+      record { has = has; at_home = at; on = s.level_is; window = ap (λ d. d / 512 ^ level) (sym same) ∙ s.window_is }
+
+  -- there is one
+  some_there : found < end_of level next → (slot : ℕ) × (key : Key) × IsThere slot key
+  some_there low =
+      let h = f.first.has_slot low in
+      let k = place_is (home_on next levels) (key_in keys h.slot) h.stands.place h.stands.has in (
+        h.slot,
+        k.0,
+        there h.slot k.0 low k.1 (ap (λ (p : Place). p.home) k.2 ∙ h.stands.at_home),
+      )
+
+  -- it is due before the end of the window
+  within : (slot : ℕ) (key : Key) → IsThere slot key → key.deadline < found * 512 ^ level + 512 ^ level
+  within slot key is = omega (arith, lt-div-mul-add {a = key.deadline} (some_wide level), ap (λ w. w * 512 ^ level) is.window)
+
+  -- the least deadline of the bucket's rows is that of one of them
+  least_due : (time : ℕ) → found < end_of level next → IsLeastIn keys (home_on next levels) (bucket_of_window level found) NEVER time
+      → IsDueIn keys (home_on next levels) (bucket_of_window level found) time
+  least_due time low looks =
+      elim looks.near [
+        | inl due ↦ due
+        | inr e ↦
+            let s = some_there low in
+            absurd (omega (arith, e, looks.below s.0 s.1 s.2.has s.2.at_home, f.stand.low s.0 s.1 s.2.has))
+      ]
+
+  -- and the least of the level's
+  none_least : (time : ℕ) → found < end_of level next → IsLeastIn keys (home_on next levels) (bucket_of_window level found) NEVER time
+      → NoneOn keys levels level time
+  none_least time low looks = λ slot key has on.
+      let t : ℕ = max key.deadline next in
+      let due = least_due time low looks in
+      let in_window = within due.slot due.key (there due.slot due.key low due.has due.at_home) in
+      let fit = f.stand.levelled.fit slot key has in
+      let same : t ≡ key.deadline = not_late next (levels key) key.deadline (omega (arith, on, f.above)) fit in
+      elim (cases_eq (t / 512 ^ level) found) [
+        | inl e ↦
+            let home : home_on next levels key ≡ bucket_of_window level found =
+            ap (λ l. bucket_of_window l (t / 512 ^ l)) on ∙ ap (bucket_of_window level) e in
+            looks.below slot key has home
+        | inr ne ↦
+            let up : suc found ≤ t / 512 ^ level = omega (arith, ne, window_from slot key has on) in
+            omega (arith, same, due.at, in_window, suc-mul found (512 ^ level), begins level (suc found) t up)
+      ]
+
+  -- what is told as the begin of the window is that
+  begin_is : (time : ℕ) → found < end_of level next → BeginsIn keys (home_on next levels) (bucket_of_window level found) time
+      → time ≡ found * 512 ^ level
+  begin_is time low b =
+      let e : bucket_of_window level found / 1024 ≡ level = omega arith in
+      let is = there b.slot b.key low b.has b.at_home in
+      b.begin ∙ (ap (λ l. b.key.deadline / 512 ^ l * 512 ^ l) e ∙ ap (λ w. w * 512 ^ level) is.window)
+
+  begins_there : (time : ℕ) → found < end_of level next → BeginsIn keys (home_on next levels) (bucket_of_window level found) time
+      → WindowBegins keys next time
+  begins_there time low b =
+      let is = there b.slot b.key low b.has b.at_home in
+      let begin = begin_is time low b in
+      record {
+        later = omega (arith, begin, before_window next found (512 ^ level) (some_wide level) f.after);
+        level = level;
+        above = f.above;
+        highest = f.highest;
+        window = found;
+        begin = begin;
+        slot = b.slot;
+        key = b.key;
+        has = b.has;
+        within = omega (arith, begin, within b.slot b.key is);
+      }
+
+  -- what is told of the bucket is told of the level
+  pub early_none : (time : ℕ) → found < end_of level next → IsEarlyIn keys (home_on next levels) (bucket_of_window level found) time
+      → NoneOn keys levels level time
+  early_none time low told =
+      elim told [
+        | inl looks ↦ none_least time low looks
+        | inr b ↦ none_early time (omega (arith, begin_is time low b))
+      ]
+
+  pub early_is : (time : ℕ) → found < end_of level next → IsEarlyIn keys (home_on next levels) (bucket_of_window level found) time
+      → IsEarlyOrNever keys next time
+  early_is time low told =
+      elim told [
+        | inl looks ↦ inl (inl (due_at_of (least_due time low looks)))
+        | inr b ↦ inl (inr (begins_there time low b))
+      ]
+
+-- the earlier of two
+pub earlier_is : (keys : List (Option Key)) (next a b : ℕ) → IsEarlyOrNever keys next a → IsEarlyOrNever keys next b → IsEarlyOrNever keys next (min a b)
+earlier_is keys next a b first second =
+    elim (cases_lt a b) [
+      | inl less ↦ let e : a ≡ min a b = omega arith in subst (λ n. IsEarlyOrNever keys next n) e first
+      | inr more ↦ let e : b ≡ min a b = omega arith in subst (λ n. IsEarlyOrNever keys next n) e second
     ]
 
--- where no row is late those of the next time's own bucket are due at it
-pub due_next : {next count floor first home : ℕ} {keys : List (Option Key)} {chains : Rings}
-    → IsFirst next count first home keys chains → home ≡ first → HasSomeRow keys → NoneBefore keys floor → next ≤ floor
-    → IsNextDue keys next next
-due_next {next = next} {floor = floor} {first = first} {home = home} {keys = keys} f e row above up =
-    let h = f.used.has_slot (home_low f row) in
-    let k = place_is (home_by next) (key_in keys h.slot) h.stands.place h.stands.has in
-    let at : home_by next k.0 ≡ first = ap (λ (p : Place). p.home) k.2 ∙ h.stands.at_home ∙ e in
-    let late : next ≤ k.0.deadline = omega (arith, above h.slot k.0 k.1) in
-    let x : max k.0.deadline next ≡ k.0.deadline = omega arith in
-    let here : bucket_of next k.0.deadline ≡ bucket_of next next = ap (bucket_of next) (sym x) ∙ at ∙ f.first in
-    let n : bucket_of next next ≡ next % 512 = home_next 3 next in
-    let one : k.0.deadline / 512 ≡ next / 512 = window_of 3 next k.0.deadline (omega arith) in
-    let d : bucket_of next k.0.deadline ≡ k.0.deadline % 512 = home_near 3 k.0.deadline next one in
-    record {
-      some = row;
-      none_before = λ slot key has. omega (arith, above slot key has);
-      near = inl (record { slot = h.slot; key = k.0; has = k.1; at = omega arith });
-    }
+-- no row stands on a level before a time, if none does before a later one
+pub none_sooner : (keys : List (Option Key)) (levels : Key → ℕ) (level time sooner : ℕ) → sooner ≤ time → NoneOn keys levels level time
+    → NoneOn keys levels level sooner
+none_sooner keys levels level time sooner up none = λ slot key has on. omega (arith, up, none slot key has on)
+
+-- no row that stands below a level is due before a time
+abbrev pub NoneBelow : List (Option Key) → (Key → ℕ) → ℕ → ℕ → Type 0
+NoneBelow keys levels level time = (slot : ℕ) (key : Key) → key_in keys slot ≡ Some key → levels key < level → time ≤ key.deadline
+
+-- one more level
+pub none_more : (keys : List (Option Key)) (levels : Key → ℕ) (level time sooner : ℕ) → sooner ≤ time → NoneBelow keys levels level time
+    → NoneOn keys levels level sooner → NoneBelow keys levels (level + 1) sooner
+none_more keys levels level time sooner up below on = λ slot key has low.
+    elim (cases_eq (levels key) level) [
+      | inl e ↦ on slot key has e
+      | inr ne ↦ omega (arith, up, below slot key has (omega (arith, low, ne)))
+    ]
+
+-- all are below the end of the levels, or below one whose windows after that of the next time are no earlier
+pub none_above : {next : ℕ} {chains : Rings} {keys : List (Option Key)} {levels : Key → ℕ} (level time : ℕ) → StandOnLevels next chains keys levels
+    → 1 ≤ level → time ≤ (next / 512 ^ level + 1) * 512 ^ level → NoneBelow keys levels level time → NoneBefore keys time
+none_above {next = next} {levels = levels} level time stand some early below = λ slot key has.
+    elim (cases_lt (levels key) level) [
+      | inl low ↦ below slot key has low
+      | inr high ↦
+          let t : ℕ = max key.deadline next in
+          let fit = stand.levelled.fit slot key has in
+          let same : t ≡ key.deadline = not_late next (levels key) key.deadline (omega (arith, some, high)) fit in
+          let later : next / 512 ^ level < t / 512 ^ level = window_later next level (levels key) t (omega (arith, some, high)) high fit in
+          omega (arith, early, same, begins level (next / 512 ^ level + 1) t (omega (arith, later)))
+    ]
+
+pub none_at_all : {next : ℕ} {chains : Rings} {keys : List (Option Key)} {levels : Key → ℕ} (level time : ℕ) → StandOnLevels next chains keys levels
+    → 4 < level → NoneBelow keys levels level time → NoneBefore keys time
+none_at_all level time stand high below = λ slot key has.
+    below slot key has (omega (arith, high, (stand.levelled.fit slot key has).highest))

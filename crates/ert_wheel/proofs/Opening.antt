@@ -8,7 +8,7 @@ use Rattle.std.proofs.lemmas.List.Folds.{sum_by-replicate}
 use Rattle.ert_wheel.proofs.Writes.{Sees}
 use Rattle.ert_wheel.specs.Rings.{Rings, Place, AreChains}
 use Rattle.ert_wheel.specs.Rows.{key_in}
-use Rattle.ert_wheel.specs.Wheels.{home_by, place_of, places}
+use Rattle.ert_wheel.specs.Wheels.{home_on, place_of, places}
 use Rattle.ert_wheel.specs.declared.row.Key.{Key}
 use Rattle.ert_wheel.specs.declared.row.TheConstants.{BUCKETS}
 
@@ -39,6 +39,13 @@ opened slots stored chains low homes are few =
         time = omega arith;
         counts = sym (sum_by-replicate _ slots None ∙ omega arith);
         low = λ j key has. (let no : None ≡ Some key = sym (no_key_in slots j) ∙ has in cc);
-        are = subst (λ (p : ℕ → Option Place). AreChains chains p) (λ i j. sym (no_place (home_by 0) slots j) i) are;
+        are = record {
+          level = λ _. 0;
+          levelled = record {
+            fit = λ j key has. (let no : None ≡ Some key = sym (no_key_in slots j) ∙ has in absurd cc);
+            falls = λ i j x y has. (let no : None ≡ Some x = sym (no_key_in slots i) ∙ has in absurd cc);
+          };
+          are = subst (λ (p : ℕ → Option Place). AreChains chains p) (λ i j. sym (no_place (home_on 0 (λ _. 0)) slots j) i) are;
+        };
       };
     }

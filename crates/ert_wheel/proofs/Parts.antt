@@ -126,7 +126,22 @@ kept_place places slot j p h =
       | inr ne ↦ sym (with_place_there places slot None j ne) ∙ h
     ]
 
--- what is needed to give a slot a place
+-- what is needed to give a slot a place behind a node of its home
+pub record CanPutBehind (r : Rings) (places : ℕ → Option Place) (slot home order node : ℕ) : Type 0 where
+  pub are : AreChains r places
+  pub low : slot < r.slots
+  pub in_range : home < r.homes
+  pub out : places slot ≡ None
+  pub fits : order < 2 ^ 64
+  pub apart : (j : ℕ) (p : Place) → places j ≡ Some p → p.order ≢ order
+  pub on : (shape r.slots r.homes places).on node ≡ true
+  pub at_home : (shape r.slots r.homes places).home node ≡ home
+  pub below : order < (shape r.slots r.homes places).top node
+  pub above_next : (shape r.slots r.homes places).low (next_at r.links node) ≤ order
+  pub passes : (x : ℕ) → (shape r.slots r.homes places).on x ≡ true → (shape r.slots r.homes places).home x ≡ home → x ≢ node
+      → order < (shape r.slots r.homes places).top x → order < (shape r.slots r.homes places).low (next_at r.links x)
+
+-- what is needed to give it one, above all others of its home or below all
 pub record CanPut (r : Rings) (places : ℕ → Option Place) (slot home order : ℕ) : Type 0 where
   pub are : AreChains r places
   pub low : slot < r.slots
@@ -134,51 +149,110 @@ pub record CanPut (r : Rings) (places : ℕ → Option Place) (slot home order :
   pub out : places slot ≡ None
   pub fits : order < 2 ^ 64
   pub apart : (j : ℕ) (p : Place) → places j ≡ Some p → p.order ≢ order
-  pub above : (j : ℕ) (p : Place) → places j ≡ Some p → p.home ≡ home → p.order < order
 
--- no other node of the chain is above
-highest : (r : Rings) (places : ℕ → Option Place) (slot home order : ℕ) → CanPut r places slot home order
-    → (x : ℕ) → (shape r.slots r.homes places).on x ≡ true
-    → (shape r.slots r.homes places).home x ≡ (shape r.slots r.homes places).home (r.slots + home)
-    → x ≢ r.slots + home → (shape r.slots r.homes places).top x ≤ order
-highest r places slot home order can x on same ne =
+-- above all it goes behind the head
+pub behind_head : (r : Rings) (places : ℕ → Option Place) (slot home order : ℕ) → CanPut r places slot home order
+    → ((j : ℕ) (p : Place) → places j ≡ Some p → p.home ≡ home → p.order < order)
+    → CanPutBehind r places slot home order (r.slots + home)
+behind_head r places slot home order can above =
+    let a : Shape = shape r.slots r.homes places in
+    let after : ℕ → ℕ = next_at r.links in
     let h : IsHead r.slots r.homes places (r.slots + home) =
     head_is r.slots r.homes places (r.slots + home) (omega arith) (omega (arith, can.in_range)) in
-    elim (node_is r.slots r.homes places x on) [
-      | inl (p, s) ↦
-          let at_home : p.home ≡ home = omega (arith, same, s.at_home, h.at_home) in
-          omega (arith, s.top, can.above x p s.has at_home)
-      | inr t ↦ absurd (ne (omega (arith, same, t.at_home, h.at_home, t.high)))
-    ]
+    let at_home : a.home (r.slots + home) ≡ home = omega (arith, h.at_home) in
+    record {
+      are = can.are;
+      low = can.low;
+      in_range = can.in_range;
+      out = can.out;
+      fits = can.fits;
+      apart = can.apart;
+      on = h.on;
+      at_home = at_home;
+      below = omega (arith, h.top, can.fits);
+      above_next = elim (node_is r.slots r.homes places (after (r.slots + home)) (can.are.chained.after_on (r.slots + home) h.on)) [
+        | inl (p, s) ↦
+            let same : p.home ≡ home = sym s.at_home ∙ can.are.chained.home (r.slots + home) h.on ∙ at_home in
+            omega (arith, s.bound, above (after (r.slots + home)) p s.has same)
+        | inr t ↦ omega (arith, t.bound)
+      ];
+      passes = λ x on same ne higher. elim (node_is r.slots r.homes places x on) [
+        | inl (p, s) ↦ absurd (omega (arith, s.top, above x p s.has (sym s.at_home ∙ same)))
+        | inr t ↦ absurd (ne (omega (arith, same, t.at_home, t.high)))
+      ];
+    }
 
-goes_in : (r : Rings) (places : ℕ → Option Place) (slot home order : ℕ) → CanPut r places slot home order
+-- below all it goes behind the node before the head, which is the oldest slot or the head itself
+pub behind_oldest : (r : Rings) (places : ℕ → Option Place) (slot home order : ℕ) → CanPut r places slot home order
+    → ((j : ℕ) (p : Place) → places j ≡ Some p → p.home ≡ home → order < p.order)
+    → CanPutBehind r places slot home order (prev_at r.links (r.slots + home))
+behind_oldest r places slot home order can below =
+    let a : Shape = shape r.slots r.homes places in
+    let after : ℕ → ℕ = next_at r.links in
+    let head : ℕ = r.slots + home in
+    let node : ℕ = prev_at r.links head in
+    let h : IsHead r.slots r.homes places head = head_is r.slots r.homes places head (omega arith) (omega (arith, can.in_range)) in
+    let at_home : a.home head ≡ home = omega (arith, h.at_home) in
+    let on : a.on node ≡ true = can.are.chained.before_on head h.on in
+    let next : after node ≡ head = can.are.chained.after_before head h.on in
+    let node_home : a.home node ≡ home = sym (can.are.chained.home node on) ∙ ap a.home next ∙ at_home in
+    let low : a.low (after node) ≡ 0 = ap a.low next ∙ h.bound in
+    record {
+      are = can.are;
+      low = can.low;
+      in_range = can.in_range;
+      out = can.out;
+      fits = can.fits;
+      apart = can.apart;
+      on = on;
+      at_home = node_home;
+      below = elim (node_is r.slots r.homes places node on) [
+        | inl (p, s) ↦ omega (arith, s.top, below node p s.has (sym s.at_home ∙ node_home))
+        | inr t ↦ omega (arith, t.top, can.fits)
+      ];
+      above_next = omega (arith, low);
+      passes = λ x on_x same ne higher. passed x on_x same ne;
+    }
+  where
+    head : ℕ
+    head = r.slots + home
+
+    node : ℕ
+    node = prev_at r.links head
+
+    -- what comes after another node of the home is a slot
+    passed : (x : ℕ) → (shape r.slots r.homes places).on x ≡ true → (shape r.slots r.homes places).home x ≡ home → x ≢ node
+        → order < (shape r.slots r.homes places).low (next_at r.links x)
+    passed x on same ne =
+        let a : Shape = shape r.slots r.homes places in
+        let n : ℕ = next_at r.links x in
+        let h : IsHead r.slots r.homes places head = head_is r.slots r.homes places head (omega arith) (omega (arith, can.in_range)) in
+        let at_home : a.home head ≡ home = omega (arith, h.at_home) in
+        let n_home : a.home n ≡ home = can.are.chained.home x on ∙ same in
+        elim (node_is r.slots r.homes places n (can.are.chained.after_on x on)) [
+          | inl (p, s) ↦ omega (arith, s.bound, below n p s.has (sym s.at_home ∙ n_home))
+          | inr t ↦
+              let is : n ≡ head = omega (arith, n_home, t.at_home, t.high) in
+              absurd (ne (sym (can.are.chained.before_after x on) ∙ ap (prev_at r.links) is))
+        ]
+
+goes_in : (r : Rings) (places : ℕ → Option Place) (slot home order node : ℕ) → CanPutBehind r places slot home order node
     → GoesIn (shape r.slots r.homes places)
-    (shape r.slots r.homes (with_place places slot (Some (record { home = home; order = order })))) (r.slots + home) slot order
-goes_in r places slot home order can =
+    (shape r.slots r.homes (with_place places slot (Some (record { home = home; order = order })))) node slot order
+goes_in r places slot home order node can =
     let new : Option Place = Some (record { home = home; order = order }) in
-    let h : IsHead r.slots r.homes places (r.slots + home) =
-    head_is r.slots r.homes places (r.slots + home) (omega arith) (omega (arith, can.in_range)) in
     let a : Shape = shape r.slots r.homes places in
     let b : Shape = shape r.slots r.homes (with_place places slot new) in
-    let same : home ≡ a.home (r.slots + home) = omega (arith, h.at_home) in
     record {
       slots = refl;
       on = changed_at r.slots is_some (λ x. nat_lt x (r.slots + r.homes)) places slot new can.low;
-      home = subst (λ (n : ℕ). Changed a.home b.home slot n) same
+      home = subst (λ (n : ℕ). Changed a.home b.home slot n) (sym can.at_home)
           (changed_at r.slots home_of (λ x. x - r.slots) places slot new can.low);
       top = changed_at r.slots order_of (λ _. 2 ^ 64) places slot new can.low;
       low = changed_at r.slots (λ p. order_of p + 1) (λ _. 0) places slot new can.low;
       off = by_slot r.slots is_some (λ x. nat_lt x (r.slots + r.homes)) places slot can.low ∙ ap is_some can.out;
-      head_on = h.on;
-      head_above = omega arith;
-      below_head = omega (arith, h.top, can.fits);
-      above = λ x on same. elim (node_is r.slots r.homes places x on) [
-        | inl (p, s) ↦
-            let at_home : p.home ≡ home = omega (arith, same, s.at_home, h.at_home) in
-            omega (arith, s.bound, can.above x p s.has at_home)
-        | inr t ↦ omega (arith, t.bound)
-      ];
-      highest = highest r places slot home order can;
+      head_on = can.on;
+      below_head = can.below;
     }
 
 -- a slot that has a place isn't alone
@@ -197,12 +271,12 @@ off slots homes places x low none =
     by_slot slots is_some (λ x. nat_lt x (slots + homes)) places x low ∙ ap is_some none
 
 -- the slots without a place are alone as before
-put_alone : (r : Rings) (places : ℕ → Option Place) (slot home order : ℕ) (links : List Link)
-    → CanPut r places slot home order
-    → Spliced (next_at r.links) (prev_at r.links) (next_at links) (prev_at links) (r.slots + home) slot
+put_alone : (r : Rings) (places : ℕ → Option Place) (slot home order node : ℕ) (links : List Link)
+    → CanPutBehind r places slot home order node
+    → Spliced (next_at r.links) (prev_at r.links) (next_at links) (prev_at links) node slot
     → (j : ℕ) → j < r.slots → with_place places slot (Some (record { home = home; order = order })) j ≡ None
     → Alone (next_at links) (prev_at links) j
-put_alone r places slot home order links can spliced j low h =
+put_alone r places slot home order node links can spliced j low h =
     let here : Place = record { home = home; order = order } in
     let new : Option Place = Some here in
     let a : Shape = shape r.slots r.homes places in
@@ -214,22 +288,20 @@ put_alone r places slot home order links can spliced j low h =
       | inr ne ↦
           let none : places j ≡ None = sym (with_place_there places slot new j ne) ∙ h in
           let was : Alone (next_at r.links) (prev_at r.links) j = can.are.alone j low none in
-          let head : IsHead r.slots r.homes places (r.slots + home) =
-          head_is r.slots r.homes places (r.slots + home) (omega arith) (omega (arith, can.in_range)) in
-          let on : a.on (next_at r.links (r.slots + home)) ≡ true = can.are.chained.after_on (r.slots + home) head.on in
+          let out : a.on j ≡ false = off r.slots r.homes places j low none in
+          let on : a.on (next_at r.links node) ≡ true = can.are.chained.after_on node can.on in
           record {
-            forth = spliced.others_after j ne (λ e. absurd (omega arith)) ∙ was.forth;
-            back = spliced.others_before j ne
-                (λ e. false≢true (sym (off r.slots r.homes places j low none) ∙ ap a.on e ∙ on)) ∙ was.back;
+            forth = spliced.others_after j ne (λ e. false≢true (sym out ∙ ap a.on e ∙ can.on)) ∙ was.forth;
+            back = spliced.others_before j ne (λ e. false≢true (sym out ∙ ap a.on e ∙ on)) ∙ was.back;
           }
     ]
 
 -- the chains with a slot put in
-pub put_chains : (r : Rings) (places : ℕ → Option Place) (slot home order : ℕ) (links : List Link)
-    → CanPut r places slot home order
-    → Spliced (next_at r.links) (prev_at r.links) (next_at links) (prev_at links) (r.slots + home) slot
+pub put_chains : (r : Rings) (places : ℕ → Option Place) (slot home order node : ℕ) (links : List Link)
+    → CanPutBehind r places slot home order node
+    → Spliced (next_at r.links) (prev_at r.links) (next_at links) (prev_at links) node slot
     → AreChains (record r { links = links }) (with_place places slot (Some (record { home = home; order = order })))
-put_chains r places slot home order links can spliced = record {
+put_chains r places slot home order node links can spliced = record {
   orders = λ j p h. elim (has_place places slot _ j p h)
       [ inl t ↦ omega (arith, ap (λ (q : Place). q.order) t.1, can.fits) | inr t ↦ can.are.orders j p t.1 ];
   once = λ i j p q h k e. elim (has_place places slot _ i p h) [
@@ -242,8 +314,14 @@ put_chains r places slot home order links can spliced = record {
       | inr t ↦ can.are.once i j p q s.1 t.1 e
     ]
   ];
-  chained = inserted (record { old = can.are.chained; goes = goes_in r places slot home order can; links = spliced });
-  alone = put_alone r places slot home order links can spliced;
+  chained = inserted (record {
+    old = can.are.chained;
+    goes = goes_in r places slot home order node can;
+    links = spliced;
+    above_next = can.above_next;
+    passes = λ x on same ne higher. can.passes x on (same ∙ can.at_home) ne higher;
+  });
+  alone = put_alone r places slot home order node links can spliced;
 }
 
 goes_out : (r : Rings) (places : ℕ → Option Place) (slot : ℕ) (place : Place) → AreChains r places

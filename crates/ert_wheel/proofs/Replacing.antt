@@ -10,7 +10,7 @@ use Rattle.ert_wheel.specs.Rings.{Rings, Place, shape, home_of, order_of, AreCha
 use Rattle.ert_wheel.specs.Wheels.{places}
 
 -- a place that is given twice
-with_twice : (places : ℕ → Option Place) (slot : ℕ) (x y : Option Place) (j : ℕ)
+pub with_twice : (places : ℕ → Option Place) (slot : ℕ) (x y : Option Place) (j : ℕ)
     → with_place (with_place places slot x) slot y j ≡ with_place places slot y j
 with_twice places slot x y j =
     elim (cases_eq j slot) [

@@ -1,10 +1,10 @@
--- A slot is put into a chain, behind its head.
+-- A slot is put into a chain, behind one of its nodes.
 
 use Rattle.std.proofs.Common.{◌≡◌, ◌≢◌, ◌⊎◌, ℕ, ◌+◌, ◌<◌, ◌≤◌, Bool, true, false, sym, subst, ◌∙◌, ap, inl, inr, arith}
 use Rattle.std.proofs.lemmas.Bool.{cases_eq, true≢false}
 use Rattle.ert_wheel.specs.Chained.{Shape, Chained, Changed, Spliced}
 
--- what changes where a slot goes in: it had no place, and its order is above all others of the chain
+-- what changes where a slot goes in behind a node of its chain: it had no place, and its order is below that of the node
 pub record GoesIn (a b : Shape) (head slot order : ℕ) : Type 0 where
   pub slots : b.slots ≡ a.slots
   pub on : Changed a.on b.on slot true
@@ -13,16 +13,15 @@ pub record GoesIn (a b : Shape) (head slot order : ℕ) : Type 0 where
   pub low : Changed a.low b.low slot (order + 1)
   pub off : a.on slot ≡ false
   pub head_on : a.on head ≡ true
-  pub head_above : a.slots ≤ head
   pub below_head : order < a.top head
-  pub above : (x : ℕ) → a.on x ≡ true → a.home x ≡ a.home head → a.low x ≤ order
-  pub highest : (x : ℕ) → a.on x ≡ true → a.home x ≡ a.home head → x ≢ head → a.top x ≤ order
 
--- the chains before, and both changes
+-- the chains before, and both changes: the order is above what came after the node, and there alone it has its place
 pub record Inserts (a b : Shape) (after before after' before' : ℕ → ℕ) (head slot order : ℕ) : Type 0 where
   pub old : Chained a after before
   pub goes : GoesIn a b head slot order
   pub links : Spliced after before after' before' head slot
+  pub above_next : a.low (after head) ≤ order
+  pub passes : (x : ℕ) → a.on x ≡ true → a.home x ≡ a.home head → x ≢ head → order < a.top x → order < a.low (after x)
 
 -- what is held isn't what isn't held
 pub on_apart : (on : ℕ → Bool) (x y : ℕ) → on x ≡ true → on y ≡ false → x ≢ y
@@ -69,7 +68,7 @@ down : {a b : Shape} {after before after' before' : ℕ → ℕ} {head slot orde
     (i : Inserts a b after before after' before' head slot order) (x : ℕ) → b.on x ≡ true
     → b.low (after' x) ≤ b.top x
 down {a = a} {after = after} {before = before} {head = head} {slot = slot} i x on =
-    grind (arith, cases_eq x slot, cases_eq x head, i.links.slot_after, i.links.head_after, i.links.others_after x, i.goes.on.there x, i.goes.off, i.goes.low.here, i.goes.top.here, i.goes.top.there x, i.goes.top.there head, i.goes.below_head, i.goes.low.there (after x), i.goes.low.there (after head), on_apart a.on (after x) slot, on_apart a.on (after head) slot, on_apart a.on head slot i.goes.head_on, i.old.after_on x, i.old.after_on head i.goes.head_on, i.goes.above (after head), i.old.home head i.goes.head_on, i.old.down x)
+    grind (arith, cases_eq x slot, cases_eq x head, i.links.slot_after, i.links.head_after, i.links.others_after x, i.goes.on.there x, i.goes.off, i.goes.low.here, i.goes.top.here, i.goes.top.there x, i.goes.top.there head, i.goes.below_head, i.goes.low.there (after x), i.goes.low.there (after head), on_apart a.on (after x) slot, on_apart a.on (after head) slot, on_apart a.on head slot i.goes.head_on, i.old.after_on x, i.old.after_on head i.goes.head_on, i.above_next, i.old.home head i.goes.head_on, i.old.down x)
 
 -- a slot that is still on, as it was
 record StillOn (a b : Shape) (slot j : ℕ) : Type 0 where
@@ -110,32 +109,36 @@ least_slot {a = a} {b = b} {after = after} {after' = after'} {head = head} {slot
     ap b.low i.links.slot_after ∙ i.goes.low.there (after head) apart in
     omega (arith, e, s.top)
 
--- the next lower rank after the head
+-- the next lower rank after the node
 least_head : {a b : Shape} {after before after' before' : ℕ → ℕ} {head slot order : ℕ}
     (i : Inserts a b after before after' before' head slot order) (j : ℕ) → (j ≡ slot) ⊎ StillOn a b slot j
-    → b.home j ≡ b.home head → b.top j < b.low (after' head)
-least_head {b = b} {after' = after'} {head = head} {slot = slot} {order = order} i j (inl e) home =
+    → b.home j ≡ b.home head → b.top j < b.top head → b.top j < b.low (after' head)
+least_head {b = b} {after' = after'} {head = head} {slot = slot} {order = order} i j (inl e) home lower =
     let l : b.low (after' head) ≡ order + 1 = ap b.low i.links.head_after ∙ i.goes.low.here in
     omega (arith, ap b.top e, i.goes.top.here)
-least_head {a = a} {b = b} {after' = after'} {head = head} {slot = slot} {order = order} i j (inr s) home =
+least_head {a = a} {b = b} {after = after} {after' = after'} {head = head} {slot = slot} {order = order} i j (inr s) home lower =
     let l : b.low (after' head) ≡ order + 1 = ap b.low i.links.head_after ∙ i.goes.low.here in
     let apart : head ≢ slot = on_apart a.on head slot i.goes.head_on i.goes.off in
     let same : a.home j ≡ a.home head = sym s.home ∙ home ∙ i.goes.home.there head apart in
-    let ne : j ≢ head = omega (arith, s.low, i.goes.head_above) in
-    let below : a.top j ≤ order = i.goes.highest j s.on same ne in
-    omega (arith, s.top)
+    let below : a.top j < a.top head = omega (arith, s.top, i.goes.top.there head apart) in
+    let found : a.top j < a.low (after head) = i.old.least head j i.goes.head_on s.low s.on same below in
+    omega (arith, s.top, i.above_next)
 
 -- the next lower rank after any other node
 least_other : {a b : Shape} {after before after' before' : ℕ → ℕ} {head slot order : ℕ}
     (i : Inserts a b after before after' before' head slot order) (x j : ℕ) → x ≢ slot → x ≢ head
     → b.on x ≡ true → (j ≡ slot) ⊎ StillOn a b slot j → b.home j ≡ b.home x → b.top j < b.top x
     → b.top j < b.low (after' x)
-least_other {a = a} {b = b} {head = head} {order = order} i x j ns nh on (inl e) home lower =
+least_other {a = a} {b = b} {after = after} {after' = after'} {head = head} {slot = slot} {order = order} i x j ns nh on (inl e) home lower =
     let was : a.on x ≡ true = sym (i.goes.on.there x ns) ∙ on in
     let same : a.home x ≡ a.home head =
     sym (i.goes.home.there x ns) ∙ sym home ∙ ap b.home e ∙ i.goes.home.here in
-    let high : a.top x ≤ order = i.goes.highest x was same nh in
-    absurd (omega (arith, ap b.top e, i.goes.top.here, i.goes.top.there x ns))
+    let apart : after x ≢ slot = on_apart a.on (after x) slot (i.old.after_on x was) i.goes.off in
+    let higher : order < a.top x = omega (arith, ap b.top e, i.goes.top.here, i.goes.top.there x ns) in
+    let past : order < a.low (after x) = i.passes x was same nh higher in
+    let l : b.low (after' x) ≡ a.low (after x) =
+    ap b.low (i.links.others_after x ns nh) ∙ i.goes.low.there (after x) apart in
+    omega (arith, ap b.top e, i.goes.top.here)
 least_other {a = a} {b = b} {after = after} {after' = after'} {head = head} {slot = slot} i x j ns nh on (inr s) home lower =
     let was : a.on x ≡ true = sym (i.goes.on.there x ns) ∙ on in
     let apart : after x ≢ slot = on_apart a.on (after x) slot (i.old.after_on x was) i.goes.off in
@@ -155,7 +158,8 @@ least {a = a} {b = b} {after' = after'} {head = head} {slot = slot} i x j on low
       | inl e ↦ subst (λ (y : ℕ). b.top j < b.low (after' y)) (sym e)
           (least_slot i j at_j (home ∙ ap b.home e) (subst (λ (y : ℕ). b.top j < b.top y) e lower))
       | inr ns ↦ elim (cases_eq x head) [
-        | inl e ↦ subst (λ (y : ℕ). b.top j < b.low (after' y)) (sym e) (least_head i j at_j (home ∙ ap b.home e))
+        | inl e ↦ subst (λ (y : ℕ). b.top j < b.low (after' y)) (sym e)
+            (least_head i j at_j (home ∙ ap b.home e) (subst (λ (y : ℕ). b.top j < b.top y) e lower))
         | inr nh ↦ least_other i x j ns nh on at_j home lower
       ]
     ]

@@ -1,7 +1,7 @@
 -- The links as they are stored, and as they are seen: the heads are stored first, and the slots that aren't written aren't
 -- stored.
 
-use Rattle.std.proofs.Common.{map, ◌≡◌, ◌≢◌, ℕ, ◌+◌, ◌-◌, ◌<◌, ◌≤◌, ◌^◌, max, cond, List, [], ◌∷◌, ◌++◌, zero, suc, Option, Some, None, IfSome, length, get_or, sym, subst, ◌∙◌, ap, inl, inr, refl, arith}
+use Rattle.std.proofs.Common.{map, ◌≡◌, ◌≢◌, ℕ, ◌+◌, ◌-◌, ◌<◌, ◌≤◌, ◌^◌, max, cond, true, List, [], ◌∷◌, ◌++◌, zero, suc, Option, Some, None, IfSome, length, get_or, sym, subst, ◌∙◌, ap, inl, inr, refl, arith}
 use Rattle.std.proofs.lemmas.Bool.{cases_eq, cases_lt, lt-ltb, le-ltb}
 use Rattle.std.proofs.lemmas.List.{get_or_default, get_or_push}
 use Rattle.std.proofs.lemmas.List.FromFn.{fill_by_all, get_or-map-range_with_len, length-map-range_with_len}
@@ -10,7 +10,7 @@ use Rattle.std.specs.List.{range_with_len}
 use Rattle.ert_wheel.proofs.Parts.{IsHead, head_is, node_is}
 use Rattle.ert_wheel.specs.Chained.{Spliced, Unspliced}
 use Rattle.ert_wheel.specs.Links.{next_at, prev_at, link_at, lone_link, no_link, node_link, stored_at, stored_node, place_slot, seen_link, seen_links, AreWritten}
-use Rattle.ert_wheel.specs.Rings.{Rings, rings, seen_rings, Place, AreChains, MayPut, IsOnlyOf, HasOthers, node_slot}
+use Rattle.ert_wheel.specs.Rings.{Rings, rings, seen_rings, Place, AreChains, MayPut, IsOnlyOf, HasOthers, node_slot, shape}
 use Rattle.ert_wheel.specs.declared.links.Link.{Link}
 
 -- where a slot and a head are stored, and what is stored there
@@ -161,38 +161,55 @@ same_prev slots homes old new x long same =
 apart : (slots homes x place node : ℕ) → x < slots + homes → stored_node slots homes place ≡ node → x ≢ node → stored_at slots homes x ≢ place
 apart slots homes x place node few at ne same = ne (sym (forth slots homes x few) ∙ (ap (stored_node slots homes) same ∙ at))
 
--- a slot that is put in as it is stored is put in as it is seen
-pub spliced_seen : (slots homes cap : ℕ) (old new : List Link) (home slot : ℕ) → AreWritten slots homes old cap → slot < slots → home < homes
+-- a slot that is put in as it is stored, behind any node, is put in as it is seen
+pub spliced_behind : (slots homes cap : ℕ) (old new : List Link) (at slot : ℕ) → AreWritten slots homes old cap → slot < slots → at < length old
     → length new ≡ length old → homes + slot < length old
-    → Spliced (next_at old) (prev_at old) (next_at new) (prev_at new) home (homes + slot)
-    → Spliced (next_at (seen_links slots homes old)) (prev_at (seen_links slots homes old)) (next_at (seen_links slots homes new)) (prev_at (seen_links slots homes new)) (slots + home) slot
-spliced_seen slots homes cap old new home slot w low in_range long here s =
-    let in_old : home < length old = omega (arith, w.heads) in
-    let in_new : home < length new = omega (arith, long, w.heads) in
+    → Spliced (next_at old) (prev_at old) (next_at new) (prev_at new) at (homes + slot)
+    → Spliced (next_at (seen_links slots homes old)) (prev_at (seen_links slots homes old)) (next_at (seen_links slots homes new)) (prev_at (seen_links slots homes new)) (stored_node slots homes at) slot
+spliced_behind slots homes cap old new at slot w low in_old long here s =
+    let in_new : at < length new = omega (arith, long) in
     let here' : homes + slot < length new = omega (arith, long) in
     let few : slot < slots + homes = omega arith in
-    let few_head : slots + home < slots + homes = omega arith in
-    let q : ℕ = next_at old home in
-    let q_old : q < length old = w.next home in_old in
+    let at_few : at < slots + homes = omega (arith, w.most) in
+    let node : ℕ = stored_node slots homes at in
+    let node_few : node < slots + homes = node_low slots homes at at_few in
+    let q : ℕ = next_at old at in
+    let q_old : q < length old = w.next at in_old in
     let q_new : q < length new = omega (arith, long) in
     let q_few : q < slots + homes = omega (arith, w.most) in
     let slot_at = slot_stored slots homes slot low in
-    let head_at = head_stored slots homes home in
-    let first : next_at (seen_links slots homes old) (slots + home) ≡ stored_node slots homes q = read_next slots homes old (slots + home) home few_head head_at in_old in
+    let node_at = back slots homes at at_few in
+    let first : next_at (seen_links slots homes old) node ≡ stored_node slots homes q = read_next slots homes old node at node_few node_at in_old in
     record {
       slot_after = read_next slots homes new slot (homes + slot) few slot_at here' ∙ (ap (stored_node slots homes) s.slot_after ∙ sym first);
-      slot_before = read_prev slots homes new slot (homes + slot) few slot_at here' ∙ (ap (stored_node slots homes) s.slot_before ∙ node_of_head slots homes home in_range);
-      head_after = read_next slots homes new (slots + home) home few_head head_at in_new ∙ (ap (stored_node slots homes) s.head_after ∙ node_of_slot slots homes slot);
+      slot_before = read_prev slots homes new slot (homes + slot) few slot_at here' ∙ ap (stored_node slots homes) s.slot_before;
+      head_after = read_next slots homes new node at node_few node_at in_new ∙ (ap (stored_node slots homes) s.head_after ∙ node_of_slot slots homes slot);
       next_before = ap (prev_at (seen_links slots homes new)) first
           ∙ (read_prev slots homes new (stored_node slots homes q) q (node_low slots homes q q_few) (back slots homes q q_few) q_new
           ∙ (ap (stored_node slots homes) s.next_before ∙ node_of_slot slots homes slot));
       others_after = λ x ne ne_head. same_next slots homes old new x long
           (λ few _. s.others_after (stored_at slots homes x) (apart slots homes x (homes + slot) slot few (node_of_slot slots homes slot) ne)
-          (apart slots homes x home (slots + home) few (node_of_head slots homes home in_range) ne_head));
+          (apart slots homes x at node few refl ne_head));
       others_before = λ x ne ne_next. same_prev slots homes old new x long
           (λ few _. s.others_before (stored_at slots homes x) (apart slots homes x (homes + slot) slot few (node_of_slot slots homes slot) ne)
-          (apart slots homes x q (next_at (seen_links slots homes old) (slots + home)) few (sym first) ne_next));
+          (apart slots homes x q (next_at (seen_links slots homes old) node) few (sym first) ne_next));
     }
+
+-- and behind a head
+pub spliced_seen : (slots homes cap : ℕ) (old new : List Link) (home slot : ℕ) → AreWritten slots homes old cap → slot < slots → home < homes
+    → length new ≡ length old → homes + slot < length old
+    → Spliced (next_at old) (prev_at old) (next_at new) (prev_at new) home (homes + slot)
+    → Spliced (next_at (seen_links slots homes old)) (prev_at (seen_links slots homes old)) (next_at (seen_links slots homes new)) (prev_at (seen_links slots homes new)) (slots + home) slot
+spliced_seen slots homes cap old new home slot w low in_range long here s =
+    subst (λ (n : ℕ). Spliced (next_at (seen_links slots homes old)) (prev_at (seen_links slots homes old)) (next_at (seen_links slots homes new)) (prev_at (seen_links slots homes new)) n slot)
+    (node_of_head slots homes home in_range)
+    (spliced_behind slots homes cap old new home slot w low (omega (arith, w.heads)) long here s)
+
+-- the node before a head
+pub last_node : (slots homes cap : ℕ) (stored : List Link) (home : ℕ) → AreWritten slots homes stored cap → home < homes
+    → prev_at (seen_links slots homes stored) (slots + home) ≡ stored_node slots homes (prev_at stored home)
+last_node slots homes cap stored home w in_range =
+    read_prev slots homes stored (slots + home) home (omega arith) (head_stored slots homes home) (omega (arith, w.heads))
 
 -- and so one that is taken out
 pub unspliced_seen : (slots homes cap : ℕ) (old new : List Link) (slot : ℕ) → AreWritten slots homes old cap → slot < slots
@@ -410,6 +427,47 @@ may_link_in r slots homes cap stored slot home is may low w =
       apart = λ e. absurd (omega (arith, e, put.in_range));
       new = λ e. not_next (seen_rings slots homes stored) put.places slot home put.are put.low put.in_range put.out
           (sym (node_of_slot slots homes slot) ∙ (ap (stored_node slots homes) e ∙ sym first));
+    }
+
+-- and behind the node before a head
+pub record MayLinkLast (homes : ℕ) (stored : List Link) (slot home : ℕ) : Type 0 where
+  pub head : home < length stored
+  pub last : prev_at stored home < length stored
+  pub node : homes + slot < length stored
+  pub next : next_at stored (prev_at stored home) < length stored
+  pub apart : homes + slot ≢ prev_at stored home
+  pub new : homes + slot ≢ next_at stored (prev_at stored home)
+
+pub may_link_last : (r : Rings) (slots homes cap : ℕ) (stored : List Link) (slot home : ℕ) → seen_rings slots homes stored ≡ r
+    → MayPut r slot home → slot < r.written → AreWritten slots homes stored cap → MayLinkLast homes stored slot home
+may_link_last r slots homes cap stored slot home is may low w =
+    let seen : Rings = seen_rings slots homes stored in
+    let put : MayPut seen slot home = subst (λ (r : Rings). MayPut r slot home) (sym is) may in
+    let here : home < length stored = omega (arith, w.heads, put.in_range) in
+    let last : ℕ = prev_at stored home in
+    let last_in : last < length stored = w.prev home here in
+    let last_few : last < slots + homes = omega (arith, w.most) in
+    let before : prev_at seen.links (slots + home) ≡ stored_node slots homes last = last_node slots homes cap stored home w put.in_range in
+    let h : IsHead slots homes put.places (slots + home) = head_is slots homes put.places (slots + home) (omega arith) (omega (arith, put.in_range)) in
+    let on : (shape slots homes put.places).on (prev_at seen.links (slots + home)) ≡ true = put.are.chained.before_on (slots + home) h.on in
+    let after : next_at seen.links (prev_at seen.links (slots + home)) ≡ slots + home = put.are.chained.after_before (slots + home) h.on in
+    let next : next_at seen.links (stored_node slots homes last) ≡ stored_node slots homes (next_at stored last) =
+    read_next slots homes stored (stored_node slots homes last) last (node_low slots homes last last_few) (back slots homes last last_few) last_in in
+    record {
+      head = here;
+      last = last_in;
+      node = stored_low slots homes stored r slot is low;
+      next = w.next last last_in;
+      apart = λ e.
+          let same : prev_at seen.links (slots + home) ≡ slot = before ∙ (ap (stored_node slots homes) (sym e) ∙ node_of_slot slots homes slot) in
+          elim (node_is slots homes put.places slot (sym (ap (shape slots homes put.places).on same) ∙ on)) [
+            | inl (p, s) ↦ let bad : None ≡ Some p = sym put.out ∙ s.has in cc
+            | inr t ↦ absurd (omega (arith, t.high, put.low))
+          ];
+      new = λ e.
+          let same : slots + home ≡ slot =
+          sym after ∙ (ap (next_at seen.links) before ∙ (next ∙ (ap (stored_node slots homes) (sym e) ∙ node_of_slot slots homes slot))) in
+          absurd (omega (arith, same, put.low));
     }
 
 -- the places of a slot's neighbours

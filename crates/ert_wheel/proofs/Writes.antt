@@ -7,14 +7,17 @@ use Rattle.std.proofs.lemmas.List.{ext_get_or, get_or-map, length-map, length-se
 use Rattle.std.proofs.lemmas.List.Sums.{count_by-le-length}
 use Rattle.std.specs.Bool.{IsTrue}
 use Rattle.std.specs.Option.{is_some, IsSome}
+use Rattle.ert_wheel.proofs.Enters.{Enters, entered, entered_chains}
+use Rattle.ert_wheel.proofs.Falls.{at_level}
 use Rattle.ert_wheel.proofs.Parts.{chains_written}
 use Rattle.ert_wheel.proofs.Views.{AreStored, held_at, held_len, key_stored, key_alone, key_apart, held_is, key_set, stored_held, stored_set, stored_less, stored_more, chains_set, counts_more, counts_less, counts_same, place_is}
 use Rattle.ert_wheel.specs.Kept.{KeptSlots, AreAlike}
+use Rattle.ert_wheel.specs.Levels.{IsLeastLevel, IsLeastBucket}
 use Rattle.ert_wheel.specs.Links.{next_at}
 use Rattle.ert_wheel.specs.Rings.{Rings, Place, AreChains, with_place, MayPut, Puts, MayTake, GivesUpPlace, MovesSlot}
 use Rattle.ert_wheel.specs.Rows.{Held, key_in, times, due_count, left_at}
-use Rattle.ert_wheel.specs.Walks.{MayMoveOn}
-use Rattle.ert_wheel.specs.Wheels.{no_key, held_keys, home_by, place_of, places, IsWheel, IsWheelKept, IsWheelAlike}
+use Rattle.ert_wheel.specs.Falling.{MayMoveOn}
+use Rattle.ert_wheel.specs.Wheels.{no_key, held_keys, home_on, place_of, places, AreLevelled, AreLevelChains, IsWheel, IsWheelKept, IsWheelAlike}
 use Rattle.ert_wheel.specs.declared.row.Key.{Key}
 use Rattle.ert_wheel.specs.declared.row.Row.{Row}
 use Rattle.ert_wheel.specs.declared.row.TheConstants.{NEVER, BUCKETS}
@@ -97,7 +100,7 @@ stored_as {next = next} {count = count} {floor = floor} {seen = seen} {chains = 
 pub is_held : {next count floor : ℕ} {stored : List Key} {seen : List (Option Key)} {chains : Rings}
     → Sees next count floor stored seen chains → held_keys chains stored ≡ seen
 is_held {next = next} {stored = stored} {seen = seen} {chains = chains} s =
-    held_is chains (home_by next) stored seen s.wheel.slots s.are_stored s.wheel.are
+    held_is chains (home_on next s.wheel.are.level) stored seen s.wheel.slots s.are_stored s.wheel.are.are
 
 pub is_kept : {next count floor : ℕ} {stored : List Key} {seen : List (Option Key)} {chains : Rings}
     → Sees next count floor stored seen chains → IsWheelKept next count floor (held_keys chains stored) chains
@@ -109,11 +112,11 @@ pub may_put : {next count floor : ℕ} {stored : List Key} {seen : List (Option 
     → Sees next count floor stored seen chains → slot < length seen → key_in seen slot ≡ None → home < BUCKETS
     → MayPut chains slot home
 may_put {next = next} {seen = seen} s low vacant in_range = record {
-  places = places (home_by next) seen;
-  are = s.wheel.are;
+  places = places (home_on next s.wheel.are.level) seen;
+  are = s.wheel.are.are;
   low = omega (arith, s.wheel.slots);
   in_range = omega (arith, s.wheel.homes);
-  out = ap (place_of (home_by next)) vacant;
+  out = ap (place_of (home_on next s.wheel.are.level)) vacant;
 }
 
 -- the orders that are held are below that of a newest row
@@ -146,13 +149,18 @@ pub record CanStore (seen : List (Option Key)) (slot : ℕ) (key : Key) : Type 0
   pub order : key.order < 2 ^ 64
   pub newest : (j : ℕ) → IfSome (key_in seen j) (λ k. k.order < key.order)
 
+-- a row to be stored comes to its level
+enters : {next l slot : ℕ} {seen : List (Option Key)} {key : Key} → CanStore seen slot key → IsLeastLevel next l (max key.deadline next) → Enters next l seen slot key
+enters can least = record { low = can.low; newest = can.newest; least = least }
+
 -- the wheel with another row of a slot, or its first
-pub stored_row : {next count count' floor floor' : ℕ} {stored : List Key} {seen : List (Option Key)} {chains new : Rings} {slot : ℕ} {key : Key}
-    → Sees next count floor stored seen chains → CanStore seen slot key → slot < length stored → new.slots ≡ chains.slots → new.homes ≡ chains.homes
+pub stored_row : {next count count' floor floor' : ℕ} {stored : List Key} {seen : List (Option Key)} {chains new : Rings} {slot : ℕ} {key : Key} {home : ℕ}
+    → (s : Sees next count floor stored seen chains) → CanStore seen slot key → slot < length stored → IsLeastBucket next (max key.deadline next) home
+    → new.slots ≡ chains.slots → new.homes ≡ chains.homes
     → floor' ≡ min floor key.deadline → count' ≡ count_by is_some (set seen slot (Some key))
-    → AreChains new (with_place (places (home_by next) seen) slot (Some (record { home = home_by next key; order = key.order })))
+    → AreChains new (with_place (places (home_on next s.wheel.are.level) seen) slot (Some (record { home = home; order = key.order })))
     → Sees next count' floor' (set stored slot key) (set seen slot (Some key)) new
-stored_row {next = next} {stored = stored} {seen = seen} {new = new} {slot = slot} {key = key} s can written slots homes low' counts are = record {
+stored_row {next = next} {stored = stored} {seen = seen} {new = new} {slot = slot} {key = key} {home = home} s can written b slots homes low' counts are = record {
   are_stored = stored_set stored seen slot key s.are_stored written can.low;
   above = λ j k has. elim (key_set seen slot (Some key) j k can.low has) [
     | inl (here, some) ↦ let same : key ≡ k = cc in omega (arith, ap (λ (x : Key). x.deadline) same)
@@ -168,31 +176,35 @@ stored_row {next = next} {stored = stored} {seen = seen} {new = new} {slot = slo
       | inl (here, some) ↦ let same : key ≡ k = cc in subst (λ (x : Key). x.deadline < NEVER) same can.deadline
       | inr (ne, was) ↦ s.wheel.low j k was
     ];
-    are = chains_set new (home_by next) seen slot (Some key) can.low are;
+    are = record {
+      level = at_level s.wheel.are.level key.order b.level;
+      levelled = entered s.wheel.are.level (enters can b.least) s.wheel.are.levelled;
+      are = entered_chains s.wheel.are.level home new (enters can b.least) b.is are;
+    };
   };
 }
 
 -- the wheel with a row put in
 pub inserted : {next count floor floor' : ℕ} {stored : List Key} {seen : List (Option Key)} {chains new : Rings} {slot : ℕ} {key : Key} {home : ℕ}
-    → Sees next count floor stored seen chains → CanStore seen slot key → slot < length stored → key_in seen slot ≡ None → home ≡ home_by next key
+    → Sees next count floor stored seen chains → CanStore seen slot key → slot < length stored → key_in seen slot ≡ None
+    → IsLeastBucket next (max key.deadline next) home
     → new.slots ≡ chains.slots → new.homes ≡ chains.homes → Puts chains new slot home → floor' ≡ min floor key.deadline
     → Sees next (count + 1) floor' (set stored slot key) (set seen slot (Some key)) new
-inserted {next = next} {seen = seen} {chains = chains} {new = new} {slot = slot} {key = key} s can written vacant e slots homes puts low' =
-    let h : Key → ℕ = home_by next in
-    let puts_key : Puts chains new slot (h key) = subst (λ (n : ℕ). Puts chains new slot n) e puts in
-    stored_row s can written slots homes low' (ap (λ n. n + 1) s.wheel.counts ∙ sym (counts_more seen slot key can.low vacant))
-    (puts_key (places h seen) key.order s.wheel.are (ap (place_of h) vacant) can.order (orders_below h seen key.order can.newest))
+inserted {next = next} {seen = seen} {slot = slot} {key = key} s can written vacant b slots homes puts low' =
+    let h : Key → ℕ = home_on next s.wheel.are.level in
+    stored_row s can written b slots homes low' (ap (λ n. n + 1) s.wheel.counts ∙ sym (counts_more seen slot key can.low vacant))
+    (puts (places h seen) key.order s.wheel.are.are (ap (place_of h) vacant) can.order (orders_below h seen key.order can.newest))
 
 -- the wheel with another row of a slot
 pub replaced : {next count floor floor' : ℕ} {stored : List Key} {seen : List (Option Key)} {chains new : Rings} {slot : ℕ} {key : Key} {home : ℕ}
-    → Sees next count floor stored seen chains → CanStore seen slot key → slot < length stored → IsSome (key_in seen slot) → home ≡ home_by next key
+    → Sees next count floor stored seen chains → CanStore seen slot key → slot < length stored → IsSome (key_in seen slot)
+    → IsLeastBucket next (max key.deadline next) home
     → new.slots ≡ chains.slots → new.homes ≡ chains.homes → MovesSlot chains new slot home → floor' ≡ min floor key.deadline
     → Sees next count floor' (set stored slot key) (set seen slot (Some key)) new
-replaced {next = next} {seen = seen} {chains = chains} {new = new} {slot = slot} {key = key} s can written held e slots homes moves low' =
-    let h : Key → ℕ = home_by next in
-    let moves_key : MovesSlot chains new slot (h key) = subst (λ (n : ℕ). MovesSlot chains new slot n) e moves in
-    stored_row s can written slots homes low' (s.wheel.counts ∙ sym (counts_same seen slot key can.low held))
-    (moves_key (places h seen) key.order s.wheel.are can.order (orders_below h seen key.order can.newest))
+replaced {next = next} {seen = seen} {slot = slot} {key = key} s can written held b slots homes moves low' =
+    let h : Key → ℕ = home_on next s.wheel.are.level in
+    stored_row s can written b slots homes low' (s.wheel.counts ∙ sym (counts_same seen slot key can.low held))
+    (moves (places h seen) key.order s.wheel.are.are can.order (orders_below h seen key.order can.newest))
 
 -- where a slot is alone it has no row, and else the one that is stored
 pub looks_alone : {next count floor : ℕ} {stored : List Key} {seen : List (Option Key)} {chains : Rings} {slot : ℕ}
@@ -211,8 +223,8 @@ looks_apart {stored = stored} {chains = chains} {slot = slot} s low written ne =
 pub may_take : {next count floor : ℕ} {stored : List Key} {seen : List (Option Key)} {chains : Rings} {slot : ℕ}
     → Sees next count floor stored seen chains → slot < length seen → MayTake chains slot
 may_take {next = next} {seen = seen} s low = record {
-  places = places (home_by next) seen;
-  are = s.wheel.are;
+  places = places (home_on next s.wheel.are.level) seen;
+  are = s.wheel.are.are;
   low = omega (arith, s.wheel.slots);
 }
 
@@ -221,6 +233,18 @@ pub count_holds : {next count floor : ℕ} {stored : List Key} {seen : List (Opt
     → Sees next count floor stored seen chains → slot < length seen → key_in seen slot ≡ Some key → 1 ≤ count
 count_holds {seen = seen} {slot = slot} {key = key} s low held =
     omega (arith, s.wheel.counts, counts_less seen slot key low held)
+
+-- the levels without it
+left_levelled : (next : ℕ) (seen : List (Option Key)) (slot : ℕ) (level : Key → ℕ) → slot < length seen → AreLevelled next 1 seen level
+    → AreLevelled next 1 (set seen slot None) level
+left_levelled next seen slot level low a =
+    let was : (j : ℕ) (k : Key) → key_in (set seen slot None) j ≡ Some k → key_in seen j ≡ Some k =
+    λ j k has. elim (key_set seen slot None j k low has)
+    [ inl (e, none) ↦ let no : None ≡ Some k = none in cc | inr (ne, was) ↦ was ] in
+    record {
+      fit = λ j k has. a.fit j k (was j k has);
+      falls = λ i j x y has has' less same. a.falls i j x y (was i x has) (was j y has') less same;
+    }
 
 -- the wheel with a row taken out
 pub removed : {next count floor : ℕ} {stored : List Key} {seen : List (Option Key)} {chains new : Rings} {slot : ℕ} {key : Key}
@@ -239,7 +263,12 @@ removed {next = next} {stored = stored} {seen = seen} {new = new} {slot = slot} 
     counts = omega (arith, s.wheel.counts, counts_less seen slot key low held);
     low = λ j k has. elim (key_set seen slot None j k low has)
         [ inl (e, none) ↦ let no : None ≡ Some k = none in cc | inr (ne, was) ↦ s.wheel.low j k was ];
-    are = chains_set new (home_by next) seen slot None low (takes (places (home_by next) seen) s.wheel.are);
+    are = record {
+      level = s.wheel.are.level;
+      levelled = left_levelled next seen slot s.wheel.are.level low s.wheel.are.levelled;
+      are = chains_set new (home_on next s.wheel.are.level) seen slot None low
+          (takes (places (home_on next s.wheel.are.level) seen) s.wheel.are.are);
+    };
   };
 }
 
@@ -260,12 +289,9 @@ pub may_move : {next next' count : ℕ} {keys : List (Option Key)} {chains : Rin
     → ((j : ℕ) → IfSome (key_in keys j) (λ key. to < key.deadline)) → next ≤ next' → next' ≤ max next (to + 1)
     → next' < NEVER → MayMoveOn chains keys next next'
 may_move to w none up low fits = record {
-  slots = w.slots;
-  homes = w.homes;
-  are = w.are;
+  may = record { slots = w.slots; homes = w.homes; time = w.time; low = w.low; are = w.are };
   up = up;
   time = fits;
-  low = w.low;
   left = λ j key has.
       let later : to < key.deadline = subst (λ (o : Option Key). IfSome o (λ k. to < k.deadline)) has (none j) in
       omega arith;
@@ -276,7 +302,7 @@ pub moved : {next next' count floor floor' : ℕ} {stored : List Key} {seen : Li
     → Sees next count floor stored seen chains → ((j : ℕ) → IfSome (key_in seen j) (λ key. to < key.deadline))
     → after ≤ to + 1 → floor' ≡ max floor after
     → next' < NEVER → new.slots ≡ chains.slots → new.homes ≡ chains.homes
-    → AreChains new (places (home_by next') seen) → Sees next' count floor' stored seen new
+    → AreLevelChains next' 1 new seen → Sees next' count floor' stored seen new
 moved to after s none low up fits slots homes are = record {
   are_stored = s.are_stored;
   above = λ j key has.
@@ -306,7 +332,11 @@ grown {next = next} {stored = stored} {seen = seen} {chains = chains} more writt
     time = s.wheel.time;
     counts = s.wheel.counts;
     low = s.wheel.low;
-    are = chains_written chains written (places (home_by next) seen) s.wheel.are;
+    are = record {
+      level = s.wheel.are.level;
+      levelled = s.wheel.are.levelled;
+      are = chains_written chains written (places (home_on next s.wheel.are.level) seen) s.wheel.are.are;
+    };
   };
 }
 

@@ -1,10 +1,8 @@
 -- The first of the rows that are due.
 
-use Rattle.std.specs.Prelude.{◌≡◌, ℕ, ◌<◌, ◌≤◌, false, List, Option, Some, max, min}
-use Rattle.ert_wheel.specs.NextDue.{NoneBefore, IsDueAt}
+use Rattle.std.specs.Prelude.{◌≡◌, ◌⊎◌, ℕ, ◌<◌, ◌≤◌, false, List, Option, Some, max}
+use Rattle.ert_wheel.specs.NextDue.{NoneBefore, IsDueAt, WindowBegins}
 use Rattle.ert_wheel.specs.Rows.{key_in, key_of, row_at, comes_before}
-use Rattle.ert_wheel.specs.Wheels.{bucket_of, home_by}
-use Rattle.ert_wheel.specs.declared.row.TheConstants.{LAST}
 use Rattle.ert_wheel.specs.declared.row.Key.{Key}
 use Rattle.ert_wheel.specs.declared.row.Row.{Row}
 
@@ -18,12 +16,22 @@ pub record IsFirstRowDue (keys : List (Option Key)) (to : ℕ) (row : Row) : Typ
   pub due : row.deadline ≤ to
   pub first : (slot : ℕ) (key : Key) → key_in keys slot ≡ Some key → comes_before (row_at slot key) row ≡ false
 
--- a row may be due by a time: one stands in a bucket in which such a row may be, up to that of the time itself
-pub record MayBeDue (keys : List (Option Key)) (passed to : ℕ) : Type 0 where
+-- some row is due by a time
+pub record SomeRowDue (keys : List (Option Key)) (to : ℕ) : Type 0 where
   pub slot : ℕ
   pub key : Key
   pub has : key_in keys slot ≡ Some key
-  pub within : home_by passed key ≤ bucket_of passed (max (min to LAST) passed)
+  pub by : key.deadline ≤ to
+
+-- a window of a level above the lowest, in which some row is due, begins by a time
+pub record BeginsBy (keys : List (Option Key)) (passed to : ℕ) : Type 0 where
+  pub time : ℕ
+  pub by : time ≤ to
+  pub begins : WindowBegins keys passed time
+
+-- A row may be due by a time: one is due by then or by the next time, or a window begins by then in which one is due.
+abbrev pub MayBeDue : List (Option Key) → ℕ → ℕ → Type 0
+MayBeDue keys passed to = SomeRowDue keys (max to passed) ⊎ BeginsBy keys passed to
 
 -- the least deadline is at most `to`, and it is no later than the first time that wasn't passed
 pub record IsReached (keys : List (Option Key)) (to passed least : ℕ) : Type 0 where

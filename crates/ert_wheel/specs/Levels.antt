@@ -1,11 +1,30 @@
--- Levels of buckets: the home of a time, seen from the next time, which is the first that wasn't passed.
+-- Levels of buckets: on which of them a time may stand, seen from the next time, which is the first that wasn't passed.
 
-use Rattle.std.specs.Prelude.{ℕ, zero, suc, ◌+◌, ◌/◌, ◌%◌, cond, nat_eq}
+use Rattle.std.specs.Prelude.{◌≡◌, ℕ, ◌+◌, ◌*◌, ◌/◌, ◌%◌, ◌<◌, ◌≤◌, ◌^◌}
 
--- The home of a time where there are so many levels above the lowest. Where the time stands in the same window of
--- 512 as the next time, it is the time's place there. Else it is one level up: the home of the time's window,
--- seen from that of the next time, behind the 512 homes of this level. On the highest level each has its own.
-unfoldable pub home_at : ℕ → ℕ → ℕ → ℕ
-home_at zero time next = time
-home_at (suc above) time next =
-    cond (nat_eq (time / 512) (next / 512)) (time % 512) (512 + home_at above (time / 512) (next / 512))
+-- the bucket of a window on a level: a level has 1,024 buckets, which its windows take in turn
+abbrev pub bucket_of_window : ℕ → ℕ → ℕ
+bucket_of_window level window = level * 1024 + window % 1024
+
+-- the bucket of a time on a level, where the windows of level l are 512 ^ l milliseconds wide
+abbrev pub bucket_on : ℕ → ℕ → ℕ
+bucket_on level time = bucket_of_window level (time / 512 ^ level)
+
+-- A time may stand on a level where 512 of the level's windows, in which the next time is, and the 512 after these have it.
+-- From the level `high` on, its own window is later than that of the next time, but on the lowest level.
+pub record MayStand (next high level time : ℕ) : Type 0 where
+  pub highest : level ≤ 4
+  pub near : time / 512 ^ level / 512 ≤ next / 512 ^ level / 512 + 1
+  pub ahead : 1 ≤ level → high ≤ level → next / 512 ^ level < time / 512 ^ level
+
+-- the least level on which a time may stand: it is too far for the level below
+pub record IsLeastLevel (next level time : ℕ) : Type 0 where
+  pub highest : level ≤ 4
+  pub near : time / 512 ^ level / 512 ≤ next / 512 ^ level / 512 + 1
+  pub beyond : 1 ≤ level → next / 512 ^ level + 1 < time / 512 ^ level
+
+-- a bucket is that of a time on the least level on which it may stand
+pub record IsLeastBucket (next time bucket : ℕ) : Type 0 where
+  pub level : ℕ
+  pub least : IsLeastLevel next level time
+  pub is : bucket ≡ bucket_on level time

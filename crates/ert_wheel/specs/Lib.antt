@@ -1,4 +1,5 @@
 pub mod Chained
+pub mod Falling
 pub mod FirstDue
 pub mod Kept
 pub mod Levels

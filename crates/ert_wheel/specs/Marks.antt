@@ -2,6 +2,7 @@
 
 use Rattle.std.specs.Prelude.{◌≡◌, ◌≢◌, ℕ, length, ◌+◌, ◌<◌, ◌≤◌, ◌/◌, ◌%◌, List, Option, Some, slice_index_or}
 use Rattle.std.specs.Int.{bit_at}
+use Rattle.ert_wheel.specs.Levels.{bucket_of_window}
 use Rattle.ert_wheel.specs.Links.{next_at}
 use Rattle.ert_wheel.specs.Rings.{Rings, Place, StandsIn}
 use Rattle.ert_wheel.specs.declared.row.TheConstants.{BUCKETS}
@@ -10,11 +11,11 @@ use Rattle.ert_wheel.specs.declared.row.TheConstants.{BUCKETS}
 abbrev pub mark_of : List ℕ → ℕ → ℕ
 mark_of words bucket = bit_at (slice_index_or words (bucket / 64) 0) (bucket % 64)
 
--- a bit for each word tells whether it has a mark
+-- a bit for each of the first 64 words tells whether it has a mark
 pub record AreSummed (words : List ℕ) (used : ℕ) : Type 0 where
-  pub wide : length words ≡ 35
-  pub none : (at : ℕ) → at < 35 → bit_at used at ≡ 0 → slice_index_or words at 0 ≡ 0
-  pub some : (at : ℕ) → at < 35 → bit_at used at ≡ 1 → slice_index_or words at 0 ≢ 0
+  pub wide : length words ≡ 67
+  pub none : (at : ℕ) → at < 64 → bit_at used at ≡ 0 → slice_index_or words at 0 ≡ 0
+  pub some : (at : ℕ) → at < 64 → bit_at used at ≡ 1 → slice_index_or words at 0 ≢ 0
 
 -- the node after the head of a home
 abbrev pub newest_node : Rings → ℕ → ℕ
@@ -36,3 +37,9 @@ pub record HasSlot (r : Rings) (places : ℕ → Option Place) (home : ℕ) : Ty
 pub record FirstUsed (r : Rings) (places : ℕ → Option Place) (from end found : ℕ) : Type 0 where
   pub none_below : (j : ℕ) (p : Place) → j < r.slots → places j ≡ Some p → from ≤ p.home → p.home < end → found ≤ p.home
   pub has_slot : found < end → HasSlot r places found
+
+-- the first window of a level whose bucket has a slot, from one on and before an end; the end where there is none
+pub record FirstWindow (r : Rings) (places : ℕ → Option Place) (level from end found : ℕ) : Type 0 where
+  pub none_below : (window j : ℕ) (p : Place) → j < r.slots → places j ≡ Some p → from ≤ window → window < end
+      → p.home ≡ bucket_of_window level window → found ≤ window
+  pub has_slot : found < end → HasSlot r places (bucket_of_window level found)

@@ -3,6 +3,7 @@
 use Rattle.std.specs.Prelude.{◌≡◌, ℕ, ◌+◌, ◌*◌, ◌/◌, ◌<◌, ◌≤◌, ◌^◌, ◌⊎◌, List, Option, Some, None, length}
 use Rattle.ert_wheel.specs.Rings.{Rings, AreChains}
 use Rattle.ert_wheel.specs.Rows.{key_in}
+use Rattle.ert_wheel.specs.Walks.{StandOnLevels}
 use Rattle.ert_wheel.specs.Wheels.{places}
 use Rattle.ert_wheel.specs.declared.row.Key.{Key}
 use Rattle.ert_wheel.specs.declared.row.TheConstants.{NEVER}
@@ -47,6 +48,12 @@ pub record IsNextDue (keys : List (Option Key)) (passed time : ℕ) : Type 0 whe
   pub some : HasSomeRow keys
   pub none_before : NoneBefore keys time
   pub near : IsDueAt keys time ⊎ WindowBegins keys passed time
+
+-- a deadline is in a window of a level that begins at a time; a window of the lowest level is the deadline itself
+pub record Tells (deadline time : ℕ) : Type 0 where
+  pub level : ℕ
+  pub highest : level ≤ 4
+  pub begin : time ≡ deadline / 512 ^ level * 512 ^ level
 
 -- the least deadline of the rows
 pub record IsLeastDeadline (keys : List (Option Key)) (least : ℕ) : Type 0 where
@@ -98,10 +105,23 @@ pub record BeginsIn (keys : List (Option Key)) (home : Key → ℕ) (bucket time
   pub key : Key
   pub has : key_in keys slot ≡ Some key
   pub at_home : home key ≡ bucket
-  pub begin : time ≡ key.deadline / 512 ^ (bucket / 512) * 512 ^ (bucket / 512)
+  pub begin : time ≡ key.deadline / 512 ^ (bucket / 1024) * 512 ^ (bucket / 1024)
 
--- how early a row of a bucket may be due: the least deadline, or the begin of the bucket's window, and None where it has
--- no row
-abbrev pub IsEarlyIn : List (Option Key) → (Key → ℕ) → ℕ → Option ℕ → Type 0
-IsEarlyIn keys home bucket None = (slot : ℕ) (key : Key) → key_in keys slot ≡ Some key → home key ≡ bucket → ⊥
-IsEarlyIn keys home bucket (Some time) = IsLeastIn keys home bucket NEVER time ⊎ BeginsIn keys home bucket time
+-- how early a row of a bucket may be due: the least deadline, or the begin of the bucket's window
+abbrev pub IsEarlyIn : List (Option Key) → (Key → ℕ) → ℕ → ℕ → Type 0
+IsEarlyIn keys home bucket time = IsLeastIn keys home bucket NEVER time ⊎ BeginsIn keys home bucket time
+
+-- some row is due at a time, or a window begins there that has one, or it is the end of all times
+abbrev pub IsEarlyOrNever : List (Option Key) → ℕ → ℕ → Type 0
+IsEarlyOrNever keys passed time = (IsDueAt keys time ⊎ WindowBegins keys passed time) ⊎ (time ≡ NEVER)
+
+-- no row that stands on a level is due before a time
+abbrev pub NoneOn : List (Option Key) → (Key → ℕ) → ℕ → ℕ → Type 0
+NoneOn keys level on time = (slot : ℕ) (key : Key) → key_in keys slot ≡ Some key → level key ≡ on → time ≤ key.deadline
+
+-- the rows stand on some levels, and of those on the lowest none is due before a time, at which one may be
+pub record MayLookAbove (next : ℕ) (chains : Rings) (keys : List (Option Key)) (near : ℕ) : Type 0 where
+  pub level : Key → ℕ
+  pub stand : StandOnLevels next chains keys level
+  pub none : NoneOn keys level 0 near
+  pub early : IsEarlyOrNever keys next near

@@ -96,6 +96,15 @@ PutsInHome old new slot home =
     → ((j : ℕ) (p : Place) → places j ≡ Some p → p.home ≡ home → p.order < order)
     → AreChains new (with_place places slot (Some (record { home = home; order = order })))
 
+-- in every assignment that fits, the slot gets this home, with any order that no other slot has and that is
+-- below all others of the home
+abbrev pub PutsOldestInHome : Rings → Rings → ℕ → ℕ → Type 0
+PutsOldestInHome old new slot home =
+    (places : ℕ → Option Place) (order : ℕ) → AreChains old places → places slot ≡ None → order < 2 ^ 64
+    → ((j : ℕ) (p : Place) → places j ≡ Some p → p.order ≢ order)
+    → ((j : ℕ) (p : Place) → places j ≡ Some p → p.home ≡ home → order < p.order)
+    → AreChains new (with_place places slot (Some (record { home = home; order = order })))
+
 -- in every assignment that fits, the slot gets this home, with any order above all, whether it had a place or not
 abbrev pub MovesSlot : Rings → Rings → ℕ → ℕ → Type 0
 MovesSlot old new slot home =

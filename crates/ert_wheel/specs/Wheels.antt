@@ -1,10 +1,10 @@
 -- What a wheel keeps: keys by slot, and a chain of the rows of each bucket.
 
-use Rattle.std.specs.Prelude.{◌≡◌, ℕ, ◌<◌, ◌≤◌, ◌^◌, List, Option, Some, None, cond, nat_eq, map, max, length, count_by, option_map}
+use Rattle.std.specs.Prelude.{◌≡◌, ℕ, ◌/◌, ◌<◌, ◌≤◌, ◌^◌, List, Option, Some, None, cond, nat_eq, map, max, length, count_by, option_map}
 use Rattle.std.specs.List.{range_with_len, slice_get}
 use Rattle.std.specs.Option.{is_some}
 use Rattle.ert_wheel.specs.Kept.{KeptSlots, AreAlike}
-use Rattle.ert_wheel.specs.Levels.{home_at}
+use Rattle.ert_wheel.specs.Levels.{bucket_on, MayStand}
 use Rattle.ert_wheel.specs.Links.{next_at}
 use Rattle.ert_wheel.specs.Rings.{Rings, Place, AreChains}
 use Rattle.ert_wheel.specs.Rows.{key_in}
@@ -24,13 +24,9 @@ held_key links stored slot = cond (nat_eq (next_at links slot) slot) None (slice
 abbrev pub held_keys : Rings → List Key → List (Option Key)
 held_keys chains stored = map (held_key chains.links stored) (range_with_len 0 chains.slots)
 
--- the bucket of a time, seen from the next time: there are five levels
-abbrev pub bucket_of : ℕ → ℕ → ℕ
-bucket_of next_time time = home_at 4 time next_time
-
--- the bucket of a key, where all times before `next_time` were passed: a late row has that of the next time
-abbrev pub home_by : ℕ → Key → ℕ
-home_by next_time key = bucket_of next_time (max key.deadline next_time)
+-- the bucket of a key, by the level on which it stands: a late row has the time of the next time
+abbrev pub home_on : ℕ → (Key → ℕ) → Key → ℕ
+home_on next level key = bucket_on (level key) (max key.deadline next)
 
 -- where a key belongs: the home that it has, and its order
 abbrev pub place_of : (Key → ℕ) → Option Key → Option Place
@@ -40,6 +36,19 @@ place_of home = option_map (λ key. record { home = home key; order = key.order 
 abbrev pub places : (Key → ℕ) → List (Option Key) → ℕ → Option Place
 places home keys slot = place_of home (key_in keys slot)
 
+-- Each key stands on a level on which it may. Of two that are in one window of a level, where one stands on that level and
+-- one below it, the one below is newer.
+pub record AreLevelled (next high : ℕ) (keys : List (Option Key)) (level : Key → ℕ) : Type 0 where
+  pub fit : (slot : ℕ) (key : Key) → key_in keys slot ≡ Some key → MayStand next high (level key) (max key.deadline next)
+  pub falls : (i j : ℕ) (x y : Key) → key_in keys i ≡ Some x → key_in keys j ≡ Some y → level y < level x
+      → max x.deadline next / 512 ^ level x ≡ max y.deadline next / 512 ^ level x → x.order < y.order
+
+-- the chains are those of the buckets, by some levels of the keys
+pub record AreLevelChains (next high : ℕ) (chains : Rings) (keys : List (Option Key)) : Type 0 where
+  pub level : Key → ℕ
+  pub levelled : AreLevelled next high keys level
+  pub are : AreChains chains (places (home_on next level) keys)
+
 -- the chains are those of the buckets, and the count is that of the rows
 pub record IsWheel (next_time count : ℕ) (keys : List (Option Key)) (chains : Rings) : Type 0 where
   pub slots : length keys ≡ chains.slots
@@ -48,7 +57,7 @@ pub record IsWheel (next_time count : ℕ) (keys : List (Option Key)) (chains : 
   pub time : next_time < NEVER
   pub counts : count ≡ count_by is_some keys
   pub low : (slot : ℕ) (key : Key) → key_in keys slot ≡ Some key → key.deadline < NEVER
-  pub are : AreChains chains (places (home_by next_time) keys)
+  pub are : AreLevelChains next_time 1 chains keys
 
 -- and no row is due before a floor
 pub record IsWheelKept (next_time count floor : ℕ) (keys : List (Option Key)) (chains : Rings) : Type 0 where

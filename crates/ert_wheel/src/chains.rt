@@ -36,7 +36,7 @@ impl Chains {
     ghost use Rattle.std.specs.Prelude.{◌≡◌, ◌↔◌, ◌+◌, ◌<◌, ◌≤◌, ◌^◌, ℕ, Option, Some, None, IfOk, IfSome, IsTrue, MatchOption};
     ghost use Rattle.ert_wheel.specs.Chained.{Spliced, Unspliced};
     ghost use Rattle.ert_wheel.specs.Links.{next_at, prev_at, place_slot};
-    ghost use Rattle.ert_wheel.specs.Rings.{Place, AreChains, MayPut, Puts, PutsInHome, MayTake, GivesUpPlace, Finds, FindsOldest};
+    ghost use Rattle.ert_wheel.specs.Rings.{Place, AreChains, MayPut, Puts, PutsInHome, PutsOldestInHome, MayTake, GivesUpPlace, Finds, FindsOldest};
     ghost use Rattle.ert_wheel.specs.Rings.{IsOnlyOf, HasOthers};
 
     /// All chains empty, and no slot written. No call takes memory after this.
@@ -92,6 +92,23 @@ impl Chains {
     {
         let node = self.homes + slot;
         link_in(&mut self.links, home, node);
+    }
+
+    /// Puts a slot that is in no chain into that of a home, as its oldest.
+    #[inline]
+    pub fn put_oldest(&mut self, slot: u32, home: u32)
+        requires may { MayPut self.old slot home }
+        requires written { slot < self.old.written }
+        ensures slots { self.new.slots ≡ self.old.slots }
+        ensures homes { self.new.homes ≡ self.old.homes }
+        ensures written { self.new.written ≡ self.old.written }
+        ensures in_home { PutsOldestInHome self.old self.new slot home }
+        ensures spliced { Spliced (next_at self.old.links) (prev_at self.old.links)
+            (next_at self.new.links) (prev_at self.new.links) (prev_at self.old.links (self.old.slots + home)) slot }
+    {
+        let node = self.homes + slot;
+        let last = prev_of(&self.links, home);
+        link_in(&mut self.links, last, node);
     }
 
     /// Takes a slot out of its chain, where it is in one.
@@ -175,8 +192,9 @@ impl Chains {
     #[inline]
     pub fn older(&self, slot: u32) -> Option<u32>
         requires { slot < self.now.written }
-        ensures { (places : ℕ → Option Place) (place : Place) → AreChains self.now places
+        ensures finds { (places : ℕ → Option Place) (place : Place) → AreChains self.now places
             → places slot ≡ Some place → Finds self.now places place.home place.order result }
+        ensures written { IfSome result (λ slot. slot < self.now.written) }
     {
         self.slot_at(next_of(&self.links, self.homes + slot))
     }

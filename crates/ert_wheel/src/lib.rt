@@ -33,47 +33,54 @@
 //! **Another row of a slot** (`replace`) takes the place of the one before it. Where the slot is the newest of the bucket
 //! to which the new row belongs, as where a timer is moved on again and again, no link is written.
 //!
-//! **Levels** (`Wheel`). A wheel has 2,240 buckets, 512 on each of four levels and 192 on the highest. A bucket of
-//! the lowest level is a millisecond; one of the next is a window of 512 milliseconds, and so on: a bucket is as
-//! wide as all of the level below. A row's home is told by its deadline and by the next time, the first that
-//! wasn't passed: the lowest level in which both stand in one window, and there the deadline's place. With the
-//! next time at 1,000:
+//! **Levels** (`Wheel`). A wheel has 4,288 buckets, 1,024 on each of four levels and 192 on the highest. A bucket of
+//! the lowest level is a millisecond; one of the next is a window of 512 milliseconds, and so on: a bucket of each level
+//! is as wide as 512 of the level below. So a level has room for two such windows: the one in which the next time is, the
+//! first that wasn't passed, and the one after it. The windows of a level take its buckets in turn. A row comes to the
+//! lowest level that has its deadline. With the next time at 1,000:
 //!
-//!     level   a bucket is       those that are in use                deadlines
-//!     0       1 ms              488 .. 511, of window 1 of level 1   1,000 .. 1,023
-//!     1       512 ms            2 .. 511, of window 0 of level 2     1,024 .. 262,143
-//!     2       262,144 ms        1 .. 511, of window 0 of level 3     262,144 .. 134,217,727
-//!     3       134,217,728 ms    1 .. 511, of window 0 of level 4     134,217,728 .. 68,719,476,735
-//!     4       68,719,476,736 ms 1 .. 191                             68,719,476,736 .. 13,194,139,533,311
+//!     level   a bucket is       deadlines that come to it
+//!     0       1 ms              1,000 .. 1,535
+//!     1       512 ms            1,536 .. 524,287
+//!     2       262,144 ms        524,288 .. 268,435,455
+//!     3       134,217,728 ms    268,435,456 .. 137,438,953,471
+//!     4       68,719,476,736 ms 137,438,953,472 .. 13,194,139,533,311
 //!
-//! The number of a bucket is its level times 512 and its place, so later times have higher numbers, or the same.
 //! A row that is late has the bucket of the next time itself. The 192 are for deadlines of up to 418 years of
 //! milliseconds.
 //!
-//! **A cascade.** When time moves on to another window, the rows that are left have their homes by a new next
-//! time. Those of one bucket alone change, however far time leaps: of the bucket in which the new next time stood.
-//! That bucket is emptied, from the oldest row to the newest, into the levels below, whose buckets were empty until
-//! then; so each chain stays in order of start. This is once in 512 milliseconds for a bucket of level 1, once in
-//! 262,144 for one of level 2, and so on. A row moves at most once for each level, and a move costs as much
-//! as a start does in the wheel, with two misses of the caches where there are many rows. All rows of a bucket
-//! move in the one advance that comes into its window.
+//! **Rows fall** (`falling`) to the level below as time goes on, each at most once from each level. When time comes into the
+//! window of a bucket, all rows that are left in it fall. Before that some fall ahead of time, out of the bucket of the next
+//! window: so many for each millisecond that passes as leave few for the begin of the window, at first few and then more.
+//! How many fall ahead is a matter of speed alone: whether a row has fallen yet changes no answer.
+//!
+//! The newest row of a bucket falls first, and it comes to the oldest end of the bucket below. New rows come to the newest end
+//! there. So of the rows of one window those on a higher level are older, and each chain is in order of start
+//! (`AreLevelled`), though no order is stored. A fall costs as much as a start does in the wheel, with two misses of the
+//! caches where there are many rows.
 //!
 //! **Marks** (`Marks`, `MarkedChains`). A bit for each bucket tells whether it has a slot: a put into an empty one sets
 //! it, and a take of the only slot clears it. All other puts and takes leave the bits alone. One more word has a bit
-//! for each of the 35 words. So no look comes to an empty bucket: it reads three words at most, however far the next row
-//! is.
+//! for each of the first 64 words, which are those of the four lower levels. So no look comes to an empty bucket: a look at
+//! the windows of a level reads six words at most, however far the next row is.
 //!
-//! **A step of time** visits the buckets that have rows, up to the bucket of the time that it comes to, and each from its
-//! oldest row to its newest. Rows of one deadline have one bucket, so these are collected in order of start, and a sort by
+//! **A step of time** visits the buckets that have rows: on each level those of the windows up to that of the time that it
+//! comes to, and each from its oldest row to its newest. It begins on the highest level. Rows of one deadline that stand on
+//! one level have one bucket, and those on a higher level are older, so they are collected in order of start, and a sort by
 //! deadline and then by rank, the place where a row was collected, puts all into order. It takes no memory, and one pass
-//! where the deadlines come in order already, as they do from the lowest level where no row was late.
+//! where the deadlines come in order already, as they do from the lowest level where no row was late. Where the time that
+//! it comes to is in the next time's window of 512 milliseconds, all that are due stand on the lowest level.
 //!
-//! **The next due row** (`next_due`) is in the first bucket that has one. On the lowest level the bucket tells its
-//! deadline. Above it the rows of the bucket are looked at, 64 at most. Where there are more the begin of the bucket's
-//! window is told: when time comes to it, the bucket's rows go to lower levels, and the next answer is closer. Late rows
+//! **The next due row** (`next_due`) is in the first bucket of a level that has one. On the lowest level the bucket tells its
+//! deadline; in the next time's window of 512 milliseconds this is the answer, since no row of another level is there.
+//! Else a row above may be earlier. Level by level, until no window that is left begins before what is known, the rows of
+//! the first bucket that has one are looked at, 64 at most. Where there are more the begin of the bucket's window is told:
+//! when time comes to it, the bucket's rows go to lower levels, and the next answer is closer. Late rows
 //! have the bucket of the next time and deadlines of any age, so all rows of that bucket are looked at where a late one was
 //! put in since the next time moved on. A floor below all deadlines tells whether that was so. Those rows are due at once,
-//! or at the next millisecond, so that the next advance takes them.
+//! or at the next millisecond, so that the next advance takes them. The answer becomes the floor, and the slot of the row that
+//! tells it is kept: while that row is there and time hasn't come to it, the answer stays, and an advance before it looks at
+//! nothing else.
 //!
 //! **The first due row** (`first_due`) is told one at a time, for whoever may not take all that are due at once. Time moves
 //! on to the least deadline first, where that is due. Then the row is in the bucket of the next time: the oldest that has
@@ -85,7 +92,7 @@
 //! it is in one, and `newest_owned` tells the newest of an owner. This hangs on no row: a slot may have an owner without a row, and a row without an owner.
 //!
 //! **At rest** a slot takes 24 bytes and its value: 8 of deadline and 16 of links; an owner 8 bytes for its head; and a wheel
-//! 17.5 KiB for the heads of its buckets, and 280 bytes for the marks. All is taken when the wheel is made, and no call
+//! 33.5 KiB for the heads of its buckets, and 544 bytes for the marks. All is taken when the wheel is made, and no call
 //! takes memory after that; what is written then are the heads and the marks.
 //!
 //! `due` gives the due rows and leaves them, so that the part above can settle and `remove` them one by
@@ -95,16 +102,20 @@
 #![tactic(auto)]
 
 mod chains;
+mod falling;
 mod kept;
 mod keys;
 mod laws;
+mod levels;
 mod links;
 mod marked;
 mod marks;
 mod oldest;
 mod row;
+mod telling;
 mod walk;
 mod wheel;
+mod windows;
 
 pub use laws::answers_come_closer;
 pub use row::{BUCKETS, HeldRow, Key, Row};

@@ -26,11 +26,11 @@ impl Model for MarkedChains {
 }
 
 impl MarkedChains {
-    ghost use Rattle.std.specs.Prelude.{◌≡◌, ◌↔◌, ◌+◌, ◌<◌, ◌≤◌, ◌^◌, ℕ, Option, None, IfOk, IsTrue};
+    ghost use Rattle.std.specs.Prelude.{◌≡◌, ◌↔◌, ◌+◌, ◌*◌, ◌<◌, ◌≤◌, ◌^◌, ℕ, Option, None, IfOk, IfSome, IsTrue};
     ghost use Rattle.ert_wheel.specs.Links.{next_at};
-    ghost use Rattle.ert_wheel.specs.Marks.{FirstUsed};
-    ghost use Rattle.ert_wheel.specs.Rings.{Place, AreChains, MayPut, Puts, PutsInHome, MayTake, GivesUpPlace, MovesSlot, Finds, FindsOldest};
-    ghost use Rattle.ert_wheel.specs.declared.row.TheConstants.{BUCKETS};
+    ghost use Rattle.ert_wheel.specs.Marks.{FirstUsed, FirstWindow};
+    ghost use Rattle.ert_wheel.specs.Rings.{Place, AreChains, MayPut, Puts, PutsInHome, PutsOldestInHome, MayTake, GivesUpPlace, MovesSlot, Finds, FindsOldest};
+    ghost use Rattle.ert_wheel.specs.declared.row.TheConstants.{BUCKETS, NEVER};
 
     /// All chains empty, and no slot written. No call takes memory after this.
     pub fn new(alloc: Global, slots: u32) -> Result<MarkedChains, NoMemory>
@@ -81,6 +81,20 @@ impl MarkedChains {
         self.marks.set(home);
     }
 
+    /// Puts a slot that is in no chain into that of a bucket, as its oldest.
+    #[inline]
+    pub fn put_oldest(&mut self, slot: u32, home: u32)
+        requires may { MayPut self.old slot home }
+        requires written { slot < self.old.written }
+        ensures slots { self.new.slots ≡ self.old.slots }
+        ensures homes { self.new.homes ≡ self.old.homes }
+        ensures written { self.new.written ≡ self.old.written }
+        ensures in_home { PutsOldestInHome self.old self.new slot home }
+    {
+        self.chains.put_oldest(slot, home);
+        self.marks.set(home);
+    }
+
     /// Takes a slot out of its chain, where it is in one.
     #[inline]
     pub fn take(&mut self, slot: u32)
@@ -125,9 +139,34 @@ impl MarkedChains {
         self.chains.is_alone(slot)
     }
 
+    /// The first window of a level whose bucket has a slot, from one on and before an end; the end where there is none.
+    #[inline]
+    pub fn first_window(&self, level: u32, from: u64, end: u64) -> u64
+        requires level { level ≤ 4 }
+        requires from { from ≤ end }
+        requires few { end ≤ from + 1024 }
+        requires end { end * 512 ^ level ≤ NEVER }
+        ensures up { from ≤ result }
+        ensures low { result ≤ end }
+        ensures first { (places : ℕ → Option Place) → AreChains self.now places
+            → FirstWindow self.now places level from end result }
+    {
+        let base = level * 1024;
+        let at = (from & 1023) as u32;
+        let stop = at + (end - from) as u32;
+        let last = base + stop.min(1024);
+        let found = self.first_used(base + at, last);
+        if found < last || stop <= 1024 {
+            return from + (found - base - at) as u64;
+        }
+        // The windows take the buckets in turn: those that are left begin with the first bucket.
+        let found = self.first_used(base, base + stop - 1024);
+        from + (found + 1024 - base - at) as u64
+    }
+
     /// The first bucket that has a slot, from one on and before an end; the end where there is none.
     #[inline]
-    pub fn first_used(&self, from: u32, end: u32) -> u32
+    fn first_used(&self, from: u32, end: u32) -> u32
         requires from { from ≤ end }
         requires end { end ≤ BUCKETS }
         ensures up { from ≤ result }
@@ -142,8 +181,9 @@ impl MarkedChains {
     #[inline]
     pub fn newest(&self, home: u32) -> Option<u32>
         requires { home < BUCKETS }
-        ensures { (places : ℕ → Option Place) → AreChains self.now places
+        ensures finds { (places : ℕ → Option Place) → AreChains self.now places
             → Finds self.now places home (2 ^ 64) result }
+        ensures written { IfSome result (λ slot. slot < self.now.written) }
     {
         self.chains.newest(home)
     }
@@ -162,8 +202,9 @@ impl MarkedChains {
     #[inline]
     pub fn older(&self, slot: u32) -> Option<u32>
         requires { slot < self.now.written }
-        ensures { (places : ℕ → Option Place) (place : Place) → AreChains self.now places
+        ensures finds { (places : ℕ → Option Place) (place : Place) → AreChains self.now places
             → places slot ≡ Some place → Finds self.now places place.home place.order result }
+        ensures written { IfSome result (λ slot. slot < self.now.written) }
     {
         self.chains.older(slot)
     }

@@ -1,4 +1,4 @@
-ghost use Rattle.std.specs.Prelude.{◌≡◌, ◌+◌, ◌/◌, ◌^◌, ◌<◌, ◌≤◌, ℕ};
+ghost use Rattle.std.specs.Prelude.{◌≡◌, ◌+◌, ◌/◌, ◌^◌, ◌<◌, ◌≤◌, ℕ, bit_or};
 ghost use Rattle.std.specs.Int.{bit_at};
 
 use crate::row::BUCKETS;
@@ -7,8 +7,8 @@ use std::marker::Model;
 /// A mark for each bucket, in words of 64 bits.
 #[derive(Drop)]
 pub struct Marks {
-    words: [u64; 35],
-    // A bit for each word, which tells whether it has a mark.
+    words: [u64; 67],
+    // A bit for each of the first 64 words, which tells whether it has a mark. The others are those of the highest level.
     used: u64,
 }
 
@@ -24,7 +24,7 @@ impl Model for Marks {
 }
 
 impl Marks {
-    ghost use Rattle.std.specs.Prelude.{◌≡◌, ◌≢◌, ◌<◌, ◌≤◌, ℕ, slice_set};
+    ghost use Rattle.std.specs.Prelude.{◌≡◌, ◌≢◌, ◌<◌, ◌≤◌, ℕ, slice_index_or, slice_set};
     ghost use Rattle.ert_wheel.specs.Marks.{mark_of};
     ghost use Rattle.ert_wheel.specs.declared.row.TheConstants.{BUCKETS};
 
@@ -33,7 +33,7 @@ impl Marks {
         ensures { (bucket : ℕ) → bucket < BUCKETS → mark_of result bucket ≡ 0 }
     {
         Marks {
-            words: [0; 35],
+            words: [0; 67],
             used: 0,
         }
     }
@@ -50,7 +50,7 @@ impl Marks {
         self.words[at as usize] = was | 1 << (bucket % 64);
         // Few words have no mark, so this is rarely taken, whichever buckets have one.
         if was == 0 {
-            self.used |= 1 << at;
+            note(&mut self.used, at);
         }
     }
 
@@ -84,25 +84,60 @@ impl Marks {
         if bit < 64 {
             return (at * 64 + bit).min(end);
         }
-        let at = first_bit(self.used, at + 1);
-        if at >= 35 {
+        let at = self.next_used(at + 1);
+        if at == 67 {
             return end;
         }
         (at * 64 + first_bit(self.words[at as usize], 0)).min(end)
     }
 
+    /// The first word from one on that has a mark; 67 where there is none.
+    #[inline]
+    fn next_used(&self, from: u32) -> u32
+        requires { from ≤ 67 }
+        ensures up { from ≤ result }
+        ensures low { result ≤ 67 }
+        ensures below { (at : ℕ) → from ≤ at → at < result → slice_index_or self.now at 0 ≡ 0 }
+        ensures here { result < 67 → slice_index_or self.now result 0 ≢ 0 }
+    {
+        if from < 64 {
+            let at = first_bit(self.used, from);
+            if at < 64 {
+                return at;
+            }
+        }
+        let mut at = from.max(64);
+        while at < 67 && self.words[at as usize] == 0 {
+            at += 1;
+        }
+        at
+    }
+
     /// Stores a word, and tells of it whether it has a mark.
     #[inline]
     fn store(&mut self, at: u32, word: u64)
-        requires { at < 35 }
+        requires { at < 67 }
         ensures { self.new ≡ slice_set self.old at word }
     {
         self.words[at as usize] = word;
-        if word == 0 {
-            self.used &= !(1 << at);
-        } else {
-            self.used |= 1 << at;
+        if at < 64 {
+            if word == 0 {
+                self.used &= !(1 << at);
+            } else {
+                self.used |= 1 << at;
+            }
         }
+    }
+}
+
+/// Notes that a word has a mark, where it is one of the first 64.
+#[inline]
+fn note(used: &mut u64, at: u32)
+    ensures near { at < 64 → used.new ≡ bit_or used.old (2 ^ at) }
+    ensures far { 64 ≤ at → used.new ≡ used.old }
+{
+    if at < 64 {
+        *used |= 1 << at;
     }
 }
 

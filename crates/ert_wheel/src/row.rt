@@ -4,8 +4,8 @@ pub const NEVER: u64 = 192 << 36;
 /// The greatest deadline that a row can have, 418 years of milliseconds.
 pub const LAST: u64 = NEVER - 1;
 
-/// How many buckets a wheel has: 512 on each of four levels, and 192 on the highest.
-pub const BUCKETS: u32 = 2_240;
+/// How many buckets a wheel has: 1,024 on each of four levels, and 192 on the highest.
+pub const BUCKETS: u32 = 4_288;
 
 /// What contracts know of a row. A wheel stores its deadline; its order is known to proofs alone.
 #[derive(Clone, Copy, Debug, PartialEq, Eq)]

@@ -1,15 +1,18 @@
 ghost use Rattle.std.specs.Prelude.{◌≡◌, min};
 
 use crate::chains::Chains;
+use crate::falling::{fall_ahead, move_on};
 use crate::kept::Kept;
 use crate::marked::MarkedChains;
-use crate::row::{BUCKETS, HeldRow, LAST, Row};
-use crate::walk::{bucket, collect, early_in, first_bucket, least_in, move_on, visit_end};
+use crate::row::{HeldRow, LAST, Row};
+use crate::windows::bucket;
 use ert_defs::NoMemory;
 use std::alloc::Global;
 use std::marker::Model;
 
+mod due;
 mod first;
+mod next;
 mod replacing;
 
 /// A timing wheel of levels: rows by their slots, and the due ones in order of deadline. Beside these it has a value
@@ -32,9 +35,14 @@ mod replacing;
 pub struct Wheel<T> {
     // The next time: the first that wasn't passed.
     next_time: u64,
-    // No row has an earlier deadline. It is the next time unless a row was put in late since that moved on.
+    // No row has an earlier deadline. It is the next time, or later where it was told as when the next row is due, unless a
+    // row was put in late.
     floor: u64,
+    // The slot whose row told the floor; any other where none did. Whoever reads it looks whether it does.
+    teller: u32,
     len: u32,
+    // How many rows have fallen from the next window of level 1 ahead of time.
+    fallen: u32,
     kept: Kept<T>,
     buckets: MarkedChains,
     owners: Chains,
@@ -86,7 +94,9 @@ impl<T: Copy> Wheel<T> {
         Ok(Wheel {
             next_time: 0,
             floor: 0,
+            teller: 0,
             len: 0,
+            fallen: 0,
             kept,
             buckets,
             owners,
@@ -182,7 +192,7 @@ impl<T: Copy> Wheel<T> {
         let home = bucket(self.next_time, row.deadline.max(self.next_time));
         self.buckets.put(row.slot, home);
         self.kept.set(row, value);
-        lower(&mut self.floor, row.deadline);
+        lower(&mut self.floor, &mut self.teller, row);
         self.len += 1;
     }
 
@@ -258,54 +268,9 @@ impl<T: Copy> Wheel<T> {
         self.owners.newest(owner)
     }
 
-    /// Writes the rows with a deadline at most `to`, in order of deadline, then of order, into `out`,
-    /// which is cleared first and has room for one row of each slot.
-    pub fn due(&self, to: u64, out: &mut Vec<HeldRow>)
-        requires { length self.now.keys ≤ vec_capacity out.old }
-        ensures each { (slot : ℕ) → times slot (rows_told self.now.keys out.new.items) ≡ due_count to (key_in self.now.keys slot) }
-        ensures rows { All (λ row. key_in self.now.keys row.slot ≡ Some (key_of row)) (rows_told self.now.keys out.new.items) }
-        ensures written { All (λ row. row.slot < self.now.owners.written) out.new.items }
-        ensures sorted { IsSortedBy comes_before (rows_told self.now.keys out.new.items) }
-        ensures capacity { vec_capacity out.new ≡ vec_capacity out.old }
-    {
-        out.clear();
-        let end = visit_end(self.next_time, to);
-        let mut home = self.buckets.first_used(first_bucket(self.next_time), end);
-        while home < end {
-            collect(&self.buckets, &self.kept, home, to, out);
-            home = self.buckets.first_used(home + 1, end);
-        }
-        out.sort_unstable();
-    }
-
-    /// How early the next row may be due, in milliseconds; None exactly where there is no row.
-    ///
-    /// No row has an earlier deadline. The answer is a row's deadline, or the begin of a window, after the first time
-    /// that wasn't passed, in which a row is due: of 512 milliseconds, of 262,144, and so on. So it is exact where the
-    /// least deadline stands in that time's window of 512 milliseconds. Whoever lets time pass up to it and asks again is
-    /// told a narrower window, and at last the deadline: after four such answers at most, however far it is.
-    ///
-    /// It looks at the first bucket that has a row, and there at 64 rows at most; where these are all, the answer is exact.
-    /// Only where a row was put in late since the last pass does it look at each late row, and at those of the next time.
-    pub fn next_due(&self) -> Option<u64>
-        ensures { MatchOption result (NoRow self.now.keys) (IsNextDue self.now.keys self.now.passed) }
-    {
-        if self.is_empty() {
-            return None;
-        }
-        let first = first_bucket(self.next_time);
-        let home = self.buckets.first_used(first, BUCKETS);
-        if home > first {
-            return early_in(&self.buckets, &self.kept, home);
-        }
-        if self.floor >= self.next_time {
-            return Some(self.next_time);
-        }
-        least_in(&self.buckets, &self.kept, home, None)
-    }
-
     /// Tells that nothing is left up to `to`: no later call looks at a time up to it again. Where this comes into
-    /// another window of the lowest level, the rows of one bucket move to levels below.
+    /// another window of a level, the rows that are left in its bucket fall to the level below; before that some fall ahead of
+    /// time, in each millisecond that passes.
     ///
     /// A wheel that isn't told so gives the same rows, but looks at more and more buckets.
     #[inline(always)]
@@ -317,8 +282,10 @@ impl<T: Copy> Wheel<T> {
         ensures passed { self.new.passed ≡ max self.old.passed (min (to + 1) LAST) }
     {
         let after = to.min(LAST - 1) + 1;
-        let next_time = self.next_time.max(after);
-        move_on(&mut self.buckets, &self.kept, self.next_time, next_time);
+        let was = self.next_time;
+        let next_time = was.max(after);
+        move_on(&mut self.buckets, &self.kept, was, next_time);
+        self.fallen = fall_ahead(&mut self.buckets, &self.kept, was, next_time, self.fallen);
         self.next_time = next_time;
         self.floor = self.floor.max(after);
     }
@@ -343,12 +310,13 @@ impl<T: Copy> Wheel<T> {
     }
 }
 
-/// Lowers a floor to a deadline that is below it. Most deadlines are above it, and then nothing is written.
+/// Lowers a floor to the deadline of a row that is below it. Most deadlines are above it, and then nothing is written.
 #[inline]
-fn lower(floor: &mut u64, deadline: u64)
-    ensures { floor.new ≡ min floor.old deadline }
+fn lower(floor: &mut u64, teller: &mut u32, row: Row)
+    ensures { floor.new ≡ min floor.old row.deadline }
 {
-    if deadline < *floor {
-        *floor = deadline;
+    if row.deadline < *floor {
+        *floor = row.deadline;
+        *teller = row.slot;
     }
 }

@@ -81,11 +81,12 @@ impl World {
     /// It tells an event loop how long it may sleep (as `uv_backend_timeout` of libuv): no armed timer is due
     /// before it. It is the deadline of a timer, or the begin of a window, after the time of the last advance, in which
     /// one is due (`ert_wheel`, `Wheel::next_due`).
-    pub fn next_due(&self, sched: u32) -> Option<u64>
-        requires { sched < self.now.settings.schedulers }
-        ensures held { IsNextHeldAt self.now sched result }
-        ensures armed { NoneArmedBefore (state self.now.settings self.now.history) sched result }
-        ensures nearest { IsNearestAt self.now sched result }
+    pub fn next_due(&mut self, sched: u32) -> Option<u64>
+        requires { sched < self.old.settings.schedulers }
+        ensures held { IsNextHeldAt self.old sched result }
+        ensures armed { NoneArmedBefore (state self.old.settings self.old.history) sched result }
+        ensures nearest { IsNearestAt self.old sched result }
+        ensures same { self.new ≡ self.old }
     {
         self.wheels[sched as usize].next_due()
     }

@@ -4,7 +4,7 @@ ghost use Rattle.std.specs.Prelude.{◌≡◌};
 use super::Wheel;
 use crate::oldest::oldest_due;
 use crate::row::HeldRow;
-use crate::walk::{first_bucket, visit_end};
+use crate::windows::bucket_of_window;
 
 impl<T: Copy> Wheel<T> {
     ghost use Rattle.std.specs.Prelude.{◌≡◌, ◌≤◌, MatchBool, MatchOption, max};
@@ -12,17 +12,35 @@ impl<T: Copy> Wheel<T> {
     ghost use Rattle.ert_wheel.specs.NextDue.{NoneBefore};
     ghost use Rattle.ert_wheel.specs.Rows.{row_told};
 
-    /// Whether a row may be due at `to`: one stands in a bucket that an advance up to `to` looks at. False comes only where
-    /// none is due by then.
+    /// Whether a row may be due at `to`: one is due by then or by the next time, or a window begins by then that has one. False
+    /// comes only where none is due by then.
     ///
-    /// It looks at three words at most, and at no row.
+    /// Before the time that `next_due` told last it is one comparison. Within the next time's window of 512 milliseconds it
+    /// looks at a few words, and at no row; else it looks for the next due row.
     #[inline]
     pub fn may_be_due(&self, to: u64) -> bool
         ensures { MatchBool result (MayBeDue self.now.keys self.now.passed to) (NoRowDue self.now.keys to) }
     {
-        let end = visit_end(self.next_time, to);
-        let home = self.buckets.first_used(first_bucket(self.next_time), end);
-        home < end
+        if to < self.floor {
+            return false;
+        }
+        if to >> 9 > self.next_time >> 9 {
+            return self.begins_by(to);
+        }
+        let end = to.max(self.next_time) + 1;
+        self.buckets.first_window(0, self.next_time, end) < end
+    }
+
+    /// Whether a row may be due at `to`, where that is in a later window of the lowest level than the next time.
+    #[inline(never)]
+    fn begins_by(&self, to: u64) -> bool
+        requires { self.now.passed ≤ to }
+        ensures { MatchBool result (MayBeDue self.now.keys self.now.passed to) (NoRowDue self.now.keys to) }
+    {
+        match self.earliest() {
+            Some(time) => time <= to,
+            None => false,
+        }
     }
 
     /// The first row, by deadline and then by order, where its deadline is at most `to`; None exactly where no row is due
@@ -61,7 +79,7 @@ impl<T: Copy> Wheel<T> {
         oldest_due(
             &self.buckets,
             &self.kept,
-            first_bucket(self.next_time),
+            bucket_of_window(0, self.next_time),
             time,
         )
     }
@@ -76,10 +94,10 @@ impl<T: Copy> Wheel<T> {
         ensures passed { self.old.passed ≤ self.new.passed }
         ensures no_further { self.new.passed ≤ max self.old.passed to }
     {
-        let mut time = self.next_due()?;
+        let mut time = self.earliest()?;
         while time > self.next_time && time <= to {
             self.pass(time - 1);
-            time = self.next_due()?;
+            time = self.earliest()?;
         }
         if time > to {
             return None;

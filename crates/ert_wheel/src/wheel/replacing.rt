@@ -1,7 +1,7 @@
 //! A slot's row that another takes the place of.
 use super::{Wheel, lower};
 use crate::row::Row;
-use crate::walk::bucket;
+use crate::windows::bucket;
 
 impl<T: Copy> Wheel<T> {
     ghost use Rattle.std.specs.Prelude.{◌≡◌, ◌<◌, ℕ, Some, IfSome, IsSome, slice_set};
@@ -26,6 +26,6 @@ impl<T: Copy> Wheel<T> {
         let home = bucket(self.next_time, row.deadline.max(self.next_time));
         self.buckets.renew(row.slot, home);
         self.kept.set(row, value);
-        lower(&mut self.floor, row.deadline);
+        lower(&mut self.floor, &mut self.teller, row);
     }
 }

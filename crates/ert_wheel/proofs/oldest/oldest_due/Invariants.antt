@@ -1,5 +1,5 @@
 use Rattle.std.proofs.Common.{ℕ}
-use Rattle.ert_wheel.proofs.Cascading.{orders_left}
+use Rattle.ert_wheel.proofs.Orders.{orders_left}
 use Rattle.ert_wheel.proofs.Climbing.{IsClimbed}
 use Rattle.ert_wheel.proofs.oldest.oldest_due.Given as goal
 use Rattle.ert_wheel.specs.Rings.{AreChains}

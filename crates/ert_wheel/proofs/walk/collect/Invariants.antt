@@ -1,5 +1,5 @@
 use Rattle.std.proofs.Common.{◌≡◌, ℕ, vec_capacity}
-use Rattle.ert_wheel.proofs.Cascading.{orders_left}
+use Rattle.ert_wheel.proofs.Orders.{orders_left}
 use Rattle.ert_wheel.proofs.Ranks.{IsCollecting}
 use Rattle.ert_wheel.proofs.walk.collect.Given as goal
 use Rattle.ert_wheel.specs.Walks.{MayCollect}

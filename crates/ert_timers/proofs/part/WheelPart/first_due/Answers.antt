@@ -3,5 +3,5 @@ use Rattle.ert_timers.specs.NextDue.{IsNextHeld}
 use Rattle.ert_timers.specs.Parts.{Part}
 use Rattle.ert_timers.proofs.part.WheelPart.first_due.Goals as goal
 
-pub returns : goal.returns
-returns c = subst (λ (p : Part). IsNextHeld p c.next_due.result) c.self.view_is c.next_due.ensures
+pub returns-clause-held : goal.returns-clause-held
+returns-clause-held c = subst (λ (p : Part). IsNextHeld p c.next_due.result) c.self.view_is c.next_due.ensures.due

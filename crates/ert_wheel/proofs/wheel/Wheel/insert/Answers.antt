@@ -1,9 +1,9 @@
-use Rattle.std.proofs.Common.{ap, ◌∙◌, length, rules, arith, refl}
+use Rattle.std.proofs.Common.{ℕ, ap, subst, ◌∙◌, length, rules, arith, refl}
 use Rattle.std.proofs.lemmas.List.{length-set}
 use Rattle.ert_wheel.proofs.Writes.{sees, low_in, alike_after, is_held, is_kept, may_put, count_fits, stored_as, inserted}
 use Rattle.ert_wheel.proofs.wheel.Wheel.insert.Goals as goal
 use Rattle.ert_wheel.specs.Rows.{key_of}
-use Rattle.ert_wheel.specs.Wheels.{bucket_of}
+use Rattle.ert_wheel.specs.Levels.{IsLeastBucket}
 
 pub put-requires-clause-may : goal.put-requires-clause-may
 put-requires-clause-may g c =
@@ -30,7 +30,7 @@ invariant_of-self g c = record {
         newest = c.requires.newest;
       })
       (low_in c.args.row.slot c.self.invariant c.self.view_is c.requires.slot).low_record
-      c.requires.vacant (c.bucket-home.ensures.is ∙ ap (bucket_of c.self.inside.next_time) c.max.ensures) c.put.ensures.slots c.put.ensures.homes c.put.ensures.chains c.lower.ensures));
+      c.requires.vacant (subst (λ (t : ℕ). IsLeastBucket c.self.inside.next_time t c.bucket-home.result) c.max.ensures c.bucket-home.ensures.is) c.put.ensures.slots c.put.ensures.homes c.put.ensures.chains c.lower.ensures));
   alike = alike_after c.self.invariant.alike (ap length c.set.ensures.keys ∙ length-set c.self.inside.kept.keys c.args.row.slot _) c.set.ensures.room c.put.ensures.slots c.put.ensures.written refl refl;
 }
 
@@ -44,4 +44,4 @@ returns-clause-keys g c =
       newest = c.requires.newest;
     })
     (low_in c.args.row.slot c.self.invariant c.self.view_is c.requires.slot).low_record
-    c.requires.vacant (c.bucket-home.ensures.is ∙ ap (bucket_of c.self.inside.next_time) c.max.ensures) c.put.ensures.slots c.put.ensures.homes c.put.ensures.chains c.lower.ensures))
+    c.requires.vacant (subst (λ (t : ℕ). IsLeastBucket c.self.inside.next_time t c.bucket-home.result) c.max.ensures c.bucket-home.ensures.is) c.put.ensures.slots c.put.ensures.homes c.put.ensures.chains c.lower.ensures))

@@ -1,19 +1,20 @@
-use Rattle.std.proofs.Common.{ℕ, nat_lt, subst, ap}
+use Rattle.std.proofs.Common.{◌≡◌, ℕ, ◌+◌, ◌≤◌, ◌/◌, max, nat_lt, subst, ap, arith}
 use Rattle.std.specs.Prelude.{MatchBool}
-use Rattle.ert_wheel.proofs.Reached.{may_be}
+use Rattle.ert_wheel.proofs.Near.{end_lowest, may_be_near}
+use Rattle.ert_wheel.proofs.Standing.{wheel_stands, end_of}
 use Rattle.ert_wheel.proofs.Writes.{sees, passed_of}
 use Rattle.ert_wheel.proofs.wheel.Wheel.may_be_due.Goals as goal
 use Rattle.ert_wheel.specs.FirstDue.{MayBeDue, NoRowDue}
-use Rattle.ert_wheel.specs.Wheels.{home_by, places}
+use Rattle.ert_wheel.specs.Wheels.{home_on, places}
 
 pub returns : goal.returns
 returns g c =
-    let w = c.self.inside in
     let keys = c.args.self.now.keys in
-    let wheel = (sees c.self.invariant.rows c.self.view_is).wheel in
-    let end = c.visit_end-end.result in
-    let home = c.first_used-home.result in
-    subst (λ (n : ℕ). MatchBool (nat_lt home end) (MayBeDue keys n c.args.to) (NoRowDue keys c.args.to)) (ap passed_of c.self.view_is)
-    (may_be w.next_time w.len c.args.to c.first_bucket.result end home keys w.buckets wheel c.visit_end-end.ensures.spans c.visit_end-end.ensures.is
-    c.first_bucket.ensures.is (c.first_used-home.ensures.first (places (home_by w.next_time) keys) wheel.are) c.first_used-home.ensures.up
-    c.first_used-home.ensures.low)
+    let next = c.self.inside.next_time in
+    let look = wheel_stands (sees c.self.invariant.rows c.self.view_is).wheel in
+    let first = c.first_window.ensures.first (places (home_on next look.level) keys) look.stand.are in
+    let near : c.args.to / 512 ≤ next / 512 = omega (arith, c.if-to-self.false) in
+    let few : c.max-end.result + 1 ≤ end_of 0 next = omega (arith, c.max-end.ensures, near, end_lowest next, look.stand.time) in
+    let end : c.max-end.result + 1 ≡ max c.args.to next + 1 = omega (arith, c.max-end.ensures) in
+    subst (λ (n : ℕ). MatchBool (nat_lt c.first_window.result (c.max-end.result + 1)) (MayBeDue keys n c.args.to) (NoRowDue keys c.args.to)) (ap passed_of c.self.view_is)
+    (may_be_near look.stand first c.first_window.ensures.up c.first_window.ensures.low few c.args.to near end)

@@ -1,8 +1,8 @@
-use Rattle.std.proofs.Common.{ap, ◌∙◌, length, arith, refl}
+use Rattle.std.proofs.Common.{ℕ, ap, subst, ◌∙◌, length, arith, refl}
 use Rattle.std.proofs.lemmas.List.{length-set}
 use Rattle.ert_wheel.proofs.Writes.{sees, low_in, alike_after, is_held, is_kept, may_take, replaced, stored_as}
 use Rattle.ert_wheel.proofs.wheel.Wheel.replace.Goals as goal
-use Rattle.ert_wheel.specs.Wheels.{bucket_of}
+use Rattle.ert_wheel.specs.Levels.{IsLeastBucket}
 
 pub renew-requires-clause-slot : goal.renew-requires-clause-slot
 renew-requires-clause-slot g c = may_take (sees c.self.invariant.rows c.self.view_is) (low_in c.args.row.slot c.self.invariant c.self.view_is c.requires.slot).low_key
@@ -23,7 +23,7 @@ invariant_of-self g c = record {
         newest = c.requires.newest;
       })
       (low_in c.args.row.slot c.self.invariant c.self.view_is c.requires.slot).low_record
-      c.requires.held (c.bucket-home.ensures.is ∙ ap (bucket_of c.self.inside.next_time) c.max.ensures) c.renew.ensures.slots c.renew.ensures.homes c.renew.ensures.chains c.lower.ensures));
+      c.requires.held (subst (λ (t : ℕ). IsLeastBucket c.self.inside.next_time t c.bucket-home.result) c.max.ensures c.bucket-home.ensures.is) c.renew.ensures.slots c.renew.ensures.homes c.renew.ensures.chains c.lower.ensures));
   alike = alike_after c.self.invariant.alike (ap length c.set.ensures.keys ∙ length-set c.self.inside.kept.keys c.args.row.slot _) c.set.ensures.room c.renew.ensures.slots c.renew.ensures.written refl refl;
 }
 
@@ -37,4 +37,4 @@ returns-clause-keys g c =
       newest = c.requires.newest;
     })
     (low_in c.args.row.slot c.self.invariant c.self.view_is c.requires.slot).low_record
-    c.requires.held (c.bucket-home.ensures.is ∙ ap (bucket_of c.self.inside.next_time) c.max.ensures) c.renew.ensures.slots c.renew.ensures.homes c.renew.ensures.chains c.lower.ensures))
+    c.requires.held (subst (λ (t : ℕ). IsLeastBucket c.self.inside.next_time t c.bucket-home.result) c.max.ensures c.bucket-home.ensures.is) c.renew.ensures.slots c.renew.ensures.homes c.renew.ensures.chains c.lower.ensures))

@@ -1,0 +1,112 @@
+-- A newest row comes to the least level on which it may stand.
+
+use Rattle.std.proofs.Common.{◌≡◌, ◌≢◌, ℕ, suc, ◌+◌, ◌-◌, ◌/◌, ◌^◌, ◌<◌, ◌≤◌, max, List, Option, Some, IfSome, length, set, sym, subst, ◌∙◌, ap, inl, inr, refl, arith}
+use Rattle.std.proofs.lemmas.Bool.{cases_eq}
+use Rattle.ert_wheel.proofs.Falls.{at_level, at_here, at_there, same_other}
+use Rattle.ert_wheel.proofs.Parts.{with_place_here, with_place_there}
+use Rattle.ert_wheel.proofs.Times.{above, near_above}
+use Rattle.ert_wheel.proofs.Views.{key_set, chains_set}
+use Rattle.ert_wheel.specs.Levels.{bucket_on, MayStand, IsLeastLevel}
+use Rattle.ert_wheel.specs.Rings.{Rings, Place, AreChains, with_place}
+use Rattle.ert_wheel.specs.Rows.{key_in}
+use Rattle.ert_wheel.specs.Wheels.{home_on, place_of, places, AreLevelled}
+use Rattle.ert_wheel.specs.declared.row.Key.{Key}
+
+-- the least level is one that fits
+least_fits : (next l t : ℕ) → IsLeastLevel next l t → MayStand next 1 l t
+least_fits next l t least = record {
+  highest = least.highest;
+  near = least.near;
+  ahead = λ some high. omega (arith, least.beyond some);
+}
+
+-- a time that may stand below a level is in the window of the next time there, or in the one after it
+near_top : (next k l t : ℕ) → MayStand next 1 k t → k < l → t / 512 ^ l ≤ next / 512 ^ l + 1
+near_top next k l t fits less =
+    let e : l - suc k + suc k ≡ l = omega arith in
+    subst (λ (n : ℕ). t / 512 ^ n ≤ next / 512 ^ n + 1) e
+    (near_above (suc k) (l - suc k) next t (omega (arith, above k t, above k next, fits.near)))
+
+-- a row whose order is above all
+pub record Enters (next l : ℕ) (keys : List (Option Key)) (slot : ℕ) (key : Key) : Type 0 where
+  pub low : slot < length keys
+  pub newest : (j : ℕ) → IfSome (key_in keys j) (λ k. k.order < key.order)
+  pub least : IsLeastLevel next l (max key.deadline next)
+
+-- all others are older
+older : {next l slot : ℕ} {keys : List (Option Key)} {key : Key} → Enters next l keys slot key → (j : ℕ) (k : Key)
+    → key_in keys j ≡ Some k → k.order < key.order
+older {key = key} e j k has = subst (λ (o : Option Key). IfSome o (λ x. x.order < key.order)) has (e.newest j)
+
+-- the levels with it
+pub entered : {next l slot : ℕ} {keys : List (Option Key)} {key : Key} (level : Key → ℕ) → Enters next l keys slot key
+    → AreLevelled next 1 keys level → AreLevelled next 1 (set keys slot (Some key)) (at_level level key.order l)
+entered {next} {l} {slot} {keys} {key} level e a =
+    let apart : (j : ℕ) (k : Key) → key_in keys j ≡ Some k → k.order ≢ key.order =
+    λ j k has same. absurd (omega (arith, older e j k has, same)) in
+    record {
+      fit = λ j y has. elim (key_set keys slot (Some key) j y e.low has) [
+        | inl (at, is) ↦
+            let same : key ≡ y = cc in
+            subst (λ (k : Key). MayStand next 1 (at_level level key.order l k) (max k.deadline next)) same
+            (subst (λ (n : ℕ). MayStand next 1 n (max key.deadline next)) (sym (at_here level key.order l key refl))
+            (least_fits next l (max key.deadline next) e.least))
+        | inr (ne, was) ↦
+            subst (λ (n : ℕ). MayStand next 1 n (max y.deadline next)) (sym (at_there level key.order l y (apart j y was))) (a.fit j y was)
+      ];
+      falls = λ i j x y has has' less same. elim (key_set keys slot (Some key) i x e.low has) [
+        | inl (at, is) ↦
+            let x_is : key ≡ x = cc in
+            let x_at : at_level level key.order l x ≡ l = at_here level key.order l x (ap (λ (k : Key). k.order) (sym x_is)) in
+            elim (key_set keys slot (Some key) j y e.low has') [
+              | inl (at', is') ↦
+                  let y_is : key ≡ y = cc in
+                  let y_at : at_level level key.order l y ≡ l = at_here level key.order l y (ap (λ (k : Key). k.order) (sym y_is)) in
+                  absurd (omega (arith, less, x_at, y_at))
+              | inr (ne', was') ↦
+                  let s : ℕ = max x.deadline next in
+                  let t : ℕ = max y.deadline next in
+                  let y_at : at_level level key.order l y ≡ level y = at_there level key.order l y (apart j y was') in
+                  let one : s / 512 ^ l ≡ t / 512 ^ l = subst (λ (n : ℕ). s / 512 ^ n ≡ t / 512 ^ n) x_at same in
+                  let near : t / 512 ^ l ≤ next / 512 ^ l + 1 = near_top next (level y) l t (a.fit j y was') (omega (arith, less, x_at, y_at)) in
+                  let least : IsLeastLevel next l s = subst (λ (k : Key). IsLeastLevel next l (max k.deadline next)) x_is e.least in
+                  absurd (omega (arith, one, near, least.beyond (omega (arith, less, x_at, y_at))))
+            ]
+        | inr (ne, was) ↦ elim (key_set keys slot (Some key) j y e.low has') [
+          | inl (at', is') ↦
+              let y_is : key ≡ y = cc in
+              omega (arith, older e i x was, ap (λ (k : Key). k.order) y_is)
+          | inr (ne', was') ↦
+              let s : ℕ = max x.deadline next in
+              let t : ℕ = max y.deadline next in
+              let x_at : at_level level key.order l x ≡ level x = at_there level key.order l x (apart i x was) in
+              let y_at : at_level level key.order l y ≡ level y = at_there level key.order l y (apart j y was') in
+              a.falls i j x y was was' (omega (arith, less, x_at, y_at)) (subst (λ (n : ℕ). s / 512 ^ n ≡ t / 512 ^ n) x_at same)
+        ]
+      ];
+    }
+
+-- and the chains
+pub entered_chains : {next l slot : ℕ} {keys : List (Option Key)} {key : Key} (level : Key → ℕ) (home : ℕ) (chains : Rings) → Enters next l keys slot key
+    → home ≡ bucket_on l (max key.deadline next)
+    → AreChains chains (with_place (places (home_on next level) keys) slot (Some (record { home = home; order = key.order })))
+    → AreChains chains (places (home_on next (at_level level key.order l)) (set keys slot (Some key)))
+entered_chains {next} {l} {slot} {keys} {key} level home chains e is are =
+    let P : ℕ → Option Place = places (home_on next level) keys in
+    let new_home : Key → ℕ = home_on next (at_level level key.order l) in
+    let old : Option Place = Some (record { home = home; order = key.order }) in
+    let new : Option Place = place_of new_home (Some key) in
+    let here : old ≡ new =
+    ap (λ h. Some (record { home = h; order = key.order })) (is ∙ ap (λ n. bucket_on n (max key.deadline next)) (sym (at_here level key.order l key refl))) in
+    let at : (j : ℕ) → with_place P slot old j ≡ with_place (places new_home keys) slot new j =
+    λ j. elim (cases_eq j slot) [
+      | inl same ↦
+          ap (with_place P slot old) same ∙ with_place_here P slot old ∙ here
+          ∙ sym (with_place_here (places new_home keys) slot new) ∙ ap (with_place (places new_home keys) slot new) (sym same)
+      | inr ne ↦
+          with_place_there P slot old j ne
+          ∙ same_other next key.order l j level (key_in keys j) (λ k has one. absurd (omega (arith, older e j k has, one)))
+          ∙ sym (with_place_there (places new_home keys) slot new j ne)
+    ] in
+    chains_set chains new_home keys slot (Some key) e.low
+    (subst (λ (p : ℕ → Option Place). AreChains chains p) (λ i j. at j i) are)

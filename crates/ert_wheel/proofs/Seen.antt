@@ -1,0 +1,292 @@
+-- The due rows of a level are collected, window by window.
+
+use Rattle.std.proofs.Common.{◌≡◌, ℕ, zero, suc, ◌+◌, ◌/◌, ◌^◌, ◌<◌, ◌≤◌, Bool, true, false, ◌&&◌, ◌||◌, cond, nat_eq, nat_le, nat_lt, max, min, List, Option, Some, None, [], ◌∷◌, length, get_or, sym, ◌∙◌, ap, inl, inr, refl, arith}
+use Rattle.std.proofs.lemmas.Bool.{and_right, cases_eq, cases_lt, eq-eqb, ne_eqb, lt-ltb, le-ltb, le-leb, lt-leb, true≢false}
+use Rattle.std.proofs.lemmas.Bool.Decides.{leb_tells}
+use Rattle.ert_wheel.proofs.Collect.{passing_same}
+use Rattle.ert_wheel.proofs.Least.{at_place}
+use Rattle.ert_wheel.proofs.Lists.{times-cons}
+use Rattle.ert_wheel.proofs.Looking.{key_low}
+use Rattle.ert_wheel.proofs.Standing.{StandsAt, end_of, stands_at, window_before_end}
+use Rattle.ert_wheel.proofs.Times.{later}
+use Rattle.ert_wheel.specs.Levels.{bucket_of_window}
+use Rattle.ert_wheel.specs.Marks.{FirstWindow}
+use Rattle.ert_wheel.specs.Rings.{Rings}
+use Rattle.ert_wheel.specs.Rows.{key_in, key_of, rows_told, times, passing}
+use Rattle.ert_wheel.specs.Walks.{AreRows, AreRanked, is_due_in, is_due_from, StandOnLevels, AreCollected, MayCollect, Collects}
+use Rattle.ert_wheel.specs.Wheels.{home_on, places}
+use Rattle.ert_wheel.specs.declared.row.HeldRow.{HeldRow}
+use Rattle.ert_wheel.specs.declared.row.Key.{Key}
+use Rattle.ert_wheel.specs.declared.row.Row.{Row}
+use Rattle.ert_wheel.specs.declared.row.TheConstants.{LAST}
+
+-- at the first window: the test is that of the levels above
+met_first : (due : Bool) (k l v from : ℕ) → (l ≡ k → from ≤ v)
+    → (due && nat_le (k + 1) l) ≡ (due && (nat_lt k l || (nat_eq k l && nat_lt v from)))
+met_first false k l v from up = refl
+met_first true k l v from up =
+    elim (cases_lt k l) [
+      | inl less ↦ le-leb (k + 1) l (omega (arith, less)) ∙ sym (ap (λ b. b || (nat_eq k l && nat_lt v from)) (lt-ltb k l less))
+      | inr more ↦
+          lt-leb (k + 1) l (omega (arith, more))
+          ∙ sym (ap (λ b. b || (nat_eq k l && nat_lt v from)) (le-ltb k l more) ∙ none)
+    ]
+  where
+    none : (nat_eq k l && nat_lt v from) ≡ false
+    none = elim (cases_eq l k) [
+      | inl e ↦ and_right (nat_eq k l) (nat_lt v from) (le-ltb v from (up e))
+      | inr ne ↦ ap (λ b. b && nat_lt v from) (ne_eqb k l (λ e. ne (sym e)))
+    ]
+
+-- past the last window: that of the levels from it on
+met_last : (due : Bool) (k l v end : ℕ) → (due ≡ true → l ≡ k → v < end)
+    → (due && (nat_lt k l || (nat_eq k l && nat_lt v end))) ≡ (due && nat_le k l)
+met_last false k l v end low = refl
+met_last true k l v end low =
+    elim (cases_lt k l) [
+      | inl less ↦ ap (λ b. b || (nat_eq k l && nat_lt v end)) (lt-ltb k l less) ∙ sym (le-leb k l (omega (arith, less)))
+      | inr more ↦
+          ap (λ b. b || (nat_eq k l && nat_lt v end)) (le-ltb k l more)
+          ∙ elim (cases_eq l k) [
+            | inl e ↦
+                ap (λ b. b && nat_lt v end) (eq-eqb k l (sym e)) ∙ lt-ltb v end (low refl e) ∙ sym (le-leb k l (omega (arith, e)))
+            | inr ne ↦ ap (λ b. b && nat_lt v end) (ne_eqb k l (λ e. ne (sym e))) ∙ sym (lt-leb k l (omega (arith, more, ne)))
+          ]
+    ]
+
+-- windows without a row of the level are passed over
+met_skip : (due : Bool) (k l v w found : ℕ) → w ≤ found → (l ≡ k → w ≤ v → found ≤ v)
+    → (due && (nat_lt k l || (nat_eq k l && nat_lt v w))) ≡ (due && (nat_lt k l || (nat_eq k l && nat_lt v found)))
+met_skip due k l v w found up none =
+    ap (λ b. due && (nat_lt k l || b))
+    (elim (cases_eq l k) [
+      | inl e ↦
+          ap (λ b. nat_eq k l && b)
+          (elim (cases_lt v w) [
+            | inl less ↦ lt-ltb v w less ∙ sym (lt-ltb v found (omega (arith, less, up)))
+            | inr more ↦ le-ltb v w more ∙ sym (le-ltb v found (none e more))
+          ])
+      | inr ne ↦ ap (λ b. b && nat_lt v w) (ne_eqb k l (λ e. ne (sym e))) ∙ sym (ap (λ b. b && nat_lt v found) (ne_eqb k l (λ e. ne (sym e))))
+    ])
+
+-- a window more: its bucket's keys are those of the level in it
+met_more : (due : Bool) (k l v w h b : ℕ) → (h ≡ b → StandsAt l k v w) → (l ≡ k → v ≡ w → h ≡ b)
+    → cond (due && (nat_lt k l || (nat_eq k l && nat_lt v w))) 1 0 + cond (due && nat_eq h b) 1 0
+    ≡ cond (due && (nat_lt k l || (nat_eq k l && nat_lt v (w + 1)))) 1 0
+met_more false k l v w h b is there = refl
+met_more true k l v w h b is there =
+    elim (cases_eq h b) [
+      | inl e ↦
+          let s = is e in
+          let lt : nat_lt k l ≡ false = le-ltb k l (omega (arith, s.level_is)) in
+          let eq : nat_eq k l ≡ true = eq-eqb k l (sym s.level_is) in
+          let x : ◌≡◌ {A = ℕ} (cond (nat_lt k l || (nat_eq k l && nat_lt v w)) 1 0) 0 =
+          ap (λ c. cond (c || (nat_eq k l && nat_lt v w)) 1 0) lt ∙ ap (λ c. cond c 1 0) (and_right (nat_eq k l) (nat_lt v w) (le-ltb v w (omega (arith, s.window_is)))) in
+          let y : ◌≡◌ {A = ℕ} (cond (nat_lt k l || (nat_eq k l && nat_lt v (w + 1))) 1 0) 1 =
+          ap (λ c. cond (c || (nat_eq k l && nat_lt v (w + 1))) 1 0) lt
+          ∙ (ap (λ c. cond (c && nat_lt v (w + 1)) 1 0) eq ∙ ap (λ c. cond c 1 0) (lt-ltb v (w + 1) (omega (arith, s.window_is)))) in
+          let z : ◌≡◌ {A = ℕ} (cond (nat_eq h b) 1 0) 1 = ap (λ c. cond c 1 0) (eq-eqb h b e) in
+          omega (arith, x, y, z)
+      | inr ne ↦
+          let z : ◌≡◌ {A = ℕ} (cond (nat_eq h b) 1 0) 0 = ap (λ c. cond c 1 0) (ne_eqb h b ne) in
+          let same : (nat_eq k l && nat_lt v w) ≡ (nat_eq k l && nat_lt v (w + 1)) =
+          elim (cases_eq l k) [
+            | inl e ↦
+                ap (λ c. nat_eq k l && c)
+                (elim (cases_lt v w) [
+                  | inl less ↦ lt-ltb v w less ∙ sym (lt-ltb v (w + 1) (omega (arith, less)))
+                  | inr more ↦
+                      elim (cases_eq v w) [
+                        | inl here ↦ absurd (ne (there e here))
+                        | inr other ↦ le-ltb v w more ∙ sym (le-ltb v (w + 1) (omega (arith, more, other)))
+                      ]
+                ])
+            | inr other ↦ ap (λ c. c && nat_lt v w) (ne_eqb k l (λ e. other (sym e))) ∙ sym (ap (λ c. c && nat_lt v (w + 1)) (ne_eqb k l (λ e. other (sym e))))
+          ] in
+          omega (arith, z, ap {B = ℕ} (λ c. cond (nat_lt k l || c) 1 0) same)
+    ]
+
+-- a key that was met, and isn't in an earlier window, stands on a higher level
+met_above : (due : Bool) (k l v w : ℕ) → (due && (nat_lt k l || (nat_eq k l && nat_lt v w))) ≡ true → v ≡ w → k < l
+met_above due k l v w met same =
+    elim (cases_lt k l) [
+      | inl less ↦ less
+      | inr more ↦
+          let none : (due && (nat_lt k l || (nat_eq k l && nat_lt v w))) ≡ false =
+          ap (λ b. due && (b || (nat_eq k l && nat_lt v w))) (le-ltb k l more)
+          ∙ (ap (λ b. due && b) (and_right (nat_eq k l) (nat_lt v w) (le-ltb v w (omega (arith, same)))) ∙ and_right due false refl) in
+          absurd (true≢false (sym met ∙ none))
+    ]
+
+-- a test passes at most once
+passing_low : (test : Key → Bool) (o : Option Key) → passing test o ≤ 1
+passing_low test None = omega arith
+passing_low test (Some key) =
+    elim (test key) as (λ b. cond b 1 0 ≤ 1) [ true ↦ omega arith | false ↦ omega arith ]
+
+-- two tests that together are a third, where there is a key
+passing_sum : (p q r : Key → Bool) (o : Option Key) → ((key : Key) → o ≡ Some key → cond (p key) 1 0 + cond (q key) 1 0 ≡ cond (r key) 1 0)
+    → passing p o + passing q o ≡ passing r o
+passing_sum p q r None sum = refl
+passing_sum p q r (Some key) sum = sum key refl
+
+-- a test that passes is true at the key
+passes : (test : Key → Bool) (key : Key) → 1 ≤ cond (test key) 1 0 → test key ≡ true
+passes test key some = go (test key) some
+  where
+    go : (b : Bool) → 1 ≤ cond b 1 0 → b ≡ true
+    go true some = refl
+    go false some = absurd (omega (arith, some))
+
+-- the rows of a list stand in it
+stands_once : (rows : List Row) (k : ℕ) (d : Row) → k < length rows → 1 ≤ times (get_or rows k d).slot rows
+stands_once [] k d low = absurd (omega (arith, low))
+stands_once (row ∷ rows) zero d low =
+    let one : ◌≡◌ {A = ℕ} (cond (nat_eq row.slot row.slot) 1 0) 1 = ap (λ b. cond b 1 0) (eq-eqb row.slot row.slot refl) in
+    omega (arith, one, times-cons row rows row.slot)
+stands_once (row ∷ rows) (suc k) d low =
+    omega (arith, times-cons row rows (get_or rows k d).slot, stands_once rows k d (omega (arith, low)))
+
+-- the time of a key's window: a late one has the next time
+abbrev pub time_of : ℕ → Key → ℕ
+time_of next key = max key.deadline next
+
+-- the due keys of the levels above one, and on it of the windows before one
+abbrev pub is_due_met : ℕ → (Key → ℕ) → ℕ → ℕ → ℕ → Key → Bool
+is_due_met next levels level window to key =
+    nat_le key.deadline to && (nat_lt level (levels key) || (nat_eq level (levels key) && nat_lt (max key.deadline next / 512 ^ level) window))
+
+-- the due rows of those windows are there once, and no others, and the ranks tell their orders
+pub record IsSeen (next : ℕ) (keys : List (Option Key)) (levels : Key → ℕ) (level window to : ℕ) (rows : List HeldRow) : Type 0 where
+  pub each : (j : ℕ) → times j (rows_told keys rows) ≡ passing (is_due_met next levels level window to) (key_in keys j)
+  pub are_rows : AreRows keys (rows_told keys rows)
+  pub ranked : AreRanked keys rows
+
+-- the level may be walked, from one window on
+module _ {next level to : ℕ} {keys : List (Option Key)} {chains : Rings} {levels : Key → ℕ} (stand : StandOnLevels next chains keys levels) where
+  -- the rows of the levels above are there at first
+  pub seen_start : (from : ℕ) (rows : List HeldRow) → from ≡ next / 512 ^ level + min level 1 → AreCollected keys levels (level + 1) to rows → IsSeen next keys levels level from to rows
+  seen_start from rows is so_far = record {
+    each = λ j. so_far.each j
+        ∙ passing_same (is_due_from levels (level + 1) to) (is_due_met next levels level from to) (key_in keys j) (λ key has.
+        met_first (nat_le key.deadline to) level (levels key) (time_of next key / 512 ^ level) from (λ on. first key j has on));
+    are_rows = so_far.are_rows;
+    ranked = so_far.ranked;
+  }
+    where
+      first : (key : Key) (j : ℕ) → key_in keys j ≡ Some key → levels key ≡ level → from ≤ time_of next key / 512 ^ level
+      first key j has on =
+          elim (cases_eq level 0) [
+            | inl e ↦ omega (arith, is, e, later level next (time_of next key) (omega arith))
+            | inr ne ↦
+                let fit = stand.levelled.fit j key has in
+                let after = fit.ahead (omega (arith, on, ne)) (omega (arith, on, ne)) in
+                omega (arith, is, after, ap (λ l. next / 512 ^ l) on, ap (λ l. time_of next key / 512 ^ l) on)
+          ]
+
+  -- windows without a row are passed over
+  pub seen_skip : (window end found : ℕ) (rows : List HeldRow) → window ≤ found → found ≤ end → end ≤ end_of level next
+      → FirstWindow chains (places (home_on next levels) keys) level window end found
+      → IsSeen next keys levels level window to rows → IsSeen next keys levels level found to rows
+  seen_skip window end found rows up low few first seen = record {
+    each = λ j. seen.each j
+        ∙ passing_same (is_due_met next levels level window to) (is_due_met next levels level found to) (key_in keys j) (λ key has.
+        met_skip (nat_le key.deadline to) level (levels key) (time_of next key / 512 ^ level) window found up (λ on high.
+        elim (cases_lt (time_of next key / 512 ^ level) end) [
+          | inl before ↦
+              first.none_below (time_of next key / 512 ^ level) j (record { home = home_on next levels key; order = key.order })
+              (omega (arith, stand.slots, key_low keys j key has)) (at_place keys (home_on next levels) j key has) high before
+              (ap (λ l. bucket_of_window l (time_of next key / 512 ^ l)) on)
+          | inr after ↦ omega (arith, low, after)
+        ]));
+    are_rows = seen.are_rows;
+    ranked = seen.ranked;
+  }
+
+  -- a window more
+  module _ (window : ℕ) (rows : List HeldRow) (from : next / 512 ^ level ≤ window) (low : window < end_of level next)
+      (seen : IsSeen next keys levels level window to rows) where
+    here : (key : Key) (j : ℕ) → key_in keys j ≡ Some key → home_on next levels key ≡ bucket_of_window level window
+        → StandsAt (levels key) level (time_of next key / 512 ^ level) window
+    here key j has at = stands_at next (levels key) level (time_of next key) window (omega arith) (stand.levelled.fit j key has) from low at
+
+    one_more : (j : ℕ)
+        → passing (is_due_met next levels level window to) (key_in keys j) + passing (is_due_in (home_on next levels) (bucket_of_window level window) to) (key_in keys j)
+        ≡ passing (is_due_met next levels level (window + 1) to) (key_in keys j)
+    one_more j =
+        passing_sum (is_due_met next levels level window to) (is_due_in (home_on next levels) (bucket_of_window level window) to)
+        (is_due_met next levels level (window + 1) to) (key_in keys j) (λ key has.
+        met_more (nat_le key.deadline to) level (levels key) (time_of next key / 512 ^ level) window (home_on next levels key) (bucket_of_window level window)
+        (here key j has)
+        (λ on at. ap (λ l. bucket_of_window l (time_of next key / 512 ^ l)) on ∙ ap (bucket_of_window level) at))
+
+    -- a row that was collected before one of the window's that has its deadline is older
+    is_older : (row key : Key) (i j : ℕ) → key_in keys i ≡ Some row → key_in keys j ≡ Some key → is_due_met next levels level window to row ≡ true
+        → home_on next levels key ≡ bucket_of_window level window → key.deadline ≡ row.deadline → row.order < key.order
+    is_older row key i j has_row has met at same =
+        let s = here key j has at in
+        let t : time_of next row ≡ time_of next key = omega (arith, same) in
+        let above : level < levels row =
+        met_above (nat_le row.deadline to) level (levels row) (time_of next row / 512 ^ level) window met (ap (λ n. n / 512 ^ level) t ∙ s.window_is) in
+        stand.levelled.falls i j row key has_row has (omega (arith, above, s.level_is)) (ap (λ n. n / 512 ^ levels row) t)
+
+    pub may_collect : MayCollect chains keys (home_on next levels) (bucket_of_window level window) to rows
+    may_collect = record {
+      slots = stand.slots;
+      few = stand.few;
+      are = stand.are;
+      older = λ k d low. λ slot key has at same.
+          let row : Row = get_or (rows_told keys rows) k d in
+          let held : key_in keys row.slot ≡ Some (key_of row) = seen.are_rows k d low in
+          let some : 1 ≤ cond (is_due_met next levels level window to (key_of row)) 1 0 =
+          omega (
+            arith,
+            stands_once (rows_told keys rows) k d low,
+            seen.each row.slot,
+            ap (passing (is_due_met next levels level window to)) held,
+          ) in
+          is_older (key_of row) key row.slot slot held has (passes (is_due_met next levels level window to) (key_of row) some) at same;
+      once = λ j. omega (
+        arith,
+        seen.each j,
+        one_more j,
+        passing_low (is_due_met next levels level (window + 1) to) (key_in keys j),
+      );
+      are_rows = seen.are_rows;
+      ranked = seen.ranked;
+    }
+
+    pub seen_more : (new : List HeldRow) → Collects keys (home_on next levels) (bucket_of_window level window) to rows new
+        → IsSeen next keys levels level (window + 1) to new
+    seen_more new c = record {
+      each = λ j. omega (arith, c.each j, seen.each j, one_more j);
+      are_rows = c.are_rows;
+      ranked = c.ranked;
+    }
+
+  -- at the end all due rows of the level are there
+  pub seen_end : (window last : ℕ) (rows : List HeldRow) → last ≡ max (min to LAST) next / 512 ^ level → min (last + 1) (end_of level next) ≤ window
+      → IsSeen next keys levels level window to rows → AreCollected keys levels level to rows
+  seen_end window last rows is high seen = record {
+    each = λ j. seen.each j
+        ∙ passing_same (is_due_met next levels level window to) (is_due_from levels level to) (key_in keys j) (λ key has.
+        met_last (nat_le key.deadline to) level (levels key) (time_of next key / 512 ^ level) window (λ due on. before key j has due on));
+    are_rows = seen.are_rows;
+    ranked = seen.ranked;
+  }
+    where
+      before : (key : Key) (j : ℕ) → key_in keys j ≡ Some key → nat_le key.deadline to ≡ true → levels key ≡ level → time_of next key / 512 ^ level < window
+      before key j has due on =
+          let early : key.deadline ≤ to =
+          elim (leb_tells key.deadline to) [ inl (t, e) ↦ e | inr (f, e) ↦ absurd (true≢false (sym due ∙ f)) ] in
+          let down : time_of next key ≤ max (min to LAST) next = omega (arith, early, stand.low j key has) in
+          let few = window_before_end next (levels key) (time_of next key) (omega (arith, stand.low j key has, stand.time)) (stand.levelled.fit j key has) in
+          omega (
+            arith,
+            is,
+            high,
+            few,
+            later level (time_of next key) (max (min to LAST) next) down,
+            ap (λ l. time_of next key / 512 ^ l) on,
+            ap (λ l. end_of l next) on,
+          )

@@ -1,0 +1,24 @@
+use Rattle.std.proofs.Common.{◌-◌, ◌≤◌, ℕ}
+use Rattle.ert_wheel.proofs.NextDue.{NoneBelow}
+use Rattle.ert_wheel.proofs.levels.early_above.Given as goal
+use Rattle.ert_wheel.specs.NextDue.{IsEarlyOrNever, NoneOn}
+use Rattle.ert_wheel.specs.Walks.{StandOnLevels}
+use Rattle.ert_wheel.specs.Wheels.{held_keys}
+use Rattle.ert_wheel.specs.declared.row.Key.{Key}
+
+-- the levels below one were looked at
+pub record Looked (level : ℕ) (early below : Type 0) : Type 0 where
+  pub above : 1 ≤ level
+  pub highest : level ≤ 5
+  pub early_is : early
+  pub none : below
+
+abbrev pub invariant-loop-level : goal.invariant-loop-level
+invariant-loop-level g l =
+    Looked l.level (IsEarlyOrNever (held_keys l.chains l.kept.keys) l.next_time l.earliest)
+    ((levels : Key → ℕ) → StandOnLevels l.next_time l.chains (held_keys l.chains l.kept.keys) levels
+    → NoneOn (held_keys l.chains l.kept.keys) levels 0 l.near
+    → NoneBelow (held_keys l.chains l.kept.keys) levels l.level l.earliest)
+
+abbrev pub decreases-loop-level : goal.decreases-loop-level
+decreases-loop-level g l = 5 - l.level

@@ -1,0 +1,30 @@
+use Rattle.std.proofs.Common.{ℕ, ap, subst, sym}
+use Rattle.ert_wheel.proofs.Least.{answer_is}
+use Rattle.ert_wheel.proofs.Near.{due_next, least_here, least_seen}
+use Rattle.ert_wheel.proofs.Standing.{wheel_stands}
+use Rattle.ert_wheel.proofs.Writes.{sees, keys_of, passed_of}
+use Rattle.ert_wheel.proofs.wheel.Wheel.due_at_once.Goals as goal
+use Rattle.ert_wheel.specs.FirstDue.{SomeRowDue}
+use Rattle.ert_wheel.specs.NextDue.{NoRow, IsNextDue, IsLeastIn}
+use Rattle.ert_wheel.specs.Wheels.{home_on}
+use Rattle.ert_wheel.specs.declared.row.TheConstants.{NEVER}
+
+pub returns-then-self : goal.returns-then-self
+returns-then-self g c =
+    let keys = c.args.self.now.keys in
+    let next = c.self.inside.next_time in
+    let s = sees c.self.invariant.rows c.self.view_is in
+    subst (λ (n : ℕ). IsNextDue keys n next) (ap passed_of c.self.view_is)
+    (due_next keys next c.self.inside.floor (subst (λ (n : ℕ). SomeRowDue keys n) (sym (ap passed_of c.self.view_is)) c.requires) s.above c.if-self.true)
+
+pub returns : goal.returns
+returns g c =
+    let keys = c.args.self.now.keys in
+    let next = c.self.inside.next_time in
+    let look = wheel_stands (sees c.self.invariant.rows c.self.view_is).wheel in
+    let due = subst (λ (n : ℕ). SomeRowDue keys n) (sym (ap passed_of c.self.view_is)) c.requires in
+    answer_is (NoRow keys) c.least_in.result c.least_in.ensures.all c.least_in.ensures.least (λ least looked.
+    subst (λ (n : ℕ). IsNextDue keys n least) (ap passed_of c.self.view_is)
+    (least_here look.stand least due
+    (subst (λ (b : ℕ). IsLeastIn keys (home_on next look.level) b NEVER least) c.bucket_of_window-home.ensures.is
+    (least_seen c.self.inside.kept.keys look.stand (ap keys_of c.self.view_is) looked))))

@@ -1,0 +1,95 @@
+//! The rows of a level: which of them are due, and how early one may be.
+
+ghost use Rattle.std.specs.Prelude.{◌≡◌, ◌+◌, ◌<◌, ◌≤◌, ℕ, length, vec_capacity};
+ghost use Rattle.ert_wheel.specs.NextDue.{NoneBefore, MayLookAbove, IsEarlyOrNever, NoneOn};
+ghost use Rattle.ert_wheel.specs.Walks.{StandOnLevels, AreCollected, MayCollectLevel, MayLook};
+ghost use Rattle.ert_wheel.specs.Wheels.{held_keys};
+ghost use Rattle.ert_wheel.specs.declared.row.Key.{Key};
+ghost use Rattle.ert_wheel.specs.declared.row.TheConstants.{NEVER};
+
+use crate::kept::Kept;
+use crate::marked::MarkedChains;
+use crate::row::{HeldRow, LAST};
+use crate::walk::{collect, early_in};
+use crate::windows::{begin_of, bucket_of_window, window_on, windows_end};
+
+/// Adds the due rows of a level, where those of the levels above are there.
+pub fn collect_level<T: Copy>(
+    chains: &MarkedChains,
+    kept: &Kept<T>,
+    level: u32,
+    next_time: u64,
+    to: u64,
+    rows: &mut Vec<HeldRow>,
+)
+    requires level { level ≤ 4 }
+    requires room { chains.now.slots ≤ vec_capacity rows.old }
+    requires may { MayCollectLevel next_time chains.now (held_keys chains.now kept.now.keys) (level + 1) to rows.old.items }
+    requires kept { length kept.now.keys ≡ chains.now.written }
+    ensures collects { (levels : Key → ℕ)
+        → StandOnLevels next_time chains.now (held_keys chains.now kept.now.keys) levels
+        → AreCollected (held_keys chains.now kept.now.keys) levels (level + 1) to rows.old.items
+        → AreCollected (held_keys chains.now kept.now.keys) levels level to rows.new.items }
+    ensures capacity { vec_capacity rows.new ≡ vec_capacity rows.old }
+{
+    // Above the lowest level no row is in the window of the next time.
+    let from = window_on(level, next_time) + level.min(1) as u64;
+    let last = window_on(level, to.min(LAST).max(next_time));
+    let end = (last + 1).min(windows_end(level, next_time));
+    let mut window = chains.first_window(level, from, end);
+    while window < end {
+        collect(chains, kept, bucket_of_window(level, window), to, rows);
+        window = chains.first_window(level, window + 1, end);
+    }
+}
+
+/// The earlier of a time and of how early a row above the lowest level may be due.
+pub fn early_above<T: Copy>(chains: &MarkedChains, kept: &Kept<T>, next_time: u64, near: u64) -> u64
+    requires may { MayLookAbove next_time chains.now (held_keys chains.now kept.now.keys) near }
+    requires kept { length kept.now.keys ≡ chains.now.written }
+    ensures none_before { NoneBefore (held_keys chains.now kept.now.keys) result }
+    ensures early { IsEarlyOrNever (held_keys chains.now kept.now.keys) next_time result }
+{
+    let mut earliest = near;
+    let mut level = 1;
+    while level <= 4 {
+        // No row of this level or of one above is in an earlier window.
+        if begin_of(level, window_on(level, next_time) + 1) >= earliest {
+            return earliest;
+        }
+        earliest = early_on(chains, kept, level, next_time, earliest);
+        level += 1;
+    }
+    earliest
+}
+
+/// The earlier of a time and of how early a row of a level above the lowest may be due.
+fn early_on<T: Copy>(
+    chains: &MarkedChains,
+    kept: &Kept<T>,
+    level: u32,
+    next_time: u64,
+    before: u64,
+) -> u64
+    requires level { 1 ≤ level }
+    requires highest { level ≤ 4 }
+    requires may { MayLook next_time chains.now (held_keys chains.now kept.now.keys) }
+    requires early { IsEarlyOrNever (held_keys chains.now kept.now.keys) next_time before }
+    requires kept { length kept.now.keys ≡ chains.now.written }
+    ensures low { result ≤ before }
+    ensures early { IsEarlyOrNever (held_keys chains.now kept.now.keys) next_time result }
+    ensures none { (levels : Key → ℕ)
+        → StandOnLevels next_time chains.now (held_keys chains.now kept.now.keys) levels
+        → NoneOn (held_keys chains.now kept.now.keys) levels level result }
+{
+    let from = window_on(level, next_time) + 1;
+    let end = windows_end(level, next_time);
+    let window = chains.first_window(level, from, end);
+    if window == end {
+        return before;
+    }
+    if begin_of(level, window) >= before {
+        return before;
+    }
+    early_in(chains, kept, bucket_of_window(level, window)).min(before)
+}

@@ -1,0 +1,91 @@
+//! When the next row is due.
+use super::Wheel;
+use crate::levels::early_above;
+use crate::row::NEVER;
+use crate::telling::{find_teller, tells};
+use crate::walk::least_in;
+use crate::windows::{bucket_of_window, windows_end};
+
+impl<T: Copy> Wheel<T> {
+    ghost use Rattle.std.specs.Bool.{OnTrue};
+    ghost use Rattle.std.specs.Prelude.{◌≡◌, ◌≤◌, ℕ, MatchOption};
+    ghost use Rattle.ert_wheel.specs.FirstDue.{SomeRowDue};
+    ghost use Rattle.ert_wheel.specs.NextDue.{NoRow, NoneBefore, IsNextDue};
+
+    /// How early the next row may be due, in milliseconds; None exactly where there is no row.
+    ///
+    /// No row has an earlier deadline. The answer is a row's deadline, or the begin of a window, after the first time
+    /// that wasn't passed, in which a row is due: of 512 milliseconds, of 262,144, and so on. So it is exact where the
+    /// least deadline stands in that time's window of 512 milliseconds. Whoever lets time pass up to it and asks again is
+    /// told a narrower window, and at last the deadline: after four such answers at most, however far it is.
+    ///
+    /// It looks at the first window that has a row, of each level that may have an earlier one, and there at 64 rows at most;
+    /// where these are all, the answer is exact. Only where a row was put in late since the last pass does it look at each late
+    /// row, and at those of the next time.
+    ///
+    /// The answer is kept, with the slot whose row told it. Until time comes to it, an earlier row is put in or that slot's row
+    /// goes or moves on, a call is a few comparisons.
+    pub fn next_due(&mut self) -> Option<u64>
+        ensures due { MatchOption result (NoRow self.old.keys) (IsNextDue self.old.keys self.old.passed) }
+        ensures keys { self.new.keys ≡ self.old.keys }
+        ensures owners { self.new.owners ≡ self.old.owners }
+        ensures values { self.new.values ≡ self.old.values }
+        ensures passed { self.new.passed ≡ self.old.passed }
+    {
+        if self.is_told(self.floor) {
+            return Some(self.floor);
+        }
+        let time = self.earliest()?;
+        self.floor = time;
+        self.teller = find_teller(&self.buckets, &self.kept, time);
+        Some(time)
+    }
+
+    /// Whether a time before which no row is due is when the next one is, as far as the row of the kept slot tells.
+    #[inline]
+    fn is_told(&self, time: u64) -> bool
+        requires { NoneBefore self.now.keys time }
+        ensures { OnTrue result (IsNextDue self.now.keys self.now.passed time) }
+    {
+        if time <= self.next_time || self.teller as usize >= self.kept.len() {
+            return false;
+        }
+        match self.row(self.teller) {
+            Some(row) => tells(row.deadline, time),
+            None => false,
+        }
+    }
+
+    /// How early the next row may be due.
+    pub(super) fn earliest(&self) -> Option<u64>
+        ensures { MatchOption result (NoRow self.now.keys) (IsNextDue self.now.keys self.now.passed) }
+    {
+        if self.is_empty() {
+            return None;
+        }
+        let end = windows_end(0, self.next_time);
+        let near = self.buckets.first_window(0, self.next_time, end);
+        if near == self.next_time {
+            return self.due_at_once();
+        }
+        // In the next time's window of 512 milliseconds all rows stand on the lowest level.
+        if near >> 9 == self.next_time >> 9 {
+            return Some(near);
+        }
+        let near = if near < end { near } else { NEVER };
+        Some(early_above(&self.buckets, &self.kept, self.next_time, near))
+    }
+
+    /// The least deadline, where a row is late or due at the next time.
+    #[inline]
+    fn due_at_once(&self) -> Option<u64>
+        requires { SomeRowDue self.now.keys self.now.passed }
+        ensures { MatchOption result (NoRow self.now.keys) (IsNextDue self.now.keys self.now.passed) }
+    {
+        if self.floor >= self.next_time {
+            return Some(self.next_time);
+        }
+        let home = bucket_of_window(0, self.next_time);
+        least_in(&self.buckets, &self.kept, home, None)
+    }
+}
