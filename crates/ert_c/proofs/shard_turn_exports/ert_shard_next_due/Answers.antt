@@ -3,9 +3,9 @@ use Rattle.ert_c.proofs.Sharing.{made_through}
 use Rattle.ert_c.proofs.shard_turn_exports.ert_shard_next_due.Goals as goal
 
 pub returns : goal.returns
-returns c = made_through _ _ _ _ _ c.lend.result.now c.lend.result.now (c.as_place.ensures.value ∙ c.lend.ensures.value) refl
+returns c = made_through _ _ _ _ _ c.lend.result.now c.next_due-answer.new.self (c.as_place.ensures.value ∙ c.lend.ensures.value) refl
     (record {
       answer = c.next_due-answer.result;
-      made = record { held = c.next_due-answer.ensures.held; armed = c.next_due-answer.ensures.armed; unchanged = refl };
+      made = record { held = c.next_due-answer.ensures.held; armed = c.next_due-answer.ensures.armed; unchanged = c.next_due-answer.ensures.same };
       told = search rules;
     })

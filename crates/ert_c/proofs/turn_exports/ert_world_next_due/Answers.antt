@@ -6,10 +6,10 @@ use Rattle.ert_defs.specs.declared.settings.Settings.{Settings}
 pub returns : goal.returns
 returns c =
     let looks = c.next_due-answer.ensures in
-    through _ _ _ _ _ c.lend-service.result.now c.lend-service.result.now (c.as_place.ensures.value ∙ c.lend-service.ensures.value) refl (record {
+    through _ _ _ _ _ c.lend-service.result.now c.next_due-answer.new.self (c.as_place.ensures.value ∙ c.lend-service.ensures.value) refl (record {
       below = λ _. record {
         answer = c.next_due-answer.result;
-        made = record { held = looks.held; armed = looks.armed; nearest = looks.nearest; unchanged = refl };
+        made = record { held = looks.held; armed = looks.armed; nearest = looks.nearest; unchanged = looks.same };
         told = search rules;
       };
       above = λ h. absurd (omega (arith, c.if-sched-settings.false, ap (λ (g : Settings). g.schedulers) c.settings.ensures.value, h));
