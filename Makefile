@@ -50,14 +50,13 @@ PYTHON = python3
 LDCONFIG = ldconfig
 tell_loader = [ -n '$(DESTDIR)' ] || $(LDCONFIG) 2>/dev/null || :
 
-# What was proved: the programs, the library's archive, and the archive of the toolchain by which that one calls
-# malloc. `rt ci` and `packaging/prove` leave them there; other places can be given. For aarch64 the toolchain has no
-# archive of the heap, so it is made from C.
+# What was proved: the programs and the library's archive. `rt ci` and `packaging/prove` leave them there; other places can be
+# given. The heap by which the archive calls malloc is made from C. The folder of the toolchain has the notices of its crates.
 KIT = $(patsubst %/bin/rt,%,$(realpath $(shell command -v rt 2>/dev/null)))
 ERTIME = crates/ert_cli/out/ert_cli
 ERTAUDIT = crates/ert_audit/out/ert_audit
 ARCHIVE = crates/ert_c/out/$(if $(is_native),,$(TARGET)-unknown-linux-gnu/)libert_c.a
-HEAP = $(if $(is_native),$(KIT)/c/liblibc_c.a,$(B)/heap.o)
+HEAP = $(B)/heap.o
 
 # The version is taken from the header. (.ci/check_documents compares the other places that have it.)
 part = $(shell sed -n 's/^.define ERTIME_VERSION_$(1) //p' include/ertime.h)
@@ -116,11 +115,9 @@ $(B)/unwind.o: $(B)/bare.o packaging/unwind
 	$(PYTHON) packaging/unwind --objdump '$(OBJDUMP)' $< >$(B)/unwind.s
 	$(CC) -c $(B)/unwind.s -o $@
 
-# Both archives as one object, in which every other name is local. (Whoever installs may not have the toolchain on
-# the path: so nothing here depends on a file of it.) The linker takes the tables as they are: it would ask that those
-# of an object stand in it.
-$(B)/ertime.o: $(B)/bare.o $(if $(is_native),$(B)/unwind.o,$(B)/heap.o) $(B)/symbols
-	@[ -f '$(HEAP)' ] || { echo "there is no $(HEAP): rt isn't on the path, or HEAP has to say where it is"; exit 1; }
+# The archive and its heap as one object, in which every other name is local. The linker takes the tables as they are: it would
+# ask that those of an object stand in it.
+$(B)/ertime.o: $(B)/bare.o $(if $(is_native),$(B)/unwind.o) $(HEAP) $(B)/symbols
 	$(LD) -r --traditional-format --whole-archive $(B)/bare.o $(if $(is_native),$(B)/unwind.o) $(HEAP) -o $@
 	$(OBJCOPY) --keep-global-symbols=$(B)/symbols $@
 
