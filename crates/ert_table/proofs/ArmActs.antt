@@ -4,11 +4,11 @@ use Rattle.std.proofs.Common.{◌≡◌, ◌≢◌, ⊎_elim, ℕ, ℤ, ◌≤�
 use Rattle.std.proofs.lemmas.Bool.{and_parts, and_right}
 use Rattle.ert_defs.specs.Actors.{has_actor}
 use Rattle.std.proofs.Props.{props}
-use Rattle.ert_defs.specs.Legal.{CanArm}
+use Rattle.ert_defs.specs.Legal.{CanArm, IsSlot, Legal}
 use Rattle.ert_defs.specs.Milliseconds.{natural, down, deadline_of}
 use Rattle.ert_defs.specs.States.{State, uses_at, next, state}
-use Rattle.ert_defs.specs.Timers.{Row, Uses, deadline_told, row_from, row_of, same_timer, timer_at}
-use Rattle.ert_defs.specs.Words.{timer_word, slot_word, word_of_slot}
+use Rattle.ert_defs.specs.Timers.{IsNextUse, Row, Uses, deadline_told, row_from, row_of, same_timer, timer_at}
+use Rattle.ert_defs.specs.Words.{timer_word, slot_word, word_of, word_of_slot}
 use Rattle.ert_defs.proofs.ExpiredTimers.{row_named, same_timer_self}
 use Rattle.ert_defs.proofs.Standing.{of_row}
 use Rattle.ert_defs.proofs.Rows.{IsRow, rows_hold}
@@ -53,22 +53,23 @@ abbrev use_by : ℤ → ℕ → TimerRef → Settings → Use
 use_by look wanted timer g = record { now = natural (down g look); wanted = wanted; generation = timer.generation }
 
 -- the timer that is started has a word
-in_range_at : (g : Settings) (s : State) (by : Actor) (timer : TimerRef) (o : Option ℕ) (deadline : ℕ) → IsOrdered s → CanArm g s by timer o
+pub in_range_at : (g : Settings) (s : State) (look : ℤ) (timer : TimerRef) (o : Option ℕ) (wanted deadline : ℕ) → IsOrdered s → o ≡ Some wanted
+    → IsNextUse (uses_at s timer.wheel timer.slot) (natural (down g look)) wanted timer.generation
     → option_map (deadline_told timer.generation) o ≡ Some deadline → IsTimer deadline timer.generation
-in_range_at g s by timer o deadline order can due =
+in_range_at g s look timer o wanted deadline order some next_use due =
     let u : Uses = uses_at s timer.wheel timer.slot in
-    let t : Use = use_by (s.looked by) can.wanted timer g in
+    let t : Use = use_by look wanted timer g in
     let sound = (order timer.wheel timer.slot).sound in
-    let own = before_self u t sound can.next_use in
+    let own = before_self u t sound next_use in
     let has = has_deadline timer o deadline due in
-    let same : has.wanted ≡ can.wanted = (let is : Some has.wanted ≡ Some can.wanted = sym has.some ∙ can.due in cc) in
-    let told : deadline_told timer.generation can.wanted ≡ deadline = ap (deadline_told timer.generation) (sym same) ∙ has.told in
-    let is : deadline ≡ due_of u t = sym told ∙ told_is u t sound can.next_use in
+    let same : has.wanted ≡ wanted = (let is : Some has.wanted ≡ Some wanted = sym has.some ∙ some in cc) in
+    let told : deadline_told timer.generation wanted ≡ deadline = ap (deadline_told timer.generation) (sym same) ∙ has.told in
+    let is : deadline ≡ due_of u t = sym told ∙ told_is u t sound next_use in
     record {
-      deadline_high = subst (λ d. d ≤ 8796093022207) (sym is) can.next_use.within;
+      deadline_high = subst (λ d. d ≤ 8796093022207) (sym is) next_use.within;
       generation_low = own.low;
       generation_first = own.small;
-      generation_tells = λ later. sym (told_later timer.generation can.wanted later) ∙ told;
+      generation_tells = λ later. sym (told_later timer.generation wanted later) ∙ told;
       generation_high = own.high;
     }
 
@@ -79,7 +80,8 @@ pub arm_is : (g : Settings) (v : View) (by : ℕ) (timer : TimerRef) (start : St
 arm_is g v by timer start deadline named legal may due =
     let prop : IsProp (IsTimer deadline timer.generation) = hlevel props in
     legal_by g v.settings v.front prop named legal
-    (λ h. in_range_at g (state g v.front) (Caller by) timer _ deadline (ordered g v.front h) may.known due)
+    (λ h. in_range_at g (state g v.front) ((state g v.front).looked (Caller by)) timer _ may.known.wanted deadline (ordered g v.front h) may.known.due
+    may.known.next_use due)
 
 -- a row for another timer is not found
 row_first : (x : Row) (r : TimerRef) (o : Option Row) → x.timer ≢ r → cond (same_timer x.timer r) (Some x) o ≡ o
@@ -119,9 +121,7 @@ row_from_told timer start (Some wanted) deadline due =
     let told : deadline_told timer.generation wanted ≡ deadline = cc in
     ap (λ d. let r : Row = record { timer = timer; deadline = d; dest = start.dest; msg = start.msg; kind = start.kind } in r ∷ []) told
 
-module _ (g : Settings) (v : View) (by : ℕ) (timer : TimerRef) (start : Start) (deadline : ℕ)
-    (may : MayStep g v (arm_entry by timer start))
-    (due : option_map (deadline_told timer.generation) (deadline_of g start ((state g v.front).looked (Caller by))) ≡ Some deadline) where
+module _ (g : Settings) (by : ℕ) (timer : TimerRef) (start : Start) (deadline : ℕ) where
   abbrev e : Entry
   e = arm_entry by timer start
 
@@ -133,38 +133,6 @@ module _ (g : Settings) (v : View) (by : ℕ) (timer : TimerRef) (start : Start)
 
   has_wheel : has_actor e (Wheel timer.wheel) ≡ true
   has_wheel = eq-eqb timer.wheel timer.wheel refl
-
-  -- what is known at the step
-  can_then : (h : List Entry) (n : ℕ) → IsHistoryAtStep g v place n h → CanArm g (state g h) (Caller by) timer (deadline_of g start ((state g h).looked (Caller by)))
-  can_then h n then = ((legal_one_more g h e).0 (grows g v place n e h then may.ours may.keeps may.known tt)).1.known
-
-  due_then : (h : List Entry) (n : ℕ) → IsHistoryAtStep g v place n h
-      → option_map (deadline_told timer.generation) (deadline_of g start ((state g h).looked (Caller by))) ≡ Some deadline
-  due_then h n then =
-      ap (λ look. option_map (deadline_told timer.generation) (deadline_of g start look)) (look_then g v place n h then (Caller by) may.ours.0) ∙ due
-
-  -- the rows of the wheel after the step
-  rows_then : (h : List Entry) (n : ℕ) → IsHistoryAtStep g v place n h
-      → (next g (state g h) e).rows timer.wheel ≡ (state g h).rows timer.wheel ++ row ∷ []
-  rows_then h n then =
-      rw has_wheel
-      (ap (λ rows. (state g h).rows timer.wheel ++ rows) (row_from_told timer start (deadline_of g start ((state g h).looked (Caller by))) deadline (due_then h n then)))
-
-  here_arm : (h : List Entry) (n : ℕ) → IsHistoryAtStep g v place n h
-      → word_of_slot (next g (state g h) e) timer.wheel timer.slot ≡ timer_word Armed deadline timer.generation
-  here_arm h n then =
-      let s : State = state g h in
-      let s' : State = next g s e in
-      let w : ℕ = timer.wheel in
-      let k : ℕ = timer.slot in
-      let none : row_of (s.rows w) timer ≡ None =
-      row_new g s (Caller by) timer _ (row_of (s.rows w) timer) (ordered g h then.legal) (rows_hold g h w then.legal).each (can_then h n then) refl in
-      let last' : s'.last w k ≡ timer.generation = rw (has_wheel, eq-eqb k k refl) refl in
-      let status' : s'.status timer ≡ Some Armed = rw (has_wheel, eq-eqb k k refl, eq-eqb timer.generation timer.generation refl) refl in
-      let row' : row_of (s'.rows w) timer ≡ Some row = ap (λ rows. row_of rows timer) (rows_then h n then) ∙ row_of-last (s.rows w) row none in
-      ap (λ m. slot_word (s'.status (timer_at w k m)) (row_of (s'.rows w) (timer_at w k m)) m) last'
-      ∙ (ap (λ x. slot_word x (row_of (s'.rows w) timer) timer.generation) status'
-      ∙ ap (λ x. slot_word (Some Armed) x timer.generation) row')
 
   -- another slot stays as it is
   rows_other : (rows : List Row) (b c : Bool) (d : Option ℕ) (r : TimerRef) → same_timer timer r ≡ false
@@ -193,24 +161,72 @@ module _ (g : Settings) (v : View) (by : ℕ) (timer : TimerRef) (start : Start)
       let none : (b && same_timer timer r) ≡ false = and_right b (same_timer timer r) not in
       rw none refl
 
-  -- a start sets the word of its slot alone
-  pub arm_acts : Acts g v place (λ n. timer_word Armed deadline timer.generation) (λ n. e)
-  arm_acts = record {
-    ours = λ n. may.ours;
-    keeps = λ n. may.keeps;
-    known = λ n. may.known;
-    found = λ h n then. tt;
-    here = λ h n then. word_of-slot g (next g (state g h) e) timer.wheel timer.slot may.keeps.2.wheel_high may.keeps.2.slot_high ∙ here_arm h n then;
-    others = λ h n j then lt not. word_same g (state g h) (next g (state g h) e) j (record {
-      time = λ _. refl;
-      offset = λ _. refl;
-      slot = λ w k is _. record {
-        last = last_other j w k ((state g h).last w k) (has_actor e (Wheel w)) not is;
-        status = λ m. status_other (has_actor e (Wheel w)) (timer_at w k m) ((state g h).status (timer_at w k m))
-            (other_timer g timer j w k m not is);
-        row = λ m. rows_other ((state g h).rows w) (has_actor e (Wheel w)) (nat_eq timer.wheel w)
-            (deadline_of g start ((state g h).looked (Caller by))) (timer_at w k m) (other_timer g timer j w k m not is);
-      };
-      process = λ p _. refl;
-    });
-  }
+  -- all other words stay as they are
+  pub arm_others : (s : State) (j : ℕ) → j ≢ place → word_of g (next g s e) j ≡ word_of g s j
+  arm_others s j not = word_same g s (next g s e) j (record {
+    time = λ _. refl;
+    offset = λ _. refl;
+    slot = λ w k is _. record {
+      last = last_other j w k (s.last w k) (has_actor e (Wheel w)) not is;
+      status = λ m. status_other (has_actor e (Wheel w)) (timer_at w k m) (s.status (timer_at w k m)) (other_timer g timer j w k m not is);
+      row = λ m. rows_other (s.rows w) (has_actor e (Wheel w)) (nat_eq timer.wheel w)
+          (deadline_of g start (s.looked (Caller by))) (timer_at w k m) (other_timer g timer j w k m not is);
+    };
+    process = λ p _. refl;
+  })
+
+  module _ (h : List Entry) (legal : Legal g h)
+      (can : CanArm g (state g h) (Caller by) timer (deadline_of g start ((state g h).looked (Caller by))))
+      (due : option_map (deadline_told timer.generation) (deadline_of g start ((state g h).looked (Caller by))) ≡ Some deadline) where
+    abbrev s : State
+    s = state g h
+
+    abbrev s' : State
+    s' = next g s e
+
+    -- the rows of the wheel after the step
+    rows_then : s'.rows timer.wheel ≡ s.rows timer.wheel ++ row ∷ []
+    rows_then =
+        rw has_wheel (ap (λ rows. s.rows timer.wheel ++ rows) (row_from_told timer start (deadline_of g start (s.looked (Caller by))) deadline due))
+
+    arm_slot : word_of_slot s' timer.wheel timer.slot ≡ timer_word Armed deadline timer.generation
+    arm_slot =
+        let w : ℕ = timer.wheel in
+        let k : ℕ = timer.slot in
+        let none : row_of (s.rows w) timer ≡ None =
+        row_new g s (Caller by) timer _ (row_of (s.rows w) timer) (ordered g h legal) (rows_hold g h w legal).each can refl in
+        let last' : s'.last w k ≡ timer.generation = rw (has_wheel, eq-eqb k k refl) refl in
+        let status' : s'.status timer ≡ Some Armed = rw (has_wheel, eq-eqb k k refl, eq-eqb timer.generation timer.generation refl) refl in
+        let row' : row_of (s'.rows w) timer ≡ Some row = ap (λ rows. row_of rows timer) rows_then ∙ row_of-last (s.rows w) row none in
+        ap (λ m. slot_word (s'.status (timer_at w k m)) (row_of (s'.rows w) (timer_at w k m)) m) last'
+        ∙ (ap (λ x. slot_word x (row_of (s'.rows w) timer) timer.generation) status'
+        ∙ ap (λ x. slot_word (Some Armed) x timer.generation) row')
+
+    -- the word of the slot is that of the timer
+    pub arm_here : IsSlot g timer.wheel timer.slot → word_of g s' place ≡ timer_word Armed deadline timer.generation
+    arm_here slot = word_of-slot g s' timer.wheel timer.slot slot.wheel_high slot.slot_high ∙ arm_slot
+
+-- a start sets the word of its slot alone
+pub arm_acts : (g : Settings) (v : View) (by : ℕ) (timer : TimerRef) (start : Start) (deadline : ℕ) → MayStep g v (arm_entry by timer start)
+    → option_map (deadline_told timer.generation) (deadline_of g start ((state g v.front).looked (Caller by))) ≡ Some deadline
+    → Acts g v (slot_place g timer.wheel timer.slot) (λ n. timer_word Armed deadline timer.generation) (λ n. arm_entry by timer start)
+arm_acts g v by timer start deadline may due = record {
+  ours = λ n. may.ours;
+  keeps = λ n. may.keeps;
+  known = λ n. may.known;
+  found = λ h n then. tt;
+  here = λ h n then. arm_here g by timer start deadline h then.legal (can_then h n then) (due_then h n then) may.keeps.2;
+  others = λ h n j then lt not. arm_others g by timer start deadline (state g h) j not;
+}
+  where
+    -- what is known at the step
+    can_then : (h : List Entry) (n : ℕ) → IsHistoryAtStep g v (slot_place g timer.wheel timer.slot) n h
+        → CanArm g (state g h) (Caller by) timer (deadline_of g start ((state g h).looked (Caller by)))
+    can_then h n then = ((legal_one_more g h (arm_entry by timer start)).0
+        (grows g v (slot_place g timer.wheel timer.slot) n (arm_entry by timer start) h then may.ours may.keeps may.known tt)).1.known
+
+    due_then : (h : List Entry) (n : ℕ) → IsHistoryAtStep g v (slot_place g timer.wheel timer.slot) n h
+        → option_map (deadline_told timer.generation) (deadline_of g start ((state g h).looked (Caller by))) ≡ Some deadline
+    due_then h n then =
+        ap (λ look. option_map (deadline_told timer.generation) (deadline_of g start look))
+        (look_then g v (slot_place g timer.wheel timer.slot) n h then (Caller by) may.ours.0) ∙ due

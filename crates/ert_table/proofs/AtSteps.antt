@@ -3,11 +3,11 @@
 use Rattle.std.proofs.Common.{◌≡◌, ℕ, true, List, [], ◌∷◌, Some, sym, ap, subst, ◌∙◌}
 use Rattle.ert_defs.specs.Actors.{has_actor}
 use Rattle.ert_defs.specs.Legal.{IsSlot}
-use Rattle.ert_defs.specs.States.{State, next, run, state}
+use Rattle.ert_defs.specs.States.{State, next, run, state, uses_at}
 use Rattle.ert_defs.specs.Timers.{Row, row_of}
 use Rattle.ert_defs.specs.Words.{word_of_slot}
 use Rattle.ert_defs.proofs.ExpiredTimers.{row_kept}
-use Rattle.ert_defs.proofs.Runs.{last_stays, look_stays, state-append}
+use Rattle.ert_defs.proofs.Runs.{last_stays, look_stays, rows_stay, state-append, uses_stay}
 use Rattle.ert_defs.specs.declared.entry.Actor.{Actor}
 use Rattle.ert_defs.specs.declared.entry.Actor.TheVariants.{Wheel}
 use Rattle.ert_defs.specs.declared.entry.Entry.{Entry}
@@ -38,6 +38,13 @@ module _ (g : Settings) (v : View) (i n : ℕ) (h : List Entry) (then : IsHistor
   -- the last generation of each slot of a wheel that it holds
   pub last_then : (w k : ℕ) → is_held v.actors (Wheel w) ≡ true → (state g h).last w k ≡ (state g v.front).last w k
   last_then w k held = ap (λ (s : State). s.last w k) later_state ∙ last_stays g w k (state g v.front) then.later (then.own (Wheel w) held)
+
+  -- the uses of each slot of such a wheel, and its rows
+  pub uses_then : (w k : ℕ) → is_held v.actors (Wheel w) ≡ true → uses_at (state g h) w k ≡ uses_at (state g v.front) w k
+  uses_then w k held = ap (λ (s : State). uses_at s w k) later_state ∙ uses_stay g w k (state g v.front) then.later (then.own (Wheel w) held)
+
+  pub rows_then : (w : ℕ) → is_held v.actors (Wheel w) ≡ true → (state g h).rows w ≡ (state g v.front).rows w
+  rows_then w held = ap (λ (s : State). s.rows w) later_state ∙ rows_stay g w (state g v.front) then.later (then.own (Wheel w) held)
 
   -- the row of any timer
   pub row_then : (timer : TimerRef) (row : Row) → row_of ((state g v.front).rows timer.wheel) timer ≡ Some row

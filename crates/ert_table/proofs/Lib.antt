@@ -19,6 +19,7 @@ pub mod SettleActs
 pub mod ReadActs
 pub mod Peeks
 pub mod ArmActs
+pub mod RenewActs
 pub mod Calls
 pub mod Makings
 pub mod Parts

@@ -1,11 +1,12 @@
 -- Calls of one step and of none, with entries that they may make.
 
-use Rattle.std.proofs.Common.{◌≡◌, List, [], ◌∷◌, refl, sym, subst, append-nil}
+use Rattle.std.proofs.Common.{◌≡◌, List, [], ◌∷◌, ◌++◌, None, refl, sym, ap, subst, ◌∙◌, append_assoc, append-nil}
 use Rattle.ert_defs.specs.Legal.{Legal}
-use Rattle.ert_defs.specs.States.{State, state}
+use Rattle.ert_defs.specs.States.{State, opening, state}
 use Rattle.ert_defs.specs.declared.entry.Entry.{Entry}
 use Rattle.ert_defs.specs.declared.settings.Settings.{Settings}
-use Rattle.ert_table.specs.Calls.{IsMade}
+use Rattle.ert_defs.proofs.Runs.{legal_first}
+use Rattle.ert_table.specs.Calls.{AppendsAll, IsMade}
 use Rattle.ert_table.specs.Takes.{Appends, TakesPlace}
 use Rattle.ert_table.specs.declared.view.View.{View}
 use Rattle.ert_table.proofs.Calls.{step_takes_place}
@@ -23,3 +24,33 @@ pub none_made : (g : Settings) (v w : View) (allows : State → List Entry → T
     → w ≡ v → IsMade g v allows w
 none_made g v w allows legal allowed same =
     subst (λ x. IsMade g v allows x) (sym same) (record { entries = []; allowed = allowed; call = takes_none g v legal })
+
+-- a step with two entries is as two steps, between which nothing stands
+pub record IsTwice (g : Settings) (v : View) (e f : Entry) (w : View) : Type 0 where
+  pub mid : View
+  pub one : Appends g v e mid
+  pub other : Appends g mid f w
+
+pub two_steps : (g : Settings) (v : View) (e f : Entry) (w : View) → AppendsAll g v (e ∷ (f ∷ [])) w → IsTwice g v e f w
+two_steps g v e f w step =
+    let front : List Entry = (v.front ++ step.between) ++ e ∷ [] in
+    let grown : w.front ≡ front ++ f ∷ [] = step.grown ∙ sym (append_assoc (v.front ++ step.between) (e ∷ []) (f ∷ [])) in
+    record {
+      mid = record { front = front; actors = v.actors; settings = v.settings; met = None };
+      one = record {
+        actors = refl;
+        legal = legal_first g (opening g) front (f ∷ []) (subst (Legal g) grown step.legal);
+        between = step.between;
+        grown = refl;
+        others = step.others;
+        ours = step.ours.0;
+      };
+      other = record {
+        actors = step.actors;
+        legal = step.legal;
+        between = [];
+        grown = grown ∙ ap (λ x. x ++ f ∷ []) (sym (append-nil front));
+        others = λ a held. refl;
+        ours = step.ours.1.0;
+      };
+    }

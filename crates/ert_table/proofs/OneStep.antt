@@ -7,7 +7,7 @@ use mathlib.Core.Option.{some}
 use lib.ListN.{get_elem?}
 use Rattle.atomic_table.specs.Table.{State, Step, keeps, Allows}
 use Rattle.atomic_table.proofs.Lists.{at_set}
-use Rattle.ert_defs.specs.Actors.{has_actor}
+use Rattle.ert_defs.specs.Actors.{IsFree, has_actor}
 use Rattle.ert_defs.specs.Legal.{Keeps, Known, Found, Legal}
 use Rattle.ert_defs.specs.States.{next, state}
 use Rattle.ert_defs.specs.Words.{word_of, word_count}
@@ -16,7 +16,8 @@ use Rattle.ert_defs.proofs.Runs.{state-append}
 use Rattle.ert_defs.specs.declared.entry.Actor.{Actor}
 use Rattle.ert_defs.specs.declared.entry.Entry.{Entry}
 use Rattle.ert_defs.specs.declared.settings.Settings.{Settings}
-use Rattle.ert_table.specs.Acts.{Acts, IsHistoryAtStep, FindsNumber, Sitter, Told, Read, Compared}
+use Rattle.ert_table.specs.Acts.{Acts, ActsAll, IsHistoryAtStep, FindsNumber, FindsAll, Sitter, Told, Read, Compared, ComparedAll}
+use Rattle.ert_table.specs.Calls.{AppendsAll, AreOnlyOf}
 use Rattle.ert_table.specs.Held.{is_held, IsOurs}
 use Rattle.ert_table.specs.Rule.{Fits, Holds, IsLegalBy}
 use Rattle.ert_table.specs.Takes.{Appends}
@@ -28,8 +29,8 @@ abbrev pub Ruled : Settings → State (Unit {0}) View → Type 0
 Ruled g s = Holds g s.words s.views
 
 -- what a pass knows after a step
-abbrev pub after : View → List Entry → Entry → View
-after v h e = record { front = h ++ e ∷ []; actors = v.actors; settings = v.settings; met = None }
+abbrev pub after : View → List Entry → List Entry → View
+after v h es = record { front = h ++ es; actors = v.actors; settings = v.settings; met = None }
 
 -- the history with the step's entry is legal
 pub grows : (g : Settings) (v : View) (i n : ℕ) (e : Entry) (h : List Entry) → IsHistoryAtStep g v i n h → IsOurs v.actors e.by e.with
@@ -43,27 +44,32 @@ grows g v i n e h then ours ranged known found =
     (locality g v.front then.later e whole (free_of v.actors then.later e.by e.with ours then.own) ranged known found')
 
 -- another pass has no actor of an entry of ours
-apart_of : (actors others : List Actor) (e : Entry) (a : Actor) → IsOurs actors e.by e.with → (is_held actors a ≡ true → ⊥)
-    → has_actor e a ≡ false
-apart_of actors others e a ours not =
+apart_of : (actors : List Actor) (e : Entry) (a : Actor) → IsOurs actors e.by e.with → (is_held actors a ≡ true → ⊥) → has_actor e a ≡ false
+apart_of actors e a ours not =
     ⊎_elim (λ is. absurd (not (held_of actors e a ours is))) (λ is. is) (tells (has_actor e a))
 
+-- nor one of several
+free_ours : (actors : List Actor) (es : List Entry) (a : Actor) → AreOnlyOf actors es → (is_held actors a ≡ true → ⊥) → IsFree es a
+free_ours actors [] a ours not = refl
+free_ours actors (e ∷ es) a ours not =
+    free-append (e ∷ []) es a (free_one e a (apart_of actors e a ours.0 not)) (free_ours actors es a ours.1 not)
+
 -- another pass fits on
-fits_on : (g : Settings) (h : List Entry) (e : Entry) (u : View) → Fits g h u
-    → ((a : Actor) → is_held u.actors a ≡ true → has_actor e a ≡ false) → Fits g (h ++ e ∷ []) u
-fits_on g h e u fit none = record {
-  later = fit.later ++ e ∷ [];
-  begins = ap (λ x. x ++ e ∷ []) fit.begins ∙ append_assoc u.front fit.later (e ∷ []);
-  own = λ a held. free-append fit.later (e ∷ []) a (fit.own a held) (free_one e a (none a held));
+fits_on : (g : Settings) (h es : List Entry) (u : View) → Fits g h u → ((a : Actor) → is_held u.actors a ≡ true → IsFree es a)
+    → Fits g (h ++ es) u
+fits_on g h es u fit none = record {
+  later = fit.later ++ es;
+  begins = ap (λ x. x ++ es) fit.begins ∙ append_assoc u.front fit.later es;
+  own = λ a held. free-append fit.later es a (fit.own a held) (none a held);
   named = fit.named;
   met = fit.met;
 }
 
 -- the pass that steps fits too
-fits_now : (g : Settings) (h : List Entry) (e : Entry) (v : View) → Fits g h v → Fits g (h ++ e ∷ []) (after v h e)
-fits_now g h e v fit = record {
+fits_now : (g : Settings) (h es : List Entry) (v : View) → Fits g h v → Fits g (h ++ es) (after v h es)
+fits_now g h es v fit = record {
   later = [];
-  begins = sym (append-nil (h ++ e ∷ []));
+  begins = sym (append-nil (h ++ es));
   own = λ a held. refl;
   named = fit.named;
   met = tt;
@@ -88,39 +94,38 @@ was views id v w at same k u is =
     (at_set views id k w u is)
 
 -- each pass fits after a step
-fits_all : (g : Settings) (words : List ℕ) (views : List View) (id : ℕ) (v : View) (e : Entry) (kept : Holds g words views)
-    → get_elem? views id ≡ some v → IsOurs v.actors e.by e.with → (k : ℕ) (u : View)
-    → get_elem? (set views id (after v kept.history e)) k ≡ some u → Fits g (kept.history ++ e ∷ []) u
-fits_all g words views id v e kept at ours k u is =
+fits_all : (g : Settings) (words : List ℕ) (views : List View) (id : ℕ) (v : View) (es : List Entry) (kept : Holds g words views)
+    → get_elem? views id ≡ some v → AreOnlyOf v.actors es → (k : ℕ) (u : View)
+    → get_elem? (set views id (after v kept.history es)) k ≡ some u → Fits g (kept.history ++ es) u
+fits_all g words views id v es kept at ours k u is =
     ⊎_elim
-    (λ (here : (k ≡ id) × (after v kept.history e ≡ u)).
-    subst (Fits g (kept.history ++ e ∷ [])) here.1 (fits_now g kept.history e v (kept.fits id v at)))
-    (λ (there : (k ≢ id) × (get_elem? views k ≡ some u)). fits_on g kept.history e u (kept.fits k u there.1)
-    (λ a held. apart_of v.actors u.actors e a ours (λ ours'. there.0 (kept.apart k id u v a there.1 at held ours'))))
-    (at_set views id k (after v kept.history e) u is)
+    (λ (here : (k ≡ id) × (after v kept.history es ≡ u)).
+    subst (Fits g (kept.history ++ es)) here.1 (fits_now g kept.history es v (kept.fits id v at)))
+    (λ (there : (k ≢ id) × (get_elem? views k ≡ some u)). fits_on g kept.history es u (kept.fits k u there.1)
+    (λ a held. free_ours v.actors es a ours (λ ours'. there.0 (kept.apart k id u v a there.1 at held ours'))))
+    (at_set views id k (after v kept.history es) u is)
 
 -- the words are those of the state after a step
-shown_all : (g : Settings) (words : List ℕ) (h : List Entry) (e : Entry) (i m : ℕ) → length words ≡ word_count g → i < word_count g
+shown_all : (g : Settings) (words : List ℕ) (h es : List Entry) (i m : ℕ) → length words ≡ word_count g → i < word_count g
     → ((j : ℕ) → j < word_count g → slice_index words j ≡ word_of g (state g h) j)
-    → word_of g (next g (state g h) e) i ≡ m
-    → ((j : ℕ) → j < word_count g → j ≢ i → word_of g (next g (state g h) e) j ≡ word_of g (state g h) j)
-    → (j : ℕ) → j < word_count g → slice_index (set words i m) j ≡ word_of g (state g (h ++ e ∷ [])) j
-shown_all g words h e i m counted lt shown here others j lt_j =
-    let moved : state g (h ++ e ∷ []) ≡ next g (state g h) e = state-append g h (e ∷ []) in
+    → word_of g (state g (h ++ es)) i ≡ m
+    → ((j : ℕ) → j < word_count g → j ≢ i → word_of g (state g (h ++ es)) j ≡ word_of g (state g h) j)
+    → (j : ℕ) → j < word_count g → slice_index (set words i m) j ≡ word_of g (state g (h ++ es)) j
+shown_all g words h es i m counted lt shown here others j lt_j =
     ⊎_elim
-    (λ is. subst (λ k. slice_index (set words i m) k ≡ word_of g (state g (h ++ e ∷ [])) k) (sym is)
-    (get_or-set_same words i m 0 (subst (λ x. i < x) (sym counted) lt) ∙ (sym here ∙ ap (λ s. word_of g s i) (sym moved))))
-    (λ not. get_or-set_other words i j m 0 not ∙ (shown j lt_j ∙ (sym (others j lt_j not) ∙ ap (λ s. word_of g s j) (sym moved))))
+    (λ is. subst (λ k. slice_index (set words i m) k ≡ word_of g (state g (h ++ es)) k) (sym is)
+    (get_or-set_same words i m 0 (subst (λ x. i < x) (sym counted) lt) ∙ sym here))
+    (λ not. get_or-set_other words i j m 0 not ∙ (shown j lt_j ∙ sym (others j lt_j not)))
     (cases_eq j i)
 
 -- a step on a word is allowed, if what it tells of the pass is wanted
-pub may_step : (g : Settings) (slots id : ℕ) (v : View) (i : ℕ) (f : ℕ → ℕ) (entry : ℕ → Entry) (then : ℕ → Sitter → Type 0)
-    → i < word_count g → Acts g v i f entry
-    → ((n : ℕ) (w : View) → w.settings ≡ v.settings → FindsNumber g v i n (entry n) w → word_of g (state g w.front) i ≡ f n → then n (w, []))
+may_step_all : (g : Settings) (slots id : ℕ) (v : View) (i : ℕ) (f : ℕ → ℕ) (entries : ℕ → List Entry) (then : ℕ → Sitter → Type 0)
+    → i < word_count g → ActsAll g v i f entries
+    → ((n : ℕ) (w : View) → w.settings ≡ v.settings → FindsAll g v i n (entries n) w → word_of g (state g w.front) i ≡ f n → then n (w, []))
     → Allows (Ruled g) slots id (v, []) i f then
-may_step g slots id v i f entry then lt acts wanted s kept homes at fits =
+may_step_all g slots id v i f entries then lt acts wanted s kept homes at fits =
     let n : ℕ = slice_index s.words i in
-    let e : Entry = entry n in
+    let es : List Entry = entries n in
     let h : List Entry = kept.history in
     let fit = kept.fits id v at in
     let now : IsHistoryAtStep g v i n h = record {
@@ -130,31 +135,73 @@ may_step g slots id v i f entry then lt acts wanted s kept homes at fits =
       own = fit.own;
       word = sym (kept.shown i lt);
     } in
-    let legal : Legal g (h ++ e ∷ []) = grows g v i n e h now (acts.ours n) (acts.keeps n) (acts.known n) (acts.found h n now) in
-    let here : word_of g (next g (state g h) e) i ≡ f n = acts.here h n now in
-    let w : View = after v h e in
+    let legal : Legal g (h ++ es) = acts.legal h n now in
+    let here : word_of g (state g (h ++ es)) i ≡ f n = acts.here h n now in
+    let w : View = after v h es in
     let ruled : Holds g (set s.words i (f n)) (set s.views id w) = record {
-      history = h ++ e ∷ [];
+      history = h ++ es;
       legal = legal;
       counted = length-set s.words i (f n) ∙ kept.counted;
-      shown = shown_all g s.words h e i (f n) kept.counted lt kept.shown here (λ j lt_j not. acts.others h n j now lt_j not);
-      fits = fits_all g s.words s.views id v e kept at (acts.ours n);
+      shown = shown_all g s.words h es i (f n) kept.counted lt kept.shown here (λ j lt_j not. acts.others h n j now lt_j not);
+      fits = fits_all g s.words s.views id v es kept at (acts.ours n);
       apart = λ j k x y a at_x at_y held_x held_y.
           let before_x = was s.views id v w at refl j x at_x in
           let before_y = was s.views id v w at refl k y at_y in
           kept.apart j k before_x.view before_y.view a before_x.stood before_y.stood
           (subst (λ l. is_held l a ≡ true) before_x.same held_x) (subst (λ l. is_held l a ≡ true) before_y.same held_y);
     } in
-    let tells : Appends g v e w = record {
+    let tells : AppendsAll g v es w = record {
       actors = refl;
       legal = legal;
       between = fit.later;
-      grown = ap (λ x. x ++ e ∷ []) fit.begins;
+      grown = ap (λ x. x ++ es) fit.begins;
       others = fit.own;
       ours = acts.ours n;
     } in
-    let finds : FindsNumber g v i n e w = record { step = tells; word = ap (λ x. word_of g (state g x) i) (sym fit.begins) ∙ now.word } in
-    (w, keeps, tt, ruled, wanted n w refl finds (ap (λ s. word_of g s i) (state-append g h (e ∷ [])) ∙ here))
+    let finds : FindsAll g v i n es w = record { step = tells; word = ap (λ x. word_of g (state g x) i) (sym fit.begins) ∙ now.word } in
+    (w, keeps, tt, ruled, wanted n w refl finds here)
+
+-- a step with one entry is one with several
+acts_all : (g : Settings) (v : View) (i : ℕ) (f : ℕ → ℕ) (entry : ℕ → Entry) → Acts g v i f entry → ActsAll g v i f (λ n. entry n ∷ [])
+acts_all g v i f entry acts = record {
+  ours = λ n. (acts.ours n, tt);
+  legal = λ h n then. grows g v i n (entry n) h then (acts.ours n) (acts.keeps n) (acts.known n) (acts.found h n then);
+  here = λ h n then. ap (λ s. word_of g s i) (state-append g h (entry n ∷ [])) ∙ acts.here h n then;
+  others = λ h n j then lt not. ap (λ s. word_of g s j) (state-append g h (entry n ∷ [])) ∙ acts.others h n j then lt not;
+}
+
+-- what it tells is what one entry tells
+pub one_step : (g : Settings) (v : View) (e : Entry) (w : View) → AppendsAll g v (e ∷ []) w → Appends g v e w
+one_step g v e w step = record {
+  actors = step.actors;
+  legal = step.legal;
+  between = step.between;
+  grown = step.grown;
+  others = step.others;
+  ours = step.ours.0;
+}
+
+-- the same of a step with one entry
+pub may_step : (g : Settings) (slots id : ℕ) (v : View) (i : ℕ) (f : ℕ → ℕ) (entry : ℕ → Entry) (then : ℕ → Sitter → Type 0)
+    → i < word_count g → Acts g v i f entry
+    → ((n : ℕ) (w : View) → w.settings ≡ v.settings → FindsNumber g v i n (entry n) w → word_of g (state g w.front) i ≡ f n → then n (w, []))
+    → Allows (Ruled g) slots id (v, []) i f then
+may_step g slots id v i f entry then lt acts wanted =
+    may_step_all g slots id v i f (λ n. entry n ∷ []) then lt (acts_all g v i f entry acts) (λ n w named finds shown.
+    wanted n w named (finds_one n w finds) shown)
+  where
+    finds_one : (n : ℕ) (w : View) → FindsAll g v i n (entry n ∷ []) w → FindsNumber g v i n (entry n) w
+    finds_one n w finds = record {
+      step = record {
+        actors = finds.step.actors;
+        legal = finds.step.legal;
+        between = finds.step.between;
+        grown = finds.step.grown;
+        others = finds.step.others;
+        ours = finds.step.ours.0;
+      };
+      word = finds.word;
+    }
 
 -- there is a first word
 pub has_words : (words : ℕ) (g : Settings) → words ≡ word_count g → 0 < words
@@ -217,12 +264,33 @@ may_compare_at key g g' slots id me step f entry entry' same same' entries bare 
     subst (λ k. Allows (Ruled key) slots id me i f (λ n now. Compared k step me (entry n) n now)) (sym same') by_key in
     subst (λ (x : ℕ → Entry). Allows (Ruled key) slots id me i f (λ n now. Compared g' step me (x n) n now)) (sym entries) by_settings
 
+-- the same of an exchange with several entries
+pub may_compare_all_at : (key g g' : Settings) (slots id : ℕ) (me : Sitter) (step : Step (Unit {0})) (f : ℕ → ℕ) (entries entries' : ℕ → List Entry)
+    → key ≡ g → g' ≡ g → entries' ≡ entries → me.1 ≡ [] → step.word < word_count g → ActsAll g me.0 step.word f entries
+    → Allows (Ruled key) slots id me step.word f (λ n now. ComparedAll g' step me (entries' n) n now)
+may_compare_all_at key g g' slots id me step f entries entries' same same' picked bare lt acts =
+    let i : ℕ = step.word in
+    let P : List (ℕ × Unit {0}) → Type 0 = λ l. Allows (Ruled g) slots id (me.0, l) i f (λ n now. ComparedAll g step (me.0, l) (entries n) n now) in
+    let stands : P me.1 = subst P (sym bare)
+    (may_step_all g slots id me.0 i f entries (λ n now. ComparedAll g step (me.0, []) (entries n) n now) lt acts
+    (λ n w named finds shown. (refl, named, finds))) in
+    let by_key : Allows (Ruled key) slots id me i f (λ n now. ComparedAll g step me (entries n) n now) =
+    subst (λ k. Allows (Ruled k) slots id me i f (λ n now. ComparedAll g step me (entries n) n now)) (sym same) stands in
+    let by_settings : Allows (Ruled key) slots id me i f (λ n now. ComparedAll g' step me (entries n) n now) =
+    subst (λ k. Allows (Ruled key) slots id me i f (λ n now. ComparedAll k step me (entries n) n now)) (sym same') by_key in
+    subst (λ (x : ℕ → List Entry). Allows (Ruled key) slots id me i f (λ n now. ComparedAll g' step me (x n) n now)) (sym picked) by_settings
+
 -- what a step found, for the settings, the place and the entries that were picked
 pub finds_as : (g g' : Settings) (v : View) (i i' n : ℕ) (entry entry' : ℕ → Entry) (w : View) → g' ≡ g → i' ≡ i → entry' ≡ entry
     → FindsNumber g' v i' n (entry' n) w → FindsNumber g v i n (entry n) w
 finds_as g g' v i i' n entry entry' w same place entries finds =
     subst (λ (x : ℕ → Entry). FindsNumber g v i n (x n) w) entries
     (subst (λ k. FindsNumber g v k n (entry' n) w) place (subst (λ k. FindsNumber k v i' n (entry' n) w) same finds))
+
+pub finds_all_as : (g g' : Settings) (v : View) (i n : ℕ) (entries entries' : ℕ → List Entry) (w : View) → g' ≡ g → entries' ≡ entries
+    → FindsAll g' v i n (entries' n) w → FindsAll g v i n (entries n) w
+finds_all_as g g' v i n entries entries' w same picked finds =
+    subst (λ (x : ℕ → List Entry). FindsAll g v i n (x n) w) picked (subst (λ k. FindsAll k v i n (entries' n) w) same finds)
 
 -- what is legal by the settings of a pass is legal
 pub legal_by : {P : Type 0} (g : Settings) (settings : Option Settings) (front : List Entry) → IsProp P → settings ≡ Some g

@@ -18,15 +18,16 @@ use Rattle.ert_words.specs.Ranges.{IsTimer, TellsArmed, shown_generation}
 use Rattle.ert_words.proofs.Armed.{code_low}
 use Rattle.ert_table.specs.Held.{is_held}
 use Rattle.ert_table.specs.Peeking.{Peeks, PeeksAndCancels}
-use Rattle.ert_table.specs.Settlings.{ShownWord, HasRow, left_of_shown, left_shown, read_entry, hit_entry, parts_in, Settles}
+use Rattle.ert_table.specs.Renewals.{PeeksWord}
+use Rattle.ert_table.specs.Settlings.{ShownWord, HasRow, left_of_shown, left_shown, read_entry, hit_entry, parts_in, Settles, word_deadline}
 use Rattle.ert_table.specs.Takes.{MayStep, Appends}
 use Rattle.ert_table.specs.declared.carry.Settle.TheVariants.{Cancel}
 use Rattle.ert_table.specs.declared.carry.TimerCarry.TheVariants.{Peek}
 use Rattle.ert_table.specs.declared.view.View.{View}
 use Rattle.ert_table.proofs.ReadActs.{parts_used}
 use Rattle.ert_table.proofs.SlotFacts.{KeepsSlots, slots_kept}
-use Rattle.ert_table.proofs.SlotWords.{IsIdle, IsUsed, slot_cases}
-use Rattle.ert_table.proofs.TimerWords.{same_parts}
+use Rattle.ert_table.proofs.SlotWords.{IsIdle, IsUsed, armed_by_word, slot_cases}
+use Rattle.ert_table.proofs.TimerWords.{same_parts, word_parts}
 
 -- the word of an armed timer shows what is left of it
 armed_shown : (g : Settings) (look : ℤ) (timer : TimerRef) (n deadline : ℕ) → IsTimer deadline timer.generation
@@ -100,6 +101,33 @@ peeks g v by timer n (Some deadline) w step word told =
     record {
       step = subst (λ x. Appends g v (peek_entry by timer x) w) (armed_shown g look timer n deadline told.in_range told.packs) step;
       row = row_by_word (state g w.front) timer deadline n (slots_kept g w.front step.legal) word told.in_range told.packs;
+    }
+
+-- the same where its word is answered
+pub peeks_unarmed : (g : Settings) (v : View) (by : Actor) (timer : TimerRef) (n : ℕ) (answer : Option ℕ) (w : View) → answer ≡ None
+    → Appends g v (read_entry g ((state g v.front).looked by) by (Peek timer) (parts_in n)) w
+    → word_of_slot (state g w.front) timer.wheel timer.slot ≡ n → TellsArmed n timer.generation answer → PeeksWord g v by timer None w
+peeks_unarmed g v by timer n answer w is step word told =
+    let peek = peeks g v by timer n None w step word (subst (TellsArmed n timer.generation) is told) in
+    record { step = peek.step; tells = tt }
+
+pub peeks_armed : (g : Settings) (v : View) (by : Actor) (timer : TimerRef) (n : ℕ) (answer : Option ℕ) (deadline : ℕ) (w : View) → answer ≡ Some deadline
+    → Appends g v (read_entry g ((state g v.front).looked by) by (Peek timer) (parts_in n)) w
+    → word_of_slot (state g w.front) timer.wheel timer.slot ≡ n → TellsArmed n timer.generation answer
+    → PeeksWord g v by timer (Some (record { word = n })) w
+peeks_armed g v by timer n answer deadline w is step word told =
+    let look : ℤ = (state g v.front).looked by in
+    let s : State = state g w.front in
+    let tells = subst (TellsArmed n timer.generation) is told in
+    let peek = peeks g v by timer n (Some deadline) w step word tells in
+    let same : deadline ≡ word_deadline n =
+    sym (ap word_deadline tells.packs ∙ (word_parts Armed deadline timer.generation tells.in_range).deadline_is) in
+    record {
+      step = subst (λ d. Appends g v (peek_entry by timer (Some (left g d look))) w) same peek.step;
+      tells = (
+        record { row = subst (HasRow s timer) same peek.row; is = subst (λ d. n ≡ timer_word Armed d timer.generation) same tells.packs },
+        (armed_by_word s timer deadline n (slots_kept g w.front step.legal) word tells.in_range tells.packs).0,
+      );
     }
 
 -- a reference in range names a slot, and a timer that may be

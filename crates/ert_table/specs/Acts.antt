@@ -11,6 +11,7 @@ use Rattle.ert_defs.specs.declared.entry.Actor.TheVariants.{Keeper}
 use Rattle.ert_defs.specs.declared.entry.Entry.{Entry}
 use Rattle.ert_defs.specs.declared.entry.Event.TheVariants.{Look}
 use Rattle.ert_defs.specs.declared.settings.Settings.{Settings}
+use Rattle.ert_table.specs.Calls.{AppendsAll, AreOnlyOf}
 use Rattle.ert_table.specs.Held.{is_held, IsOurs}
 use Rattle.ert_table.specs.Takes.{Appends}
 use Rattle.ert_table.specs.Views.{HasMet}
@@ -34,6 +35,14 @@ pub record Acts (g : Settings) (v : View) (i : ℕ) (f : ℕ → ℕ) (entry : �
   pub others : (h : List Entry) (n j : ℕ) → IsHistoryAtStep g v i n h → j < word_count g → j ≢ i
       → word_of g (next g (state g h) (entry n)) j ≡ word_of g (state g h) j
 
+-- the same of a step that takes place with several entries, which are made for what the word was
+pub record ActsAll (g : Settings) (v : View) (i : ℕ) (f : ℕ → ℕ) (entries : ℕ → List Entry) : Type 0 where
+  pub ours : (n : ℕ) → AreOnlyOf v.actors (entries n)
+  pub legal : (h : List Entry) (n : ℕ) → IsHistoryAtStep g v i n h → Legal g (h ++ entries n)
+  pub here : (h : List Entry) (n : ℕ) → IsHistoryAtStep g v i n h → word_of g (state g (h ++ entries n)) i ≡ f n
+  pub others : (h : List Entry) (n j : ℕ) → IsHistoryAtStep g v i n h → j < word_count g → j ≢ i
+      → word_of g (state g (h ++ entries n)) j ≡ word_of g (state g h) j
+
 -- a pass as its seat has it
 abbrev pub Sitter : Type 0
 Sitter = Me (Unit {0}) View
@@ -55,6 +64,15 @@ pub record FindsNumber (g : Settings) (v : View) (i n : ℕ) (e : Entry) (w : Vi
 -- the pass has found a number in a word, and set it to another or not
 abbrev pub Compared : Settings → Step (Unit {0}) → Sitter → Entry → ℕ → Sitter → Type 0
 Compared g step me e n now = (now.1 ≡ []) × (now.0.settings ≡ me.0.settings) × FindsNumber g me.0 step.word n e now.0
+
+-- a step took place with several entries, and found this number in the word
+pub record FindsAll (g : Settings) (v : View) (i n : ℕ) (es : List Entry) (w : View) : Type 0 where
+  pub step : AppendsAll g v es w
+  pub word : word_of g (state g (v.front ++ step.between)) i ≡ n
+
+-- the pass has found a number in a word, and set it to another or not, with several entries
+abbrev pub ComparedAll : Settings → Step (Unit {0}) → Sitter → List Entry → ℕ → Sitter → Type 0
+ComparedAll g step me es n now = (now.1 ≡ []) × (now.0.settings ≡ me.0.settings) × FindsAll g me.0 step.word n es now.0
 
 -- the pass is as it was, and knows what is so of the two that met
 abbrev pub SittersMeet : Settings → Sitter → Sitter → Type 0

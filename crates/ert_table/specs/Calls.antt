@@ -1,11 +1,13 @@
 -- What a call of some steps tells, where its answer alone doesn't tell its entries.
 
-use Rattle.std.specs.Prelude.{◌≡◌, List, [], ◌∷◌, Result, Ok, Err}
+use Rattle.std.specs.Prelude.{◌≡◌, true, List, [], ◌∷◌, ◌++◌, Result, Ok, Err}
+use Rattle.ert_defs.specs.Actors.{IsFree}
+use Rattle.ert_defs.specs.Legal.{Legal}
 use Rattle.ert_defs.specs.States.{State, state}
 use Rattle.ert_defs.specs.declared.entry.Actor.{Actor}
 use Rattle.ert_defs.specs.declared.entry.Entry.{Entry}
 use Rattle.ert_defs.specs.declared.settings.Settings.{Settings}
-use Rattle.ert_table.specs.Held.{IsOurs}
+use Rattle.ert_table.specs.Held.{is_held, IsOurs}
 use Rattle.ert_table.specs.Takes.{TakesPlace}
 use Rattle.ert_table.specs.declared.view.View.{View}
 
@@ -29,3 +31,13 @@ IsMadeIfOk g v allows (Err e) w = IsOmitted g v (allows (Err e)) w
 abbrev pub AreOnlyOf : List Actor → List Entry → Type 0
 AreOnlyOf actors [] = Unit {0}
 AreOnlyOf actors (e ∷ es) = IsOurs actors e.by e.with × AreOnlyOf actors es
+
+-- one step took place with these entries, of which there may be several: they are last in the new front, one right behind
+-- the other, none of the entries between the old front and them has an actor that the pass holds, and the new front is legal
+pub record AppendsAll (g : Settings) (v : View) (es : List Entry) (w : View) : Type 0 where
+  pub actors : w.actors ≡ v.actors
+  pub legal : Legal g w.front
+  pub between : List Entry
+  pub grown : w.front ≡ (v.front ++ between) ++ es
+  pub others : (a : Actor) → is_held v.actors a ≡ true → IsFree between a
+  pub ours : AreOnlyOf v.actors es

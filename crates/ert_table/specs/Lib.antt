@@ -7,6 +7,7 @@ pub mod Laws
 pub mod Openings
 pub mod Peeking
 pub mod Places
+pub mod Renewals
 pub mod Rule
 pub mod Settlings
 pub mod Takes

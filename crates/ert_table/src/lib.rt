@@ -58,6 +58,7 @@
 //! | `peek` | the same, and compares it with that of a timer | Peek |
 //! | `see_timer` | loads one, with the pass that holds every actor | none |
 //! | `settle` | exchanges one, if it is as expected | Cancel, Expire, Orphan, Deliver, Drop; on a miss Cancel or Probe |
+//! | `renew` | exchanges one, if it is as expected | Cancel and Arm; on a miss Cancel |
 //! | `cancel` | does what `peek` does, and what `settle` does where the timer is armed | Peek, Cancel |
 //! | `mark` | ors 1 into the word of a process that exits, and else loads it | Mark |
 //!
@@ -78,6 +79,7 @@ mod passes;
 mod places;
 mod plays;
 mod process_steps;
+mod renew_steps;
 mod seeing;
 mod timer_steps;
 mod view;
@@ -86,4 +88,5 @@ pub use carry::{OffsetCarry, Settle, TimeCarry, TimerCarry};
 pub use desk::{Desk, Pass, Words};
 pub use laws::calls_take_place;
 pub use places::SlotPlace;
+pub use renew_steps::ArmedWord;
 pub use view::{Met, View};

@@ -1,12 +1,12 @@
 //! What a step on the table tells a pass, for entries, actors and settings that a call picks. They stand in
 //! proofs alone.
-ghost use Rattle.std.specs.Prelude.{ℕ, [], ◌∷◌};
+ghost use Rattle.std.specs.Prelude.{ℕ, List, [], ◌∷◌};
 ghost use Rattle.ert_defs.specs.declared.entry.Actor.{Actor};
 ghost use Rattle.ert_defs.specs.declared.entry.Actor.TheVariants.{Keeper};
 ghost use Rattle.ert_defs.specs.declared.entry.Entry.{Entry};
 ghost use Rattle.ert_defs.specs.Settings.{any_settings};
 ghost use Rattle.ert_defs.specs.declared.settings.Settings.{Settings};
-ghost use Rattle.ert_table.specs.Acts.{Told, Read, Compared, SittersMeet, Sees, any_entry};
+ghost use Rattle.ert_table.specs.Acts.{Told, Read, Compared, ComparedAll, SittersMeet, Sees, any_entry};
 ghost use Rattle.ert_table.specs.Held.{actors_but};
 ghost use Rattle.ert_table.specs.Views.{holding, both, spent};
 
@@ -52,6 +52,28 @@ pub(crate) struct Compares<C> {
 
 impl<C: Carried> Play<(), View> for Compares<C> {
     ghost then = { λ step me n now. Compared C.settings step me (C.entry n) n now };
+}
+
+/// The settings of the desk, and the entries of a step for each word that it may find.
+pub(crate) trait CarriedAll {
+    ghost settings: { Settings };
+
+    ghost entries: { ℕ → List Entry };
+}
+
+impl CarriedAll for Brand {
+    ghost settings = { any_settings };
+
+    ghost entries = { λ n. [] };
+}
+
+/// A step that makes several entries by what it finds.
+pub(crate) struct ComparesAll<C> {
+    carried: PhantomData<C>,
+}
+
+impl<C: CarriedAll> Play<(), View> for ComparesAll<C> {
+    ghost then = { λ step me n now. ComparedAll C.settings step me (C.entries n) n now };
 }
 
 /// The settings of the desk.

@@ -148,7 +148,7 @@ impl Pass {
 
     /// The same, where the place and the word of the timer are known already.
     #[inline(always)]
-    fn settle_as<C: Carried>(
+    pub(crate) fn settle_as<C: Carried>(
         &mut self,
         desk: &Desk,
         by: Actor,
@@ -241,7 +241,7 @@ impl Pass {
     }
 
     #[inline(always)]
-    fn load_timer_as<C: Carried>(
+    pub(crate) fn load_timer_as<C: Carried>(
         &mut self,
         desk: &Desk,
         by: Actor,
