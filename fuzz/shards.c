@@ -182,7 +182,9 @@ static bool start_one(soaker *s) {
         if (status == ERT_NO_TIMER) {
             return true;
         }
-        note_cancelled(old, ERT_OK, &s->cancelled); /* it was cancelled, whether there is room for the other or not */
+        if (status == ERT_OK) { /* else it is armed as before */
+            note_cancelled(old, ERT_OK, &s->cancelled);
+        }
     }
     if (status == ERT_FULL) {
         return false;

@@ -497,14 +497,13 @@ int32_t ert_world_cancel(ert_world *world, const ert_timer *timer, uint64_t *lef
 /*
  * Restarts a timer that is armed: it gets a new deadline and a new name (as `uv_timer_again` of libuv).
  *
- * The timer is cancelled, and one is started on its wheel with all that `start` says; its slot can be used again at
- * once. So an idle timeout is moved on by one call. Writes the new name over the old one in `timer`.
+ * The timer is cancelled, and one is started on its wheel with all that `start` says, mostly in its slot. So an idle
+ * timeout is moved on by one call. Writes the new name over the old one in `timer`.
  *
- * ERT_RANGE: there is no process `dest`. ERT_BAD_TIME: as of ert_world_start; nothing has changed. ERT_NO_TIMER: the
- * timer is not armed: it has expired, was cancelled, or never existed; none is started. ERT_FULL: the timer is
- * cancelled, and none is started, since its slot has been used 262,143 times and waits for the deadlines of these
- * timers, and no other one is available. (Or the wheel has had 2^53 timers.) After each of them `timer` is as it was.
- * ERT_CLOSED. Work as of ert_world_cancel and ert_world_start; no memory.
+ * After each error the timer is as it was, armed or not, and so is `timer`. ERT_RANGE: there is no process `dest`.
+ * ERT_BAD_TIME: as of ert_world_start. ERT_NO_TIMER: the timer is not armed: it has expired, was cancelled, or never
+ * existed. ERT_FULL: its slot has been used 262,143 times, and no other one is available, as of ert_world_start. (Or the
+ * wheel has had 2^53 timers.) ERT_CLOSED. Less work than of ert_world_cancel and ert_world_start; no memory.
  */
 int32_t ert_world_restart(ert_world *world, ert_timer *timer, const ert_start *start);
 
@@ -1089,15 +1088,14 @@ int32_t ert_shard_start(ert_shard *shard, const ert_start *start, ert_timer *tim
  * Restarts a timer that is armed, whichever shard started it: it gets a new deadline and a new name, as of
  * ert_world_restart.
  *
- * The timer is cancelled, and one is started on the wheel of this shard with all that `start` says. If the timer is of this
- * shard its slot can be used again at once; if it is of another one, that keeps the slot as after ert_shard_cancel. Writes
- * the new name over the old one in `timer`.
+ * The timer is cancelled, and one is started on the wheel of this shard with all that `start` says: mostly in its slot if it
+ * is of this shard. If it is of another one, that keeps the slot as after ert_shard_cancel. Writes the new name over the old
+ * one in `timer`.
  *
- * ERT_RANGE: the process `dest` is not of the shard. ERT_BAD_TIME: as of ert_shard_start; nothing has changed.
- * ERT_NO_TIMER: the timer is not armed: it has expired, was cancelled, or never existed; none is started. ERT_FULL: the
- * timer is cancelled, and none is started: no slot of the wheel is available, as of ert_shard_start, or the hub ticked
- * during the call, and the deadline is outside the limits since. After each of them `timer` is as it was. ERT_CLOSED. Work
- * as of ert_shard_cancel and ert_shard_start; no memory.
+ * After each error the timer is as it was, armed or not, and so is `timer`. ERT_RANGE: the process `dest` is not of the
+ * shard. ERT_BAD_TIME: as of ert_shard_start. ERT_NO_TIMER: the timer is not armed: it has expired, was cancelled, or never
+ * existed. ERT_FULL: the timer is of another shard, or its slot has been used 262,143 times, and no slot of this shard's
+ * wheel is available, as of ert_shard_start. ERT_CLOSED. Work as of ert_shard_cancel and ert_shard_start at most; no memory.
  */
 int32_t ert_shard_restart(ert_shard *shard, ert_timer *timer, const ert_start *start);
 

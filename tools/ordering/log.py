@@ -134,7 +134,7 @@ class Call:
     @property
     def ended(self) -> Timer | None:
         """The timer that was cancelled by a cancel or a restart."""
-        is_one = self.kind == "cancel" and self.has_left or self.kind == "restart" and self.answer[0] not in ("bad_time", "none")
+        is_one = self.kind == "cancel" and self.has_left or self.kind == "restart" and self.started is not None
         return self.timer if is_one else None
 
     @property

@@ -3,8 +3,8 @@
 A call is one move where that loses no order. What only reads the clock may stand at any place since the call may have
 begun. A cancel peeks right before it cancels, and one that answers `none` finds the timer not armed when it peeks. Where
 a wheel is full, its slots are looked at right after the clock, since none is taken later. Looks at slots that no answer
-tells are left out. A request is served by one move. A tick that sets the offset, a restart, a turn that serves requests or in
-which timers expire, and the end of a process are more moves.
+tells are left out. A request is served by one move. A tick that sets the offset, a restart to another slot, a turn that
+serves requests or in which timers expire, and the end of a process are more moves.
 """
 from __future__ import annotations
 

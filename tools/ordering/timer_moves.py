@@ -19,66 +19,99 @@ def start(state: State, call: Call) -> Iterator[Move]:
         for found in looked(state, call, f"c{call.by}", lambda time: deadline_of(state.settings, call, time) is None):
             yield Move([found], [], [], is_free=True)
     elif call.answer == ("full",):
-        yield from full(state, call)
-    elif timer and timer[0] == call.by - 1 and ("slot", *timer[:2]) not in state.words:
-        yield from armed(state, call, timer)
+        for probes in full(state, call):
+            yield Move([now(state, call)], probes, [], is_free=True)
+    elif timer and is_free(state, call, timer):
+        for number in numbers(state, call, timer):
+            yield armed(state, call, timer, number)
 
 
 def restart(state: State, call: Call) -> Iterator[Move]:
-    """A look at the time, by which the start has a deadline, then the cancel of a timer, and if it was armed the start."""
-    by = f"c{call.by}"
-    if ("part", call.by) in state.words or call.answer == ("bad_time",):
+    """A look at the time, by which the next timer has a deadline. Then the old one is cancelled and the next one started, by
+    one step in the old one's slot, and else by two; or neither is.
+    """
+    timer, part = call.started, state.words.get(("part", call.by))
+    if part == "orphan" or call.answer == ("bad_time",):
         yield from start(state, call)
-        return
-    for found in looked(state, call, by, lambda time: deadline_of(state.settings, call, time) is not None):
-        if call.ended is None:
-            for move in unarmed(state, call):
-                yield move._replace(looks=[found, *move.looks])
-            return
-        row = state.armed(call.timer)
-        if row and state.may_settle(call.timer):
-            peek = f"{spelled(call.timer)} {left(state.settings, row.deadline, state.shows[found[0]].time)}"
-            words = [*settled(state, call.timer), (("since", call.by), state.words["shown"])]
-            yield Move([found, found], [f"{by} - peek {peek}", f"{by} - cancel {peek}"], words, part="start")
+    elif timer is None:
+        for found in looked(state, call, f"c{call.by}", lambda time: deadline_of(state.settings, call, time) is not None):
+            for move in refused(state, call, found[0]) if call.answer == ("full",) else unarmed(state, call):
+                yield move._replace(looks=[found])
+    elif part is not None:
+        if is_free(state, call, timer):
+            yield armed(state, call, timer, part)._replace(looks=[])
+    elif timer[0] == call.by - 1 and state.armed(call.timer) and state.may_settle(call.timer):
+        for number in numbers(state, call, timer):
+            peek = peeked(state, call, number)
+            entries = [f"c{call.by} - peek {peek}", f"c{call.by} - cancel {peek}"]
+            if timer[:2] == call.timer[:2]:
+                move = armed(state, call, timer, number)
+                yield move._replace(entries=[*entries, *move.entries], words=[(("row", call.timer), None), *move.words])
+            else:
+                found = (number, look(f"c{call.by}", state.shows[number].time))
+                yield Move([found], entries, settled(state, call.timer), part=number)
 
 
-def full(state: State, call: Call) -> Iterator[Move]:
-    """A start that found each slot taken; or one of a restart that has no deadline any more."""
-    wheel = call.by - 1
-    if call.kind == "restart":
-        for found in looked(state, call, f"c{call.by}", lambda time: deadline_of(state.settings, call, time) is None):
-            yield Move([found], [], [], is_free=True)
-            return
-    probes = []
+def refused(state: State, call: Call, number: int) -> Iterator[Move]:
+    """A restart of an armed timer for which each slot is taken."""
+    if state.armed(call.timer):
+        for probes in full(state, call):
+            yield Move([], [*probes, f"c{call.by} - peek {peeked(state, call, number)}"], [], is_free=True)
+
+
+def full(state: State, call: Call) -> Iterator[list[str]]:
+    """The probes that find each slot taken, if each is."""
+    wheel, probes = call.by - 1, []
     for slot in range(state.settings.slots):
         timer = state.words.get(("slot", wheel, slot))
         if timer is None:
             return
         probes.append(f"c{call.by} w{wheel} probe {wheel} {slot} {state.words['row', timer].status}")
-    yield Move([now(state, call)], probes, [], is_free=True)
+    yield probes
 
 
-def armed(state: State, call: Call, timer: Timer) -> Iterator[Move]:
-    """A timer is armed, with each deadline that it can have by what the clock has shown."""
-    form, milliseconds, dest, msg, kind = call.start
+def is_free(state: State, call: Call, timer: Timer) -> bool:
+    """Whether a timer can be started by a call, as nobody has its slot."""
+    return timer[0] == call.by - 1 and ("slot", *timer[:2]) not in state.words
+
+
+def peeked(state: State, call: Call, number: int) -> str:
+    """What a call's timer has left by what the clock showed by a number."""
+    row = state.armed(call.timer)
+    assert row is not None
+    return f"{spelled(call.timer)} {left(state.settings, row.deadline, state.shows[number].time)}"
+
+
+def numbers(state: State, call: Call, timer: Timer) -> Iterator[int]:
+    """The numbers of what the clock has shown by which a timer has each of its possible deadlines."""
     wanted = set(state.facts.deadlines[timer])
     for number in state.seen(call.by):
-        time = state.shows[number].time
-        deadline = deadline_of(state.settings, call, time)
-        if deadline not in wanted:
-            continue
-        wanted.remove(deadline)
-        has_exited = ("exited", dest) in state.words
-        entries = [
-            f"c{call.by} w{timer[0]} arm {spelled(timer)} {form} {milliseconds} {dest} {msg} {kind}",
-            f"c{call.by} - mark {dest} false {'true' if has_exited else 'false'}",
-        ]
-        words = [
-            (("row", timer), Row("armed", deadline, dest, msg, kind)),
-            (("slot", *timer[:2]), timer),
-            (("armed", timer[0]), (*state.get("armed", timer[0]), timer)),
-        ]
-        yield Move([(number, look(f"c{call.by}", time))], entries, words, part="orphan" if has_exited else None)
+        deadline = deadline_of(state.settings, call, state.shows[number].time)
+        if deadline in wanted:
+            wanted.remove(deadline)
+            yield number
+
+
+def armed(state: State, call: Call, timer: Timer, number: int) -> Move:
+    """A timer is armed, with the deadline by what the clock showed by a number. It has the slot of a call's timer if that is
+    the same one.
+    """
+    form, milliseconds, dest, msg, kind = call.start
+    time = state.shows[number].time
+    deadline = deadline_of(state.settings, call, time)
+    assert deadline is not None
+    has_exited = ("exited", dest) in state.words
+    entries = [
+        f"c{call.by} w{timer[0]} arm {spelled(timer)} {form} {milliseconds} {dest} {msg} {kind}",
+        f"c{call.by} - mark {dest} false {'true' if has_exited else 'false'}",
+    ]
+    others = tuple(it for it in state.get("armed", timer[0]) if it[:2] != timer[:2])
+    words = [
+        (("row", timer), Row("armed", deadline, dest, msg, kind)),
+        (("slot", *timer[:2]), timer),
+        (("armed", timer[0]), (*others, timer)),
+    ]
+    return Move([(number, look(f"c{call.by}", time))], entries, words, part="orphan" if has_exited else None)
 
 
 def settled(state: State, timer: Timer) -> list[tuple[Hashable, Any]]:

@@ -60,7 +60,7 @@ LEGAL = {
         "c3 5 6 cancel 0 1 1 = 6",
         "c1 8 9 start after 6 0 9 bare = 0 1 2",
     ],
-    "a restart that others see half done, and one of another shard": [
+    "a restart between two reads, and one of another shard": [
         START,
         "c1 2 7 restart 0 0 1 after 6 0 8 bare = 0 0 2",
         "c3 3 4 read 0 0 1 = 5",
@@ -70,6 +70,20 @@ LEGAL = {
         "c2 12 13 restart 0 0 2 after 7 1 9 bare = none",
         "c2 14 15 restart 1 0 1 after -1 1 9 bare = bad_time",
         "c3 16 17 cancel 1 0 1 = 7",
+    ],
+    "a restart to another slot that others see half done": [
+        START,
+        "c1 2 7 restart 0 0 1 after 9 0 8 bare = 0 1 1",
+        "c3 3 4 read 0 0 1 = none",
+        "c4 5 6 read 0 1 1 = none",
+    ],
+    "a restart for which each slot is taken": [
+        START,
+        "c2 2 3 start after 5 1 7 bare = 1 0 1",
+        "c2 4 5 start after 5 1 7 bare = 1 1 1",
+        "c2 6 7 restart 0 0 1 after 7 1 9 bare = full",
+        "c3 8 9 cancel 0 0 1 = 5",
+        "c2 10 11 restart 0 0 1 after 7 1 9 bare = none",
     ],
     "a turn that serves what was asked, and then lets the other timer expire": [
         START,
@@ -169,6 +183,20 @@ ILLEGAL = {
     "restarted, and then cancelled by its old name": (
         4,
         [START, "c1 2 3 restart 0 0 1 after 6 0 8 bare = 0 0 2", "c3 4 5 cancel 0 0 1 = 5"],
+    ),
+    "neither timer of a restart is seen": (
+        5,
+        [START, "c1 2 7 restart 0 0 1 after 6 0 8 bare = 0 0 2", "c3 3 4 read 0 0 1 = none", "c4 5 6 read 0 0 2 = none"],
+    ),
+    "a restart that loses its timer": (
+        6,
+        [
+            START,
+            "c2 2 3 start after 5 1 7 bare = 1 0 1",
+            "c2 4 5 start after 5 1 7 bare = 1 1 1",
+            "c2 6 7 restart 0 0 1 after 7 1 9 bare = full",
+            "c3 8 9 cancel 0 0 1 = none",
+        ],
     ),
     "served before it is asked": (2, ["c1 0 1 serve = 1", "c1 2 3 ask read 0 0 1 0 true = done"]),
     "not served by a turn": (4, [START, "c1 2 3 ask read 0 0 1 0 true = done", "c1 4 5 turn = 0 0 0 0 0"]),

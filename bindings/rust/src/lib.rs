@@ -495,7 +495,7 @@ impl World {
     /// Gives an armed timer a new deadline, with all that the start says, and returns its new name; None if it is not
     /// armed.
     ///
-    /// After `Full` the timer is cancelled and none is started; after any other error nothing has changed.
+    /// After an error nothing has changed: the timer is armed as before.
     pub fn restart(&mut self, timer: &Timer, start: &Start) -> Result<Option<Timer>, Error> {
         let mut next = *timer;
         let status = unsafe { ffi::ert_world_restart(&mut *self.handle, &mut next, &start.start) };

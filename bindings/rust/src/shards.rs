@@ -180,7 +180,7 @@ impl Shard {
     /// Gives an armed timer of whatever shard a new deadline, with all that the start says, and returns its new name: it is
     /// of this shard then. None if it is not armed.
     ///
-    /// After `Full` the timer is cancelled and none is started; after any other error nothing has changed.
+    /// After an error nothing has changed: the timer is armed as before.
     pub fn restart(&mut self, timer: &Timer, start: &Start) -> Result<Option<Timer>, Error> {
         let mut next = *timer;
         let status = unsafe { ffi::ert_shard_restart(&mut *self.handle, &mut next, &start.start) };

@@ -5,9 +5,11 @@ use Rattle.std.specs.Option.{is_some}
 use Rattle.ert_effects.specs.Chains.{AdvancesWheel, Delivers}
 use Rattle.ert_effects.specs.ClockCalls.{TellsTime, TellsOffset, TellsSystemTime}
 use Rattle.ert_effects.specs.MailCalls.{Takes, Monitors, Demonitors, Notifies}
+use Rattle.ert_effects.specs.RestartCalls.{Restarts}
 use Rattle.ert_effects.specs.TimerCalls.{Reads, Cancels, Starts}
 use Rattle.ert_effects.specs.WheelCalls.{TellsAlive}
 use Rattle.ert_effects.specs.declared.answers.MonitorErr.{MonitorErr}
+use Rattle.ert_effects.specs.declared.answers.RestartErr.{RestartErr}
 use Rattle.ert_effects.specs.declared.answers.StartErr.{StartErr}
 use Rattle.ert_effects.specs.declared.answers.StartErr.TheVariants.{NoMemory}
 use Rattle.ert_effects.specs.declared.answers.Taken.{Taken}
@@ -28,13 +30,12 @@ use Rattle.ert_defs.specs.declared.settings.OffsetState.{OffsetState}
 use Rattle.ert_defs.specs.declared.timer.Start.{Start}
 use Rattle.ert_defs.specs.declared.timer.TimerRef.{TimerRef}
 use Rattle.ert_shard.specs.Hubs.{Rest, GivesShard}
-use Rattle.ert_shard.specs.Renewing.{RestartsOn, LetsGo}
+use Rattle.ert_shard.specs.Renewing.{LetsGo}
 use Rattle.ert_shard.specs.Shards.{Share, IsHome, Owned, ShardGoes, ShardSteps, ShardBy, ShardHasForgotten}
 use Rattle.ert_shard.specs.Turning.{shard_expired, HasTurnedMost, ShardTurns, TurnsUpTo, ShardExits}
 use Rattle.ert_shard.specs.declared.turns.Turn.{Turn}
 use Rattle.ert_timers.specs.NextDue.{NoneArmedBefore, IsNextHeld}
 use Rattle.ert_timers.specs.Passed.{HasPassed}
-use Rattle.ert_world.specs.declared.restart.RestartErr.{RestartErr}
 
 -- a hub gave a shard, and this one stands behind the shard's handle
 pub record HasShard (processes : ℕ) (old : Rest) (status : ℤ) (hub : Option Rest) (shard : Option Owned) : Type 0 where
@@ -121,10 +122,10 @@ pub record ShardStartsBy (start : Start) (answer : Result TimerRef StartErr) (ol
 abbrev pub ShardStarts : ErtStart → ErtTimer → ErtTimer → Option Owned → ℤ → Option Owned → Type 0
 ShardStarts start = AnswersAtHome start.dest (ShardStartsBy (start_of start)) IsStartTold
 
--- a shard gives an armed timer a new deadline as its caller: the name of the next, or why there is none; where it was
--- cancelled, the shard's wheel holds no row of it
+-- a shard gives an armed timer a new deadline as its caller: the name of the next, or why there is none; where there is one
+-- the shard's wheel holds no row of the old one
 pub record ShardRestartsBy (timer : TimerRef) (start : Start) (answer : Result TimerRef RestartErr) (old new : Owned) : Type 0 where
-  pub goes : ShardGoes old (λ way. RestartsOn old.settings way old.share.number timer start answer) new
+  pub goes : ShardGoes old (ShardBy old (λ g. Restarts g (old.share.number + 1) old.share.number timer start answer)) new
   pub forgotten : LetsGo timer answer new
 
 -- C gives a timer a new deadline; where the process isn't of the shard, nothing has changed

@@ -9,11 +9,12 @@ use Rattle.ert_defs.specs.declared.timer.TimerRef.{TimerRef}
 use Rattle.ert_effects.specs.declared.answers.Turned.{Turned}
 use Rattle.ert_world.specs.Bounded.{HasDoneMost, TurnsSome}
 use Rattle.ert_world.specs.Held.{HoldsSoManyRows, AreArmed}
-use Rattle.ert_world.specs.Restarts.{Restarts}
+use Rattle.ert_effects.specs.RestartCalls.{Restarts}
+use Rattle.ert_world.specs.Restarts.{HasNoDeadline, wheel_for}
 use Rattle.ert_world.specs.Stepping.{Stays}
-use Rattle.ert_world.specs.Worlds.{Seen, HasPassedAt, world_sched}
-use Rattle.ert_world.specs.declared.restart.RestartErr.{RestartErr}
-use Rattle.ert_world.specs.declared.restart.RestartErr.TheVariants.{BadArg, NotArmed, Full}
+use Rattle.ert_world.specs.Worlds.{Seen, By, HasPassedAt, world_sched}
+use Rattle.ert_effects.specs.declared.answers.RestartErr.{RestartErr}
+use Rattle.ert_effects.specs.declared.answers.RestartErr.TheVariants.{BadArg, NotArmed, Full}
 use Rattle.ert_c.specs.Calls.{MakesCall}
 use Rattle.ert_c.specs.Told.{flag, timer_as, IsGiven}
 use Rattle.ert_c.specs.declared.status.TheConstants.{OK, BAD_TIME, FULL, NO_TIMER}
@@ -21,8 +22,9 @@ use Rattle.ert_c.specs.declared.timer_calls.ErtTimer.{ErtTimer}
 use Rattle.ert_c.specs.declared.waiting_calls.ErtTurnedSome.{ErtTurnedSome}
 
 -- caller 0 gives an armed timer a new deadline: the name of the next, or why there is none
-abbrev pub RestartsBy : TimerRef → Start → Result TimerRef RestartErr → Seen → Seen → Type 0
-RestartsBy timer start answer = MakesCall (λ w. Restarts w timer start answer)
+pub record RestartsBy (timer : TimerRef) (start : Start) (answer : Result TimerRef RestartErr) (old new : Seen) : Type 0 where
+  pub makes : MakesCall (λ w. By w (λ g. Restarts g 0 (wheel_for g timer) timer start answer)) old new
+  pub time : answer ≡ Err BadArg → HasNoDeadline old start
 
 -- the timer that was started in its place, or why none was
 abbrev pub IsRestarted : Result TimerRef RestartErr → ErtTimer → ℤ → ErtTimer → Type 0

@@ -3,6 +3,7 @@ pub mod ClockCalls
 pub mod Laws
 pub mod MailCalls
 pub mod RequestCalls
+pub mod RestartCalls
 pub mod RoomCalls
 pub mod SomeCalls
 pub mod TimerCalls

@@ -21,6 +21,18 @@ impl From<NoMemory> for StartErr {
     }
 }
 
+/// Why a timer wasn't given a new deadline. No timer changed.
+#[derive(Clone, Copy, Debug, PartialEq, Eq)]
+pub enum RestartErr {
+    /// The start has no deadline at the time of the call (`StartErr::BadArg`). This is tested first.
+    BadArg,
+    /// The reference names no timer that is armed.
+    NotArmed,
+    /// The timer is armed as before, for want of a slot: it has used its own for the 262,143rd time in its round, or is of
+    /// another wheel than the new one, and there is none for that (`StartErr::Full`). Or the wheel has had 2^53 timers.
+    Full,
+}
+
 /// How much room the wheel of a scheduler has.
 #[derive(Clone, Copy, Debug, PartialEq, Eq)]
 pub struct Room {

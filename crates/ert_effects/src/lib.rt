@@ -10,6 +10,7 @@
 //! |---|---|
 //! | on the clock | `specs/ClockCalls` |
 //! | that read, cancel and start timers | `specs/TimerCalls` |
+//! | that gives an armed timer a new deadline | `specs/RestartCalls` |
 //! | that looks how much room a wheel has | `specs/RoomCalls` |
 //! | over the timers of a wheel, and on exits | `specs/WheelCalls` |
 //! | over so many of them at most | `specs/SomeCalls` |
@@ -34,7 +35,7 @@ mod told_answers;
 mod worked;
 mod worked_some;
 
-pub use answers::{Handed, MonitorErr, Room, SERVED_A_TURN, StartErr, Taken, Turned};
+pub use answers::{Handed, MonitorErr, RestartErr, Room, SERVED_A_TURN, StartErr, Taken, Turned};
 pub use laws::{answers_are_read, exits_settle_timers, messages_are_read, turns_deliver_all};
 pub use told_answers::{asks_are_told, exits_are_told, turns_are_told};
 pub use worked::{

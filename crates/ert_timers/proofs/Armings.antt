@@ -26,6 +26,7 @@ use Rattle.ert_timers.specs.Changes.{MayBecomeFree, kept, slot_for}
 use Rattle.ert_laws.specs.Counts.{is_arm, is_expire, is_orphan}
 use Rattle.ert_timers.specs.Parts.{HoldsCaller, IsLive, Part, HoldsRows, PartStands, slot_at, last_timer, held_row, unused}
 use Rattle.ert_timers.specs.Starting.{Arms, HoldsTimer, IsUseFor}
+use Rattle.ert_effects.specs.declared.answers.StartErr.{StartErr}
 use Rattle.ert_timers.specs.Passed.{GainsOne}
 use Rattle.ert_timers.specs.Slots.{Slot}
 use Rattle.ert_timers.specs.declared.part.Use.{Use}
@@ -164,7 +165,7 @@ rows_armed g h w k slots keys slot key s t timer row legal holds later live arme
 -- no row has come but that of the timer
 gains_armed : (p : Part) (k : ℕ) (coming : Use) (start : Start) (timer : TimerRef)
     → timer ≡ last_timer p.number (set p.slots k (slot_for coming (slot_at p.slots k).above start)) k → k < length p.keys
-    → GainsOne p (kept p k start coming) (Ok timer)
+    → GainsOne {E = StartErr} p (kept p k start coming) (Ok timer)
 gains_armed p k coming start timer named wide j seen is =
     let slot : Slot = slot_for coming (slot_at p.slots k).above start in
     elim (cases_eq j k) [
@@ -284,7 +285,7 @@ arms g v by p q k coming start timer u stands holds free can part timer_is step 
       }));
       dest = ap (λ (x : Part). (slot_at x.slots timer.slot).dest) part
           ∙ (ap (λ n. (slot_at (set p.slots k slot) n).dest) slot_is ∙ ap (λ (x : Slot). x.dest) slot_same);
-      rows = subst (λ (x : Part). GainsOne p x (Ok timer)) (sym part) (gains_armed p k coming start timer named wide);
+      rows = subst (λ (x : Part). GainsOne {E = StartErr} p x (Ok timer)) (sym part) (gains_armed p k coming start timer named wide);
     }
   where
     above_is : (j : ℕ) → j < g.slots → j ≡ k → (slot_at p.slots k).above ≡ (state g (v.front ++ step.between)).above p.number timer.slot

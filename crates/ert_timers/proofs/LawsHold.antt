@@ -1,9 +1,9 @@
 -- A part stands on without entries of its wheel, and each call makes entries of its actors alone.
 
-use Rattle.std.proofs.Common.{◌≡◌, ℕ, zero, suc, ◌≤◌, Bool, true, false, cond, ◌&&◌, List, [], ◌∷◌, ◌++◌, Option, Some, None, Ok, Err, inl, inr, refl, sym, ap, subst, ◌∙◌, arith}
+use Rattle.std.proofs.Common.{◌≡◌, ℕ, zero, suc, ◌≤◌, Bool, true, false, cond, ◌&&◌, List, [], ◌∷◌, ◌++◌, Option, Some, None, Result, Ok, Err, inl, inr, refl, sym, ap, subst, ◌∙◌, arith}
 use Rattle.std.proofs.lemmas.List.Sums.{sum_by-append}
 use Rattle.ert_defs.specs.Actors.{has_actor, IsFree}
-use Rattle.ert_defs.specs.Legal.{Legal, LegalFrom}
+use Rattle.ert_defs.specs.Legal.{Legal, LegalFrom, names_timer}
 use Rattle.ert_defs.specs.Milliseconds.{natural, down}
 use Rattle.ert_defs.specs.States.{State, opening, state}
 use Rattle.ert_defs.proofs.Runs.{legal_then, state-append}
@@ -11,18 +11,23 @@ use Rattle.ert_defs.specs.declared.entry.Actor.{Actor}
 use Rattle.ert_defs.specs.declared.entry.Actor.TheVariants.{Wheel, Sched, Caller}
 use Rattle.ert_defs.specs.declared.entry.Entry.{Entry}
 use Rattle.ert_defs.specs.declared.entry.Event.{Event}
+use Rattle.ert_defs.specs.declared.settings.Settings.{Settings}
+use Rattle.ert_defs.specs.declared.timer.Start.{Start}
 use Rattle.ert_defs.specs.declared.timer.Status.{Status}
 use Rattle.ert_defs.specs.declared.timer.TimerRef.{TimerRef}
 use Rattle.ert_effects.proofs.Advanced.{IsAdvance, advance_is}
+use Rattle.ert_effects.specs.RestartCalls.{HasRestarted, RestartEnds, missed_entries}
 use Rattle.ert_effects.specs.RoomCalls.{ShowsRoom, no_room, with_found}
 use Rattle.ert_effects.specs.declared.answers.Room.{Room}
 use Rattle.ert_effects.proofs.Told.{round_probes}
 use Rattle.ert_effects.specs.TimerCalls.{AreProbes, Closes}
 use Rattle.ert_effects.specs.WheelCalls.{Try, expires_by, expiry_entries, orphans_by, orphan_entries}
+use Rattle.ert_effects.specs.declared.answers.RestartErr.{RestartErr}
+use Rattle.ert_effects.specs.declared.answers.RestartErr.TheVariants.{BadArg as NoDeadline, NotArmed, Full as WantsSlot}
 use Rattle.ert_effects.specs.declared.answers.StartErr.TheVariants.{BadArg, Full, NoMemory}
 use Rattle.ert_table.specs.Held.{IsOurs}
 use Rattle.ert_table.proofs.Parts.{free_later, of_one, of_both}
-use Rattle.ert_timers.specs.Laws.{AreWithWheel, LawOfStandingParts, LawOfStartEntries, LawOfAdvanceEntries, LawOfSweeps, LawOfRooms}
+use Rattle.ert_timers.specs.Laws.{AreWithWheel, LawOfStandingParts, LawOfStartEntries, LawOfRestartEntries, LawOfAdvanceEntries, LawOfSweeps, LawOfRooms}
 use Rattle.ert_laws.specs.Counts.{entries_of, is_arm, is_expire, is_orphan}
 use Rattle.ert_timers.specs.Parts.{IsLive, last_timer}
 use Rattle.ert_timers.proofs.Later.{IsLater, later_free, none_counted, live_free}
@@ -108,6 +113,40 @@ starts_only g by w start (Err Full) s es starts =
 starts_only g by w start (Err NoMemory) s es (inl none) = same_only (Caller by) w es _ none tt
 starts_only g by w start (Err NoMemory) s es (inr probed) =
     same_only (Caller by) w es _ probed.entries (alone (Caller by) w, probes_only (Caller by) w probed.probes probed.are_probes)
+
+missed_only : (by w : ℕ) (timer : TimerRef) (found : Option ℕ) → AreWithWheel (Caller by) w (missed_entries by timer found)
+missed_only by w timer None = (alone (Caller by) w, tt)
+missed_only by w timer (Some left) = (alone (Caller by) w, (alone (Caller by) w, tt))
+
+ends_only : (names : Bool) (by w : ℕ) (timer : TimerRef) (start : Start) (answer : Result TimerRef RestartErr) (es : List Entry)
+    → RestartEnds names by w timer start answer es → AreWithWheel (Caller by) w es
+ends_only false by w timer start answer es ends = same_only (Caller by) w es [] ends.1 tt
+ends_only true by w timer start (Ok next) es ends =
+    same_only (Caller by) w es _ ends.entries (
+      alone (Caller by) w,
+      (
+        alone (Caller by) w,
+        (paired (Caller by) w next.wheel ends.on_wheel, (alone (Caller by) w, closing_only ends.was by w next ends.closing ends.on_wheel ends.closes)),
+      ),
+    )
+ends_only true by w timer start (Err NoDeadline) es ends = absurd ends
+ends_only true by w timer start (Err NotArmed) es ends = same_only (Caller by) w es _ ends.1 (missed_only by w timer ends.0)
+ends_only true by w timer start (Err WantsSlot) es ends = same_only (Caller by) w es _ ends.1 (alone (Caller by) w, tt)
+
+restarted_only : (g : Settings) (by w : ℕ) (timer : TimerRef) (start : Start) (answer : Result TimerRef RestartErr) (s : State) (es : List Entry)
+    → HasRestarted g by w timer start answer s es → AreWithWheel (Caller by) w es
+restarted_only g by w timer start answer s es has =
+    same_only (Caller by) w es _ has.entries (
+      alone (Caller by) w,
+      only-append (Caller by) w has.probes has.end (probes_only (Caller by) w has.probes has.are_probes)
+          (ends_only (names_timer g timer) by w timer start answer has.end has.ends),
+    )
+
+pub restarts_only : LawOfRestartEntries
+restarts_only g by w timer start (Ok next) s es restarts = restarted_only g by w timer start (Ok next) s es restarts
+restarts_only g by w timer start (Err NoDeadline) s es restarts = same_only (Caller by) w es _ restarts.entries (alone (Caller by) w, tt)
+restarts_only g by w timer start (Err NotArmed) s es restarts = restarted_only g by w timer start (Err NotArmed) s es restarts
+restarts_only g by w timer start (Err WantsSlot) s es restarts = restarted_only g by w timer start (Err WantsSlot) s es restarts
 
 try_only : (w : ℕ) (timer : TimerRef) (missed : Option (Option Status))
     → IsOurs (Sched w ∷ (Wheel w ∷ [])) (expires_by w timer missed).by (expires_by w timer missed).with

@@ -29,6 +29,8 @@ pub mod Swept
 pub mod Settled
 pub mod Forgotten
 pub mod Anew
+pub mod Renewed
+pub mod Moved
 pub mod LawsHold
 pub mod Counted
 pub mod Cancelled

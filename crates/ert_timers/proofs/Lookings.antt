@@ -83,7 +83,7 @@ looks_taken g v by now p k found u stands holds away step taken = record {
 not_armed : (x : Option Status) → is_taken x ≡ false → x ≢ Some Armed
 not_armed x free is = (let bad : true ≡ false = sym (ap is_taken is) ∙ free in cc)
 
-put_other : (s : sets.FinSet nat_cmp) (k j : ℕ) → j ≢ k → sets.contains (sets.insert s k) j ≡ sets.contains s j
+pub put_other : (s : sets.FinSet nat_cmp) (k j : ℕ) → j ≢ k → sets.contains (sets.insert s k) j ≡ sets.contains s j
 put_other s k j other =
     sets.contains-insert nat_cmp_total s k j
     ∙ ((λ i. unsigned_tied j k i || sets.contains s j) ∙ ap (λ b. b || sets.contains s j) (ne_eqb j k other))

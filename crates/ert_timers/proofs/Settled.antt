@@ -65,7 +65,7 @@ one_of D actors e m P here more has = at (is_ours actors e) refl
 abbrev pub IsHit : TimerRef → Entry → Type 0
 IsHit timer e = (by : Actor) × (left : ℕ) × (e ≡ cancel_entry by timer (Some left))
 
-left_some : (g : Settings) (look : _) (x : Option Status) (row : Option Row) (n : ℕ) → Some n ≡ left_by g look x row → x ≡ Some Armed
+pub left_some : (g : Settings) (look : _) (x : Option Status) (row : Option Row) (n : ℕ) → Some n ≡ left_by g look x row → x ≡ Some Armed
 left_some g look None row n is = absurd cc
 left_some g look (Some Armed) row n is = refl
 left_some g look (Some Expired) row n is = absurd cc
@@ -117,7 +117,7 @@ module _ (g : Settings) (actors : List Actor) (timer : TimerRef) where
       (hands_taken (next g s e) m rest (forward_not_armed (s.status timer) ((next g s e).status timer) (moved s e m free) not)) has
 
 -- a timer that takes its slot is the last of it
-taken_last : (g : Settings) (h : List Entry) (p : Part) (timer : TimerRef) → PartStands g h p → timer.wheel ≡ p.number
+pub taken_last : (g : Settings) (h : List Entry) (p : Part) (timer : TimerRef) → PartStands g h p → timer.wheel ≡ p.number
     → is_taken ((state g h).status timer) ≡ true → IsLast p timer
 taken_last g h p timer stands wheel taken =
     let s : State = state g h in

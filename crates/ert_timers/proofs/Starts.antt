@@ -49,11 +49,11 @@ ahead_stands g v by start ahead u p stands holds looks =
     stands_step g v (look_entry (Caller by) looks.now) u p stands looks.step holds.wheel (record { arm = refl; expire = refl; orphan = refl })
 
 -- the look of a start that is accepted
-record IsAhead (g : Settings) (start : Start) (looked : ℤ) (ahead : Ahead) : Type 0 where
-  told : deadline_of g start looked ≡ Some ahead.deadline
-  down_to : pos (now_in ahead) ≡ down g looked
+pub record IsAhead (g : Settings) (start : Start) (looked : ℤ) (ahead : Ahead) : Type 0 where
+  pub told : deadline_of g start looked ≡ Some ahead.deadline
+  pub down_to : pos (now_in ahead) ≡ down g looked
 
-is_ahead : (g : Settings) (v : View) (by : ℕ) (start : Start) (ahead : Option Ahead) (a : Ahead) (u : View) (looks : LooksAhead g v by start ahead u)
+pub is_ahead : (g : Settings) (v : View) (by : ℕ) (start : Start) (ahead : Option Ahead) (a : Ahead) (u : View) (looks : LooksAhead g v by start ahead u)
     → ahead ≡ Some a → IsAhead g start looks.now a
 is_ahead g v by start ahead a u looks is = record {
   told = sym looks.told ∙ ap (option_map (λ (x : Ahead). x.deadline)) is;
@@ -101,42 +101,48 @@ round_of n m looks same round = record {
   many = λ many. round.many (omega (arith, many, same));
 }
 
+-- no slot was found, of those of a round
+pub round_taken : (g : Settings) (h : List Entry) (u x : View) (by now : ℕ) (p q : Part) (slot : Option ℕ) → PartStands g h p → slot ≡ None
+    → (takes : TakesSlot g u by now p q slot x) → (round : Round g.slots g.looks) × IsRoundTaken by p.number now (state g h) round takes.probes
+round_taken g h u x by now p q (Some k) stands none takes = absurd cc
+round_taken g h u x by now p q None stands none all =
+    let s : State = state g h in
+    let round : Round g.slots g.looks = round_of (length p.slots) g.slots g.looks stands.holds.many all.finds.round in
+    let lasts : (j : ℕ) → j < g.slots → (slot_at q.slots j).generation ≡ s.last p.number j = λ j low.
+    ap (λ ss. (slot_at ss j).generation) all.slots ∙ stands.holds.lasts j low in
+    let aboves : (j : ℕ) → j < g.slots → (slot_at q.slots j).above ≡ s.above p.number j = λ j low.
+    ap (λ ss. (slot_at ss j).above) all.slots ∙ stands.holds.aboves j low in (
+      round,
+      record {
+        first = probes_from by p.number round.from all.finds.finds.ahead;
+        second = probes_from by p.number 0 all.finds.finds.behind;
+        onward = are_taken by p.number now s q round.from round.ahead all.finds.finds.ahead all.finds.finds.many_ahead all.finds.none
+            (λ j low. lasts j (omega (arith, low, round.within))) (λ j low. aboves j (omega (arith, low, round.within))) all.finds.finds.full_ahead;
+        around = are_taken by p.number now s q 0 round.behind all.finds.finds.behind all.finds.finds.many_behind all.finds.none
+            (λ j low. lasts j (omega (arith, low, round.apart, round.within))) (λ j low. aboves j (omega (arith, low, round.apart, round.within)))
+            all.finds.finds.full_behind;
+        entries = all.finds.finds.probes_are;
+      },
+    )
+
 -- a start for which no slot was found
 pub is_full : (g : Settings) (v : View) (by : ℕ) (p q : Part) (start : Start) (ahead : Option Ahead) (a : Ahead) (slot : Option ℕ) (u x : View)
     → PartStands g v.front p → ahead ≡ Some a → slot ≡ None → LooksAhead g v by start ahead u → TakesSlot g u by (now_in a) p q slot x
     → IsMade g v (Starts g by p.number start (Err Full)) x
 is_full g v by p q start ahead a slot u x stands has none looks takes =
-    let all = subst (λ s. TakesSlot g u by (now_in a) p q s x) none takes in
     let is = is_ahead g v by start ahead a u looks has in
-    let s : State = state g v.front in
-    let round : Round g.slots g.looks = round_of (length p.slots) g.slots g.looks stands.holds.many all.finds.round in
-    let lasts : (j : ℕ) → j < g.slots → (slot_at q.slots j).generation ≡ s.last p.number j = λ j low.
-    ap (λ ss. (slot_at ss j).generation) all.slots ∙ stands.holds.lasts j low in
-    let aboves : (j : ℕ) → j < g.slots → (slot_at q.slots j).above ≡ s.above p.number j = λ j low.
-    ap (λ ss. (slot_at ss j).above) all.slots ∙ stands.holds.aboves j low in
+    let taken = round_taken g v.front u x by (now_in a) p q slot stands none takes in
     record {
-      entries = look_entry (Caller by) looks.now ∷ all.probes;
+      entries = look_entry (Caller by) looks.now ∷ takes.probes;
       allowed = record {
         now = looks.now;
-        probes = all.probes;
+        probes = takes.probes;
         accepted = λ no_deadline. (let e : Some a.deadline ≡ None = sym is.told ∙ no_deadline in cc);
-        are_taken = inl (
-          round,
-          subst (λ n. IsRoundTaken by p.number n s round all.probes) (ap natural is.down_to) (record {
-            first = probes_from by p.number round.from all.finds.finds.ahead;
-            second = probes_from by p.number 0 all.finds.finds.behind;
-            onward = are_taken by p.number (now_in a) s q round.from round.ahead all.finds.finds.ahead all.finds.finds.many_ahead all.finds.none
-                (λ j low. lasts j (omega (arith, low, round.within))) (λ j low. aboves j (omega (arith, low, round.within))) all.finds.finds.full_ahead;
-            around = are_taken by p.number (now_in a) s q 0 round.behind all.finds.finds.behind all.finds.finds.many_behind all.finds.none
-                (λ j low. lasts j (omega (arith, low, round.apart, round.within))) (λ j low. aboves j (omega (arith, low, round.apart, round.within)))
-                all.finds.finds.full_behind;
-            entries = all.finds.finds.probes_are;
-          }),
-        );
+        are_taken = inl (taken.0, subst (λ n. IsRoundTaken by p.number n (state g v.front) taken.0 takes.probes) (ap natural is.down_to) taken.1);
         entries = refl;
       };
-      call = takes_place_then g v u x (look_entry (Caller by) looks.now ∷ []) all.probes
-          (step_takes_place g v (look_entry (Caller by) looks.now) u looks.step) all.call;
+      call = takes_place_then g v u x (look_entry (Caller by) looks.now ∷ []) takes.probes
+          (step_takes_place g v (look_entry (Caller by) looks.now) u looks.step) takes.call;
     }
 
 -- a start of a wheel that has had as many timers as it can have
@@ -224,7 +230,7 @@ gains_none p q answer loses k key is = inl (loses.left k key is, same_last p q k
 -- and else that of the timer
 pub gains_started : (g : Settings) (by : ℕ) (p q r s : Part) (now : ℕ) (slot : Option ℕ) (k : ℕ) (next : Use) (start : Start)
     (timer : TimerRef) (u x y z : View) → TakesSlot g u by now p q slot x → Arms g x by q r k next start timer y
-    → Ends g y by r s start.dest timer z → GainsOne p s (Ok timer)
+    → Ends g y by r s start.dest timer z → GainsOne {E = StartErr} p s (Ok timer)
 gains_started g by p q r s now slot k next start timer u x y z takes arms ends j key is =
     let same : last_timer s.number s.slots j ≡ last_timer r.number r.slots j = same_last r s j ends.loses in
     elim (arms.rows j key (ends.loses.left j key is)) [

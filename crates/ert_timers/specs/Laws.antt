@@ -14,9 +14,11 @@ use Rattle.ert_defs.specs.declared.settings.Settings.{Settings}
 use Rattle.ert_defs.specs.declared.timer.Start.{Start}
 use Rattle.ert_defs.specs.declared.timer.Status.TheVariants.{Armed}
 use Rattle.ert_defs.specs.declared.timer.TimerRef.{TimerRef}
+use Rattle.ert_effects.specs.RestartCalls.{Restarts}
 use Rattle.ert_effects.specs.RoomCalls.{TellsRoom}
 use Rattle.ert_effects.specs.TimerCalls.{Cancels, Starts}
 use Rattle.ert_effects.specs.WheelCalls.{Advances, Sweeps}
+use Rattle.ert_effects.specs.declared.answers.RestartErr.{RestartErr}
 use Rattle.ert_effects.specs.declared.answers.Room.{Room}
 use Rattle.ert_effects.specs.declared.answers.StartErr.{StartErr}
 use Rattle.ert_laws.specs.Counts.{count_at}
@@ -41,6 +43,11 @@ AreWithWheel by w es = AreOnlyOf (by ∷ (Wheel w ∷ [])) es
 abbrev pub LawOfStartEntries : Type 0
 LawOfStartEntries = (g : Settings) (by w : ℕ) (start : Start) (answer : Result TimerRef StartErr) (s : State) (es : List Entry)
     → Starts g by w start answer s es → AreWithWheel (Caller by) w es
+
+-- so are those of a restart
+abbrev pub LawOfRestartEntries : Type 0
+LawOfRestartEntries = (g : Settings) (by w : ℕ) (timer : TimerRef) (start : Start) (answer : Result TimerRef RestartErr) (s : State) (es : List Entry)
+    → Restarts g by w timer start answer s es → AreWithWheel (Caller by) w es
 
 -- those of an advance are of the scheduler and of its wheel alone
 abbrev pub LawOfAdvanceEntries : Type 0

@@ -3,7 +3,6 @@
 use Rattle.std.specs.Prelude.{◌≡◌, ◌≢◌, ◌⊎◌, ℕ, ◌<◌, ◌≤◌, List, [], ◌∷◌, Some, Result, Ok}
 use Rattle.ert_defs.specs.declared.timer.TimerRef.{TimerRef}
 use Rattle.ert_effects.specs.WheelCalls.{Try}
-use Rattle.ert_effects.specs.declared.answers.StartErr.{StartErr}
 use Rattle.ert_timers.specs.Freeing.{IsHeld}
 use Rattle.ert_timers.specs.Parts.{Part, last_timer}
 use Rattle.ert_wheel.specs.Rows.{key_in}
@@ -25,8 +24,8 @@ pub record LosesRows (p q : Part) : Type 0 where
 abbrev pub WasHeld : Part → Part → ℕ → Key → Type 0
 WasHeld p q k key = (key_in p.keys k ≡ Some key) × (last_timer q.number q.slots k ≡ last_timer p.number p.slots k)
 
--- some rows may have gone in a start, and none has come but that of the timer that it started
-abbrev pub GainsOne : Part → Part → Result TimerRef StartErr → Type 0
+-- some rows may have gone in a start, or a restart, and none has come but that of the timer that it started
+abbrev pub GainsOne : {E : Type 0} → Part → Part → Result TimerRef E → Type 0
 GainsOne p q answer = (k : ℕ) (key : Key) → key_in q.keys k ≡ Some key → WasHeld p q k key ⊎ (answer ≡ Ok (last_timer q.number q.slots k))
 
 -- no row is held of the timers of these tries

@@ -14,6 +14,7 @@ use Rattle.ert_defs.specs.declared.timer.Status.{Status}
 use Rattle.ert_defs.specs.declared.timer.TimerRef.{TimerRef}
 use Rattle.ert_effects.specs.TimerCalls.{AreProbes, Closes, Round}
 use Rattle.ert_effects.specs.WheelCalls.{orphans_by, IsSettled}
+use Rattle.ert_effects.specs.declared.answers.StartErr.{StartErr}
 use Rattle.ert_table.specs.Settlings.{ShownWord}
 use Rattle.ert_table.specs.Takes.{Appends, TakesPlace}
 use Rattle.ert_table.specs.declared.view.View.{View}
@@ -53,7 +54,7 @@ pub record Arms (g : Settings) (v : View) (by : ℕ) (p q : Part) (slot : ℕ) (
   pub stands : PartStands g u.front q
   pub holds : HoldsTimer q timer next.deadline
   pub dest : (slot_at q.slots timer.slot).dest ≡ start.dest
-  pub rows : GainsOne p q (Ok timer)
+  pub rows : GainsOne {E = StartErr} p q (Ok timer)
 
 -- it is seen whether the destination had exited, and then the timer is cancelled for that
 pub record Ends (g : Settings) (v : View) (by : ℕ) (p q : Part) (dest : ℕ) (timer : TimerRef) (u : View) : Type 0 where

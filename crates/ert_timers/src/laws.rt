@@ -1,6 +1,6 @@
 //! Laws of the timers of a scheduler, each the contract of a function that does nothing.
 
-ghost use Rattle.ert_timers.specs.Laws.{LawOfStandingParts, LawOfStartEntries, LawOfAdvanceEntries, LawOfSweeps, LawOfRooms, LawOfTidyCounts, LawOfWholeCancels};
+ghost use Rattle.ert_timers.specs.Laws.{LawOfStandingParts, LawOfStartEntries, LawOfRestartEntries, LawOfAdvanceEntries, LawOfSweeps, LawOfRooms, LawOfTidyCounts, LawOfWholeCancels};
 
 /// A part stands on while its wheel has no more entries, whatever others do meanwhile.
 pub fn parts_stand_on()
@@ -11,6 +11,7 @@ pub fn parts_stand_on()
 /// of the service stands on.
 pub fn calls_leave_other_parts()
     ensures starts { LawOfStartEntries }
+    ensures restarts { LawOfRestartEntries }
     ensures advances { LawOfAdvanceEntries }
     ensures sweeps { LawOfSweeps }
     ensures rooms { LawOfRooms }

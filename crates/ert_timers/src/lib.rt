@@ -45,7 +45,7 @@
 //! | call | what it does | work |
 //! |---|---|---|
 //! | `start` | looks at the time, stores the word of a free slot, asks whether the destination has exited | constant; where none is held free the settings' `looks` at most, or all slots where there are fewer |
-//! | `start_again` | starts a timer in the place of one that was settled just before, whose slot takes it at once | as `start` |
+//! | `restart` | looks at the time, and exchanges the word of an armed timer for that of the next one in its slot; or takes another slot, cancels and starts | as `start` |
 //! | `advance` | looks at the time, and tries each due timer in order of deadline and then of start | the due timers and the buckets that are visited |
 //! | `advance_some` | does so with so many timers at most, and tells whether more are due | the timers that it tries, one bucket where a window begins, and late timers (`ert_wheel`, `Wheel::first_due`) |
 //! | `sweep` | tries each timer of a process that has exited | those timers, each once |
@@ -83,6 +83,7 @@ mod expired_list;
 mod held_for;
 mod laws;
 mod looking;
+mod moving;
 mod part;
 mod restarting;
 mod room;
@@ -91,11 +92,10 @@ mod slot;
 mod starting;
 mod sweeping;
 
-pub use ert_effects::{Room, StartErr};
+pub use ert_effects::{RestartErr, Room, StartErr};
 pub use expired_list::ExpiredList;
 pub use laws::{
     calls_leave_other_parts, cancels_leave_other_timers_tidy, parts_stand_on,
     tidy_parts_hold_what_is_armed,
 };
-pub use looking::{Forecast, foresee};
 pub use part::{Tally, WheelPart};

@@ -1,5 +1,5 @@
 //! The look with which a call begins, and what is computed from it.
-ghost use Rattle.std.specs.Prelude.{◌≡◌, ◌≤◌, ℤ, ◌≤ℤ◌, ◌<ℤ◌, ◌↔◌, true, None, IsNone, IfSome, option_map, pos};
+ghost use Rattle.std.specs.Prelude.{◌≡◌, ◌≤◌, ℤ, ◌≤ℤ◌, ◌<ℤ◌, true, IfSome, option_map, pos};
 ghost use Rattle.ert_defs.specs.Actors.{IsUser};
 ghost use Rattle.ert_defs.specs.Lines.{end_time};
 ghost use Rattle.ert_defs.specs.Milliseconds as milliseconds;
@@ -10,7 +10,6 @@ ghost use Rattle.ert_defs.specs.declared.entry.Actor.TheVariants.{Caller};
 ghost use Rattle.ert_table.specs.Desks.{settings_of, view_of, actors_of, Belongs};
 ghost use Rattle.ert_table.specs.Held.{is_held};
 ghost use Rattle.ert_timers.specs.Looking.{LooksDown, LooksAhead, now_in};
-ghost use Rattle.ert_timers.specs.Restarting.{IsForecast};
 ghost use Rattle.ert_timers.specs.declared.looking.Ahead.{Ahead};
 
 use ert_calls::look;
@@ -74,31 +73,6 @@ pub(crate) fn look_ahead(desk: &Desk, pass: &mut Pass, by: u32, start: &Start) -
     ahead_at(desk.settings(), start, now)
 }
 
-/// The same, where it was told already what a look would show that shows a certain time.
-#[inline]
-pub(crate) fn look_as_forecast(
-    desk: &Desk,
-    pass: &mut Pass,
-    by: u32,
-    start: &Start,
-    forecast: Forecast,
-) -> Option<Ahead>
-    requires belongs { Belongs desk.now pass.old }
-    requires held { is_held (actors_of pass.old) (Caller by) ≡ true }
-    requires user { IsUser (settings_of desk.now) (Caller by) }
-    requires forecast { IsForecast (settings_of desk.now) start.now forecast }
-    ensures belongs { Belongs desk.now pass.new }
-    ensures looks { LooksAhead (settings_of desk.now) (view_of pass.old) by start.now result (view_of pass.new) }
-    ensures now { IfSome result (λ ahead. now_in ahead ≤ 8796093022207) }
-    ensures deadline { IfSome result (λ ahead. ahead.deadline ≤ 8796093022207) }
-{
-    let now = look(desk, pass, Actor::Caller(by));
-    if now == forecast.time {
-        return Some(forecast.ahead);
-    }
-    ahead_at(desk.settings(), start, now)
-}
-
 /// What a start is told by a look that shows a time; None where it is refused.
 fn ahead_at(settings: &Settings, start: &Start, now: i64) -> Option<Ahead>
     requires low { settings.now.start ≤ℤ now }
@@ -147,23 +121,4 @@ fn deadline_behind(up: u64, wait: i64) -> Option<u64>
         return None;
     }
     Some(up + later)
-}
-
-/// What a start would be told by a look that shows a certain time.
-#[derive(Clone, Copy)]
-pub struct Forecast {
-    /// That time, in nanoseconds.
-    pub(crate) time: i64,
-    pub(crate) ahead: Ahead,
-}
-
-/// What a start would be told by a look that shows this time; None exactly where it has no deadline then.
-pub fn foresee(settings: &Settings, start: &Start, time: i64) -> Option<Forecast>
-    requires low { settings.now.start ≤ℤ time }
-    requires high { time <ℤ end_time settings.now }
-    ensures some { IfSome result (IsForecast settings.now start.now) }
-    ensures none { IsNone result ↔ (deadline_of settings.now start.now time ≡ None) }
-{
-    let ahead = ahead_at(settings, start, time)?;
-    Some(Forecast { time, ahead })
 }

@@ -1,119 +1,115 @@
-//! A timer that is started in the place of one that was settled.
-ghost use Rattle.ert_defs.specs.Timers as timers;
+//! A timer that is given a new deadline.
 
-use crate::looking::{Forecast, look_as_forecast};
+use crate::looking::{Ahead, look_ahead};
 use crate::part::{Use, WheelPart};
-use ert_defs::{Start, TimerRef};
-use ert_effects::StartErr;
-use ert_table::{Desk, Pass};
+use ert_defs::{Actor, Start, TimerRef};
+use ert_effects::RestartErr;
+use ert_table::{Desk, Pass, SlotPlace};
 
 impl WheelPart {
-    ghost use Rattle.std.specs.Prelude.{◌≡◌, ◌≢◌, ◌<◌, false, Some, Err};
-    ghost use Rattle.ert_defs.specs.States.{state};
-    ghost use Rattle.ert_defs.specs.declared.timer.Status.TheVariants.{Armed};
-    ghost use Rattle.ert_effects.specs.TimerCalls.{Starts};
-    ghost use Rattle.ert_effects.specs.declared.answers.StartErr.TheVariants.{NoMemory};
+    ghost use Rattle.std.specs.Prelude.{◌≡◌, ◌≢◌, ◌<◌, true, Err};
+    ghost use Rattle.ert_defs.specs.Legal.{names_timer};
+    ghost use Rattle.ert_effects.specs.RestartCalls.{Restarts, RestartEnds};
+    ghost use Rattle.ert_effects.specs.declared.answers.RestartErr.TheVariants.{Full};
     ghost use Rattle.ert_table.specs.Calls.{IsMade};
     ghost use Rattle.ert_table.specs.Desks.{settings_of, view_of, front_of, state_of, Belongs};
-    ghost use Rattle.ert_timers.specs.Changes.{dropped};
-    ghost use Rattle.ert_timers.specs.Freeing.{IsLast};
-    ghost use Rattle.ert_timers.specs.Parts.{HoldsCaller, PartStands, last_timer};
+    ghost use Rattle.ert_table.specs.Places.{IsPlaceOf};
+    ghost use Rattle.ert_timers.specs.Parts.{HoldsCaller, PartStands};
     ghost use Rattle.ert_timers.specs.Passed.{GainsOne};
-    ghost use Rattle.ert_timers.specs.Restarting.{CanRenew, IsForecast};
-    ghost use Rattle.ert_timers.specs.Starting.{Arms, IsUseFor};
+    ghost use Rattle.ert_timers.specs.Restarting.{MayStay, HasLooked, HasLetGo};
 
-    /// Starts a timer for a caller as `start` does, where another was settled just before, and drops the row of that one.
+    /// Gives an armed timer, of whatever wheel, a new deadline for a caller (as `uv_timer_again` of libuv), by the time that
+    /// the call itself looks up: it is cancelled, and another is started on this wheel.
     ///
-    /// Where that has a row, its slot takes the new timer at once, with no way through the slots that are free. The
-    /// general way is gone where the slot's round has no use left, or where one of both waits is long and the other isn't.
+    /// A timer of this wheel mostly gives its slot and the place of its row to the new one: then one exchange of the slot's
+    /// word cancels the old one and starts the new one. Another slot is taken, as by a start, where the timer is of another
+    /// wheel, where the slot's round has no use left, or where one of both waits is long and the other isn't and a slot is
+    /// known to be free. It is taken before the timer is cancelled: so a timer is lost by no answer. No memory is taken.
     #[inline(always)]
-    pub fn start_again(
+    pub fn restart(
         &mut self,
         desk: &Desk,
         pass: &mut Pass,
         by: u32,
         timer: TimerRef,
         start: &Start,
-        forecast: Forecast,
-    ) -> Result<TimerRef, StartErr>
+    ) -> Result<TimerRef, RestartErr>
         requires belongs { Belongs desk.now pass.old }
         requires holds { HoldsCaller (settings_of desk.now) (view_of pass.old) by self.old.number }
         requires stands { PartStands (settings_of desk.now) (front_of pass.old) self.old }
         requires dest { start.now.dest < (settings_of desk.now).processes }
-        requires last { IsLast self.old timer }
-        requires settled { (state_of desk.now pass.old).status timer ≢ Some Armed }
-        requires forecast { IsForecast (settings_of desk.now) start.now forecast }
         ensures belongs { Belongs desk.now pass.new }
         ensures number { self.new.number ≡ self.old.number }
         ensures stands { PartStands (settings_of desk.now) (front_of pass.new) self.new }
-        ensures call { IsMade (settings_of desk.now) (view_of pass.old) (Starts (settings_of desk.now) by self.old.number start.now result) (view_of pass.new) }
-        ensures memory { result ≢ Err NoMemory }
-        ensures rows { GainsOne (dropped self.old timer.slot) self.new result }
+        ensures call { IsMade (settings_of desk.now) (view_of pass.old) (Restarts (settings_of desk.now) by self.old.number timer start.now result) (view_of pass.new) }
+        ensures rows { GainsOne self.old self.new result }
+        ensures gone { HasLetGo timer result self.new }
     {
-        if !self.can_renew(timer, forecast.ahead.up, forecast.ahead.deadline) {
-            return self.start_anew(desk, pass, by, timer, start);
-        }
-        let Some(ahead) = look_as_forecast(desk, pass, by, start, forecast) else {
-            self.drop_row(timer.slot);
-            return Err(StartErr::BadArg);
+        let Some(ahead) = look_ahead(desk, pass, by, start) else {
+            return Err(RestartErr::BadArg);
         };
-        let next = self.next_use(timer.slot, ahead.rounded_down(), ahead.deadline);
-        let named = self.arm_again(desk, pass, by, timer.slot, start, next);
+        if !timer.has_slot(desk.settings()) {
+            return Err(RestartErr::NotArmed);
+        }
+        // The word is on its way from memory while the generation is tested.
+        let place = desk.touch(timer.wheel, timer.slot);
+        if !timer.has_generation() {
+            return Err(RestartErr::NotArmed);
+        }
+        if !self.may_stay(timer) || !self.suits(timer.slot, ahead.up, ahead.deadline) {
+            return self.restart_elsewhere(desk, pass, by, timer, *start, ahead, place);
+        }
+        self.restart_here(desk, pass, by, timer, start, ahead, place)
+    }
+
+    /// Gives a timer a new deadline in its own slot, after the caller's look: by one exchange where it is armed.
+    #[inline(always)]
+    pub(crate) fn restart_here(
+        &mut self,
+        desk: &Desk,
+        pass: &mut Pass,
+        by: u32,
+        timer: TimerRef,
+        start: &Start,
+        ahead: Ahead,
+        place: SlotPlace,
+    ) -> Result<TimerRef, RestartErr>
+        requires belongs { Belongs desk.now pass.old }
+        requires holds { HoldsCaller (settings_of desk.now) (view_of pass.old) by self.old.number }
+        requires stands { PartStands (settings_of desk.now) (front_of pass.old) self.old }
+        requires dest { start.now.dest < (settings_of desk.now).processes }
+        requires in_range { names_timer (settings_of desk.now) timer ≡ true }
+        requires place { IsPlaceOf (settings_of desk.now) timer.wheel timer.slot place }
+        requires stays { MayStay self.old timer }
+        requires looked { HasLooked (settings_of desk.now) (state_of desk.now pass.old) by start.now ahead }
+        ensures belongs { Belongs desk.now pass.new }
+        ensures number { self.new.number ≡ self.old.number }
+        ensures stands { PartStands (settings_of desk.now) (front_of pass.new) self.new }
+        ensures call { IsMade (settings_of desk.now) (view_of pass.old) (λ s es. RestartEnds true by self.old.number timer start.now result es) (view_of pass.new) }
+        ensures not_full { result ≢ Err Full }
+        ensures rows { GainsOne self.old self.new result }
+        ensures gone { HasLetGo timer result self.new }
+    {
+        let Some(read) = pass.peek_word(desk, Actor::Caller(by), timer, place) else {
+            return Err(RestartErr::NotArmed);
+        };
+        let now = ahead.rounded_down();
+        let next = Use::after(timer.generation, now, ahead.deadline);
+        let generation = next.generation;
+        if !pass.renew(
+            desk,
+            by,
+            timer,
+            read,
+            generation,
+            start,
+            next.deadline,
+            place,
+        ) {
+            return Err(RestartErr::NotArmed);
+        }
+        let named = self.renew(timer.slot, start, next);
         self.end(desk, pass, by, named, start.dest, next.deadline);
         Ok(named)
-    }
-
-    /// Forgets a timer that was settled, and starts another.
-    #[cold]
-    #[inline(never)]
-    fn start_anew(
-        &mut self,
-        desk: &Desk,
-        pass: &mut Pass,
-        by: u32,
-        timer: TimerRef,
-        start: &Start,
-    ) -> Result<TimerRef, StartErr>
-        requires belongs { Belongs desk.now pass.old }
-        requires holds { HoldsCaller (settings_of desk.now) (view_of pass.old) by self.old.number }
-        requires stands { PartStands (settings_of desk.now) (front_of pass.old) self.old }
-        requires dest { start.now.dest < (settings_of desk.now).processes }
-        requires last { IsLast self.old timer }
-        requires settled { (state_of desk.now pass.old).status timer ≢ Some Armed }
-        ensures belongs { Belongs desk.now pass.new }
-        ensures number { self.new.number ≡ self.old.number }
-        ensures stands { PartStands (settings_of desk.now) (front_of pass.new) self.new }
-        ensures call { IsMade (settings_of desk.now) (view_of pass.old) (Starts (settings_of desk.now) by self.old.number start.now result) (view_of pass.new) }
-        ensures memory { result ≢ Err NoMemory }
-        ensures rows { GainsOne (dropped self.old timer.slot) self.new result }
-    {
-        self.forget(pass, timer);
-        self.start(desk, pass, by, start)
-    }
-
-    /// Arms the next timer of a slot whose last one was settled and still has a row, by the caller's last look.
-    #[inline(always)]
-    fn arm_again(
-        &mut self,
-        desk: &Desk,
-        pass: &mut Pass,
-        by: u32,
-        slot: u32,
-        start: &Start,
-        next: Use,
-    ) -> TimerRef
-        requires belongs { Belongs desk.now pass.old }
-        requires holds { HoldsCaller (settings_of desk.now) (view_of pass.old) by self.old.number }
-        requires stands { PartStands (settings_of desk.now) (front_of pass.old) (dropped self.old slot) }
-        requires can { CanRenew self.old slot }
-        requires usable { timers.is_taken ((state_of desk.now pass.old).status (last_timer self.old.number self.old.slots slot)) ≡ false }
-        requires dest { start.now.dest < (settings_of desk.now).processes }
-        requires next { IsUseFor (settings_of desk.now) (state_of desk.now pass.old) by self.old.number slot start.now next }
-        ensures belongs { Belongs desk.now pass.new }
-        ensures call { Arms (settings_of desk.now) (view_of pass.old) by (dropped self.old slot) self.new slot next start.now result (view_of pass.new) }
-    {
-        let timer = self.renew(slot, start, next);
-        pass.arm(desk, by, timer, start, next.deadline);
-        timer
     }
 }

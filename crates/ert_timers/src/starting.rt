@@ -73,7 +73,13 @@ impl WheelPart {
 
     /// A slot that can take a timer. Where none is known to be free, slots are looked at.
     #[inline(always)]
-    fn take_slot(&mut self, desk: &Desk, pass: &mut Pass, by: u32, ahead: Ahead) -> Option<u32>
+    pub(crate) fn take_slot(
+        &mut self,
+        desk: &Desk,
+        pass: &mut Pass,
+        by: u32,
+        ahead: Ahead,
+    ) -> Option<u32>
         requires belongs { Belongs desk.now pass.old }
         requires holds { HoldsCaller (settings_of desk.now) (view_of pass.old) by self.old.number }
         requires stands { PartStands (settings_of desk.now) (front_of pass.old) self.old }
@@ -153,7 +159,7 @@ impl WheelPart {
 
     /// Arms the next timer of a slot that can take it, by the caller's last look.
     #[inline(always)]
-    fn arm(
+    pub(crate) fn arm(
         &mut self,
         desk: &Desk,
         pass: &mut Pass,

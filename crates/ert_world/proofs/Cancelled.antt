@@ -43,7 +43,7 @@ cond_same true x = refl
 cond_same false x = refl
 
 -- a read leaves what is left
-left_peeked : (g : Settings) (s : State) (by : Actor) (timer : TimerRef) (found : Option ℕ)
+pub left_peeked : (g : Settings) (s : State) (by : Actor) (timer : TimerRef) (found : Option ℕ)
     → left_of g (next g s (peek_entry by timer found)) by timer ≡ left_of g s by timer
 left_peeked g s by timer found =
     let e : Entry = peek_entry by timer found in

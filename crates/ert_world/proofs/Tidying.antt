@@ -70,7 +70,7 @@ dropped_was (Some Orphaned) is = is
 dropped_was (Some Dropped) is = is
 
 -- what is cancelled after an event that cancels nothing was so before
-cancelled_before : (r : TimerRef) (b : Bool) (x : Option Status) (event : Event) → is_cancel event ≡ false → status_after r b x event ≡ Some Cancelled
+pub cancelled_before : (r : TimerRef) (b : Bool) (x : Option Status) (event : Event) → is_cancel event ≡ false → status_after r b x event ≡ Some Cancelled
     → x ≡ Some Cancelled
 cancelled_before r b x (Arm timer start) calm is = cond_was (b && same_timer timer r) x (Some Armed) (λ same. absurd cc) is
 cancelled_before r b x (Cancel timer left) calm is = absurd cc
@@ -80,12 +80,12 @@ cancelled_before r b x (Deliver timer) calm is = cond_was (same_timer timer r) x
 cancelled_before r b x (Drop timer) calm is = cond_was (same_timer timer r) x (handed_as Dropped x) (dropped_was x) is
 cancelled_before r b x _ calm is = is
 
-cancelled_was : (g : Settings) (s : State) (es : List Entry) (r : TimerRef) → AreCalm es → (run g s es).status r ≡ Some Cancelled → s.status r ≡ Some Cancelled
+pub cancelled_was : (g : Settings) (s : State) (es : List Entry) (r : TimerRef) → AreCalm es → (run g s es).status r ≡ Some Cancelled → s.status r ≡ Some Cancelled
 cancelled_was g s [] r calm is = is
 cancelled_was g s (e ∷ es) r calm is =
     cancelled_before r (has_actor e (Wheel r.wheel)) (s.status r) e.event calm.0 (cancelled_was g (next g s e) es r calm.1 is)
 
-armed_or : (x : Option Status) → IsLive x → x ≢ Some Cancelled → x ≡ Some Armed
+pub armed_or : (x : Option Status) → IsLive x → x ≢ Some Cancelled → x ≡ Some Armed
 armed_or (Some Armed) live not = refl
 armed_or (Some Cancelled) live not = absurd (not refl)
 armed_or None live not = absurd live
@@ -130,7 +130,7 @@ one_holds s ws i old new wide lent holds j x =
     (λ other k key is. inl (is, refl))
 
 -- a timer is armed after its Arm
-armed_self : (g : Settings) (s : State) (by : ℕ) (timer : TimerRef) (start : Start) → (next g s (arm_entry by timer start)).status timer ≡ Some Armed
+pub armed_self : (g : Settings) (s : State) (by : ℕ) (timer : TimerRef) (start : Start) → (next g s (arm_entry by timer start)).status timer ≡ Some Armed
 armed_self g s by timer start =
     let self : nat_eq timer.wheel timer.wheel ≡ true = eq-eqb timer.wheel timer.wheel refl in
     ap (λ b. cond ((nat_eq timer.wheel timer.wheel) && b) (Some Armed) (s.status timer)) (same_timer_self timer) ∙ rw self refl

@@ -38,15 +38,15 @@ use Rattle.ert_world.specs.Parts.{AllParts, Stand}
 use Rattle.ert_world.specs.Worlds.{Seen, AreSound, By}
 use Rattle.ert_world.specs.declared.world.World.TheInside.{Inside}
 
-calm_append : (es fs : List Entry) → AreCalm es → AreCalm fs → AreCalm (es ++ fs)
+pub calm_append : (es fs : List Entry) → AreCalm es → AreCalm fs → AreCalm (es ++ fs)
 calm_append [] fs one other = other
 calm_append (e ∷ es) fs one other = (one.0, calm_append es fs one.1 other)
 
-probes_calm : (by : Actor) (w : ℕ) (es : List Entry) → AreProbes by w es → AreCalm es
+pub probes_calm : (by : Actor) (w : ℕ) (es : List Entry) → AreProbes by w es → AreCalm es
 probes_calm by w [] are = tt
 probes_calm by w (e ∷ es) are = (ap (λ (x : Entry). is_cancel x.event) are.2, probes_calm by w es are.3)
 
-closing_calm : (was : Bool) (by : ℕ) (timer : TimerRef) (es : List Entry) → Closes was by timer es → AreCalm es
+pub closing_calm : (was : Bool) (by : ℕ) (timer : TimerRef) (es : List Entry) → Closes was by timer es → AreCalm es
 closing_calm false by timer es closes = calm_as es [] closes tt
 closing_calm true by timer es (inl hit) = calm_as es _ hit (refl, tt)
 closing_calm true by timer es (inr miss) = calm_as es _ miss.entries (refl, tt)

@@ -104,11 +104,10 @@ mod turns;
 mod world;
 
 pub use counts::Counts;
-pub use ert_effects::{Room, Turned};
+pub use ert_effects::{RestartErr, Room, Turned};
 pub use laws::{entries_are_divided, next_due_goes_on};
 pub use mailing::TakeEnd;
 pub use parts::Parts;
-pub use restart::RestartErr;
 pub use sched_part::SchedPart;
 pub use seat::Seat;
 pub use seat_err::SeatErr;

@@ -341,14 +341,15 @@ static void restarts(void) {
     IS(ert_shard_take(&d.high, 4, &mail), ERT_OK);
     IS(mail.msg, 3);
     IS(is_same(mail.timer, own), 1);
-    /* Where the wheel is full the timer is cancelled all the same. */
+    /* Where the wheel is full the timer of another shard stays armed. */
     own = start(&d.high, 9, 3, 5);
     old = own;
     start(&d.low, 9, 1, 6);
     start(&d.low, 9, 2, 7);
     IS(ert_shard_restart(&d.low, &own, &how), ERT_FULL);
     IS(is_same(own, old), 1);
-    IS(ert_shard_read(&d.high, &own, &left), ERT_NO_TIMER);
+    IS(ert_shard_read(&d.high, &own, &left), ERT_OK);
+    IS(left, 9);
     close_divided(&d);
 }
 

@@ -54,7 +54,18 @@ impl Slot {
         requires deadline { deadline ≤ 8796093022207 }
         ensures { result ≡ changes.next_use self.generation now deadline }
     {
-        let last = self.generation();
+        Use::after(self.generation(), now, deadline)
+    }
+}
+
+impl Use {
+    /// The same by the generation of the slot's last timer.
+    #[inline]
+    pub(crate) fn after(last: u64, now: u64, deadline: u64) -> Use
+        requires now { now ≤ 8796093022207 }
+        requires deadline { deadline ≤ 8796093022207 }
+        ensures { result ≡ changes.next_use last now deadline }
+    {
         if last < USES_OF_ROUND {
             return Use {
                 generation: last + 1,
@@ -62,7 +73,7 @@ impl Slot {
             };
         }
         let deadline = now.max(deadline);
-        let used = if self.has_uses() { use_of(last) } else { 0 };
+        let used = if has_uses(last) { use_of(last) } else { 0 };
         Use {
             generation: FIRST_LATER_GENERATION * (used + 1) + deadline,
             deadline,

@@ -6,11 +6,11 @@ use ert_defs::{Start, TimerRef};
 use ert_wheel::Row;
 
 impl WheelPart {
-    ghost use Rattle.std.specs.Prelude.{◌≡◌, ◌<◌, ◌≤◌, true};
+    ghost use Rattle.std.specs.Prelude.{◌≡◌, ◌↔◌, ◌<◌, ◌≤◌, ◌-◌, IsTrue, length, true, false};
     ghost use Rattle.ert_timers.specs.Changes.{kept};
-    ghost use Rattle.ert_timers.specs.Freeing.{IsLast};
-    ghost use Rattle.ert_timers.specs.Parts.{last_timer};
-    ghost use Rattle.ert_timers.specs.Restarting.{CanRenew};
+    ghost use Rattle.ert_effects.specs.RestartCalls.{NeedsSlot};
+    ghost use Rattle.ert_timers.specs.Parts.{last_timer, slot_at};
+    ghost use Rattle.ert_timers.specs.Restarting.{CanRenew, MayStay};
 
     /// Puts in the timer of a start, in the slot of one that has a row still, whose place the new one takes. Where both
     /// go to the same process no chain of a process is read or written.
@@ -39,22 +39,24 @@ impl WheelPart {
         }
     }
 
-    /// Whether a timer that was settled can give its place to one that is started at a time with a deadline, both in
-    /// milliseconds after the start time. Else its slot, or another, is taken as for any start.
-    ///
-    /// It can't where the wait of one of both is long and that of the other isn't: few slots have the long waits.
-    #[inline]
-    pub(crate) fn can_renew(&self, timer: TimerRef, now: u64, deadline: u64) -> bool
-        requires { IsLast self.now timer }
-        ensures { result ≡ true → CanRenew self.now timer.slot }
+    /// Whether the next timer can have the slot of one, where that is armed.
+    #[inline(always)]
+    pub(crate) fn may_stay(&self, timer: TimerRef) -> bool
+        ensures stays { result ≡ true → MayStay self.now timer }
+        ensures needs { result ≡ false → self.now.arms < 9007199254740992 → NeedsSlot self.now.number timer }
     {
-        if !has_uses(timer.generation) || self.arms >= MOST_TIMERS {
-            return false;
-        }
-        let above = self.wheel.value(timer.slot).above();
-        if is_long(now, above) != is_long(now, deadline) {
-            return false;
-        }
-        self.wheel.row(timer.slot).is_some()
+        timer.wheel == self.number && has_uses(timer.generation) && self.arms < MOST_TIMERS
+    }
+
+    /// Whether a slot suits a timer that is started at a time with a deadline, both in milliseconds after the start time: it
+    /// has had a long wait that isn't over and the timer's is long too, or neither is so. Few slots have the long waits.
+    #[inline(always)]
+    pub(crate) fn suits(&self, slot: u32, now: u64, deadline: u64) -> bool
+        requires { slot < length self.now.slots }
+        ensures { IsTrue result ↔ ((4194304 ≤ (slot_at self.now.slots slot).above - now) ↔ (4194304 ≤ deadline - now)) }
+    {
+        let above = self.kept_of(slot).above();
+        // Most waits are short, and one test tells that neither of both is long.
+        !is_long(now, above.max(deadline)) || is_long(now, above) == is_long(now, deadline)
     }
 }

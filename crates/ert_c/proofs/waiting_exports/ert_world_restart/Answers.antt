@@ -13,7 +13,8 @@ returns c =
       below = λ _. record {
         answer = c.restart-answer.result;
         made = subst (λ (s : Start). RestartsBy (timer_from_c c.args.timer.now) s c.restart-answer.result c.lend-service.result.now c.restart-answer.new.self) c.read-2.ensures
-            (subst (λ (t : TimerRef). RestartsBy t c.read-2.result c.restart-answer.result c.lend-service.result.now c.restart-answer.new.self) c.read.ensures c.restart-answer.ensures.call);
+            (subst (λ (t : TimerRef). RestartsBy t c.read-2.result c.restart-answer.result c.lend-service.result.now c.restart-answer.new.self) c.read.ensures
+            (record { makes = c.restart-answer.ensures.call; time = c.restart-answer.ensures.time }));
         told = search rules;
       };
       above = λ h. absurd (omega (arith, c.if-process-settings.false, ap (λ (g : Settings). g.processes) c.settings.ensures.value, h));

@@ -1,16 +1,31 @@
-use Rattle.std.proofs.Common.{◌≡◌, Option, Some, Result, Err, ap, subst, ◌∙◌}
-use Rattle.ert_defs.specs.declared.timer.TimerRef.{TimerRef}
-use Rattle.ert_effects.specs.declared.answers.StartErr.{StartErr}
-use Rattle.ert_shard.proofs.Renewed.{restarts_full}
-use Rattle.ert_shard.specs.Renewing.{Replaces}
-use Rattle.ert_shard.specs.Shards.{ShardGoes}
+use Rattle.std.proofs.Common.{◌+◌, sym, subst}
+use Rattle.ert_effects.specs.RestartCalls.{Restarts}
+use Rattle.ert_shard.proofs.Called.{wheel_stepped}
+use Rattle.ert_shard.proofs.Renewed.{lets_go, restarts_home}
+use Rattle.ert_shard.specs.Shards.{Owned, IsHome, share_of, shard_parts_of}
+use Rattle.ert_table.specs.Desks.{settings_of}
+use Rattle.ert_timers.proofs.LawsHold.{restarts_only}
 use Rattle.ert_shard.proofs.shard.Shard.restart.Goals as goal
 
-pub returns-in-Some-Err-clause-call : goal.returns-in-Some-Err-clause-call
-returns-in-Some-Err-clause-call c =
-    let b = c.foresee.new.self in
-    let why = c.in-Some-Err.field-0-0 in
-    let is : c.replace.result ≡ Some (Err why) = c.in-Some-Err.is ∙ ap (λ (r : Result TimerRef StartErr). Some r) c.in-Some-Err.field-0-is in
-    restarts_full c.args.self.now b c.replace.new.self c.args.timer c.args.start.now why (λ same. c.replace.ensures.memory (is ∙ same)) c.in-Some.ensures.call
-    (subst (λ (answer : Option (Result TimerRef StartErr)). ShardGoes b (λ way. Replaces b.settings way b.share.number c.args.timer c.args.start.now answer) c.replace.new.self) is
-    c.replace.ensures.call)
+pub invariant_of-self : goal.invariant_of-self
+invariant_of-self c =
+    let b = c.self.inside in
+    let s = share_of b.number b.from b.to in
+    (wheel_stepped c.args.self.now c.deref.result.now _ b.pass c.restart.new.pass s (shard_parts_of b.wheel b.inbox b.sched b.mails.items b.list) c.restart.new.self
+    (λ m n g. Restarts g (m + 1) n c.args.timer c.args.start.now c.restart.result) c.deref.ensures c.self.view_is c.self.invariant c.restart.ensures.belongs c.restart.ensures.number
+    c.restart.ensures.stands c.restart.ensures.call (λ n. restarts_only (settings_of c.deref.result.now) (b.number + 1) n c.args.timer c.args.start.now c.restart.result)
+    (λ n. restarts_home s (settings_of c.deref.result.now) (b.number + 1) n c.args.timer c.args.start.now c.restart.result
+    (subst (λ (o : Owned). IsHome o.share c.args.start.now.dest) (sym c.self.view_is) c.requires))).fit
+
+pub returns-clause-call : goal.returns-clause-call
+returns-clause-call c =
+    let b = c.self.inside in
+    let s = share_of b.number b.from b.to in
+    (wheel_stepped c.args.self.now c.deref.result.now _ b.pass c.restart.new.pass s (shard_parts_of b.wheel b.inbox b.sched b.mails.items b.list) c.restart.new.self
+    (λ m n g. Restarts g (m + 1) n c.args.timer c.args.start.now c.restart.result) c.deref.ensures c.self.view_is c.self.invariant c.restart.ensures.belongs c.restart.ensures.number
+    c.restart.ensures.stands c.restart.ensures.call (λ n. restarts_only (settings_of c.deref.result.now) (b.number + 1) n c.args.timer c.args.start.now c.restart.result)
+    (λ n. restarts_home s (settings_of c.deref.result.now) (b.number + 1) n c.args.timer c.args.start.now c.restart.result
+    (subst (λ (o : Owned). IsHome o.share c.args.start.now.dest) (sym c.self.view_is) c.requires))).goes
+
+pub returns-clause-forgotten : goal.returns-clause-forgotten
+returns-clause-forgotten c = lets_go _ c.args.timer c.restart.result c.restart.ensures.gone
