@@ -54,16 +54,16 @@ PYTHON = python3
 LDCONFIG = ldconfig
 tell_loader = [ -n '$(DESTDIR)' ] || $(LDCONFIG) 2>/dev/null || :
 
-# What was proved: the programs, the archives of the libraries, and the archive of the toolchain by which those call
-# malloc. `rt ci` and `packaging/prove` leave them there; other places can be given. For aarch64 the toolchain has no
-# archive of the heap, so it is made from C.
+# What was proved: the programs and the archives of the libraries. `rt ci` and `packaging/prove` leave them there; other places
+# can be given. The heap by which the archives call malloc is made from C. The folder of the toolchain has the notices of its
+# crates.
 KIT = $(patsubst %/bin/rt,%,$(realpath $(shell command -v rt 2>/dev/null)))
 ERTIME = crates/ert_cli/out/ert_cli
 ERTAUDIT = crates/ert_audit_cli/out/ert_audit_cli
 at_target = $(if $(is_native),,$(TARGET)-unknown-linux-gnu/)
 ARCHIVE = crates/ert_c/out/$(at_target)libert_c.a
 TEXT_ARCHIVE = crates/ert_text/out/$(at_target)libert_text.a
-HEAP = $(if $(is_native),$(KIT)/c/liblibc_c.a,$(B)/heap.o)
+HEAP = $(B)/heap.o
 
 # The version is taken from the header. (.ci/check_documents compares the other places that have it.)
 part = $(shell sed -n 's/^.define ERTIME_VERSION_$(1) //p' include/ertime.h)
@@ -139,13 +139,11 @@ $(B)/unwind.o: $(B)/ertime.bare.o packaging/unwind
 	$(PYTHON) packaging/unwind --objdump '$(OBJDUMP)' $< >$(B)/unwind.s
 	$(CC) -c $(B)/unwind.s -o $@
 
-# A library's archive and that of the heap as one object, in which every other name is local. (Whoever installs may not
-# have the toolchain on the path: so nothing here depends on a file of it.) The linker takes the tables as they are: it
-# would ask that those of an object stand in it.
+# A library's archive and the heap as one object, in which every other name is local. The linker takes the tables as they
+# are: it would ask that those of an object stand in it.
 OBJECTS = $(B)/ertime.o $(B)/ertime_text.o
 $(B)/ertime.o: $(if $(is_native),$(B)/unwind.o)
-$(OBJECTS): $(B)/%.o: $(B)/%.bare.o $(B)/%.symbols $(if $(is_native),,$(B)/heap.o)
-	@[ -f '$(HEAP)' ] || { echo "there is no $(HEAP): rt isn't on the path, or HEAP has to say where it is"; exit 1; }
+$(OBJECTS): $(B)/%.o: $(B)/%.bare.o $(B)/%.symbols $(HEAP)
 	$(LD) -r --traditional-format --whole-archive $(filter %bare.o %unwind.o,$^) $(HEAP) -o $@
 	$(OBJCOPY) --keep-global-symbols=$(B)/$*.symbols $@
 .SECONDARY: $(OBJECTS) $(OBJECTS:.o=.bare.o) $(B)/unwind.o

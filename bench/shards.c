@@ -5,13 +5,30 @@
  *   apart          the same, but each thread has the one shard of a service of its own, so that they share nothing
  *   cancel         each timer is cancelled by one thread, which is another one than its own where there are several
  *   time           monotonic time, beside a thread that ticks
+ *
+ * Where the heap puts the blocks of a service hangs on what it had to give before, and so does which of them lie side by side.
+ * So all rows are run in ten states of the heap, one after the other in this process, and each row is that of the worst state.
  */
 #define _GNU_SOURCE
 #include "ertime.h"
 #include "threads.h"
 
+#include <string.h>
+
 /* Many, so that the clock ticks in each pass. */
 enum { READS = 100000 };
+
+enum { STATES = 10, BLOCKS = 64, ROWS = 16 };
+
+typedef struct {
+    const char *name;
+    int threads;
+    double worst;
+} row;
+
+static row rows[ROWS];
+static int row_count;
+static void *blocks[BLOCKS];
 
 typedef struct {
     ert_shard shard;
@@ -114,18 +131,31 @@ static void *go_on_ticking(void *unused) {
     return NULL;
 }
 
+/* Keeps what a row took where that is more than in the states before. */
+static void keep(const char *name, int threads, double taken) {
+    row *it = rows;
+    while (it < rows + row_count && (it->threads != threads || strcmp(it->name, name) != 0)) {
+        it++;
+    }
+    if (it == rows + row_count) {
+        row_count++;
+        *it = (row){name, threads, taken};
+    }
+    it->worst = taken > it->worst ? taken : it->worst;
+}
+
 static void measure_shared(int threads) {
     others = threads;
     now = 0;
     open_shards(hubs, workers, threads);
-    measure("start_cancel", threads, start_and_cancel, NULL, CALLS);
-    measure("cancel", threads, cancel_of_others, start_all, TIMERS);
+    keep("start_cancel", threads, least(threads, start_and_cancel, NULL, CALLS));
+    keep("cancel", threads, least(threads, cancel_of_others, start_all, TIMERS));
     pthread_t ticking;
     atomic_store(&is_over, false);
     if (pthread_create(&ticking, NULL, go_on_ticking, NULL) != 0) {
         exit(EXIT_FAILURE);
     }
-    measure("time", threads, read_time, NULL, READS);
+    keep("time", threads, least(threads, read_time, NULL, READS));
     atomic_store(&is_over, true);
     pthread_join(ticking, NULL);
     close_shards(hubs, workers, threads);
@@ -135,16 +165,33 @@ static void measure_apart(int threads) {
     for (int i = 0; i < threads; i++) {
         open_shards(&hubs[i], &workers[i], 1);
     }
-    measure("apart", threads, start_and_cancel, NULL, CALLS);
+    keep("apart", threads, least(threads, start_and_cancel, NULL, CALLS));
     for (int i = 0; i < threads; i++) {
         close_shards(&hubs[i], &workers[i], 1);
     }
 }
 
+/* Gives half of the held blocks back, and holds others of random sizes in their place: of some bytes, or of some pages. */
+static void change_heap(void) {
+    for (int i = 0; i < BLOCKS; i++) {
+        if (rand() % 2 == 0) {
+            free(blocks[i]);
+            blocks[i] = malloc((size_t)1 << (4 + rand() % 14) | (size_t)(rand() % 4096));
+        }
+    }
+}
+
 int main(void) {
-    for (int threads = 1; threads <= MOST_THREADS; threads *= 2) {
-        measure_shared(threads);
-        measure_apart(threads);
+    passes = 60;
+    for (int state = 0; state < STATES; state++) {
+        for (int threads = 1; threads <= MOST_THREADS; threads *= 2) {
+            measure_shared(threads);
+            measure_apart(threads);
+        }
+        change_heap();
+    }
+    for (int i = 0; i < row_count; i++) {
+        printf("%s %d %.1f\n", rows[i].name, rows[i].threads, rows[i].worst);
     }
     return EXIT_SUCCESS;
 }

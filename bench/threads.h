@@ -17,11 +17,12 @@
 #include <stdlib.h>
 #include <time.h>
 
-enum { PASSES = 600, CALLS = 10000, TIMERS = 16384, MOST_THREADS = 4 };
+enum { CALLS = 10000, TIMERS = 16384, MOST_THREADS = 4 };
 
 /* What a thread does in a pass, by its number. */
 typedef void job(int thread);
 
+static int passes = 600; /* of a row */
 static job *done_in_a_pass;
 static pthread_barrier_t gate;
 static int threads_of_pass;
@@ -52,7 +53,7 @@ static void take_processor(int number) {
 static void *make_passes(void *number) {
     int thread = (int)(intptr_t)number;
     take_processor(thread);
-    for (int pass = 0; pass < PASSES; pass++) {
+    for (int pass = 0; pass < passes; pass++) {
         pthread_barrier_wait(&gate);
         atomic_fetch_add(&there, 1);
         while (atomic_load(&there) < threads_of_pass) {
@@ -65,8 +66,8 @@ static void *make_passes(void *number) {
     return NULL;
 }
 
-/* Prints a row: its name, the threads and the nanoseconds. `before` is called before each pass. */
-static void measure(const char *name, int threads, job *what, void (*before)(int threads), int calls) {
+/* The nanoseconds for a call. `before` is called before each pass. */
+static double least(int threads, job *what, void (*before)(int threads), int calls) {
     pthread_t running[MOST_THREADS];
     int64_t best = INT64_MAX;
     done_in_a_pass = what;
@@ -77,7 +78,7 @@ static void measure(const char *name, int threads, job *what, void (*before)(int
             exit(EXIT_FAILURE);
         }
     }
-    for (int pass = 0; pass < PASSES; pass++) {
+    for (int pass = 0; pass < passes; pass++) {
         if (before != NULL) {
             before(threads);
         }
@@ -95,7 +96,12 @@ static void measure(const char *name, int threads, job *what, void (*before)(int
         pthread_join(running[i], NULL);
     }
     pthread_barrier_destroy(&gate);
-    printf("%s %d %.1f\n", name, threads, (double)best / calls / threads);
+    return (double)best / calls / threads;
+}
+
+/* Prints a row: its name, the threads and the nanoseconds. */
+static inline void measure(const char *name, int threads, job *what, void (*before)(int threads), int calls) {
+    printf("%s %d %.1f\n", name, threads, least(threads, what, before, calls));
 }
 
 /* In which order the timers of a thread are cancelled: each once, and none beside the one before. */

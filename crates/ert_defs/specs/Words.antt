@@ -1,7 +1,8 @@
 -- The atomic words of a history. One word has the time, one the offset, each slot has one and each
 -- process has one. Between the last word of one of these groups (the time, the offset, the slots of each
 -- wheel, the processes) and the first of the next stand seven words that are always 0. A cache line has
--- eight words, so two groups never share one, however the words are aligned.
+-- eight words, so two groups never share one, however the words are aligned. Eight such words stand in front
+-- of the first group and behind the last, so that none shares a line with what others have in memory.
 
 use Rattle.std.specs.Prelude.{ℕ, ℤ, pos, ◌+◌, ◌-◌, ◌*◌, ◌/◌, ◌%◌, ◌+ℤ◌, ◌-ℤ◌, Bool, true, false, cond, nat_eq, nat_lt, Option, Some}
 use Rattle.ert_defs.specs.Milliseconds.{natural}
@@ -64,24 +65,28 @@ wheel_width g = g.slots + 7
 abbrev pub wheels_width : Settings → ℕ
 wheels_width g = g.schedulers * wheel_width g
 
--- how many words a service has: time, gap, offset, gap, the wheels with a gap behind each, the processes
+-- how many words a service has: gap, time, gap, offset, gap, the wheels with a gap behind each, the processes, gap
 abbrev pub word_count : Settings → ℕ
-word_count g = (16 + wheels_width g) + g.processes
+word_count g = ((24 + wheels_width g) + g.processes) + 8
 
 -- the word at an index of a wheel; 0 in the gap
 abbrev pub word_of_wheel : Settings → State → ℕ → ℕ → ℕ
 word_of_wheel g s w k = cond (nat_lt k g.slots) (word_of_slot s w k) 0
 
--- the word at an index behind the first sixteen: the wheels one by one, and the processes
+-- the word at an index of the processes; 0 in the gap
+abbrev pub word_of_process : Settings → State → ℕ → ℕ
+word_of_process g s p = cond (nat_lt p g.processes) (process_word (s.exited p)) 0
+
+-- the word at an index behind the first twenty-four: the wheels one by one, and the processes
 abbrev pub later_word : Settings → State → ℕ → ℕ
 later_word g s j =
     cond (nat_lt j (wheels_width g))
     (word_of_wheel g s (j / wheel_width g) (j % wheel_width g))
-    (process_word (s.exited (j - wheels_width g)))
+    (word_of_process g s (j - wheels_width g))
 
--- the word at an index: the time at 0, the offset at 8, the wheels and the processes from 16 on; 0 in a gap
+-- the word at an index: the time at 8, the offset at 16, the wheels and the processes from 24 on; 0 in a gap
 abbrev pub word_of : Settings → State → ℕ → ℕ
 word_of g s i =
-    cond (nat_eq i 0) (time_word s.clock.now g.start)
-    (cond (nat_eq i 8) (offset_word s.clock.offset (is_final s.clock.state))
-    (cond (nat_lt i 16) 0 (later_word g s (i - 16))))
+    cond (nat_eq i 8) (time_word s.clock.now g.start)
+    (cond (nat_eq i 16) (offset_word s.clock.offset (is_final s.clock.state))
+    (cond (nat_lt i 24) 0 (later_word g s (i - 24))))

@@ -81,7 +81,7 @@ tick_is g by reading act now v checked named may legal =
 
 -- a tick changes the time alone
 pub tick_acts : (g : Settings) (v : View) (by : ℕ) (reading : Reading) (act : Act) (now : ℤ) → MayStep g v (tick_entry by reading act now)
-    → Acts g v 0 (λ n. time_word now g.start) (λ n. tick_entry by reading act now)
+    → Acts g v 8 (λ n. time_word now g.start) (λ n. tick_entry by reading act now)
 tick_acts g v by reading act now may = record {
   ours = λ n. may.ours;
   keeps = λ n. may.keeps;
@@ -119,20 +119,20 @@ carry_found g s by (Unwatch process monitor was) now is = tt
 -- a load of the time records what is carried
 pub time_acts : (g : Settings) (v : View) (by : Actor) (carry : TimeCarry) → IsChecked g
     → ((now : ℤ) → MayStep g v (time_entry by carry now))
-    → Acts g v 0 (λ n. n) (λ n. time_entry by carry (time_in g n))
+    → Acts g v 8 (λ n. n) (λ n. time_entry by carry (time_in g n))
 time_acts g v by carry checked may = record {
   ours = λ n. (may (time_in g n)).ours;
   keeps = λ n. (may (time_in g n)).keeps;
   known = λ n. (may (time_in g n)).known;
   found = λ h n then. carry_found g (state g h) by carry (time_in g n)
       (time_back g.start (state g h).clock.now n (time_is g h checked then.legal).low then.word);
-  here = λ h n then. word_quiet g (state g h) (time_entry by carry (time_in g n)) 0 (carry_quiet by carry (time_in g n)) ∙ then.word;
+  here = λ h n then. word_quiet g (state g h) (time_entry by carry (time_in g n)) 8 (carry_quiet by carry (time_in g n)) ∙ then.word;
   others = λ h n j then lt not. word_quiet g (state g h) (time_entry by carry (time_in g n)) j (carry_quiet by carry (time_in g n));
 }
 
 -- a shift changes the offset alone
 pub shift_acts : (g : Settings) (v : View) (by : ℕ) (offset : ℤ) (new : OffsetState) → MayStep g v (shift_entry by offset new)
-    → Acts g v 8 (λ n. offset_word offset (is_final new)) (λ n. shift_entry by offset new)
+    → Acts g v 16 (λ n. offset_word offset (is_final new)) (λ n. shift_entry by offset new)
 shift_acts g v by offset new may = record {
   ours = λ n. may.ours;
   keeps = λ n. may.keeps;
@@ -242,7 +242,7 @@ offset_carried g actors s by (ToTell process) offset new is = is.0
 -- a load of the offset records what is carried
 pub offset_acts : (g : Settings) (v : View) (by : Actor) (carry : OffsetCarry) → IsChecked g
     → ((offset : ℤ) (new : OffsetState) → MayStep g v (offset_entry g v.actors by carry offset new))
-    → Acts g v 8 (λ n. n) (λ n. offset_entry g v.actors by carry (offset_in n) (state_in g n))
+    → Acts g v 16 (λ n. n) (λ n. offset_entry g v.actors by carry (offset_in n) (state_in g n))
 offset_acts g v by carry checked may =
     let entry = λ (n : ℕ). offset_entry g v.actors by carry (offset_in n) (state_in g n) in
     record {
@@ -251,6 +251,6 @@ offset_acts g v by carry checked may =
       known = λ n. (may (offset_in n) (state_in g n)).known;
       found = λ h n then. offset_carried g v.actors (state g h) by carry (offset_in n) (state_in g n)
           (offset_found g h n checked then.legal then.word);
-      here = λ h n then. word_quiet g (state g h) (entry n) 8 (offset_quiet g v.actors by carry (offset_in n) (state_in g n)) ∙ then.word;
+      here = λ h n then. word_quiet g (state g h) (entry n) 16 (offset_quiet g v.actors by carry (offset_in n) (state_in g n)) ∙ then.word;
       others = λ h n j then lt not. word_quiet g (state g h) (entry n) j (offset_quiet g v.actors by carry (offset_in n) (state_in g n));
     }

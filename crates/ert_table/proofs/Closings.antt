@@ -103,15 +103,15 @@ get_at (x ∷ words) (suc i) n h = get_at words i n h
 -- words that are read one by one from those at closing are those of the front
 pub close_words : (g : Settings) (s : State) (found : ℕ → ℕ) (w : Words)
     → ((i : ℕ) → i < word_count g → found i ≡ word_of g s i)
-    → w.time ≡ found 0 → w.offset ≡ found 8
+    → w.time ≡ found 8 → w.offset ≡ found 16
     → vec_len w.timers ≡ g.schedulers * g.slots
     → ((i : ℕ) → i < g.schedulers * g.slots → slice_index w.timers.items i ≡ found (slot_place g (i / g.slots) (i % g.slots)))
     → vec_len w.processes ≡ g.processes
     → ((p : ℕ) → p < g.processes → slice_index w.processes.items p ≡ found (process_place g p))
     → AreWords g s w
 close_words g s found w shown time offset timers_length timers processes_length processes = record {
-  time = time ∙ shown 0 (omega arith);
-  offset = offset ∙ shown 8 (omega arith);
+  time = time ∙ shown 8 (omega arith);
+  offset = offset ∙ shown 16 (omega arith);
   timers_length = timers_length;
   timers = λ wheel slot low lt.
       let i : ℕ = wheel * g.slots + slot in
@@ -122,5 +122,5 @@ close_words g s found w shown time offset timers_length timers processes_length 
       timers i within
       ∙ (ap found place ∙ (shown (slot_place g wheel slot) (slot_place-high g wheel slot low lt) ∙ word_of-slot g s wheel slot low lt));
   processes_length = processes_length;
-  processes = λ p lt. processes p lt ∙ (shown (process_place g p) (process_place-high g p lt) ∙ word_of-process g s p);
+  processes = λ p lt. processes p lt ∙ (shown (process_place g p) (process_place-high g p lt) ∙ word_of-process g s p lt);
 }

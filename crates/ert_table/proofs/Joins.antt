@@ -178,32 +178,32 @@ joins g id other v w s kept at not there =
 
 -- a load that changes nothing tells what a pass was put together of
 pub learns : (g : Settings) (slots id : ℕ) (v : View)
-    → Allows (Ruled g) slots id (v, []) 0 (λ n. n) (λ n now. SittersMeet g (v, []) now)
+    → Allows (Ruled g) slots id (v, []) 8 (λ n. n) (λ n now. SittersMeet g (v, []) now)
 learns g slots id v s kept homes at fits =
-    let n : ℕ = slice_index s.words 0 in
+    let n : ℕ = slice_index s.words 8 in
     let fit = kept.fits id v at in
     let legal : Legal g v.front = legal_first g (opening g) v.front fit.later (subst (Legal g) fit.begins kept.legal) in
-    let ruled : Holds g (set s.words 0 n) s.views = record {
+    let ruled : Holds g (set s.words 8 n) s.views = record {
       history = kept.history;
       legal = kept.legal;
-      counted = length-set s.words 0 n ∙ kept.counted;
+      counted = length-set s.words 8 n ∙ kept.counted;
       shown = λ j lt. same_word s.words j (subst (λ x. j < x) (sym kept.counted) lt) ∙ kept.shown j lt;
       fits = kept.fits;
       apart = kept.apart;
     } in
-    (v, keeps, tt, subst (Holds g (set s.words 0 n)) (sym (set_again s.views id v at)) ruled, (refl, fit.met, legal))
+    (v, keeps, tt, subst (Holds g (set s.words 8 n)) (sym (set_again s.views id v at)) ruled, (refl, fit.met, legal))
   where
-    same_word : (words : List ℕ) (j : ℕ) → j < length words → slice_index (set words 0 (slice_index words 0)) j ≡ slice_index words j
+    same_word : (words : List ℕ) (j : ℕ) → j < length words → slice_index (set words 8 (slice_index words 8)) j ≡ slice_index words j
     same_word words j lt = ⊎_elim
-        (λ is. subst (λ k. slice_index (set words 0 (slice_index words 0)) k ≡ slice_index words k) (sym is)
-        (get_or-set_same words 0 (slice_index words 0) 0 (omega arith)))
-        (λ not. get_or-set_other words 0 j (slice_index words 0) 0 not)
-        (cases_eq j 0)
+        (λ is. subst (λ k. slice_index (set words 8 (slice_index words 8)) k ≡ slice_index words k) (sym is)
+        (get_or-set_same words 8 (slice_index words 8) 0 (omega arith)))
+        (λ not. get_or-set_other words 8 j (slice_index words 8) 0 not)
+        (cases_eq j 8)
 
 -- so does a load at the table, with its own settings
 pub learns_at : (key g : Settings) (slots id : ℕ) (me : Sitter) → key ≡ g → me.1 ≡ []
-    → Allows (Ruled key) slots id me 0 (λ n. n) (λ n now. SittersMeet g me now)
+    → Allows (Ruled key) slots id me 8 (λ n. n) (λ n now. SittersMeet g me now)
 learns_at key g slots id me same bare =
-    let P : List (ℕ × Unit {0}) → Type 0 = λ l. Allows (Ruled key) slots id (me.0, l) 0 (λ n. n) (λ n now. SittersMeet key (me.0, l) now) in
-    subst (λ x. Allows (Ruled key) slots id me 0 (λ n. n) (λ n now. SittersMeet x me now)) same
+    let P : List (ℕ × Unit {0}) → Type 0 = λ l. Allows (Ruled key) slots id (me.0, l) 8 (λ n. n) (λ n now. SittersMeet key (me.0, l) now) in
+    subst (λ x. Allows (Ruled key) slots id me 8 (λ n. n) (λ n now. SittersMeet x me now)) same
     (subst P (sym bare) (learns key slots id me.0))

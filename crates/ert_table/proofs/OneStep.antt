@@ -207,6 +207,10 @@ may_step g slots id v i f entry then lt acts wanted =
 pub has_words : (words : ℕ) (g : Settings) → words ≡ word_count g → 0 < words
 has_words words g is = omega arith
 
+-- and one for the time
+pub has_time : (words : ℕ) (g : Settings) → words ≡ word_count g → 8 < words
+has_time words g is = omega arith
+
 -- a step of a seat at the table, with its own settings and its own entries
 pub may_step_at : (key g g' : Settings) (slots id : ℕ) (me : Sitter) (i : ℕ) (f : ℕ → ℕ) (entry entry' : ℕ → Entry)
     → key ≡ g → g' ≡ g → entry' ≡ entry → me.1 ≡ [] → i < word_count g → Acts g me.0 i f entry

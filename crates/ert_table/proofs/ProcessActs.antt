@@ -1,6 +1,6 @@
 -- Steps on the words of processes take place with their entries.
 
-use Rattle.std.proofs.Common.{◌≡◌, ◌≢◌, ℕ, Bool, true, false, ◌||◌, ◌&&◌, nat_eq, List, refl, sym, ap, subst, ◌∙◌, eq-eqb, ne_eqb}
+use Rattle.std.proofs.Common.{◌≡◌, ◌≢◌, ℕ, ◌<◌, Bool, true, false, ◌||◌, ◌&&◌, nat_eq, List, refl, sym, ap, subst, ◌∙◌, eq-eqb, ne_eqb}
 use Rattle.std.specs.Prelude.{bit_or}
 use Rattle.ert_defs.specs.Actors.{has_actor}
 use Rattle.ert_defs.specs.Clocks.{Clock}
@@ -45,14 +45,15 @@ mark_acts : (g : Settings) (v : View) (by : Actor) (process : ℕ) (exits : Bool
 mark_acts g v by process exits f sets may =
     let place : ℕ = process_place g process in
     let entry = λ (n : ℕ). mark_entry by process exits (nat_eq n 1) in
+    let low : process < g.processes = (may false).keeps.2 in
     let exited = λ (h : List Entry) (n : ℕ) (then : IsHistoryAtStep g v place n h).
-    let r : process_word ((state g h).exited process) ≡ n = sym (word_of-process g (state g h) process) ∙ then.word in r in
+    let r : process_word ((state g h).exited process) ≡ n = sym (word_of-process g (state g h) process low) ∙ then.word in r in
     record {
       ours = λ n. (may (nat_eq n 1)).ours;
       keeps = λ n. (may (nat_eq n 1)).keeps;
       known = λ n. tt;
       found = λ h n then. was_found ((state g h).exited process) n (exited h n then);
-      here = λ h n then. word_of-process g (next g (state g h) (entry n)) process
+      here = λ h n then. word_of-process g (next g (state g h) (entry n)) process low
           ∙ marked ((state g h).exited process) exits process n f (exited h n then) sets;
       others = λ h n j then lt not. word_same g (state g h) (next g (state g h) (entry n)) j (record {
         time = λ _. ap (λ (c : Clock). c.now) (cond_same (has_actor (entry n) Keeper) (state g h).clock);

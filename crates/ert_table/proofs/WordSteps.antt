@@ -31,8 +31,8 @@ slot_same s s' w k same =
 
 -- what two states have in common of the words but one
 pub record SameWords (g : Settings) (s s' : State) (j : ℕ) : Type 0 where
-  pub time : j ≡ 0 → s'.clock.now ≡ s.clock.now
-  pub offset : j ≡ 8 → offset_word s'.clock.offset (is_final s'.clock.state) ≡ offset_word s.clock.offset (is_final s.clock.state)
+  pub time : j ≡ 8 → s'.clock.now ≡ s.clock.now
+  pub offset : j ≡ 16 → offset_word s'.clock.offset (is_final s'.clock.state) ≡ offset_word s.clock.offset (is_final s.clock.state)
   pub slot : (w k : ℕ) → j ≡ slot_place g w k → k < g.slots → SameSlot s s' w k
   pub process : (p : ℕ) → j ≡ process_place g p → s'.exited p ≡ s.exited p
 
@@ -43,12 +43,12 @@ word_same g s s' j same = at (use_of g j)
     here i is alike = subst (λ x. word_of g s' x ≡ word_of g s x) (sym is) alike
 
     at : Use g j → word_of g s' j ≡ word_of g s j
-    at (for_time is) = here 0 is (ap (λ x. time_word x g.start) (same.time is))
-    at (for_offset is) = here 8 is (same.offset is)
+    at (for_time is) = here 8 is (ap (λ x. time_word x g.start) (same.time is))
+    at (for_offset is) = here 16 is (same.offset is)
     at (for_slot w k low lt is) = here (slot_place g w k) is
         (word_of-slot g s' w k low lt ∙ (slot_same s s' w k (same.slot w k is lt) ∙ sym (word_of-slot g s w k low lt)))
-    at (for_process p is) = here (process_place g p) is
-        (word_of-process g s' p ∙ (ap process_word (same.process p is) ∙ sym (word_of-process g s p)))
+    at (for_process p lt is) = here (process_place g p) is
+        (word_of-process g s' p lt ∙ (ap process_word (same.process p is) ∙ sym (word_of-process g s p lt)))
     at (for_gap idle) = idle s' ∙ sym (idle s)
 
 pub cond_same : {X : Type 0} (b : Bool) (x : X) → cond b x x ≡ x

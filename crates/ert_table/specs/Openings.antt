@@ -7,4 +7,4 @@ use Rattle.ert_defs.specs.declared.settings.Settings.{Settings}
 
 -- each word is 0, but for the offset
 abbrev pub first_words : Settings → List ℕ
-first_words g = slice_set (replicate (word_count g) 0) 8 (offset_word (first_offset g) (is_final (first_state g.mode)))
+first_words g = slice_set (replicate (word_count g) 0) 16 (offset_word (first_offset g) (is_final (first_state g.mode)))

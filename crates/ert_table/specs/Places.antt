@@ -9,7 +9,7 @@ use Rattle.ert_table.specs.declared.places.SlotPlace.{SlotPlace}
 
 -- the place of the word of a slot of a wheel
 abbrev pub slot_place : Settings → ℕ → ℕ → ℕ
-slot_place g w k = (16 + (w * wheel_width g)) + k
+slot_place g w k = (24 + (w * wheel_width g)) + k
 
 -- a place that was found is that of a slot of a wheel
 abbrev pub IsPlaceOf : Settings → ℕ → ℕ → SlotPlace → Type 0
@@ -21,7 +21,7 @@ timer_place g i = slot_place g (i / g.slots) (i % g.slots)
 
 -- the place of the word of a process
 abbrev pub process_place : Settings → ℕ → ℕ
-process_place g p = (16 + wheels_width g) + p
+process_place g p = (24 + wheels_width g) + p
 
 -- the words are those of a state
 pub record AreWords (g : Settings) (s : State) (w : Words) : Type 0 where

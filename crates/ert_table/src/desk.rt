@@ -21,7 +21,7 @@ pub struct Desk {
     ghost counted: { table.shared.table_id.words ≡ word_count settings },
     ghost no_slots: { table.shared.table_id.slots ≡ 0 },
     ghost wide: { width ≡ wheel_width settings },
-    ghost behind: { first_process ≡ 16 + wheels_width settings },
+    ghost behind: { first_process ≡ 24 + wheels_width settings },
 }
 
 /// The right of a thread to step as some actors, and what it knows of the history. It has no bytes.

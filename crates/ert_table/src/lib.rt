@@ -12,7 +12,9 @@
 //! A step that writes a word takes its whole cache line from the other processors, and the time word is
 //! read by nearly every call. So seven words that are never used stand behind the time, behind the offset
 //! and behind the slots of each wheel: none of these groups shares a line with another, and threads that
-//! start and cancel timers on wheels of their own don't disturb each other.
+//! start and cancel timers on wheels of their own don't disturb each other. Eight such words stand in front of
+//! the time and behind the processes, whose words each start reads: so no write to what the heap puts beside the
+//! table takes a line from them.
 //!
 //! # The history
 //!

@@ -6,6 +6,7 @@ ghost use Rattle.ert_table.specs.Held.{is_held, actors_but};
 ghost use Rattle.ert_table.specs.Views.{HasMet, Joined, both, holding, longer, meeting};
 
 use crate::desk::{Desk, Pass};
+use crate::places::TIME;
 use crate::plays::{Chosen, Cuts, Empties, Glues, Learns, Named};
 use ert_defs::Actor;
 use std::marker::Brand;
@@ -78,6 +79,6 @@ impl Pass {
     {
         let Pass { seat } = other;
         desk.table.shared.join_seat::<Glues>(&mut self.seat, seat);
-        desk.table.shared.load::<Learns<C>>(&mut self.seat, 0);
+        desk.table.shared.load::<Learns<C>>(&mut self.seat, TIME);
     }
 }

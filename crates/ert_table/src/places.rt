@@ -12,8 +12,12 @@ use ert_defs::Settings;
 /// line of 64 bytes, so a step on one group never takes the line of another.
 const GAP: usize = 7;
 
+/// How many unused words stand in front of the time and behind the processes: a whole line, so the words share none with
+/// what others have in memory. Where the heap puts the table is its own choice.
+const EDGE: usize = 8;
+
 /// The place of the time.
-pub(crate) const TIME: usize = 0;
+pub(crate) const TIME: usize = EDGE;
 
 /// The place of the offset.
 pub(crate) const OFFSET: usize = TIME + 1 + GAP;
@@ -48,7 +52,7 @@ pub(crate) fn process_place(settings: &Settings, process: usize) -> usize
 /// The place of the first process.
 pub(crate) fn first_process(settings: &Settings) -> usize
     requires { IsChecked settings.now }
-    ensures { result ≡ 16 + words.wheels_width settings.now }
+    ensures { result ≡ 24 + words.wheels_width settings.now }
 {
     SLOTS + wheels_width(settings)
 }
@@ -58,7 +62,7 @@ pub(crate) fn word_count(settings: &Settings) -> usize
     requires { IsChecked settings.now }
     ensures { result ≡ words.word_count settings.now }
 {
-    first_process(settings) + settings.processes as usize
+    first_process(settings) + settings.processes as usize + EDGE
 }
 
 /// How many words the wheels take.

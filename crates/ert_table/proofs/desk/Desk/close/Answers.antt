@@ -14,8 +14,8 @@ returns c =
     close_words g (state g c.args.pass.seat.me.0.front) (λ i. slice_index found i) _
     (closed_words c.args.self.table.shared.key g c.args.pass.seat.id c.args.pass.seat.me.0 found (slots_items closed.result.slots)
     c.args.self.keyed closed.ensures.values.2 c.requires.whole)
-    (sym (get_at found 0 c.word.result c.word.ensures))
-    (sym (get_at found 8 c.word-2.result c.word-2.ensures))
+    (sym (get_at found 8 c.word.result c.word.ensures))
+    (sym (get_at found 16 c.word-2.result c.word-2.ensures))
     (c.read_timers.ensures.length ∙ timers_length)
     (λ i lt. c.read_timers.ensures.timers i (omega arith))
     (c.read_processes.ensures.length ∙ processes_length)

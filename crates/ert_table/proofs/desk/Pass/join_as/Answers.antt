@@ -1,6 +1,6 @@
 use Rattle.std.proofs.Common.{sym, ◌≡◌, [], ◌∙◌, ap}
 use Rattle.ert_table.proofs.Joins.{joins, learns_at}
-use Rattle.ert_table.proofs.OneStep.{has_words}
+use Rattle.ert_table.proofs.OneStep.{has_time, has_words}
 use Rattle.ert_table.specs.Acts.{Sitter}
 use Rattle.ert_table.proofs.desk.Pass.join_as.Goals as goal
 
@@ -22,7 +22,7 @@ load-requires g c =
     let me = c.join_seat.new.seat in
     let bare : me.me.1 ≡ [] = ap (λ (x : Sitter). x.1) c.join_seat.ensures.2 ∙ c.args.self.now.bare in (
       c.join_seat.ensures.0 ∙ c.requires.belongs.table,
-      has_words _ desk.settings desk.counted,
+      has_time _ desk.settings desk.counted,
       learns_at desk.table.shared.key g.C.Named.settings desk.table.shared.table_id.slots me.id me.me
           (desk.keyed ∙ sym c.requires.pick) bare,
     )

@@ -13,7 +13,7 @@ load-requires g c =
       c.requires.belongs.table,
       omega (arith, desk.counted),
       may_load_at desk.table.shared.key desk.settings g.C.Carried.settings desk.table.shared.table_id.slots seat.id seat.me
-          (step desk.table.shared.table_id.slots 8 0 0 none)
+          (step desk.table.shared.table_id.slots 16 0 0 none)
           (λ n. offset_entry desk.settings seat.me.0.actors c.args.by c.args.carry.now (offset_in n) (state_in desk.settings n)) g.C.Carried.entry
           desk.keyed c.requires.settings c.requires.entry c.args.self.now.bare (omega arith)
           (offset_acts desk.settings seat.me.0 c.args.by c.args.carry.now desk.checked c.requires.may),

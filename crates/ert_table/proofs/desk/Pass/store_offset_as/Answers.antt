@@ -24,12 +24,12 @@ store-requires g c =
     let word : offset_word c.args.offset (is_final c.args.state) ≡ c.offset_word-word.result =
     ap (λ b. offset_word c.args.offset b) (sym c.state_is_final.ensures) ∙ sym made in
     let entry : Entry = shift_entry c.args.by c.args.offset c.args.state in
-    let acts : Acts desk.settings seat.me.0 8 (λ n. c.offset_word-word.result) (λ n. entry) =
-    subst (λ x. Acts desk.settings seat.me.0 8 (λ n. x) (λ n. entry)) word
+    let acts : Acts desk.settings seat.me.0 16 (λ n. c.offset_word-word.result) (λ n. entry) =
+    subst (λ x. Acts desk.settings seat.me.0 16 (λ n. x) (λ n. entry)) word
     (shift_acts desk.settings seat.me.0 c.args.by c.args.offset c.args.state c.requires.may) in (
       c.requires.belongs.table,
       omega (arith, desk.counted),
       may_store_at desk.table.shared.key desk.settings g.C.Carried.settings desk.table.shared.table_id.slots seat.id seat.me
-          8 c.offset_word-word.result entry g.C.Carried.entry
+          16 c.offset_word-word.result entry g.C.Carried.entry
           desk.keyed c.requires.settings c.requires.entry c.args.self.now.bare (omega arith) acts,
     )

@@ -6,7 +6,7 @@ use Rattle.ert_defs.specs.declared.entry.Entry.{Entry}
 use Rattle.ert_defs.specs.Entries.{tick_entry}
 use Rattle.ert_table.specs.Acts.{Acts}
 use Rattle.ert_table.proofs.ClockActs.{tick_is, tick_acts}
-use Rattle.ert_table.proofs.OneStep.{has_words, may_store_at}
+use Rattle.ert_table.proofs.OneStep.{has_time, may_store_at}
 use Rattle.ert_table.proofs.desk.Pass.store_time_as.Goals as goal
 
 pub time_word-word-requires : goal.time_word-word-requires
@@ -25,12 +25,12 @@ store-requires g c =
     let word : time_word c.args.now desk.settings.start ≡ c.time_word-word.result =
     sym (rw (to_z-of_z w64 c.args.now c.ranges.now, to_z-of_z w64 desk.settings.start start) at c.time_word-word.ensures) in
     let entry : Entry = tick_entry c.args.by c.args.reading c.args.act c.args.now in
-    let acts : Acts desk.settings seat.me.0 0 (λ n. c.time_word-word.result) (λ n. entry) =
-    subst (λ x. Acts desk.settings seat.me.0 0 (λ n. x) (λ n. entry)) word
+    let acts : Acts desk.settings seat.me.0 8 (λ n. c.time_word-word.result) (λ n. entry) =
+    subst (λ x. Acts desk.settings seat.me.0 8 (λ n. x) (λ n. entry)) word
     (tick_acts desk.settings seat.me.0 c.args.by c.args.reading c.args.act c.args.now c.requires.may) in (
       c.requires.belongs.table,
-      has_words _ desk.settings desk.counted,
+      has_time _ desk.settings desk.counted,
       may_store_at desk.table.shared.key desk.settings g.C.Carried.settings desk.table.shared.table_id.slots seat.id seat.me
-          0 c.time_word-word.result entry g.C.Carried.entry
+          8 c.time_word-word.result entry g.C.Carried.entry
           desk.keyed c.requires.settings c.requires.entry c.args.self.now.bare (omega arith) acts,
     )
