@@ -36,6 +36,7 @@ told_next keys passed time slot key none later has tells = record {
     at lowest =
         let one : 512 ^ tells.level ≡ 1 = ap (λ l. 512 ^ l) lowest in
         omega (arith, tells.begin, ap (λ m. key.deadline / m * m) one)
+
     within : key.deadline < time + 512 ^ tells.level
     within =
         let wide : 0 < 512 ^ tells.level = some_wide tells.level in

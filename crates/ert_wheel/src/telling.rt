@@ -37,12 +37,7 @@ pub fn find_teller<T: Copy>(chains: &MarkedChains, kept: &Kept<T>, time: u64) ->
 }
 
 /// And of the rows of a bucket.
-fn teller_in<T: Copy>(
-    chains: &MarkedChains,
-    kept: &Kept<T>,
-    bucket: u32,
-    time: u64,
-) -> Option<u32>
+fn teller_in<T: Copy>(chains: &MarkedChains, kept: &Kept<T>, bucket: u32, time: u64) -> Option<u32>
     requires bucket { bucket < BUCKETS }
     requires kept { length kept.now.keys ≡ chains.now.written }
 {
