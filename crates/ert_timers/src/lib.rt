@@ -47,19 +47,19 @@
 //! | `start` | looks at the time, stores the word of a free slot, asks whether the destination has exited | constant; where none is held free the settings' `looks` at most, or all slots where there are fewer |
 //! | `restart` | looks at the time, and exchanges the word of an armed timer for that of the next one in its slot; or takes another slot, cancels and starts | as `start` |
 //! | `advance` | looks at the time, and tries each due timer in order of deadline and then of start | the due timers and the buckets that are visited |
-//! | `advance_some` | does so with so many timers at most, and tells whether more are due | the timers that it tries, one bucket where a window begins, and late timers (`ert_wheel`, `Wheel::first_due`) |
+//! | `advance_some` | does so with so many timers at most, and tells whether more are due | the timers that it tries, the timers that are left in a window that begins, and late timers (`ert_wheel`, `Wheel::first_due`) |
 //! | `sweep` | tries each timer of a process that has exited | those timers, each once |
 //! | `held_for` | finds a timer of a process that is held | constant, amortized: a slot without a timer leaves the chain |
 //! | `forget` | drops the row of a timer that the pass has seen settled, and holds its slot free where its round has uses left | constant |
 //! | `reuse` | holds the slot of a timer free whose message was handed over, where its round has uses left | constant |
 //! | `room` | looks at the time and at every slot, and tells how many can take a timer and from when on one more can | every slot once |
-//! | `next_due` | tells how early a timer may be due | 64 timers at most, and where one was started late those that the next advance takes |
+//! | `next_due` | tells how early a timer may be due | constant while the last answer holds; else 64 timers at most of each level of the wheel, and where one was started late those that the next advance takes |
 //! | `tally` | counts | none |
 //! | `drop_settled` | with a pass that holds every actor, looks at each timer that is held, and drops the rows of those that others cancelled | every slot once |
 //!
 //! A start that looks at slots knows from then on those of them that can be used again; so only where these rest or
-//! are taken does the next start look at others. Where a window of 512 milliseconds begins, an advance also
-//! does work for each timer that is due in it. A sweep does work too for the slots whose last timer went to the
+//! are taken does the next start look at others. An advance also moves some timers of the window of 512 milliseconds that comes
+//! next, for each millisecond that passed, and where a window begins those that are left in it. A sweep does work too for the slots whose last timer went to the
 //! process and was settled.
 //!
 //! Each timer is tried once, by one exchange, and then its row goes. No call waits for anybody. Only `open`
