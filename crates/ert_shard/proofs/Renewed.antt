@@ -1,6 +1,6 @@
 -- A timer of a shard is given a new deadline.
 
-use Rattle.std.proofs.Common.{Bool, true, false, ℕ, List, [], Option, Some, None, Result, Ok, Err, sym, subst}
+use Rattle.std.proofs.Common.{Bool, true, false, ℕ, List, [], Option, Some, None, Result, Ok, Err}
 use Rattle.ert_defs.specs.Legal.{names_timer}
 use Rattle.ert_defs.specs.States.{State}
 use Rattle.ert_defs.specs.declared.entry.Actor.TheVariants.{Caller}

@@ -181,30 +181,30 @@ module _ (g : Settings) (by : ℕ) (timer : TimerRef) (start : Start) (deadline 
     abbrev s : State
     s = state g h
 
-    abbrev s' : State
-    s' = next g s e
+    abbrev armed : State
+    armed = next g s e
 
     -- the rows of the wheel after the step
-    rows_then : s'.rows timer.wheel ≡ s.rows timer.wheel ++ row ∷ []
+    rows_then : armed.rows timer.wheel ≡ s.rows timer.wheel ++ row ∷ []
     rows_then =
         rw has_wheel (ap (λ rows. s.rows timer.wheel ++ rows) (row_from_told timer start (deadline_of g start (s.looked (Caller by))) deadline due))
 
-    arm_slot : word_of_slot s' timer.wheel timer.slot ≡ timer_word Armed deadline timer.generation
+    arm_slot : word_of_slot armed timer.wheel timer.slot ≡ timer_word Armed deadline timer.generation
     arm_slot =
         let w : ℕ = timer.wheel in
         let k : ℕ = timer.slot in
         let none : row_of (s.rows w) timer ≡ None =
         row_new g s (Caller by) timer _ (row_of (s.rows w) timer) (ordered g h legal) (rows_hold g h w legal).each can refl in
-        let last' : s'.last w k ≡ timer.generation = rw (has_wheel, eq-eqb k k refl) refl in
-        let status' : s'.status timer ≡ Some Armed = rw (has_wheel, eq-eqb k k refl, eq-eqb timer.generation timer.generation refl) refl in
-        let row' : row_of (s'.rows w) timer ≡ Some row = ap (λ rows. row_of rows timer) rows_then ∙ row_of-last (s.rows w) row none in
-        ap (λ m. slot_word (s'.status (timer_at w k m)) (row_of (s'.rows w) (timer_at w k m)) m) last'
-        ∙ (ap (λ x. slot_word x (row_of (s'.rows w) timer) timer.generation) status'
+        let last' : armed.last w k ≡ timer.generation = rw (has_wheel, eq-eqb k k refl) refl in
+        let status' : armed.status timer ≡ Some Armed = rw (has_wheel, eq-eqb k k refl, eq-eqb timer.generation timer.generation refl) refl in
+        let row' : row_of (armed.rows w) timer ≡ Some row = ap (λ rows. row_of rows timer) rows_then ∙ row_of-last (s.rows w) row none in
+        ap (λ m. slot_word (armed.status (timer_at w k m)) (row_of (armed.rows w) (timer_at w k m)) m) last'
+        ∙ (ap (λ x. slot_word x (row_of (armed.rows w) timer) timer.generation) status'
         ∙ ap (λ x. slot_word (Some Armed) x timer.generation) row')
 
     -- the word of the slot is that of the timer
-    pub arm_here : IsSlot g timer.wheel timer.slot → word_of g s' place ≡ timer_word Armed deadline timer.generation
-    arm_here slot = word_of-slot g s' timer.wheel timer.slot slot.wheel_high slot.slot_high ∙ arm_slot
+    pub arm_here : IsSlot g timer.wheel timer.slot → word_of g armed place ≡ timer_word Armed deadline timer.generation
+    arm_here slot = word_of-slot g armed timer.wheel timer.slot slot.wheel_high slot.slot_high ∙ arm_slot
 
 -- a start sets the word of its slot alone
 pub arm_acts : (g : Settings) (v : View) (by : ℕ) (timer : TimerRef) (start : Start) (deadline : ℕ) → MayStep g v (arm_entry by timer start)

@@ -9,7 +9,7 @@ use Rattle.atomic_table.specs.Table.{State, Step, keeps, Allows}
 use Rattle.atomic_table.proofs.Lists.{at_set}
 use Rattle.ert_defs.specs.Actors.{IsFree, has_actor}
 use Rattle.ert_defs.specs.Legal.{Keeps, Known, Found, Legal}
-use Rattle.ert_defs.specs.States.{next, state}
+use Rattle.ert_defs.specs.States.{state}
 use Rattle.ert_defs.specs.Words.{word_of, word_count}
 use Rattle.ert_defs.proofs.Locality.{locality}
 use Rattle.ert_defs.proofs.Runs.{state-append}

@@ -99,13 +99,13 @@ module _ (g : Settings) (v : View) (by : ℕ) (timer : TimerRef) (deadline gener
 
     module _ (is : nat_eq n old ≡ true) where
       -- the history with the cancel
-      abbrev h' : List Entry
-      h' = h ++ hit ∷ []
+      abbrev with_cancel : List Entry
+      with_cancel = h ++ hit ∷ []
 
-      abbrev s' : State
-      s' = next g s hit
+      abbrev between : State
+      between = next g s hit
 
-      moved : state g h' ≡ s'
+      moved : state g with_cancel ≡ between
       moved = state-append g h (hit ∷ [])
 
       fits : IsTimer deadline timer.generation
@@ -116,18 +116,18 @@ module _ (g : Settings) (v : View) (by : ℕ) (timer : TimerRef) (deadline gener
       was : (s.status timer ≡ Some Armed) × (s.last timer.wheel timer.slot ≡ timer.generation)
       was = armed_by_word s timer deadline n (slots_kept g h then.legal) (slot_then g v timer.wheel timer.slot n h may.slot then) fits (eqb-true n old is)
 
-      settled : s'.status timer ≡ Some Cancelled
+      settled : between.status timer ≡ Some Cancelled
       settled =
           ap (λ x. status_after timer (has_actor hit (Wheel timer.wheel)) x hit.event) was.0
           ∙ hit_status g front (Caller by) timer deadline Cancel (has_actor hit (Wheel timer.wheel))
 
-      look_is : s'.looked (Caller by) ≡ look
+      look_is : between.looked (Caller by) ≡ look
       look_is = cond_same (same_actor (Caller by) (Caller by)) (s.looked (Caller by)) ∙ look_then g v place n h then (Caller by) may.caller
 
       -- so what its caller knew of the next one holds after the cancel, and the slot is free
-      can : CanArm g s' (Caller by) fresh (deadline_of g start (s'.looked (Caller by)))
+      can : CanArm g between (Caller by) fresh (deadline_of g start (between.looked (Caller by)))
       can = record {
-        free = ap (λ m. is_taken (s'.status (timer_at timer.wheel timer.slot m))) was.1 ∙ ap is_taken settled;
+        free = ap (λ m. is_taken (between.status (timer_at timer.wheel timer.slot m))) was.1 ∙ ap is_taken settled;
         wanted = may.wanted;
         due = ap (deadline_of g start) look_is ∙ may.due;
         next_use = subst (λ l. IsNextUse (uses_at s timer.wheel timer.slot) (natural (down g l)) may.wanted generation) (sym look_is)
@@ -136,32 +136,32 @@ module _ (g : Settings) (v : View) (by : ℕ) (timer : TimerRef) (deadline gener
         few = subst (λ (rows : List Row). length rows < 9007199254740992) (sym (rows_then g v place n h then timer.wheel may.wheel)) may.few;
       }
 
-      can_then : CanArm g (state g h') (Caller by) fresh (deadline_of g start ((state g h').looked (Caller by)))
+      can_then : CanArm g (state g with_cancel) (Caller by) fresh (deadline_of g start ((state g with_cancel).looked (Caller by)))
       can_then = subst (λ (x : State). CanArm g x (Caller by) fresh (deadline_of g start (x.looked (Caller by)))) (sym moved) can
 
-      due_then : option_map (deadline_told generation) (deadline_of g start ((state g h').looked (Caller by))) ≡ Some coming
+      due_then : option_map (deadline_told generation) (deadline_of g start ((state g with_cancel).looked (Caller by))) ≡ Some coming
       due_then =
           ap (λ l. option_map (deadline_told generation) (deadline_of g start l)) (ap (λ (x : State). x.looked (Caller by)) moved ∙ look_is) ∙ due
 
-      together : h' ++ arm ∷ [] ≡ h ++ entries true
+      together : with_cancel ++ arm ∷ [] ≡ h ++ entries true
       together = append_assoc h (hit ∷ []) (arm ∷ [])
 
       both : Legal g (h ++ entries true)
       both = subst (Legal g) together
-          (legal_more g h' arm (one true is) (record { keeps = (may.by_high, refl, may.slot, may.dest); known = can_then; found = tt }))
+          (legal_more g with_cancel arm (one true is) (record { keeps = (may.by_high, refl, may.slot, may.dest); known = can_then; found = tt }))
 
       -- the state after both entries
-      after_both : state g (h ++ entries true) ≡ next g (state g h') arm
-      after_both = ap (state g) (sym together) ∙ state-append g h' (arm ∷ [])
+      after_both : state g (h ++ entries true) ≡ next g (state g with_cancel) arm
+      after_both = ap (state g) (sym together) ∙ state-append g with_cancel (arm ∷ [])
 
       both_here : word_of g (state g (h ++ entries true)) place ≡ timer_word Armed coming generation
       both_here =
-          ap (λ x. word_of g x place) after_both ∙ arm_here g by fresh start coming h' (one true is) can_then due_then may.slot
+          ap (λ x. word_of g x place) after_both ∙ arm_here g by fresh start coming with_cancel (one true is) can_then due_then may.slot
 
       both_others : (j : ℕ) → j ≢ place → word_of g (state g (h ++ entries true)) j ≡ word_of g s j
       both_others j not =
           ap (λ x. word_of g x j) after_both
-          ∙ (arm_others g by fresh start coming (state g h') j not
+          ∙ (arm_others g by fresh start coming (state g with_cancel) j not
           ∙ (ap (λ x. word_of g x j) moved ∙ hit_others g front (Caller by) timer deadline Cancel s j not))
 
     legal_at : (b : Bool) → nat_eq n old ≡ b → Legal g (h ++ entries b)

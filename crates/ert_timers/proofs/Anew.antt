@@ -1,34 +1,21 @@
 -- A timer is started in the place of one that was settled: as if the row of that had gone before.
 
-use Rattle.std.proofs.Common.{◌≡◌, ◌≢◌, ℕ, zero, suc, ◌+◌, ◌<◌, ◌≤◌, true, false, List, [], ◌∷◌, length, append-nil, Option, Some, None, Result, inl, inr, refl, sym, ap, subst, ◌∙◌, set, get_or-set_same, get_or-set_other}
-use Rattle.std.proofs.lemmas.Bool.{cases_eq}
-use Rattle.ert_defs.specs.Entries.{look_entry}
-use Rattle.ert_defs.specs.States.{State, state}
+use Rattle.std.proofs.Common.{◌≡◌, ◌≢◌, ℕ, zero, suc, ◌+◌, false, List, [], ◌∷◌, Option, Some, None, refl, sym, ap, ◌∙◌, set, get_or-set_same}
+use Rattle.ert_defs.specs.States.{state}
 use Rattle.ert_defs.specs.Timers.{is_taken}
-use Rattle.ert_defs.specs.declared.entry.Actor.TheVariants.{Caller}
 use Rattle.ert_defs.specs.declared.entry.Entry.{Entry}
 use Rattle.ert_defs.specs.declared.settings.Settings.{Settings}
 use Rattle.ert_defs.specs.declared.timer.Start.{Start}
 use Rattle.ert_defs.specs.declared.timer.Status.TheVariants.{Armed}
 use Rattle.ert_defs.specs.declared.timer.TimerRef.{TimerRef}
-use Rattle.ert_effects.specs.declared.answers.StartErr.{StartErr}
-use Rattle.ert_laws.proofs.Since.{rounds_begun}
-use Rattle.ert_table.specs.declared.view.View.{View}
 use Rattle.ert_timers.proofs.Fit.{some_key}
-use Rattle.ert_timers.proofs.Later.{later_step, live_unexpired}
-use Rattle.ert_timers.proofs.Resting.{rested_by, used_less}
+use Rattle.ert_timers.proofs.Later.{live_unexpired}
 use Rattle.ert_timers.proofs.Forgotten.{stands_dropped}
-use Rattle.ert_timers.proofs.Passing.{loses_none}
-use Rattle.ert_timers.proofs.Standing.{clock_at, takes_none}
-use Rattle.ert_timers.proofs.Starts.{ahead_stands, now_is}
-use Rattle.ert_timers.specs.Changes.{MayBecomeFree, dropped, has_uses, kept, slot_for}
-use Rattle.ert_timers.specs.Freeing.{IsHeld, IsLast}
-use Rattle.ert_timers.specs.Looking.{LooksAhead, now_in}
-use Rattle.ert_timers.specs.Parts.{HoldsCaller, Part, PartStands, last_timer, slot_at}
-use Rattle.ert_timers.specs.Passed.{GainsOne, LosesRows}
+use Rattle.ert_timers.proofs.Standing.{takes_none}
+use Rattle.ert_timers.specs.Changes.{MayBecomeFree, dropped, kept, slot_for}
+use Rattle.ert_timers.specs.Freeing.{IsLast}
+use Rattle.ert_timers.specs.Parts.{Part, PartStands, last_timer, slot_at}
 use Rattle.ert_timers.specs.Restarting.{CanRenew}
-use Rattle.ert_timers.specs.Starting.{TakesSlot}
-use Rattle.ert_timers.specs.declared.looking.Ahead.{Ahead}
 use Rattle.ert_timers.specs.declared.part.Use.{Use}
 use Rattle.ert_wheel.proofs.Looking.{key_low}
 use Rattle.ert_wheel.specs.Rows.{key_in}

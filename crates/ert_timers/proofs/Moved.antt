@@ -1,22 +1,21 @@
 -- A timer is given a new deadline in another slot than its own, or is refused one.
 
-use Rattle.std.proofs.Common.{◌≡◌, ◌≢◌, ◌⊎◌, ⊎_elim, ℕ, zero, suc, ◌+◌, ◌<◌, ◌≤◌, ℤ, pos, Bool, true, false, cond, List, [], ◌∷◌, ◌++◌, length, Option, Some, None, IfSome, option_map, Result, Ok, Err, inl, inr, refl, sym, ap, subst, ◌∙◌, arith, get_or-set_other, append-nil}
+use Rattle.std.proofs.Common.{◌≡◌, ◌≢◌, ◌⊎◌, ⊎_elim, ℕ, zero, suc, ◌+◌, ◌<◌, ◌≤◌, Bool, true, false, cond, List, [], ◌∷◌, ◌++◌, length, Option, Some, None, Result, Ok, Err, inl, inr, refl, sym, ap, subst, ◌∙◌, arith, get_or-set_other, append-nil}
 use Rattle.std.specs.FinSet as sets
-use Rattle.std.proofs.lemmas.Bool.{cases_eq}
 use Rattle.ert_calls.proofs.Looks.{look_stepped}
 use Rattle.ert_defs.proofs.Slots.{ordered}
-use Rattle.ert_defs.specs.Entries.{arm_entry, cancel_entry, look_entry, mark_entry, peek_entry}
+use Rattle.ert_defs.specs.Entries.{cancel_entry, look_entry, peek_entry}
 use Rattle.ert_defs.specs.Legal.{Legal, names_timer}
 use Rattle.ert_defs.specs.Milliseconds.{natural, down, deadline_of, left}
 use Rattle.ert_defs.specs.States.{State, state, uses_at}
-use Rattle.ert_defs.specs.Timers.{IsNextUse, Uses, deadline_in, is_taken, timer_at, turned}
+use Rattle.ert_defs.specs.Timers.{IsNextUse, Uses, deadline_in, timer_at, turned}
 use Rattle.ert_defs.specs.declared.entry.Actor.TheVariants.{Caller}
 use Rattle.ert_defs.specs.declared.entry.Entry.{Entry}
 use Rattle.ert_defs.specs.declared.settings.Settings.{Settings}
 use Rattle.ert_defs.specs.declared.timer.Start.{Start}
 use Rattle.ert_defs.specs.declared.timer.TimerRef.{TimerRef}
-use Rattle.ert_effects.specs.RestartCalls.{HasRestarted, IsFullFor, NeedsSlot, RestartEnds, Restarts}
-use Rattle.ert_effects.specs.TimerCalls.{AreProbes, AreTaken, IsRoundTaken, Rests, Round}
+use Rattle.ert_effects.specs.RestartCalls.{HasRestarted, IsFullFor, RestartEnds, Restarts}
+use Rattle.ert_effects.specs.TimerCalls.{AreProbes, AreTaken, Rests}
 use Rattle.ert_effects.specs.declared.answers.RestartErr.{RestartErr}
 use Rattle.ert_effects.specs.declared.answers.RestartErr.TheVariants.{BadArg, NotArmed, Full}
 use Rattle.ert_laws.proofs.SlotUses.{timers_few}
@@ -45,8 +44,8 @@ use Rattle.ert_timers.specs.Freeing.{IsHeld, IsLast}
 use Rattle.ert_timers.specs.Looking.{LooksAhead, now_in}
 use Rattle.ert_timers.specs.Parts.{HoldsCaller, Part, PartStands, last_timer, slot_at, unused}
 use Rattle.ert_timers.specs.Passed.{GainsOne, LosesRows}
-use Rattle.ert_timers.specs.Restarting.{EndsAfter, HasLooked, HasSlot}
-use Rattle.ert_timers.specs.Starting.{Arms, Ends, IsUseFor, TakesSlot}
+use Rattle.ert_timers.specs.Restarting.{EndsAfter, HasLooked, HasSlotFor}
+use Rattle.ert_timers.specs.Starting.{TakesSlot}
 use Rattle.ert_timers.specs.declared.looking.Ahead.{Ahead}
 use Rattle.ert_timers.specs.declared.part.Use.{Use}
 use Rattle.ert_wheel.specs.Rows.{key_in}
@@ -69,7 +68,7 @@ has_looked g v by start ahead a u w is looks holds now deadline =
 -- a slot was found for it
 pub has_slot : (g : Settings) (u x : View) (by : ℕ) (p q : Part) (start : Start) (a : Ahead) (k : ℕ) (next : Use) → HasLooked g (state g u.front) by start a
     → PartStands g u.front p → TakesSlot g u by (now_in a) p q (Some k) x → next ≡ next_use (slot_at q.slots k).generation (now_in a) a.deadline
-    → q.arms < 9007199254740992 → HasSlot g (state g x.front) by q k start next
+    → q.arms < 9007199254740992 → HasSlotFor g (state g x.front) by q k start next
 has_slot g u x by p q start a k next looked stands takes next_is few =
     let s : State = state g x.front in
     let w : ℕ = q.number in
@@ -99,7 +98,7 @@ has_slot g u x by p q start a k next looked stands takes next_is few =
 -- it is one still after a step of the caller that isn't a look
 pub slot_still : (g : Settings) (v : View) (e : Entry) (u : View) (by : ℕ) (p : Part) (k : ℕ) (start : Start) (next : Use) → PartStands g v.front p
     → HoldsCaller g v by p.number → Appends g v e u → is_arm e.event ≡ false → IsToldStill g (state g v.front) (state g u.front) by p.number
-    → HasSlot g (state g v.front) by p k start next → HasSlot g (state g u.front) by p k start next
+    → HasSlotFor g (state g v.front) by p k start next → HasSlotFor g (state g u.front) by p k start next
 slot_still g v e u by p k start next stands holds step calm still has = record {
   free = has.free;
   usable = (later_step g v e u p.number step holds.wheel calm).free (last_timer p.number p.slots k) refl has.usable;
@@ -110,7 +109,7 @@ slot_still g v e u by p k start next stands holds step calm still has = record {
 }
 
 -- so it can be held free again
-pub freed_again : (g : Settings) (h : List Entry) (by : ℕ) (p q : Part) (k : ℕ) (start : Start) (next : Use) → PartStands g h p → HasSlot g (state g h) by p k start next
+pub freed_again : (g : Settings) (h : List Entry) (by : ℕ) (p q : Part) (k : ℕ) (start : Start) (next : Use) → PartStands g h p → HasSlotFor g (state g h) by p k start next
     → q ≡ freed p k → PartStands g h q
 freed_again g h by p q k start next stands has is =
     subst (λ (x : Part). PartStands g h x) (sym is) (record {
@@ -120,18 +119,15 @@ freed_again g h by p q k start next stands has is =
       counted = record { arms = stands.counted.arms; expires = stands.counted.expires; orphans = stands.counted.orphans };
     })
 
-pub loses_freed : (p q : Part) (k : ℕ) → q ≡ freed p k → LosesRows p q
-loses_freed p q k is = subst (LosesRows p) (sym is) (record { number = refl; slots = refl; left = λ j key held. held; time = omega arith })
-
 -- a timer that is held is the last of its slot
 pub held_last : (p : Part) (timer : TimerRef) → IsHeld p timer → IsLast p timer
 held_last p timer held = record { low = held.low; named = held.named; used = inr held.row }
 
 -- the slot of a timer that was let go is another one, and this one is free as before
-pub slot_apart : (g : Settings) (s : State) (by : ℕ) (p q : Part) (timer : TimerRef) (k : ℕ) (start : Start) (next : Use) → HasSlot g s by p k start next → IsHeld p timer
-    → q ≡ given_back p timer.slot false → HasSlot g s by q k start next
+pub slot_apart : (g : Settings) (s : State) (by : ℕ) (p q : Part) (timer : TimerRef) (k : ℕ) (start : Start) (next : Use) → HasSlotFor g s by p k start next → IsHeld p timer
+    → q ≡ given_back p timer.slot false → HasSlotFor g s by q k start next
 slot_apart g s by p q timer k start next has held is =
-    subst (λ (x : Part). HasSlot g s by x k start next) (sym is) (record {
+    subst (λ (x : Part). HasSlotFor g s by x k start next) (sym is) (record {
       free = record {
         low = has.free.low;
         vacant = get_or-set_other p.keys timer.slot k None None other ∙ has.free.vacant;
@@ -172,25 +168,25 @@ pub record IsCancelled (g : Settings) (u m : View) (by : ℕ) (p : Part) (timer 
   pub stands : PartStands g m.front p
   pub holds : HoldsCaller g m by p.number
   pub settled : (state g m.front).status timer ≢ Some Armed
-  pub slot : HasSlot g (state g m.front) by p k start next
+  pub slot : HasSlotFor g (state g m.front) by p k start next
   pub held : timer.wheel ≡ p.number → IsHeld p timer
 
 pub slot_read : (g : Settings) (v u : View) (by : ℕ) (p : Part) (timer : TimerRef) (found : Option ℕ) (k : ℕ) (start : Start) (next : Use) → PartStands g v.front p
-    → HoldsCaller g v by p.number → Appends g v (peek_entry (Caller by) timer found) u → HasSlot g (state g v.front) by p k start next
-    → HasSlot g (state g u.front) by p k start next
+    → HoldsCaller g v by p.number → Appends g v (peek_entry (Caller by) timer found) u → HasSlotFor g (state g v.front) by p k start next
+    → HasSlotFor g (state g u.front) by p k start next
 slot_read g v u by p timer found k start next stands holds step has =
     slot_still g v (peek_entry (Caller by) timer found) u by p k start next stands holds step refl
     (told_still g v (peek_entry (Caller by) timer found) u by p.number step holds refl refl (λ x. refl)) has
 
 pub slot_cancelled : (g : Settings) (v u : View) (by : ℕ) (p : Part) (timer : TimerRef) (found : Option ℕ) (k : ℕ) (start : Start) (next : Use) → PartStands g v.front p
-    → HoldsCaller g v by p.number → Appends g v (cancel_entry (Caller by) timer found) u → HasSlot g (state g v.front) by p k start next
-    → HasSlot g (state g u.front) by p k start next
+    → HoldsCaller g v by p.number → Appends g v (cancel_entry (Caller by) timer found) u → HasSlotFor g (state g v.front) by p k start next
+    → HasSlotFor g (state g u.front) by p k start next
 slot_cancelled g v u by p timer found k start next stands holds step has =
     slot_still g v (cancel_entry (Caller by) timer found) u by p k start next stands holds step refl
     (told_still g v (cancel_entry (Caller by) timer found) u by p.number step holds refl refl (λ x. refl)) has
 
 pub is_cancelled : (g : Settings) (v u m : View) (by : ℕ) (p : Part) (timer : TimerRef) (k : ℕ) (start : Start) (next : Use) (read : ArmedWord) (hit : Bool)
-    → (r : IsRead g v u by p timer read) → PartStands g v.front p → HoldsCaller g v by p.number → HasSlot g (state g v.front) by p k start next → hit ≡ true
+    → (r : IsRead g v u by p timer read) → PartStands g v.front p → HoldsCaller g v by p.number → HasSlotFor g (state g v.front) by p k start next → hit ≡ true
     → Settles g u (Caller by) timer (word_deadline read.word) ToCancel hit m → IsCancelled g u m by p timer k start next r.found
 is_cancelled g v u m by p timer k start next read hit r stands holds has hits settles =
     let d : ℕ = word_deadline read.word in

@@ -1,19 +1,17 @@
 -- A timer is given a new deadline, of what its steps told.
 
-use Rattle.std.proofs.Common.{◌≡◌, ◌≢◌, ◌⊎◌, ⊎_elim, ℕ, zero, suc, ◌+◌, ◌<◌, ◌≤◌, ℤ, pos, Bool, true, false, cond, nat_lt, List, [], ◌∷◌, ◌++◌, length, Option, Some, None, option_map, IfSome, Result, Ok, Err, inl, inr, refl, sym, ap, subst, ◌∙◌, arith, get_or-set_same, get_or-set_other, append-nil, append_assoc}
+use Rattle.std.proofs.Common.{◌≡◌, ◌≢◌, ℕ, suc, ◌+◌, ◌<◌, ◌≤◌, ℤ, Bool, true, false, cond, nat_lt, List, [], ◌∷◌, ◌++◌, length, Option, Some, None, option_map, Result, Ok, Err, inl, inr, refl, sym, ap, subst, ◌∙◌, arith}
 use Rattle.std.specs.FinSet as sets
 use Rattle.std.specs.List.{slice_get}
 use Rattle.std.specs.Option.{IsSome}
-use Rattle.ert_calls.proofs.Looks.{can_step, look_stepped}
+use Rattle.ert_calls.proofs.Looks.{look_stepped}
 use Rattle.ert_defs.proofs.Slots.{ordered}
-use Rattle.ert_defs.specs.Entries.{arm_entry, cancel_entry, look_entry, mark_entry, peek_entry}
-use Rattle.ert_defs.specs.Legal.{IsSlot, Legal, names_timer}
+use Rattle.ert_defs.specs.Entries.{arm_entry, cancel_entry, mark_entry, peek_entry}
+use Rattle.ert_defs.specs.Legal.{IsSlot, Legal}
 use Rattle.ert_defs.specs.Milliseconds.{natural, down, deadline_of, left}
 use Rattle.ert_defs.specs.States.{State, state, uses_at}
-use Rattle.ert_defs.specs.Timers.{IsNextUse, Row, Uses, deadline_in, row_of, same_timer, deadline_told, is_taken, settled_as, status_after, timer_at, turned, use_of}
+use Rattle.ert_defs.specs.Timers.{IsNextUse, Row, Uses, deadline_in, row_of, same_timer, deadline_told, is_taken, settled_as, timer_at, turned, use_of}
 use Rattle.ert_defs.proofs.ExpiredTimers.{same_timer_self}
-use Rattle.ert_defs.specs.Actors.{has_actor}
-use Rattle.ert_defs.specs.declared.entry.Actor.{Actor}
 use Rattle.ert_defs.specs.declared.entry.Actor.TheVariants.{Caller, Wheel}
 use Rattle.ert_defs.specs.declared.entry.Entry.{Entry}
 use Rattle.ert_defs.specs.declared.settings.Settings.{Settings}
@@ -21,27 +19,23 @@ use Rattle.ert_defs.specs.declared.timer.Start.{Start}
 use Rattle.ert_defs.specs.declared.timer.Status.{Status}
 use Rattle.ert_defs.specs.declared.timer.Status.TheVariants.{Armed, Cancelled}
 use Rattle.ert_defs.specs.declared.timer.TimerRef.{TimerRef}
-use Rattle.ert_effects.specs.RestartCalls.{HasRestarted, IsFullFor, NeedsSlot, RestartEnds, Restarts, missed_entries}
-use Rattle.ert_effects.specs.TimerCalls.{AreProbes, IsWheelFull, Starts}
+use Rattle.ert_effects.specs.RestartCalls.{RestartEnds, missed_entries}
 use Rattle.ert_effects.specs.declared.answers.RestartErr.{RestartErr}
-use Rattle.ert_effects.specs.declared.answers.RestartErr.TheVariants.{BadArg, NotArmed, Full}
-use Rattle.ert_effects.specs.declared.answers.StartErr.TheVariants.{Full as WheelIsFull}
+use Rattle.ert_effects.specs.declared.answers.RestartErr.TheVariants.{NotArmed}
 use Rattle.ert_laws.proofs.Since.{rounds_begun}
-use Rattle.ert_laws.proofs.SlotUses.{timers_few}
 use Rattle.ert_table.specs.Calls.{AppendsAll, IsMade}
-use Rattle.ert_table.specs.Renewals.{IsWordOf, MayRenew, PeeksWord, TellsWord, renewal}
+use Rattle.ert_table.specs.Renewals.{IsWordOf, MayRenew, PeeksWord, renewal}
 use Rattle.ert_table.specs.Settlings.{HasRow, word_deadline}
 use Rattle.ert_table.specs.Takes.{Appends, TakesPlace}
 use Rattle.ert_table.specs.declared.renew_steps.ArmedWord.{ArmedWord}
 use Rattle.ert_table.specs.declared.view.View.{View}
 use Rattle.ert_table.proofs.Calls.{step_takes_place, takes_place_then}
-use Rattle.ert_table.proofs.Makings.{IsTwice, two_steps}
+use Rattle.ert_table.proofs.Makings.{two_steps}
 use Rattle.ert_table.proofs.OneStep.{one_step}
 use Rattle.ert_table.proofs.Parts.{stepped}
-use Rattle.ert_timers.proofs.Anew.{free_again, kept_again, stands_again, untaken}
+use Rattle.ert_timers.proofs.Anew.{free_again, kept_again, stands_again}
 use Rattle.ert_timers.proofs.Armings.{arms}
-use Rattle.ert_timers.proofs.Fit.{some_key}
-use Rattle.ert_timers.proofs.Later.{IsLater, later_step}
+use Rattle.ert_timers.proofs.Later.{later_step}
 use Rattle.ert_timers.proofs.NextUses.{new_generation, old_apart, told_of, use_of as use_of_model}
 use Rattle.ert_timers.proofs.Rows.{key_left}
 use Rattle.ert_wheel.proofs.Looking.{key_low}
@@ -51,18 +45,17 @@ use Rattle.ert_table.specs.Held.{is_held}
 use Rattle.ert_defs.proofs.ExpiredTimers.{row_named}
 use Rattle.ert_effects.specs.declared.answers.StartErr.{StartErr}
 use Rattle.ert_timers.proofs.Orphaned.{still_caller}
-use Rattle.ert_timers.proofs.Passing.{loses_none, same_last}
+use Rattle.ert_timers.proofs.Passing.{same_last}
 use Rattle.ert_timers.proofs.Resting.{next_is, rested_by, used_less}
-use Rattle.ert_timers.proofs.Settled.{left_some, taken_last}
-use Rattle.ert_timers.proofs.Standing.{clock_at, stands_step}
-use Rattle.ert_timers.proofs.Starts.{is_full}
-use Rattle.ert_timers.specs.Changes.{MayBecomeFree, dropped, has_uses, kept, next_use, slot_for}
+use Rattle.ert_timers.proofs.Settled.{taken_last}
+use Rattle.ert_timers.proofs.Standing.{stands_step}
+use Rattle.ert_timers.specs.Changes.{dropped, has_uses, kept, next_use}
 use Rattle.ert_timers.specs.Freeing.{IsHeld, IsLast}
-use Rattle.ert_timers.specs.Looking.{LooksAhead, now_in}
+use Rattle.ert_timers.specs.Looking.{now_in}
 use Rattle.ert_timers.specs.Parts.{HoldsCaller, Part, PartStands, last_timer, slot_at}
 use Rattle.ert_timers.specs.Passed.{GainsOne, LosesRows}
-use Rattle.ert_timers.specs.Restarting.{CanRenew, EndsAfter, HasLetGo, HasLooked, MayStay}
-use Rattle.ert_timers.specs.Starting.{Arms, Ends, IsUseFor, TakesSlot}
+use Rattle.ert_timers.specs.Restarting.{CanRenew, HasLooked, MayStay}
+use Rattle.ert_timers.specs.Starting.{Arms, Ends, IsUseFor}
 use Rattle.ert_timers.specs.declared.looking.Ahead.{Ahead}
 use Rattle.ert_timers.specs.declared.part.Use.{Use}
 use Rattle.ert_wheel.specs.Rows.{key_in}

@@ -1,6 +1,6 @@
 -- A timer that is given a new deadline.
 
-use Rattle.std.specs.Prelude.{◌≡◌, ◌≢◌, ◌<◌, ◌≤◌, ℕ, true, false, nat_lt, length, List, ◌++◌, Some, Result, Ok, Err}
+use Rattle.std.specs.Prelude.{◌≡◌, ◌<◌, ◌≤◌, ℕ, true, false, nat_lt, length, List, ◌++◌, Some, Result, Ok, Err}
 use Rattle.std.specs.FinSet as set
 use Rattle.std.specs.Option.{IsSome}
 use Rattle.ert_defs.specs.Milliseconds.{natural, down, deadline_of}
@@ -47,7 +47,7 @@ pub record HasLooked (g : Settings) (s : State) (by : ℕ) (start : Start) (a : 
   pub deadline : a.deadline ≤ 8796093022207
 
 -- a slot was found for a start, with its next use
-pub record HasSlot (g : Settings) (s : State) (by : ℕ) (p : Part) (slot : ℕ) (start : Start) (next : Use) : Type 0 where
+pub record HasSlotFor (g : Settings) (s : State) (by : ℕ) (p : Part) (slot : ℕ) (start : Start) (next : Use) : Type 0 where
   pub free : MayBecomeFree p slot
   pub usable : is_taken (s.status (last_timer p.number p.slots slot)) ≡ false
   pub coming : IsUseFor g s by p.number slot start next

@@ -23,7 +23,7 @@ impl WheelPart {
     ghost use Rattle.ert_timers.specs.declared.part.Use.{Use as Coming};
     ghost use Rattle.ert_defs.specs.States.{State};
     ghost use Rattle.ert_defs.specs.declared.timer.Status.TheVariants.{Armed};
-    ghost use Rattle.ert_timers.specs.Restarting.{HasLooked, HasSlot, EndsAfter, HasLetGo};
+    ghost use Rattle.ert_timers.specs.Restarting.{HasLooked, HasSlotFor, EndsAfter, HasLetGo};
 
     /// Gives a timer a new deadline in another slot, or refuses for want of one, after the caller's look.
     #[cold]
@@ -91,7 +91,7 @@ impl WheelPart {
         requires dest { start.now.dest < (settings_of desk.now).processes }
         requires in_range { names_timer (settings_of desk.now) timer ≡ true }
         requires place { IsPlaceOf (settings_of desk.now) timer.wheel timer.slot place }
-        requires found { HasSlot (settings_of desk.now) (state_of desk.now pass.old) by self.old slot start.now next }
+        requires found { HasSlotFor (settings_of desk.now) (state_of desk.now pass.old) by self.old slot start.now next }
         ensures belongs { Belongs desk.now pass.new }
         ensures number { self.new.number ≡ self.old.number }
         ensures stands { PartStands (settings_of desk.now) (front_of pass.new) self.new }
@@ -124,8 +124,8 @@ impl WheelPart {
         ensures stands { PartStands (settings_of desk.now) (front_of pass.now) self.new }
         ensures gone { IsHeld self.new timer → ⊥ }
         ensures loses { LosesRows self.old self.new }
-        ensures slots { (s : State) (by slot : ℕ) (start : GivenStart) (next : Coming) → HasSlot (settings_of desk.now) s by self.old slot start next
-            → HasSlot (settings_of desk.now) s by self.new slot start next }
+        ensures slots { (s : State) (by slot : ℕ) (start : GivenStart) (next : Coming) → HasSlotFor (settings_of desk.now) s by self.old slot start next
+            → HasSlotFor (settings_of desk.now) s by self.new slot start next }
     {
         // For the prover alone: what is known of a desk is known of one that is read.
         let _settings = desk.settings();

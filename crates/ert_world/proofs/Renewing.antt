@@ -12,12 +12,11 @@ use Rattle.ert_defs.specs.States.{State, next, run, state}
 use Rattle.ert_defs.specs.Timers.{settled_as}
 use Rattle.ert_defs.specs.declared.entry.Actor.TheVariants.{Caller, Wheel}
 use Rattle.ert_defs.specs.declared.entry.Entry.{Entry}
-use Rattle.ert_defs.specs.declared.entry.Event.TheVariants.{Cancel}
 use Rattle.ert_defs.specs.declared.settings.Settings.{Settings}
 use Rattle.ert_defs.specs.declared.timer.Start.{Start}
 use Rattle.ert_defs.specs.declared.timer.Status.TheVariants.{Armed, Cancelled}
 use Rattle.ert_defs.specs.declared.timer.TimerRef.{TimerRef}
-use Rattle.ert_effects.specs.RestartCalls.{HasRestarted, IsRenewed, RestartEnds, Restarts, missed_entries}
+use Rattle.ert_effects.specs.RestartCalls.{HasRestarted, RestartEnds, Restarts, missed_entries}
 use Rattle.ert_effects.specs.declared.answers.RestartErr.{RestartErr}
 use Rattle.ert_effects.specs.declared.answers.RestartErr.TheVariants.{BadArg, NotArmed, Full}
 use Rattle.ert_table.specs.Calls.{AreOnlyOf, IsMade}

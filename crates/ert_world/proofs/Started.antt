@@ -1,14 +1,14 @@
 -- A start names a timer that was never named before, so no row comes of one that was.
 
-use Rattle.std.proofs.Common.{◌≡◌, ◌≢◌, ◌⊎◌, ⊎_elim, ℕ, ℤ, ◌<◌, Bool, true, false, cond, ◌&&◌, List, [], ◌∷◌, ◌++◌, filter, length, slice_index_or, Option, Some, None, Result, Ok, inl, inr, refl, sym, ap, subst, ◌∙◌, eq-eqb, arith}
+use Rattle.std.proofs.Common.{◌≡◌, ◌≢◌, ◌⊎◌, ⊎_elim, ℕ, ◌<◌, Bool, true, false, cond, ◌&&◌, List, [], ◌∷◌, ◌++◌, filter, length, slice_index_or, Option, Some, None, Result, Ok, inl, inr, refl, sym, ap, subst, ◌∙◌, eq-eqb, arith}
 use Rattle.std.specs.Prelude.{slice_set, nat_eq}
-use Rattle.ert_defs.proofs.Runs.{legal_then, state-append}
+use Rattle.ert_defs.proofs.Runs.{legal_then}
 use Rattle.ert_defs.proofs.Slots.{IsOrdered, can_use, next_is_new, ordered, ordered_next}
 use Rattle.ert_defs.specs.Entries.{arm_entry}
-use Rattle.ert_defs.specs.Legal.{Can, Legal, LegalFrom, left_by}
+use Rattle.ert_defs.specs.Legal.{Can, Legal, LegalFrom}
 use Rattle.ert_defs.specs.Milliseconds.{deadline_of}
-use Rattle.ert_defs.specs.States.{State, opening, next, run, state, uses_at}
-use Rattle.ert_defs.specs.Timers.{Row, same_timer, settled_as, handed_as, status_after, timer_at}
+use Rattle.ert_defs.specs.States.{State, opening, next, state, uses_at}
+use Rattle.ert_defs.specs.Timers.{same_timer, settled_as, handed_as, status_after, timer_at}
 use Rattle.ert_defs.specs.declared.entry.Actor.TheVariants.{Wheel, Caller}
 use Rattle.ert_defs.specs.declared.entry.Entry.{Entry}
 use Rattle.ert_defs.specs.declared.entry.Event.{Event}
@@ -19,11 +19,11 @@ use Rattle.ert_defs.specs.declared.timer.Status.{Status}
 use Rattle.ert_defs.specs.declared.timer.Status.TheVariants.{Armed, Expired, Delivered, Cancelled, Orphaned, Dropped}
 use Rattle.ert_defs.specs.declared.timer.TimerRef.{TimerRef}
 use Rattle.ert_defs.specs.Actors.{has_actor}
-use Rattle.ert_effects.specs.TimerCalls.{Cancels, Starts}
+use Rattle.ert_effects.specs.TimerCalls.{Starts}
 use Rattle.ert_effects.specs.declared.answers.StartErr.{StartErr}
 use Rattle.ert_table.specs.Desks.{settings_of, front_of}
 use Rattle.ert_table.specs.declared.desk.Desk.{Desk}
-use Rattle.ert_timers.proofs.Settled.{HasOne, IsHit}
+use Rattle.ert_timers.proofs.Settled.{HasOne}
 use Rattle.ert_timers.specs.Freeing.{IsHeld}
 use Rattle.ert_timers.specs.Parts.{Part, PartStands as WheelStands}
 use Rattle.ert_timers.specs.Passed.{GainsOne, WasHeld}
@@ -31,7 +31,6 @@ use Rattle.ert_wheel.proofs.Looking.{key_low}
 use Rattle.ert_wheel.specs.Rows.{key_in}
 use Rattle.ert_wheel.specs.declared.row.Key.{Key}
 use Rattle.ert_world.proofs.Calls.{Has, schedulers_at}
-use Rattle.ert_world.proofs.Gone.{cancels_hit}
 use Rattle.ert_world.proofs.NextDue.{part_at}
 use Rattle.ert_world.proofs.Returned.{at_place}
 use Rattle.ert_world.specs.Ways.{is_unseated}
@@ -74,10 +73,6 @@ status_some r b x _ some = some
 some_next : (g : Settings) (s : State) (e : Entry) (timer : TimerRef) → s.status timer ≢ None → (next g s e).status timer ≢ None
 some_next g s e timer some = status_some timer (has_actor e (Wheel timer.wheel)) (s.status timer) e.event some
 
-some_run : (g : Settings) (s : State) (m : List Entry) (timer : TimerRef) → s.status timer ≢ None → (run g s m).status timer ≢ None
-some_run g s [] timer some = some
-some_run g s (e ∷ m) timer some = some_run g (next g s e) m timer (some_next g s e timer some)
-
 -- of the entries that pass a test the first is such, or a later one
 one_in : (D : Entry → Type 0) (test : Entry → Bool) (e : Entry) (m : List Entry) (P : Type 0) → (D e → P) → (HasOne D (filter test m) → P)
     → HasOne D (filter test (e ∷ m)) → P
@@ -90,28 +85,6 @@ one_in D test e m P here more has = at (test e) refl
     at false is =
         let theirs : filter test (e ∷ m) ≡ filter test m = rw is refl in
         more (subst (HasOne D) theirs has)
-
-left_some : (g : Settings) (look : ℤ) (x : Option Status) (row : Option Row) (n : ℕ) → Some n ≡ left_by g look x row → x ≡ Some Armed
-left_some g look None row n is = absurd cc
-left_some g look (Some Armed) row n is = refl
-left_some g look (Some Expired) row n is = absurd cc
-left_some g look (Some Delivered) row n is = absurd cc
-left_some g look (Some Cancelled) row n is = absurd cc
-left_some g look (Some Orphaned) row n is = absurd cc
-left_some g look (Some Dropped) row n is = absurd cc
-
--- after a cancel that hit, a timer has a status
-hit_some : (g : Settings) (test : Entry → Bool) (timer : TimerRef) (s : State) (m : List Entry) → LegalFrom g s m → HasOne (IsHit timer) (filter test m)
-    → (run g s m).status timer ≢ None
-hit_some g test timer s [] legal has = absurd has
-hit_some g test timer s (e ∷ m) legal has =
-    one_in (IsHit timer) test e m ((run g (next g s e) m).status timer ≢ None)
-    (λ hit. some_run g (next g s e) m timer (some_next g s e timer (armed_some (s.status timer)
-    (left_some g (s.looked hit.0) (s.status timer) _ hit.1 (subst (Can g s) hit.2 legal.0).found))))
-    (λ more. hit_some g test timer (next g s e) m legal.1 more) has
-  where
-    armed_some : (x : Option Status) → x ≡ Some Armed → x ≢ None
-    armed_some x is none = (let clash : Some Armed ≡ None = sym is ∙ none in cc)
 
 -- the arming of a timer
 abbrev pub IsArm : TimerRef → Entry → Type 0
@@ -145,21 +118,6 @@ starts_arm g by w start timer s es starts =
 legal_piece : (a : Seen) (h : List Entry) (piece : List Entry) → Legal a.settings h → h ≡ a.history ++ piece → LegalFrom a.settings (state a.settings a.history) piece
 legal_piece a h piece legal grown =
     legal_then a.settings (opening a.settings) a.history piece (subst (Legal a.settings) grown legal)
-
--- a timer that was cancelled had a status after that
-pub cancelled_known : (a b : Seen) (timer : TimerRef) (left : ℕ) → Goes a (By a (λ g. Cancels g (Caller 0) timer (Some left))) b
-    → (state b.settings b.history).status timer ≢ None
-cancelled_known a b timer left goes =
-    let g : Settings = a.settings in
-    let test = is_unseated a.next in
-    let hit = (cancels_hit g (Caller 0) timer left (state g a.history) (filter test goes.grows.piece) goes.grows.made).1 in
-    let legal = legal_piece a b.history goes.grows.piece (subst (λ (x : Settings). Legal x b.history) goes.settings goes.legal) goes.grows.grown in
-    let some = hit_some g test timer (state g a.history) goes.grows.piece legal hit in
-    subst (λ (x : Settings). (state x b.history).status timer ≢ None) (sym goes.settings)
-    (subst (λ (s : State). s.status timer ≢ None) (sym (grown_run g a.history goes.grows.piece b.history goes.grows.grown)) some)
-  where
-    grown_run : (g : Settings) (f m h : List Entry) → h ≡ f ++ m → state g h ≡ run g (state g f) m
-    grown_run g f m h is = ap (state g) is ∙ state-append g f m
 
 -- a start gives no name that was given before
 new_name : (a c : Seen) (w : ℕ) (start : Start) (timer : TimerRef) → Legal a.settings a.history → Goes a (By a (λ g. Starts g 0 w start (Ok timer))) c

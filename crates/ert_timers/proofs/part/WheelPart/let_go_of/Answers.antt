@@ -1,11 +1,9 @@
-use Rattle.std.proofs.Common.{◌≡◌, ◌≢◌, Some, sym, ap, subst, ◌∙◌, eqb-true}
+use Rattle.std.proofs.Common.{◌≡◌, ◌≢◌, Some, sym, subst, ◌∙◌}
 use Rattle.ert_defs.specs.States.{state}
 use Rattle.ert_defs.specs.declared.settings.Settings.{Settings}
 use Rattle.ert_defs.specs.declared.timer.Status.TheVariants.{Armed}
-use Rattle.ert_defs.specs.declared.timer.TimerRef.{TimerRef}
-use Rattle.ert_table.specs.Desks.{settings_of, view_of, front_of}
+use Rattle.ert_table.specs.Desks.{settings_of, front_of}
 use Rattle.ert_timers.proofs.Moved.{held_last, slot_apart}
-use Rattle.ert_timers.proofs.Passing.{loses_none}
 use Rattle.ert_timers.specs.Parts.{PartStands}
 use Rattle.ert_timers.proofs.part.WheelPart.let_go_of.Goals as goal
 

@@ -1,4 +1,3 @@
-use Rattle.std.proofs.Common.{Some, None}
 use Rattle.ert_table.specs.Desks.{settings_of, view_of}
 use Rattle.ert_timers.proofs.Moved.{refused_armed}
 use Rattle.ert_timers.proofs.Renewed.{is_read, missed_at, not_read, peek_calm}

@@ -1,7 +1,6 @@
-use Rattle.std.proofs.Common.{◌≡◌, true, false, [], Err, refl, sym, ap, ◌∙◌, rules}
+use Rattle.std.proofs.Common.{◌≡◌, true, [], rules}
 use Rattle.ert_calls.proofs.Named.{names_both, names_no_generation, names_no_slot}
 use Rattle.ert_defs.specs.Legal.{names_timer}
-use Rattle.ert_effects.specs.declared.answers.RestartErr.TheVariants.{NotArmed}
 use Rattle.ert_table.specs.Desks.{settings_of, view_of}
 use Rattle.ert_timers.proofs.Moved.{ends_after, has_looked, none_takes, not_full, restarts, restarts_none}
 use Rattle.ert_timers.proofs.Starts.{ahead_stands, bad_arg}

@@ -1,11 +1,8 @@
-use Rattle.std.proofs.Common.{◌≡◌, ◌<◌, true, [], None, Some, Err, Result, inl, refl, sym, ap, subst, ◌∙◌, arith}
-use Rattle.ert_defs.specs.declared.timer.TimerRef.{TimerRef}
+use Rattle.std.proofs.Common.{◌<◌, true, [], Err, inl, sym, ap, subst, ◌∙◌, arith}
 use Rattle.ert_effects.specs.RestartCalls.{RestartEnds}
-use Rattle.ert_effects.specs.declared.answers.RestartErr.{RestartErr}
 use Rattle.ert_table.specs.Calls.{IsMade}
 use Rattle.ert_table.specs.Desks.{settings_of, view_of}
 use Rattle.ert_timers.proofs.Moved.{ends_after, full_for, gains_after, has_slot, none_takes, not_full, spent}
-use Rattle.ert_timers.proofs.Passing.{loses_none}
 use Rattle.ert_timers.proofs.Renewed.{gains_no}
 use Rattle.ert_timers.proofs.Starts.{round_taken}
 use Rattle.ert_timers.proofs.Takings.{takes_first}
