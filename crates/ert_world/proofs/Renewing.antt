@@ -232,7 +232,7 @@ module _ (before : Seen) (b : Inside) (d : Desk) (q : Pass) (timer : TimerRef) (
               let name : next ≡ last_timer new.number new.slots k = (let e : ◌≡◌ {A = Result TimerRef RestartErr} (Ok next) (Ok (last_timer new.number new.slots k)) = sym same ∙ fresh in cc) in
               subst (λ r. t.status r ≢ Some Cancelled) name
               (λ cancelled. fresh_not g i timer start next s it.entries restarted (ap (λ (x : State). x.status next) (sym is) ∙ cancelled))
-          )
+              )
         ]) tidy
 
     tidy_err : (why : RestartErr) → answer ≡ Err why → AreCalm it.entries → IsTidy s old → IsTidy t new
