@@ -3,9 +3,11 @@
  *     pauses SLOTS
  *
  * As many timers as the wheel has slots are due at random within 200 seconds, all for one process, in which a window of
- * 262 seconds begins. It prints in nanoseconds of processor time: a start, the least of some calls of ert_world_ready, of ert_world_next_due and of a
- * start that is refused, the longest advance by a millisecond, until all have expired, and the exit of a process with
- * as many timers. */
+ * 262 seconds begins. It prints in nanoseconds of processor time: a start, the least of some calls of ert_world_ready, of
+ * ert_world_next_due and of a start that is refused, the longest advance by a millisecond, until all have expired, and the
+ * exit of a process with as many timers. At last the longest turn of a server with as many timers over 285 seconds: of three
+ * timers of a connection packets restart two, of 60 and 30 seconds, in random order, and the third is due within an hour.
+ * A window of 262 seconds begins in these too. */
 #define _POSIX_C_SOURCE 199309L
 
 #include <inttypes.h>
@@ -16,7 +18,7 @@
 
 #include "ertime.h"
 
-enum { SPREAD = 200000, LOOKS = 7 };
+enum { SPREAD = 200000, LOOKS = 7, KINDS = 3, SERVED = 285000, FIRST = 1000, PACKETS = 100 };
 
 static ert_world world = ERT_INIT;
 static ert_reading reading;
@@ -125,6 +127,58 @@ static double leave(void) {
     return nanoseconds() - begun;
 }
 
+static uint64_t drawn(void) {
+    static uint64_t state = 1;
+    state = state * UINT64_C(6364136223846793005) + UINT64_C(1442695040888963407);
+    return state >> 33;
+}
+
+/* The timer of a kind of a connection, as its message tells it. */
+static ert_start timer_of(uint32_t at) {
+    static const int64_t waits[KINDS] = {60000, 30000, 3600000};
+    uint32_t kind = at % KINDS;
+    int64_t wait = kind == 2 ? FIRST + (int64_t)(drawn() % 3600000) : waits[kind];
+    return (ert_start){.when = wait, .msg = at};
+}
+
+/* The longest turn by a millisecond among timers that packets restart in random order. */
+static double longest_turn(void) {
+    double longest = 0;
+    ert_timer *timers = calloc(slots, sizeof *timers);
+    if (timers == NULL) {
+        exit(EXIT_FAILURE);
+    }
+    for (uint32_t i = 0; i < slots; i++) {
+        ert_start start = timer_of(i);
+        must(ert_world_start(&world, 0, &start, &timers[i]));
+    }
+    for (int i = 0; i < SERVED; i++) {
+        ert_moved moved;
+        ert_turned turned;
+        ert_mail mail;
+        reading.mono += 1000000;
+        reading.sys += 1000000;
+        must(ert_world_tick(&world, &reading, 0, &moved));
+        for (int p = 0; p < PACKETS; p++) {
+            uint32_t first = (uint32_t)(drawn() % (slots / KINDS)) * KINDS;
+            for (uint32_t kind = 0; kind < 2; kind++) {
+                ert_start start = timer_of(first + kind);
+                must(ert_world_restart(&world, &timers[first + kind], &start));
+            }
+        }
+        double begun = nanoseconds();
+        must(ert_world_turn(&world, 0, &turned));
+        double took = nanoseconds() - begun;
+        longest = took > longest ? took : longest;
+        while (ert_world_take(&world, 0, &mail) == ERT_OK) {
+            ert_start start = timer_of((uint32_t)mail.msg);
+            must(ert_world_start(&world, 0, &start, &timers[mail.msg]));
+        }
+    }
+    free(timers);
+    return longest;
+}
+
 int main(int count, char **words) {
     slots = count == 2 ? (uint32_t)strtoul(words[1], NULL, 10) : 0;
     if (slots == 0) {
@@ -136,6 +190,9 @@ int main(int count, char **words) {
     printf("%.1f %.0f %.0f %.0f", start, least(ready), least(next_due), least(refused));
     printf(" %.0f", longest_advance());
     fill();
-    printf(" %.0f\n", leave());
+    printf(" %.0f", leave());
+    must(ert_world_close(&world));
+    open_world();
+    printf(" %.0f\n", longest_turn());
     must(ert_world_close(&world));
 }

@@ -369,7 +369,7 @@ typedef struct {
  * Opens a service behind a closed handle.
  *
  * The service has no timer and no message, and its monotonic time is `start`. All memory that timers need
- * is allocated here: some 21 KB for each scheduler, and some 100 bytes for each slot and for each process
+ * is allocated here: some 36 KB for each scheduler, and some 100 bytes for each slot and for each process
  * (docs/EMBEDDING.md has a table). Later only messages, requests, monitors and expired timers that wait take more,
  * and seats.
  *
@@ -734,10 +734,11 @@ int32_t ert_world_turn(ert_world *world, uint32_t sched, ert_turned *turned);
  * the wheel is due by `to`, as after ert_world_turn. The turn serves up to 64 requests, as ert_world_turn does. With
  * `most` 0 it tells whether timers are due.
  *
- * The work is in proportion to `most`, with two exceptions. Where a window begins (of 512 milliseconds, of 512 times
- * that, and so on), each timer whose deadline is in it is moved, which costs less than an expiry. And timers that were
- * started when their deadline had passed are all looked at once for each deadline among them, and more often if they
- * were not started in order of deadline.
+ * The work is in proportion to `most`, with two exceptions. Timers move within the wheel as their deadlines come near: if
+ * turns follow each other, a few in each millisecond; after a sleep, all that are left in the windows that begin (of 512
+ * milliseconds, of 512 times that, and so on), each of which costs less than an expiry. And timers that were started when
+ * their deadline had passed are all looked at once for each deadline among them, and more often if they were not started
+ * in order of deadline.
  *
  * ERT_NO_MEMORY: as of ert_world_turn, but that the list needs room for `most` timers, or for all that the wheel holds if
  * those are fewer. ERT_RANGE: there is no such scheduler. ERT_CLOSED.
@@ -757,8 +758,9 @@ int32_t ert_world_turn_some(ert_world *world, uint32_t sched, uint32_t most, ert
  * was cancelled through a seat counts until it would have been due, so `due` may be too early because of it.
  *
  * ERT_EMPTY: no timer is armed, and `due` is as it was. ERT_RANGE: there is no such scheduler. ERT_CLOSED.
- * It changes nothing. Constant work: it looks at 64 timers at most. Only if a timer was started whose deadline had
- * passed does it look at all that are due at the next turn.
+ * It changes nothing that another call shows. The answer is kept: until time comes to it, an earlier timer is started, or
+ * the timer that it is of is cancelled or restarted, a call takes a few comparisons. Else it looks at 64 timers at most on
+ * each level of the wheel, and only if a timer was started whose deadline had passed at all that are due at the next turn.
  */
 int32_t ert_world_next_due(ert_world *world, uint32_t sched, uint64_t *due);
 
