@@ -8,21 +8,23 @@
 %% that wasn't asked in between rest from the one to the other, too. Had a member waited for one at work, then some server
 %% between the two was asked while those before it waited for it all the time, and the answers led to the member.
 %%
-%% A process that sees the clock of another test and works for a server of the node works for that test.
+%% A process that sees another clock works for another test, and isn't asked.
 %%
 %% New processes are found by their numbers, which the runtime gives in order: one that is spawned for nothing tells how far they
 %% have come.
 -module(ertime_others).
 
--export([new/0, discover/3, ask/3, look/1]).
+-export([new/0, discover/3, ask/2, look/1]).
 
 -define(GRACE, 20).
 -define(LONG, 20000).
 -define(MOST_NEW, 2000).
 -define(HELPERS, 32).
+-define(FEW, 8).
 
 -record(others, {
-    pids = #{},     % pid => []: all that are known
+    pids = #{},     % pid => []: all that are known and see no clock
+    elsewhere = #{}, % pid => []: those that see another one
     pending = [],   % {pid, how often it was looked at}: new, and it hasn't waited for anything yet
     last = none,    % the number of the newest process
     seen = #{},     % pid => its count at the first look, of those that waited
@@ -41,7 +43,7 @@ new() ->
 %% It yields, so that the process which is spawned for nothing is gone before others look at it, and since there may be a signal to
 %% answer for which another waits.
 discover(Clock, Members, Others0) ->
-    Others = #others{pids = Known, last = Last} = first_look(Others0),
+    Others = #others{pids = Known, elsewhere = Elsewhere, last = Last} = first_look(Others0),
     Newest = spawn_opt(fun() -> ok end, [{priority, high}]),
     ahead(fun erlang:yield/0),
     Number = number(Newest),
@@ -51,7 +53,7 @@ discover(Clock, Members, Others0) ->
             Pids -> Pids
         end,
     classify(
-        [{Pid, 0} || Pid <- New, Pid =/= Newest, Pid =/= self(), not is_map_key(Pid, Members), not is_map_key(Pid, Known)],
+        [{Pid, 0} || Pid <- New, Pid =/= Newest, Pid =/= self(), not is_map_key(Pid, Members), not is_map_key(Pid, Known), not is_map_key(Pid, Elsewhere)],
         Clock,
         Others#others{last = Number}
     ).
@@ -66,14 +68,17 @@ first_look(Others = #others{pids = Pids}) ->
     }.
 
 %% Whose clock it sees is known once it has waited for something, or run for long; until then it may have to be looked at again.
-classify(New, Clock, Others = #others{pids = Known, pending = Pending, at_work = AtWork}) ->
+classify(New, Clock, Others = #others{pids = Known, elsewhere = Elsewhere, pending = Pending, at_work = AtWork}) ->
     States = [{Pid, Looks, is_settled(Info, Looks)} || {Pid, Looks} <- New ++ Pending, {_, _} = Info <- [state(Pid)]],
-    Asked = [{Pid, IsSettled} || {Pid, Looks, IsSettled} <- States, IsSettled orelse Looks =:= 0],
-    Facts = maps:from_list(parallel(fun({Pid, _}) -> {Pid, ertime_use:facts(Pid)} end, Asked)),
-    Joined = [Pid || {Pid, _} <- Asked, ertime_use:clock_of(Pid, Facts) =:= Clock],
-    Found = [Pid || {Pid, true} <- Asked] -- Joined,
-    Undecided = [{Pid, Looks + 1} || {Pid, Looks, false} <- States, not lists:member(Pid, Joined)],
-    {Joined, [Pid || {Pid, _} <- Undecided], Others#others{pids = maps:merge(Known, maps:from_keys(Found, [])), pending = Undecided, at_work = Found ++ AtWork}}.
+    Facts = maps:from_list(parallel(fun(Pid) -> {Pid, ertime_use:facts(Pid)} end, [Pid || {Pid, Looks, IsSettled} <- States, IsSettled orelse Looks =:= 0])),
+    Clocks = maps:map(fun(Pid, _) -> ertime_use:clock_of(Pid, Facts) end, Facts),
+    Joined = [Pid || {Pid, Its} <- maps:to_list(Clocks), Its =:= Clock],
+    Other = [Pid || {Pid, Its} <- maps:to_list(Clocks), Its =/= Clock, Its =/= none],
+    Found = [Pid || {Pid, _, true} <- States, maps:get(Pid, Clocks) =:= none],
+    Undecided = [{Pid, Looks + 1} || {Pid, Looks, false} <- States, maps:get(Pid, Clocks, none) =:= none],
+    {Joined, [Pid || {Pid, _} <- Undecided], Others#others{
+        pids = maps:merge(Known, maps:from_keys(Found, [])), elsewhere = maps:merge(Elsewhere, maps:from_keys(Other, [])), pending = Undecided, at_work = Found ++ AtWork
+    }}.
 
 is_settled({Status, Count}, Looks) ->
     Status =:= waiting orelse Looks >= ?GRACE orelse Count >= ?LONG.
@@ -104,37 +109,36 @@ look(Others = #others{seen = Seen, asked = Asked}) ->
     end.
 
 %% Asks those who are at work for whom they are: which of them work for one of these, or what is known now.
-ask(Clock, Members, Others = #others{at_work = AtWork}) ->
-    ask([{Pid, Pid} || Pid <- AtWork], Clock, Members, Others#others{at_work = []}).
+ask(Members, Others = #others{at_work = AtWork}) ->
+    ask(AtWork, Members, Others#others{at_work = []}).
 
-%% Each with the one at work for which it is asked.
-ask([], _, _, Others) ->
+ask([], _, Others) ->
     Others;
-ask(Pairs, Clock, Members, Others = #others{asked = Before}) ->
-    Asked = maps:merge(Before, maps:from_keys([Pid || {Pid, _} <- Pairs], [])),
-    Answers = lists:append(parallel(fun monitoring/1, Pairs)),
-    case lists:usort([Origin || {By, Pid, Origin} <- Answers, is_map_key(By, Members), Pid =:= Origin orelse not is_elsewhere(Origin, Clock)]) of
-        [] -> ask(next(Answers, Asked), Clock, Members, Others#others{asked = Asked});
-        Busy -> {busy, Busy}
+ask(Pids, Members, Others = #others{asked = Before, elsewhere = Elsewhere}) ->
+    Asked = maps:merge(Before, maps:from_keys(Pids, [])),
+    Answers = lists:append(parallel(fun monitoring/1, Pids)),
+    case lists:usort([Pid || {By, Pid} <- Answers, is_map_key(By, Members)]) of
+        [] ->
+            Next = lists:usort([By || {By, _} <- Answers, By =/= self(), not is_map_key(By, Asked), not is_map_key(By, Elsewhere)]),
+            ask(Next, Members, Others#others{asked = Asked});
+        Busy ->
+            {busy, Busy}
     end.
 
-next(Answers, Asked) ->
-    lists:ukeysort(1, [{By, Origin} || {By, _, Origin} <- Answers, By =/= self(), not is_map_key(By, Asked)]).
-
-monitoring({Pid, Origin}) ->
+monitoring(Pid) ->
     case process_info(Pid, monitored_by) of
-        {monitored_by, Monitors} -> [{By, Pid, Origin} || By <- Monitors, is_pid(By), node(By) =:= node()];
+        {monitored_by, Monitors} -> [{By, Pid} || By <- Monitors, is_pid(By), node(By) =:= node()];
         undefined -> []
     end.
 
-is_elsewhere(Pid, Clock) ->
-    not lists:member(ertime_use:clock_of(Pid, #{}), [none, Clock]).
-
 %% --- side by side -------------------------------------------------------------------------------------------------
 
-%% A process answers when it is run next, for which it has to wait its turn: so many are asked at once.
-parallel(Fun, Items) when length(Items) =< 1 ->
-    [Fun(Item) || Item <- Items];
+%% A process answers when it is run next, for which it has to wait its turn: so many are asked at once. For a few of them no process
+%% is spawned, which those who wait for other clocks would have to look at.
+parallel(_, []) ->
+    [];
+parallel(Fun, Items) when length(Items) =< ?FEW ->
+    ahead(fun() -> [Fun(Item) || Item <- Items] end);
 parallel(Fun, Items) ->
     ahead(fun() ->
         Size = (length(Items) + ?HELPERS - 1) div ?HELPERS,

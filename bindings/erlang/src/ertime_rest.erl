@@ -100,8 +100,8 @@ between(Known = #known{clock = Clock, members = Members, others = Others}, Seen,
     end.
 
 %% Asks who is at work, until everybody who was at work while the members rested has been asked.
-among(Known = #known{clock = Clock, members = Members}, Seen, Others) ->
-    case ertime_others:ask(Clock, maps:merge(Members, maps:from_keys(loaders(), [])), Others) of
+among(Known = #known{members = Members}, Seen, Others) ->
+    case ertime_others:ask(maps:merge(Members, maps:from_keys(loaders(), [])), Others) of
         {busy, Busy} ->
             {busy, Busy, Known};
         Asked ->

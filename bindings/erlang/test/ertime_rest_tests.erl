@@ -12,7 +12,7 @@
 
 rest_test_() ->
     [
-        {timeout, 3600, {lists:flatten(io_lib:format("~s, beside ~w", [What, Busy])), fun() -> rounds(Busy, Setup, Do) end}}
+        {timeout, 3600, {lists:flatten(io_lib:format("~s, beside ~w", [What, Busy])), fun() -> patiently(fun() -> rounds(Busy, Setup, Do) end) end}}
      || Busy <- [0, 4], {What, Setup, Do} <- kinds()
     ].
 
@@ -127,6 +127,15 @@ other_clock_test() ->
     end),
     [begin unlink(Pid), exit(Pid, kill) end || Pid <- [Registry, Busy]],
     true = ertime:close(Other).
+
+%% It rests, though the machine may be slow.
+patiently(Do) ->
+    ok = application:set_env(ertime, rest_limit, 60000),
+    try
+        Do()
+    after
+        application:unset_env(ertime, rest_limit)
+    end.
 
 %% One that was suspended for good counts as at rest.
 suspended_test() ->

@@ -82,6 +82,14 @@ closed() ->
     end),
     ?assertEqual([slept, late], [receive M -> M after 30000 -> nothing end || _ <- [1, 2]]).
 
+%% The outermost call is the test's own, as what reports a failure takes it.
+line_test() ->
+    try
+        ertime:test(fun(_) -> error(failed) end)
+    catch
+        error:failed:Stack -> ?assertMatch({?MODULE, _, 1, [_ | _]}, lists:last(Stack))
+    end.
+
 %% --- who waits for itself -----------------------------------------------------------------------------------------
 
 nobody_advances_test_() ->
