@@ -21,7 +21,7 @@ main([Seconds]) ->
 go_on(From, Until) ->
     case erlang:monotonic_time(second) < Until of
         true ->
-            Options = #{faults => [silent, loud], deterministic => From rem 3 =:= 0, slots => element(1 + From div ?SEEDS rem 3, {256, 1024, 160})},
+            Options = #{limit => infinity, faults => [silent, loud], deterministic => From rem 3 =:= 0, slots => element(1 + From div ?SEEDS rem 3, {256, 1024, 160})},
             lists:foreach(fun(Test) -> ok = ertime:seeds({From, From + ?SEEDS - 1}, Options, Test) end, tests()),
             go_on(From + ?SEEDS, Until);
         false ->

@@ -92,7 +92,10 @@ late_test() ->
     ?assertEqual([1000, 1600], lists:usort(Late)).
 
 %% Timers that are due at once: each seed has its order, the same one each time. Other deadlines keep theirs.
-order_test() ->
+order_test_() ->
+    {timeout, 120, fun order/0}.
+
+order() ->
     Came = fun(Schedule) ->
         under(Schedule, fun() ->
             _ = [erlang:send_after(100, self(), N) || N <- lists:seq(1, 8)],
@@ -175,14 +178,20 @@ refused_test_() ->
 %% --- seeds --------------------------------------------------------------------------------------------------------
 
 %% What holds under every seed passes; `always' is asked at each rest.
-passes_test() ->
+passes_test_() ->
+    {timeout, 120, fun passes/0}.
+
+passes() ->
     ?assertEqual({passed, 50}, ertime_seeds:check(50, #{faults => [silent, loud], always => fun(_) -> now_ms() >= 0 end, start => 0}, fun(_) ->
         Begin = now_ms(),
         timer:sleep(60000),
         ?assert(now_ms() - Begin >= 60000)
     end)).
 
-always_test() ->
+always_test_() ->
+    {timeout, 120, fun always/0}.
+
+always() ->
     {failed, Report} = ertime_seeds:check(50, #{faults => [leap], always => fun(_) -> erlang:system_time(second) >= 1767225600 end}, fun(_) ->
         timer:sleep(600000)
     end),
@@ -190,7 +199,10 @@ always_test() ->
     ?assert(By < 0).
 
 %% To the one fault that matters, and to numbers as a person would say them.
-shrinks_test() ->
+shrinks_test_() ->
+    {timeout, 120, fun shrinks/0}.
+
+shrinks() ->
     {failed, Report} = ertime_seeds:check(100, #{faults => [leap, drift, {stall, 20000}, order], over => 60000}, fun(_) ->
         Begin = now_ms(),
         timer:sleep(30000),
@@ -221,7 +233,10 @@ without_a_fault_test() ->
     ?assertMatch({failed, #{seed := none, schedule := []}}, ertime_seeds:check(5, #{}, fun(_) -> error(always) end)).
 
 %% Twenty processes race for one: on one scheduler, one message a step, the outcome is that of the seed.
-deterministic_test() ->
+deterministic_test_() ->
+    {timeout, 120, fun deterministic/0}.
+
+deterministic() ->
     Race = fun(Clock) ->
         Self = self(),
         Pids = [spawn_link(fun() -> raced(Self, N, 10) end) || N <- lists:seq(1, 20)],
@@ -288,7 +303,10 @@ with_environment(Variables, Do) ->
     end.
 
 %% A test that knows nothing of seeds runs without a fault, and once for each; it returns what it does, and raises what it raises.
-suite_test() ->
+suite_test_() ->
+    {timeout, 120, fun suite/0}.
+
+suite() ->
     Test = self(),
     Run = fun(_) -> Test ! ran, timer:sleep(1000), erlang:system_time(second) - 1767225600 end,
     Suite = fun(Variables) -> with_environment(Variables, fun() -> ertime:test(#{advance => auto, mode => multi_time_warp}, Run) end) end,
