@@ -68,6 +68,7 @@ PROJECTS = (
             " lager_crash_backend lager_manager_killer_test lager_metadata_whitelist_test lager_rotate lager_test_backend"
             " lager_test_function_transform lager_trace_test pr_composite_test pr_stacktrace_test zzzz_gh280_crash".split()
         ),
+        is_fresh=True,
     ),
     Project(
         "eredis",
