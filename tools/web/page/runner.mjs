@@ -3,7 +3,7 @@
 import {PROGRAMS, failed} from "./answers.mjs";
 
 /** Seconds that a text may take, and that a worker may take to begin. */
-export const SECONDS = 2;
+export const SECONDS = 5;
 const STARTING = 20;
 
 export class Runner {
