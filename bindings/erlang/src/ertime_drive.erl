@@ -112,7 +112,7 @@ seen(_, Answer) ->
     Answer.
 
 noted(true, Pid, Clock, {_, Sent, _} = Answer) when Sent > 0 ->
-    case ertime_nif:os_time(Clock) of
+    _ = case ertime_nif:os_time(Clock) of
         {Mono, _} -> Pid ! {moment, Mono div ?MILLISECOND};
         _ -> closed
     end,

@@ -103,7 +103,7 @@ allowed(Fault, Options) ->
         refuse(io_lib:format("faults: there is no ~w of one node, whose OS monotonic clock goes with the others'", [Name]), [Fault]).
 
 %% @private Whether a list is a schedule for a clock of these options: the same, in order of time.
--spec check(term(), ertime:options(), term()) -> schedule().
+-spec check(term(), map(), term()) -> schedule().
 check(Schedule, Options, Arguments) when is_list(Schedule) ->
     lists:foreach(fun(Entry) -> check_entry(Entry, Options, Arguments) end, Schedule),
     lists:keysort(1, Schedule);

@@ -47,7 +47,7 @@ outcome(Specifications, Under = #{schedule := Schedule}, Fun) ->
     is_list(Schedule) andalso lists:all(fun({_, {on, _, _}}) -> true; (_) -> false end, Schedule) orelse
         ertime_faults:refuse("schedule: of several nodes it is a list of {Milliseconds, {on, Node, Fault}}", [Schedule]),
     Nodes = ertime_nodes:open([specified(Specification, Under) || Specification <- Specifications]),
-    Marks = [{Node, erpc:call(Node, erlang, processes, [])} || Node <- Nodes],
+    Marks = [{Node, erpc:call(Node, erlang, processes, [])} || Node <- ertime_nodes:up(Nodes)],
     {Pid, Monitor} = spawn_monitor(fun() ->
         erlang:put('$ertime', none),
         _ = [group_leader(Output, self()) || #{output := Output} <- [Under], is_pid(Output)],

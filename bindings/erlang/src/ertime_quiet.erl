@@ -37,7 +37,7 @@ drops(_, _) -> ignore.
 serve(Monitor, To) ->
     receive
         {io_request, From, As, Request} ->
-            answer(From, As, Request, To),
+            _ = answer(From, As, Request, To),
             serve(Monitor, To);
         {'DOWN', Monitor, process, _, _} ->
             leave(To);
@@ -51,7 +51,7 @@ serve(Monitor, To) ->
 leave(To) ->
     receive
         {io_request, From, As, Request} ->
-            answer(From, As, Request, To),
+            _ = answer(From, As, Request, To),
             leave(To)
     after 100 ->
         logger:remove_primary_filter(filter_id(self()))

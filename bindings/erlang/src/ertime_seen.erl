@@ -63,11 +63,13 @@ is_on() ->
 armed(Timer, [Time, To | Rest]) ->
     Clock = ertime_use:clock(),
     case is_reference(Clock) andalso ertime_keeper:get({seen, Clock}) of
-        Counter when is_tuple(Counter); is_reference(Counter) ->
+        false ->
+            false;
+        none ->
+            false;
+        Counter ->
             counters:add(Counter, 1, 1),
-            counters:get(Counter, 1) =< ?MOST andalso note(Timer, Clock, Time, To, Rest);
-        _ ->
-            false
+            counters:get(Counter, 1) =< ?MOST andalso note(Timer, Clock, Time, To, Rest)
     end,
     ok.
 

@@ -2,7 +2,7 @@
 %% A test under a clock of its own: in a process of its own (`ertime:test/2'), or in one that a test framework has started.
 -module(ertime_test).
 
--export([run/2, outcome/2, set_up/1, set_up/2, done/1, tear_down/1, clear/3]).
+-export([run/2, outcome/2, set_up/1, set_up/2, done/1, tear_down/1, clear/3, in_process/3]).
 
 -include("ertime.hrl").
 
@@ -106,7 +106,7 @@ watch(Clock, Owner, #{advance := Advance, limit := Limit}, Tell) ->
 under(Clock, Fun, Rest) ->
     Self = self(),
     Callers = [Self | case get('$callers') of undefined -> []; Before -> Before end],
-    {Pid, Monitor} = spawn_monitor(fun() -> in_process(Clock, Callers, Fun) end),
+    {Pid, Monitor} = spawn_monitor(?MODULE, in_process, [Clock, Callers, Fun]),
     maps:get(output, Rest) =:= none orelse group_leader(maps:get(output, Rest), Pid),
     Tell = fun(Reason) -> Self ! {?MODULE, Monitor, Reason} end,
     Drive = drive(Clock, Pid, Self, Rest, Tell),
@@ -239,6 +239,8 @@ wait_for(Monitors, Wait, Otherwise) ->
     end.
 
 %% The reason tells processes that are linked to it to end quietly. What reports a failure takes the outermost call for the test.
+%% @private
+-spec in_process(ertime:clock(), [pid()], fun((ertime:clock()) -> term())) -> no_return().
 in_process(Clock, Callers, Fun) ->
     receive {?MODULE, go} -> ok end,
     put('$callers', Callers),
