@@ -40,7 +40,7 @@ defmodule FaultsTest do
       assert {:failed, %{schedule: schedule, seed: seed}} = :ertime_seeds.check(200, options, test)
       assert is_integer(seed)
       assert length(schedule) in [1, 2]
-      again = fn -> Ertime.test([advance: :auto, mode: :multi_time_warp, schedule: schedule], test) end
+      again = fn -> Ertime.test([advance: :auto, mode: :multi_time_warp, deterministic: true, schedule: schedule], test) end
 
       assert :raised ==
                (try do

@@ -30,7 +30,7 @@ found(Faults, Test) ->
     {failed, #{seed := Seed, schedule := Schedule}} = ertime_seeds:check(200, #{faults => Faults, deterministic => true}, Test),
     ?assert(is_integer(Seed)),
     ?assert(lists:member(length(Schedule), [1, 2])),
-    Again = fun() -> ertime:test(#{advance => auto, mode => multi_time_warp, schedule => Schedule}, Test) end,
+    Again = fun() -> ertime:test(#{advance => auto, mode => multi_time_warp, deterministic => true, schedule => Schedule}, Test) end,
     ?assertEqual(raised, try Again() of _ -> returned catch _:_ -> raised end).
 
 %% It is held for an hour, whatever the system clock does.
