@@ -1,6 +1,6 @@
 %% Random calls of twelve processes on a few clocks, which are closed and dropped meanwhile, while processes with timers and
 %% monitors exit. It looks for crashes of the runtime, above all under sanitizers, and ends with status 1 where a call raised
-%% anything but a refusal. At the end no process and no timer of it is left. `.ci/check_erlang' runs it:
+%% anything but a refusal, or that the clock of the process was closed. At the end no process and no timer of it is left. `.ci/check_erlang' runs it:
 %%
 %%     erl -noshell -run ertime_chaos main SECONDS [SEED]
 -module(ertime_chaos).
@@ -46,6 +46,7 @@ loop(End, Calls) ->
         flush()
     catch
         error:{not_at_rest, _} -> ok;
+        error:{clock_closed, _} -> ok;
         error:Reason:Stack -> lists:member(Reason, ?REFUSALS) orelse exit({Reason, Stack})
     end,
     case Calls rem 100 =:= 0 andalso erlang:monotonic_time(second) >= End of
