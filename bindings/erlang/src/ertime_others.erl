@@ -2,11 +2,11 @@
 %% The processes of the node that are no members of a clock, where some of them are at work: whether one is for whom a member
 %% waits, be it through any number of servers.
 %%
-%% Whoever calls a server monitors it until the answer comes. So each that is at work is asked who monitors it, and these who
-%% monitors them, until a member is among them. To be asked is work for a process; the members themselves are not asked, so that
-%% they can be seen to rest meanwhile. Let that be the case from one look at all processes to another, and let each of the others
-%% that wasn't asked in between rest from the one to the other, too. Had a member waited for one at work, then some server
-%% between the two was asked while those before it waited for it all the time, and the answers led to the member.
+%% Whoever calls a server monitors it until the answer comes. So those whom the members monitor are asked whom they monitor, and so
+%% on: whether one of them is at work. To be asked is work for a process, so its count is taken anew after that. Let that be
+%% the case from one look at all processes to another, and let each of the others that was found so rest from the one to the
+%% other, too: then no member waited for one at work. (Nobody is asked who monitors it: the runtime may then bring back the handle of
+%% a clock that is being let go of.)
 %%
 %% A process that sees another clock works for another test, and isn't asked.
 %%
@@ -14,7 +14,7 @@
 %% have come.
 -module(ertime_others).
 
--export([new/0, discover/3, ask/2, look/1]).
+-export([new/0, discover/3, ask/3, look/1]).
 
 -define(GRACE, 20).
 -define(LONG, 20000).
@@ -29,7 +29,7 @@
     last = none,    % the number of the newest process
     seen = #{},     % pid => its count at the first look, of those that waited
     at_work = [],   % at some time since then, as far as is known, and wasn't asked
-    asked = #{}     % pid => []
+    asked = #{}     % pid => []: who is at work, and nobody waits for it
 }).
 
 new() ->
@@ -101,35 +101,39 @@ number(Pid) ->
 
 %% --- who is at work, and for whom ---------------------------------------------------------------------------------
 
-%% Those who have been at work since the first look, and weren't asked: none, or what is known with them.
+%% Those who have been at work since the first look, as far as that matters: none, or what is known with them.
 look(Others = #others{seen = Seen, asked = Asked}) ->
     case [Pid || {Pid, Info} <- maps:to_list(Seen), not is_map_key(Pid, Asked), process_info(Pid, [status, reductions]) =/= Info] of
         [] -> none;
         AtWork -> Others#others{at_work = AtWork}
     end.
 
-%% Asks those who are at work for whom they are: which of them work for one of these, or what is known now.
-ask(Members, Others = #others{at_work = AtWork}) ->
-    ask(AtWork, Members, Others#others{at_work = []}).
+%% Of these, whom members monitor, and of those whom they monitor in turn: which are at work, or what is known now. Who is at
+%% work and isn't among them matters again only if one of them changes.
+ask(Pids, Members, Others = #others{at_work = AtWork, asked = Asked}) ->
+    At = maps:from_keys(AtWork, []),
+    follow(Pids, #{}, At, Members, Others#others{at_work = [], asked = maps:merge(Asked, At)}).
 
-ask([], _, Others) ->
+follow([], _, _, _, Others) ->
     Others;
-ask(Pids, Members, Others = #others{asked = Before, elsewhere = Elsewhere}) ->
-    Asked = maps:merge(Before, maps:from_keys(Pids, [])),
-    Answers = lists:append(parallel(fun monitoring/1, Pids)),
-    case lists:usort([Pid || {By, Pid} <- Answers, is_map_key(By, Members)]) of
+follow(Pids, Followed0, AtWork, Members, Others = #others{seen = Seen, asked = Asked, elsewhere = Elsewhere}) ->
+    Followed = maps:merge(Followed0, maps:from_keys(Pids, [])),
+    Answers = parallel(fun(Pid) -> {Pid, ertime_rest:monitored_by(Pid), process_info(Pid, [status, reductions])} end, Pids),
+    case [Pid || {Pid, _, Info} <- Answers, is_map_key(Pid, AtWork) orelse is_working(Info)] of
         [] ->
-            Next = lists:usort([By || {By, _} <- Answers, By =/= self(), not is_map_key(By, Asked), not is_map_key(By, Elsewhere)]),
-            ask(Next, Members, Others#others{asked = Asked});
+            Rests = maps:from_list([{Pid, Info} || {Pid, _, Info} <- Answers, Info =/= undefined]),
+            Next = lists:usort([
+                To
+             || {_, Monitored, _} <- Answers, To <- Monitored, To =/= self(), not is_map_key(To, Followed), not is_map_key(To, Members), not is_map_key(To, Elsewhere)
+            ]),
+            follow(Next, Followed, AtWork, Members, Others#others{seen = maps:merge(Seen, Rests), asked = maps:without(Pids, Asked)});
         Busy ->
             {busy, Busy}
     end.
 
-monitoring(Pid) ->
-    case process_info(Pid, monitored_by) of
-        {monitored_by, Monitors} -> [{By, Pid} || By <- Monitors, is_pid(By), node(By) =:= node()];
-        undefined -> []
-    end.
+%% One that was suspended for good doesn't work.
+is_working([{_, Status} | _]) -> Status =/= waiting andalso Status =/= suspended;
+is_working(undefined) -> false.
 
 %% --- side by side -------------------------------------------------------------------------------------------------
 

@@ -23,6 +23,7 @@
 -record(known, {
     clock,
     members = #{},    % pid => []
+    calls = #{},      % of those, and of who loads code: pid => {its reductions, whom it monitors}
     busy = none,      % the member that was found at work last
     allowed = [],     % those of them that were allowed the clock
     suspended = #{},  % pid => {its reductions, the millisecond in which it was first seen suspended with them}
@@ -95,13 +96,36 @@ between(Known, Seen, true) ->
     confirmed(Known, Seen);
 between(Known = #known{clock = Clock, members = Members, others = Others}, Seen, false) ->
     case ertime_others:discover(Clock, Members, Others) of
-        {[], [], New} -> among(Known#known{others = New}, Seen, New);
+        {[], [], New} -> called(Known#known{others = New}, Seen);
         {Joined, Undecided, New} -> {busy, Undecided, Known#known{members = maps:merge(Members, maps:from_keys(Joined, [])), others = New}}
     end.
 
-%% Asks who is at work, until everybody who was at work while the members rested has been asked.
-among(Known = #known{members = Members}, Seen, Others) ->
-    case ertime_others:ask(maps:merge(Members, maps:from_keys(loaders(), [])), Others) of
+%% Whom each monitors as long as it has this count. To be asked is work for a process, so the count is taken afterwards, and is that
+%% of the next look if nothing else was.
+called(Known = #known{calls = Before, others = Others}, Seen) ->
+    Calls = maps:from_list([{Pid, calls(Pid, Count, Before)} || {Pid, Count} <- Seen]),
+    New = Known#known{calls = Calls},
+    case [Pid || {Pid, Count} <- Seen, element(1, map_get(Pid, Calls)) =/= Count] of
+        [] -> among(New, Seen, Others);
+        _ -> {busy, [], New}
+    end.
+
+calls(Pid, Count, Before) ->
+    case Before of
+        #{Pid := {Count, _} = Known} ->
+            Known;
+        _ ->
+            Monitored = monitored_by(Pid),
+            case process_info(Pid, reductions) of
+                {_, After} -> {After, Monitored};
+                undefined -> {none, []}
+            end
+    end.
+
+%% Sees for whom they wait, until everybody who was at work while the members rested is known not to be among them.
+among(Known = #known{members = Members, calls = Calls}, Seen, Others) ->
+    Called = lists:usort([Pid || {_, Pids} <- maps:values(Calls), Pid <- Pids, not is_map_key(Pid, Members), Pid =/= self()]),
+    case ertime_others:ask(Called, Members, Others) of
         {busy, Busy} ->
             {busy, Busy, Known};
         Asked ->
