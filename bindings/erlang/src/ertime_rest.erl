@@ -23,7 +23,7 @@
 -record(known, {
     clock,
     members = #{},    % pid => []
-    calls = #{},      % of those, and of who loads code: pid => {its reductions, whom it monitors}
+    calls = #{},      % of those: pid => {its reductions, whom it monitors}
     busy = none,      % the member that was found at work last
     allowed = [],     % those of them that were allowed the clock
     suspended = #{},  % pid => {its reductions, the millisecond in which it was first seen suspended with them}
@@ -102,10 +102,11 @@ between(Known = #known{clock = Clock, members = Members, others = Others}, Seen,
 
 %% Whom each monitors as long as it has this count. To be asked is work for a process, so the count is taken afterwards, and is that
 %% of the next look if nothing else was.
-called(Known = #known{calls = Before, others = Others}, Seen) ->
-    Calls = maps:from_list([{Pid, calls(Pid, Count, Before)} || {Pid, Count} <- Seen]),
+called(Known = #known{members = Members, calls = Before, others = Others}, Seen) ->
+    Counts = [It || It = {Pid, _} <- Seen, is_map_key(Pid, Members)],
+    Calls = maps:from_list([{Pid, calls(Pid, Count, Before)} || {Pid, Count} <- Counts]),
     New = Known#known{calls = Calls},
-    case [Pid || {Pid, Count} <- Seen, element(1, map_get(Pid, Calls)) =/= Count] of
+    case [Pid || {Pid, Count} <- Counts, element(1, map_get(Pid, Calls)) =/= Count] of
         [] -> among(New, Seen, Others);
         _ -> {busy, [], New}
     end.
