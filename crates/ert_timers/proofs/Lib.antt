@@ -21,6 +21,7 @@ pub mod NextUses
 pub mod Armings
 pub mod Lookings
 pub mod Rounds
+pub mod Freed
 pub mod Takings
 pub mod Dropped
 pub mod Starts

@@ -5,6 +5,7 @@ pub mod Expiring
 pub mod ExpiredLists
 pub mod HeldFor
 pub mod Freeing
+pub mod Frees
 pub mod Laws
 pub mod Looking
 pub mod NextDue

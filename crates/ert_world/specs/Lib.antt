@@ -1,6 +1,7 @@
 pub mod Bounded
 pub mod Cancelling
 pub mod Counted
+pub mod Frees
 pub mod Held
 pub mod Laws
 pub mod Mailing

@@ -13,10 +13,11 @@ impl World {
     ghost use Rattle.ert_effects.specs.RoomCalls.{TellsRoom};
     ghost use Rattle.ert_effects.specs.TimerCalls.{Reads, Cancels, Starts};
     ghost use Rattle.ert_effects.specs.WheelCalls.{TellsAlive, MarksExit};
-    ghost use Rattle.ert_effects.specs.declared.answers.StartErr.TheVariants.{BadArg, NoMemory};
+    ghost use Rattle.ert_effects.specs.declared.answers.StartErr.TheVariants.{BadArg, Full, NoMemory};
     ghost use Rattle.ert_defs.specs.declared.entry.Actor.TheVariants.{Caller};
     ghost use Rattle.ert_defs.specs.States.{state};
     ghost use Rattle.ert_defs.specs.Timers.{is_taken};
+    ghost use Rattle.ert_world.specs.Frees.{IsUsedUpAt, UsesFreeAt};
     ghost use Rattle.ert_world.specs.Restarts.{HasNoDeadline};
     ghost use Rattle.ert_world.specs.Stepping.{Stays};
     ghost use Rattle.ert_world.specs.Worlds.{Goes, HasForgotten, StayForgotten, By, HasProcessExited, IsLetGoIn};
@@ -33,6 +34,8 @@ impl World {
         ensures call { Goes self.old (By self.old (λ g. Starts g 0 wheel start.now result)) self.new }
         ensures time { result ≡ Err BadArg → HasNoDeadline self.old start.now }
         ensures memory { result ≢ Err NoMemory }
+        ensures full { result ≡ Err Full → IsUsedUpAt self.old self.new wheel }
+        ensures frees { UsesFreeAt self.old self.new wheel result }
         ensures forgotten { StayForgotten self.old self.new }
     {
         self.wheels[wheel as usize].start(&self.desk, &mut self.pass, CALLER, start)
