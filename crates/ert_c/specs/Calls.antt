@@ -11,7 +11,7 @@ use Rattle.ert_effects.specs.WheelCalls.{TellsAlive}
 use Rattle.ert_effects.specs.declared.answers.MonitorErr.{MonitorErr}
 use Rattle.ert_effects.specs.declared.answers.Room.{Room}
 use Rattle.ert_effects.specs.declared.answers.StartErr.{StartErr}
-use Rattle.ert_effects.specs.declared.answers.StartErr.TheVariants.{NoMemory}
+use Rattle.ert_effects.specs.declared.answers.StartErr.TheVariants.{Full, NoMemory}
 use Rattle.ert_effects.specs.declared.answers.Taken.{Taken}
 use Rattle.ert_effects.specs.declared.answers.Turned.{Turned}
 use Rattle.ert_defs.specs.States.{state}
@@ -20,6 +20,7 @@ use Rattle.ert_defs.specs.declared.mail.Request.{Request}
 use Rattle.ert_defs.specs.declared.memory.NoMemory.{NoMemory as OutOfMemory}
 use Rattle.ert_defs.specs.declared.timer.Start.{Start}
 use Rattle.ert_defs.specs.declared.timer.TimerRef.{TimerRef}
+use Rattle.ert_world.specs.Frees.{IsUsedUpAt, UsesFreeAt}
 use Rattle.ert_world.specs.Stepping.{Stays}
 use Rattle.ert_world.specs.Worlds.{Seen, Goes, By, HasForgotten, HasPassedAt, IsNextHeldAt, IsNearestAt}
 use Rattle.ert_timers.specs.NextDue.{NoneArmedBefore}
@@ -55,10 +56,13 @@ abbrev pub AnswersAtProcess : {A P : Type 0} → ℕ → (A → Seen → Seen �
 AnswersAtProcess n call tells kept found old status new =
     Through (found ≡ kept) (AtProcess n call (λ answer. tells answer kept status found) status (found ≡ kept)) old status new
 
--- caller 0 starts a timer, with this answer, which is never out of memory
+-- caller 0 starts a timer, with this answer, which is never out of memory; it is refused as full only where the wheel has had
+-- 2^53 timers or holds no slot free afterwards, and takes no free slot but that of its timer
 pub record StartsBy (wheel : ℕ) (start : Start) (answer : Result TimerRef StartErr) (old new : Seen) : Type 0 where
   pub makes : MakesCall (λ w. By w (λ g. Starts g 0 wheel start answer)) old new
   pub memory : answer ≢ Err NoMemory
+  pub full : answer ≡ Err Full → IsUsedUpAt old new wheel
+  pub frees : UsesFreeAt old new wheel answer
 
 -- C starts a timer on the wheel of a scheduler, for a process; where there is no such scheduler or process,
 -- nothing has changed

@@ -11,7 +11,9 @@ use Rattle.ert_effects.specs.WheelCalls.{TellsAlive}
 use Rattle.ert_effects.specs.declared.answers.MonitorErr.{MonitorErr}
 use Rattle.ert_effects.specs.declared.answers.RestartErr.{RestartErr}
 use Rattle.ert_effects.specs.declared.answers.StartErr.{StartErr}
-use Rattle.ert_effects.specs.declared.answers.StartErr.TheVariants.{NoMemory}
+use Rattle.ert_effects.specs.declared.answers.StartErr.TheVariants.{Full, NoMemory}
+use Rattle.ert_effects.specs.declared.answers.RestartErr.TheVariants.{Full as FullAgain}
+use Rattle.ert_timers.specs.Frees.{IsUsedUp, UsesFree}
 use Rattle.ert_effects.specs.declared.answers.Taken.{Taken}
 use Rattle.ert_c.specs.ClockCalls.{state_as}
 use Rattle.ert_c.specs.Through.{Through, TellsC, IfBelow, IsOutOfRange}
@@ -113,20 +115,25 @@ pub record ShardReadsOffset (status : ℤ) (offset : ErtOffset) (old new : Owned
   pub state : offset.state ≡ state_as offset_state
   pub steps : ShardSteps old (ShardBy old (λ g. TellsOffset g (Caller (old.share.number + 1)) (offset.offset, offset_state))) new
 
--- a shard starts a timer on its wheel as its caller, with this answer, which is never out of memory
+-- a shard starts a timer on its wheel as its caller, with this answer, which is never out of memory; it is refused as full only
+-- where the wheel has had 2^53 timers or holds no slot free afterwards, and takes no free slot but that of its timer
 pub record ShardStartsBy (start : Start) (answer : Result TimerRef StartErr) (old new : Owned) : Type 0 where
   pub goes : ShardGoes old (ShardBy old (λ g. Starts g (old.share.number + 1) old.share.number start answer)) new
   pub memory : answer ≢ Err NoMemory
+  pub full : answer ≡ Err Full → IsUsedUp old.wheel new.wheel
+  pub frees : UsesFree old.wheel new.wheel answer
 
 -- C starts a timer on the wheel of a shard; where the process isn't of the shard, nothing has changed
 abbrev pub ShardStarts : ErtStart → ErtTimer → ErtTimer → Option Owned → ℤ → Option Owned → Type 0
 ShardStarts start = AnswersAtHome start.dest (ShardStartsBy (start_of start)) IsStartTold
 
 -- a shard gives an armed timer a new deadline as its caller: the name of the next, or why there is none; where there is one
--- the shard's wheel holds no row of the old one
+-- the shard's wheel holds no row of the old one. It is refused and takes a free slot as a start
 pub record ShardRestartsBy (timer : TimerRef) (start : Start) (answer : Result TimerRef RestartErr) (old new : Owned) : Type 0 where
   pub goes : ShardGoes old (ShardBy old (λ g. Restarts g (old.share.number + 1) old.share.number timer start answer)) new
   pub forgotten : LetsGo timer answer new
+  pub full : answer ≡ Err FullAgain → IsUsedUp old.wheel new.wheel
+  pub frees : UsesFree old.wheel new.wheel answer
 
 -- C gives a timer a new deadline; where the process isn't of the shard, nothing has changed
 abbrev pub ShardRestarts : ErtStart → ErtTimer → ErtTimer → Option Owned → ℤ → Option Owned → Type 0
