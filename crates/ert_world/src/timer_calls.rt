@@ -100,8 +100,9 @@ impl World {
     /// How many slots of a wheel can take a timer now, and from when on one more can, of those that rest: a slot
     /// rests once it was used 262,143 times in its round, until the deadlines of all its timers have passed.
     ///
-    /// By it an embedder sees a full wheel coming, and knows how long to wait then. The caller looks at the time
-    /// and at each slot, so it isn't meant for each start. No memory is taken.
+    /// By it an embedder sees a full wheel coming, and knows how long to wait then. Where one can take a timer, the next
+    /// start on the wheel isn't refused. The caller looks at the time and at each slot, so it isn't meant for each start. No
+    /// memory is taken.
     pub fn room(&mut self, wheel: u32) -> Room
         requires { wheel < self.old.settings.schedulers }
         ensures call { Goes self.old (By self.old (λ g. TellsRoom g 0 wheel result)) self.new }
