@@ -23,6 +23,7 @@ pub mod Lookings
 pub mod Rounds
 pub mod Takings
 pub mod Dropped
+pub mod Probed
 pub mod Starts
 pub mod Roomed
 pub mod Swept

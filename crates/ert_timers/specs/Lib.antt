@@ -13,6 +13,7 @@ pub mod Parts
 pub mod Passed
 pub mod Restarting
 pub mod Rooms
+pub mod Sleeping
 pub mod Slots
 pub mod Starting
 pub mod Sweeping
