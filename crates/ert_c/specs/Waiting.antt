@@ -10,7 +10,7 @@ use Rattle.ert_effects.specs.declared.answers.Turned.{Turned}
 use Rattle.ert_world.specs.Bounded.{HasDoneMost, TurnsSome}
 use Rattle.ert_world.specs.Held.{HoldsSoManyRows, AreArmed}
 use Rattle.ert_effects.specs.RestartCalls.{Restarts}
-use Rattle.ert_world.specs.Restarts.{HasNoDeadline, wheel_for}
+use Rattle.ert_world.specs.Restarts.{Forgets, HasNoDeadline, wheel_for}
 use Rattle.ert_world.specs.Stepping.{Stays}
 use Rattle.ert_world.specs.Worlds.{Seen, By, HasPassedAt, world_sched}
 use Rattle.ert_effects.specs.declared.answers.RestartErr.{RestartErr}
@@ -21,10 +21,12 @@ use Rattle.ert_c.specs.declared.status.TheConstants.{OK, BAD_TIME, FULL, NO_TIME
 use Rattle.ert_c.specs.declared.timer_calls.ErtTimer.{ErtTimer}
 use Rattle.ert_c.specs.declared.waiting_calls.ErtTurnedSome.{ErtTurnedSome}
 
--- caller 0 gives an armed timer a new deadline: the name of the next, or why there is none
+-- caller 0 gives an armed timer a new deadline: the name of the next, or why there is none; where there is one its wheel holds
+-- no row of the old one
 pub record RestartsBy (timer : TimerRef) (start : Start) (answer : Result TimerRef RestartErr) (old new : Seen) : Type 0 where
   pub makes : MakesCall (λ w. By w (λ g. Restarts g 0 (wheel_for g timer) timer start answer)) old new
   pub time : answer ≡ Err BadArg → HasNoDeadline old start
+  pub forgotten : Forgets timer answer new
 
 -- the timer that was started in its place, or why none was
 abbrev pub IsRestarted : Result TimerRef RestartErr → ErtTimer → ℤ → ErtTimer → Type 0
