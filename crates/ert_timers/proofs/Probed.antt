@@ -4,6 +4,7 @@ use Rattle.std.proofs.Common.{◌≡◌, ◌≢◌, ℕ, ◌+◌, ◌/◌, ◌^�
 use Rattle.std.proofs.Math.Nat.{lt-div-mul-add}
 use Rattle.std.proofs.lemmas.Bool.{cases_eq}
 use Rattle.std.specs.Option.{is_some}
+use Rattle.std.specs.Prelude.{MatchBool}
 use Rattle.ert_defs.specs.Entries.{probe_entry}
 use Rattle.ert_defs.specs.Laws.{is_armed}
 use Rattle.ert_defs.specs.States.{State, state}
@@ -12,9 +13,8 @@ use Rattle.ert_defs.specs.declared.entry.Entry.{Entry}
 use Rattle.ert_defs.specs.declared.settings.Settings.{Settings}
 use Rattle.ert_defs.specs.declared.timer.Status.{Status}
 use Rattle.ert_defs.specs.declared.timer.Status.TheVariants.{Armed}
-use Rattle.ert_effects.specs.Sleeping.{Probed, probed_entries, AreInOrder, AreSettledButLast, FindsArmed, ProbesForNext, settled_of}
+use Rattle.ert_effects.specs.Sleeping.{Probed, probed_entries, AreInOrder, AreSettledButLast, FindsArmed, settled_of}
 use Rattle.ert_table.proofs.Calls.{step_takes_place, takes_place_then}
-use Rattle.ert_table.specs.Calls.{IsMade}
 use Rattle.ert_table.specs.Held.{is_held}
 use Rattle.ert_table.specs.Settlings.{ShownWord}
 use Rattle.ert_table.specs.Takes.{Appends, TakesPlace}
@@ -24,6 +24,7 @@ use Rattle.ert_timers.proofs.Lookings.{found_is, status_is}
 use Rattle.ert_timers.proofs.Passing.{loses_none, loses_row, loses_then}
 use Rattle.ert_timers.proofs.Rows.{key_left}
 use Rattle.ert_timers.proofs.Standing.{stands_step}
+use Rattle.ert_timers.specs.Asking.{AsksOn, IsFoundWithin}
 use Rattle.ert_timers.specs.Changes.{given_back}
 use Rattle.ert_timers.specs.NextDue.{IsArmed, IsNearest, IsNextHeld}
 use Rattle.ert_timers.specs.Parts.{FitsState, HoldsSched, Part, PartStands, held_row, last_timer}
@@ -193,45 +194,20 @@ drops_more g v u x p q r n k key some has one =
       fewer = omega (arith, some.fewer, given_fewer q r k key has one.part);
     }
 
--- the next timer was found armed
-pub ends_armed : (g : Settings) (v u x : View) (p q r : Part) (n k : ℕ) → DropsNext g v p q n u → n < 1024 → ProbesRow g u q r k true x
-    → IsMade g v (ProbesForNext g p.number) x
-ends_armed g v u x p q r n k some low one =
-    let last : Probed = record { slot = k; found = one.found } in
-    record {
-      entries = probed_entries p.number (some.probes ++ last ∷ []);
-      allowed = record {
-        probes = some.probes ++ last ∷ [];
-        few = omega (arith, low, some.many, length-append some.probes (last ∷ []));
-        settled = settled_but_push some.probes last some.settled;
-        entries = refl;
-      };
-      call = call_push g v u x p.number some.probes last some.call (step_of g u p q k one.found x some.loses one.step);
-    }
-
--- none was asked for after so many
-pub ends_there : (g : Settings) (v u : View) (p q : Part) (n : ℕ) → DropsNext g v p q n u → n ≤ 1024 → IsMade g v (ProbesForNext g p.number) u
-ends_there g v u p q n some low = record {
-  entries = probed_entries p.number some.probes;
-  allowed = record {
-    probes = some.probes;
-    few = omega (arith, low, some.many);
-    settled = settled_but some.probes some.settled;
-    entries = refl;
-  };
-  call = some.call;
-}
-
-found_end : (s : State) (p q : Part) (answer : Option ℕ) → HasLost 1024 p q → IsFoundNext s p q answer
-found_end s p q None lost = tt
-found_end s p q (Some time) lost = inr (inl lost)
+-- the answer is found, where so many rows have gone
+found_end : (most : ℕ) (s : State) (p q : Part) (answer : Option ℕ) → HasLost most p q → IsFoundWithin most s p q answer
+found_end most s p q None lost = tt
+found_end most s p q (Some time) lost = inr (inl lost)
 
 -- the answer, where no probe follows
-asks_there : (g : Settings) (v u : View) (p q r : Part) (n : ℕ) (answer : Option ℕ) → DropsNext g v p q n u → n ≤ 1024 → r ≡ q → IsNextHeld q answer
-    → IsFoundNext (state g u.front) p q answer → AsksNext g v p r answer u
-asks_there g v u p q r n answer some low is held found =
-    subst (λ (x : Part). AsksNext g v p x answer u) (sym is) (record {
-      call = ends_there g v u p q n some low;
+asks_there : (g : Settings) (v u : View) (p q r : Part) (n most : ℕ) (answer : Option ℕ) → DropsNext g v p q n u → n ≤ most → r ≡ q → IsNextHeld q answer
+    → IsFoundWithin most (state g u.front) p q answer → AsksOn g v p r most answer u
+asks_there g v u p q r n most answer some low is held found =
+    subst (λ (x : Part). AsksOn g v p x most answer u) (sym is) (record {
+      probes = some.probes;
+      few = omega (arith, low, some.many);
+      settled = settled_but some.probes some.settled;
+      call = some.call;
       stands = some.stands;
       held = held;
       found = found;
@@ -240,42 +216,124 @@ asks_there g v u p q r n answer some low is held found =
     })
 
 -- there is no row
-pub asks_none : (g : Settings) (v u : View) (p q r : Part) (n : ℕ) (answer : Option ℕ) → DropsNext g v p q n u → n < 1024 → r ≡ q → IsNextHeld q answer
-    → answer ≡ None → AsksNext g v p r None u
-asks_none g v u p q r n answer some low is held none =
-    asks_there g v u p q r n None some (omega (arith, low)) is (subst (IsNextHeld q) none held) tt
+pub asks_none : (g : Settings) (v u : View) (p q r : Part) (n most : ℕ) (answer : Option ℕ) → DropsNext g v p q n u → n < most → r ≡ q → IsNextHeld q answer
+    → answer ≡ None → AsksOn g v p r most None u
+asks_none g v u p q r n most answer some low is held none =
+    asks_there g v u p q r n most None some (omega (arith, low)) is (subst (IsNextHeld q) none held) tt
 
 -- its time is before the first that wasn't passed
-pub asks_late : (g : Settings) (v u : View) (p q r : Part) (n time : ℕ) (answer : Option ℕ) → DropsNext g v p q n u → n < 1024 → r ≡ q → IsNextHeld q answer
-    → answer ≡ Some time → (slot : Option ℕ) → slot ≡ None → IfNone slot (time < r.passed) → AsksNext g v p r (Some time) u
-asks_late g v u p q r n time answer some low is held told slot none late =
-    asks_there g v u p q r n (Some time) some (omega (arith, low)) is (subst (IsNextHeld q) told held)
+pub asks_late : (g : Settings) (v u : View) (p q r : Part) (n most time : ℕ) (answer : Option ℕ) → DropsNext g v p q n u → n < most → r ≡ q → IsNextHeld q answer
+    → answer ≡ Some time → (slot : Option ℕ) → slot ≡ None → IfNone slot (time < r.passed) → AsksOn g v p r most (Some time) u
+asks_late g v u p q r n most time answer some low is held told slot none late =
+    asks_there g v u p q r n most (Some time) some (omega (arith, low)) is (subst (IsNextHeld q) told held)
     (inr (inr (subst (λ (x : Part). time < x.passed) is (subst (λ o. IfNone o (time < r.passed)) none late))))
 
 -- so many rows have gone
-pub asks_last : (g : Settings) (v u : View) (p q r : Part) (n : ℕ) (answer : Option ℕ) → DropsNext g v p q n u → n ≡ 1024 → r ≡ q → IsNextHeld q answer
-    → AsksNext g v p r answer u
-asks_last g v u p q r n answer some all is held =
-    asks_there g v u p q r n answer some (omega (arith, all)) is held
-    (found_end (state g u.front) p q answer (subst (λ m. HasLost m p q) all some.fewer))
+pub asks_last : (g : Settings) (v u : View) (p q r : Part) (n most : ℕ) (answer : Option ℕ) → DropsNext g v p q n u → n ≡ most → r ≡ q → IsNextHeld q answer
+    → AsksOn g v p r most answer u
+asks_last g v u p q r n most answer some all is held =
+    asks_there g v u p q r n most answer some (omega (arith, all)) is held
+    (found_end most (state g u.front) p q answer (subst (λ m. HasLost m p q) all some.fewer))
 
--- its timer was found armed
-pub asks_armed : (g : Settings) (v u x : View) (p q r t : Part) (n time k : ℕ) (answer : Option ℕ) → DropsNext g v p q n u → n < 1024 → r ≡ q
-    → IsNextHeld q answer → answer ≡ Some time → TellsNext r.keys r.passed time k → (b : Bool) → b ≡ true → ProbesRow g u r t k b x
-    → AsksNext g v p t (Some time) x
-asks_armed g v u x p q r t n time k answer some low is held told tells b armed probed =
-    let at : TellsNext q.keys q.passed time k = subst (λ (y : Part). TellsNext y.keys y.passed time k) is tells in
-    let one : ProbesRow g u q t k true x = subst (λ (a : Bool). ProbesRow g u q t k a x) armed (subst (λ (y : Part). ProbesRow g u y t k b x) is probed) in
+-- what is known of a slot that tells the answer, where its timer was found armed
+pub record IsAnswered (g : Settings) (q t : Part) (time : ℕ) (x : View) : Type 0 where
+  pub same : t ≡ q
+  pub stands : PartStands g x.front q
+  pub near : IsNearest (state g x.front) q.number q.passed (Some time)
+
+answered : (g : Settings) (u x : View) (q t : Part) (time k : ℕ) → TellsNext q.keys q.passed time k → ProbesRow g u q t k true x → IsAnswered g q t time x
+answered g u x q t time k tells one =
     let found : one.found ≡ Some Armed = armed_is one.found (sym one.told) in
     let left : PartStands g x.front q = subst (PartStands g x.front) one.part one.stands in
-    subst (λ (y : Part). AsksNext g v p y (Some time) x) (sym one.part) (record {
-      call = ends_armed g v u x p q t n k some low one;
+    record {
+      same = one.part;
       stands = left;
+      near = nearest_by g (state g x.front) q time k left.holds tells (sym one.status ∙ found);
+    }
+
+-- its timer was found armed
+pub asks_armed : (g : Settings) (v u x : View) (p q r t : Part) (n most time k : ℕ) (answer : Option ℕ) → DropsNext g v p q n u → n < most → r ≡ q
+    → IsNextHeld q answer → answer ≡ Some time → TellsNext r.keys r.passed time k → (b : Bool) → b ≡ true → ProbesRow g u r t k b x
+    → AsksOn g v p t most (Some time) x
+asks_armed g v u x p q r t n most time k answer some low is held told tells b armed probed =
+    let at : TellsNext q.keys q.passed time k = subst (λ (y : Part). TellsNext y.keys y.passed time k) is tells in
+    let one : ProbesRow g u q t k true x = subst (λ (a : Bool). ProbesRow g u q t k a x) armed (subst (λ (y : Part). ProbesRow g u y t k b x) is probed) in
+    let done : IsAnswered g q t time x = answered g u x q t time k at one in
+    let last : Probed = record { slot = k; found = one.found } in
+    subst (λ (y : Part). AsksOn g v p y most (Some time) x) (sym done.same) (record {
+      probes = some.probes ++ last ∷ [];
+      few = omega (arith, low, some.many, length-append some.probes (last ∷ []));
+      settled = settled_but_push some.probes last some.settled;
+      call = call_push g v u x p.number some.probes last some.call (step_of g u p q k one.found x some.loses one.step);
+      stands = done.stands;
       held = subst (IsNextHeld q) told held;
-      found = inl (nearest_by g (state g x.front) q time k left.holds at (sym one.status ∙ found));
+      found = inl done.near;
       loses = some.loses;
       time = some.time;
     })
+
+within_next : (s : State) (p q : Part) (answer : Option ℕ) → IsFoundWithin 1024 s p q answer → IsFoundNext s p q answer
+within_next s p q None found = tt
+within_next s p q (Some time) found = found
+
+within_more : (s : State) (p q r : Part) (answer : Option ℕ) → HasLost 1 p q → IsFoundWithin 1023 s q r answer → IsFoundNext s p r answer
+within_more s p q r None one found = tt
+within_more s p q r (Some time) one (inl near) = inl near
+within_more s p q r (Some time) one (inr (inl lost)) = inr (inl (omega (arith, one, lost)))
+within_more s p q r (Some time) one (inr (inr late)) = inr (inr late)
+
+-- nothing was kept
+pub asks_anew : (g : Settings) (v u : View) (p q : Part) (answer : Option ℕ) → AsksOn g v p q 1024 answer u → AsksNext g v p q answer u
+asks_anew g v u p q answer on = record {
+  call = record {
+    entries = probed_entries p.number on.probes;
+    allowed = record { probes = on.probes; few = on.few; settled = on.settled; entries = refl };
+    call = on.call;
+  };
+  stands = on.stands;
+  held = on.held;
+  found = within_next (state g u.front) p q answer on.found;
+  loses = on.loses;
+  time = on.time;
+}
+
+-- the timer of the answer that was kept was found armed
+pub asks_kept : (g : Settings) (v x : View) (p t : Part) (time k : ℕ) → PartStands g v.front p → IsNextHeld p (Some time) → TellsNext p.keys p.passed time k
+    → (b : Bool) → b ≡ true → ProbesRow g v p t k b x → AsksNext g v p t (Some time) x
+asks_kept g v x p t time k stands held tells b armed probed =
+    asks_anew g v x p t (Some time)
+    (asks_armed g v v x p p p t 0 1024 time k (Some time) (drops_none g v p stands) (omega arith) refl held refl tells b armed probed)
+
+-- it was found settled, and others were asked for
+pub asks_more : (g : Settings) (v u x : View) (p q r : Part) (time k : ℕ) (answer : Option ℕ) → TellsNext p.keys p.passed time k → (b : Bool) → b ≡ false
+    → ProbesRow g v p q k b u → AsksOn g u q r 1023 answer x → AsksNext g v p r answer x
+asks_more g v u x p q r time k answer tells b not probed on =
+    let one : ProbesRow g v p q k false u = subst (λ (a : Bool). ProbesRow g v p q k a u) not probed in
+    let first : Probed = record { slot = k; found = one.found } in
+    let loses : LosesRows p q = given_loses p q k tells.key tells.has one.part in
+    let e : Entry = probe_entry (Sched p.number) p.number k one.found in
+    record {
+      call = record {
+        entries = probed_entries p.number (first ∷ on.probes);
+        allowed = record {
+          probes = first ∷ on.probes;
+          few = omega (arith, on.few);
+          settled = settled_first first on.probes (unarmed one.found (sym one.told)) on.settled;
+          entries = refl;
+        };
+        call = takes_place_then g v u x (e ∷ []) (probed_entries p.number on.probes) (step_takes_place g v e u one.step)
+            (subst (λ n. TakesPlace g u (probed_entries n on.probes) x) loses.number on.call);
+      };
+      stands = on.stands;
+      held = on.held;
+      found = within_more (state g x.front) p q r answer (given_fewer p q k tells.key tells.has one.part) on.found;
+      loses = loses_then p q r loses on.loses;
+      time = on.time ∙ ap (λ (y : Part). y.passed) one.part;
+    }
+  where
+    settled_first : (one : Probed) (probes : List Probed) → one.found ≢ Some Armed → AreSettledButLast probes → AreSettledButLast (one ∷ probes)
+    settled_first one [] settled all = tt
+    settled_first one (p ∷ probes) settled all = (settled, all)
 
 -- it was found settled
 pub drops_next : (g : Settings) (v u x : View) (p q r t : Part) (n time k : ℕ) → DropsNext g v p q n u → r ≡ q
@@ -437,3 +495,11 @@ probes_more g v u x p q r n m l row true some told has one count =
 probes_more g v u x p q r n m l row false some told has one count =
     let held = held_is q.keys n row told has in
     subst (λ (k : ℕ). ProbesSome g v p r (n + 1) k x) (sym count) (probes_drop g v u x p q r n m held.0 some held.1 one)
+
+-- and after a probe
+pub probed_sched : (g : Settings) (v u : View) (p q : Part) (k : ℕ) (b : Bool) → HoldsSched v p.number → ProbesRow g v p q k b u → HoldsSched u q.number
+probed_sched g v u p q k b holds one = still_sched v u p q q holds one.step.actors (number b one.part) refl
+  where
+    number : (b : Bool) → MatchBool b (q ≡ p) (q ≡ given_back p k false) → q.number ≡ p.number
+    number true is = ap (λ (y : Part). y.number) is
+    number false is = ap (λ (y : Part). y.number) is

@@ -16,6 +16,7 @@ impl WheelPart {
     ghost use Rattle.ert_effects.specs.Sleeping.{ProbesForNext};
     ghost use Rattle.ert_table.specs.Calls.{IsMade};
     ghost use Rattle.ert_table.specs.Desks.{settings_of, view_of, front_of, state_of, Belongs};
+    ghost use Rattle.ert_timers.specs.Asking.{AsksOn};
     ghost use Rattle.ert_timers.specs.Changes.{given_back};
     ghost use Rattle.ert_timers.specs.NextDue.{NoneArmedBefore, IsNearest, IsNextHeld};
     ghost use Rattle.ert_timers.specs.Parts.{HoldsSched, PartStands, last_timer};
@@ -64,7 +65,26 @@ impl WheelPart {
         ensures belongs { Belongs desk.now pass.new }
         ensures call { AsksNext (settings_of desk.now) (view_of pass.old) self.old self.new result (view_of pass.new) }
     {
-        for _ in 0..SETTLED_AT_ONCE {
+        if let Some((time, slot)) = self.kept_due() {
+            if self.probe_row(desk, pass, slot) {
+                return Some(time);
+            }
+            return self.ask_on(desk, pass, SETTLED_AT_ONCE - 1);
+        }
+        self.ask_on(desk, pass, SETTLED_AT_ONCE)
+    }
+
+    /// The same where no answer is kept, or its timer isn't armed: until so many rows have gone.
+    #[cold]
+    #[inline(never)]
+    fn ask_on(&mut self, desk: &Desk, pass: &mut Pass, most: u32) -> Option<u64>
+        requires belongs { Belongs desk.now pass.old }
+        requires holds { HoldsSched (view_of pass.old) self.old.number }
+        requires stands { PartStands (settings_of desk.now) (front_of pass.old) self.old }
+        ensures belongs { Belongs desk.now pass.new }
+        ensures call { AsksOn (settings_of desk.now) (view_of pass.old) self.old self.new most result (view_of pass.new) }
+    {
+        for _ in 0..most {
             let Some(time) = self.first_due() else {
                 return None;
             };

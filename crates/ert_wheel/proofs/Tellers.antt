@@ -126,3 +126,32 @@ pub told_on : (keys : List (Option Key)) (passed time slot : ℕ) (row : HeldRow
 told_on keys passed time slot row false later is tells = tt
 told_on keys passed time slot row true later is tells =
     tells_row keys passed time slot row is (told_by passed time row.deadline tells later)
+
+-- where no row is due before a time, and one tells it, the next one is due then
+pub next_by : (keys : List (Option Key)) (passed time slot : ℕ) → NoneBefore keys time → TellsNext keys passed time slot → IsNextDue keys passed time
+next_by keys passed time slot none tells = record {
+  some = record { slot = slot; key = tells.key; has = tells.has };
+  none_before = none;
+  near =
+      elim tells.told [
+        | inl at ↦ inl (record { slot = slot; key = tells.key; has = tells.has; at = at })
+        | inr b ↦
+            let wide : 0 < 512 ^ b.level = some_wide b.level in
+            inr (record {
+              later = b.later;
+              level = b.level;
+              above = b.above;
+              highest = b.highest;
+              window = tells.key.deadline / 512 ^ b.level;
+              begin = b.begin;
+              slot = slot;
+              key = tells.key;
+              has = tells.has;
+              within = omega (arith, b.begin, lt-div-mul-add {a = tells.key.deadline} wide);
+            })
+      ];
+}
+
+pub on_true : {P : Type 0} (b : Bool) → b ≡ true → OnTrue b P → P
+on_true false is p = absurd cc
+on_true true is p = p

@@ -9,7 +9,8 @@ impl WheelPart {
     ghost use Rattle.std.specs.Bool.{OnTrue};
     ghost use Rattle.ert_timers.specs.Expiring.{AreDue};
     ghost use Rattle.std.specs.Option.{is_some};
-    ghost use Rattle.std.specs.Prelude.{◌≡◌, ◌<◌, ◌≤◌, IfNone, IfSome, MatchOption, [], count_by, length, min};
+    ghost use Rattle.std.specs.Prelude.{◌≡◌, ◌<◌, ◌≤◌, IfNone, IfSome, MatchOption, Some, [], count_by, length, min};
+    ghost use Rattle.ert_timers.specs.NextDue.{IsNextHeld};
     ghost use Rattle.ert_timers.specs.Parts.{last_timer};
     ghost use Rattle.ert_timers.specs.Trying.{come_to};
     ghost use Rattle.ert_wheel.specs.NextDue.{IsNextDue, TellsNext};
@@ -32,6 +33,15 @@ impl WheelPart {
         ensures { OnTrue result (AreDue self.now to []) }
     {
         !self.wheel.may_be_due(to)
+    }
+
+    /// How early the next row may be due, with the slot of the row that tells it, where both are kept.
+    #[inline]
+    pub(crate) fn kept_due(&self) -> Option<(u64, u32)>
+        ensures held { IfSome result (λ kept. IsNextHeld self.now (Some kept.0)) }
+        ensures tells { IfSome result (λ kept. TellsNext self.now.keys self.now.passed kept.0 kept.1) }
+    {
+        self.wheel.kept_due()
     }
 
     /// The slot of a row that tells when the next one is due. None only where the time is before the first that wasn't passed.

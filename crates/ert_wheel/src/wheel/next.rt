@@ -76,6 +76,20 @@ impl<T: Copy> Wheel<T> {
         self.find_told(time)
     }
 
+    /// The answer of `next_due` that is kept, with the slot whose row tells it; None where it doesn't stand any more, or no row
+    /// is known to tell it.
+    #[inline]
+    pub fn kept_due(&self) -> Option<(u64, u32)>
+        ensures due { IfSome result (λ kept. IsNextDue self.now.keys self.now.passed kept.0) }
+        ensures tells { IfSome result (λ kept. TellsNext self.now.keys self.now.passed kept.0 kept.1) }
+    {
+        if self.tells_next(self.teller, self.floor) {
+            Some((self.floor, self.teller))
+        } else {
+            None
+        }
+    }
+
     /// Whether a slot is written whose row tells a time, as far as it is seen at once.
     #[inline]
     fn tells_next(&self, slot: u32, time: u64) -> bool

@@ -1,6 +1,6 @@
 use Rattle.ert_table.specs.Desks.{settings_of, view_of, Belongs}
 use Rattle.ert_timers.specs.Sleeping.{DropsNext}
-use Rattle.ert_timers.proofs.part.WheelPart.ask_next.Given as goal
+use Rattle.ert_timers.proofs.part.WheelPart.ask_on.Given as goal
 
 abbrev pub invariant-loop : goal.invariant-loop
 invariant-loop l = record {
