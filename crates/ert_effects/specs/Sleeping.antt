@@ -33,9 +33,9 @@ pub record ProbesForNext (g : Settings) (w : ℕ) (s : State) (es : List Entry) 
   pub entries : es ≡ probed_entries w probes
 
 -- the slots of these probes come in order, from one on, below another
-abbrev pub AreInOrder : ℕ → List Probed → ℕ → Type 0
-AreInOrder from [] to = from ≤ to
-AreInOrder from (p ∷ probes) to = (from ≤ p.slot) × AreInOrder (p.slot + 1) probes to
+abbrev pub ProbesInOrder : ℕ → List Probed → ℕ → Type 0
+ProbesInOrder from [] to = from ≤ to
+ProbesInOrder from (p ∷ probes) to = (from ≤ p.slot) × ProbesInOrder (p.slot + 1) probes to
 
 -- how many of these probes found their timer settled
 abbrev pub settled_of : List Probed → ℕ
@@ -49,6 +49,6 @@ FindsArmed slot (p ∷ probes) = ((p.slot ≡ slot) × (p.found ≡ Some Armed))
 
 -- `drop_settled`, of a scheduler: it probes these slots of its wheel, each once, and answers how many timers it found settled
 pub record DropsSettled (g : Settings) (w count : ℕ) (probes : List Probed) (s : State) (es : List Entry) : Type 0 where
-  pub order : AreInOrder 0 probes g.slots
+  pub order : ProbesInOrder 0 probes g.slots
   pub settled : count ≡ settled_of probes
   pub entries : es ≡ probed_entries w probes

@@ -13,7 +13,7 @@ use Rattle.ert_defs.specs.declared.entry.Entry.{Entry}
 use Rattle.ert_defs.specs.declared.settings.Settings.{Settings}
 use Rattle.ert_defs.specs.declared.timer.Status.{Status}
 use Rattle.ert_defs.specs.declared.timer.Status.TheVariants.{Armed}
-use Rattle.ert_effects.specs.Sleeping.{Probed, probed_entries, AreInOrder, AreSettledButLast, FindsArmed, settled_of}
+use Rattle.ert_effects.specs.Sleeping.{Probed, probed_entries, ProbesInOrder, AreSettledButLast, FindsArmed, settled_of}
 use Rattle.ert_table.proofs.Calls.{step_takes_place, takes_place_then}
 use Rattle.ert_table.specs.Held.{is_held}
 use Rattle.ert_table.specs.Settlings.{ShownWord}
@@ -361,11 +361,11 @@ still_sched v u p q r holds actors number is =
       wheel = subst (λ l. is_held l (Wheel p.number) ≡ true) (sym actors) holds.wheel;
     })
 
-order_push : (from : ℕ) (probes : List Probed) (n : ℕ) (one : Probed) → AreInOrder from probes n → one.slot ≡ n → AreInOrder from (probes ++ one ∷ []) (n + 1)
+order_push : (from : ℕ) (probes : List Probed) (n : ℕ) (one : Probed) → ProbesInOrder from probes n → one.slot ≡ n → ProbesInOrder from (probes ++ one ∷ []) (n + 1)
 order_push from [] n one order is = (omega (arith, order, is), omega (arith, is))
 order_push from (p ∷ probes) n one order is = (order.0, order_push (p.slot + 1) probes n one order.1 is)
 
-order_wide : (from : ℕ) (probes : List Probed) (n : ℕ) → AreInOrder from probes n → AreInOrder from probes (n + 1)
+order_wide : (from : ℕ) (probes : List Probed) (n : ℕ) → ProbesInOrder from probes n → ProbesInOrder from probes (n + 1)
 order_wide from [] n order = omega (arith, order)
 order_wide from (p ∷ probes) n order = (order.0, order_wide (p.slot + 1) probes n order.1)
 
@@ -466,7 +466,7 @@ probes_drop g v u x p q r n m key some has one =
 pub probes_all : (g : Settings) (v u : View) (p q : Part) (n m : ℕ) → ProbesSome g v p q n m u → n ≡ g.slots → ProbesRows g v p q m u
 probes_all g v u p q n m some all = record {
   probes = some.probes;
-  order = subst (AreInOrder 0 some.probes) all some.order;
+  order = subst (ProbesInOrder 0 some.probes) all some.order;
   settled = some.settled;
   call = some.call;
   fewer = some.fewer;

@@ -9,7 +9,7 @@ use Rattle.ert_defs.specs.declared.entry.Actor.TheVariants.{Sched}
 use Rattle.ert_defs.specs.declared.settings.Settings.{Settings}
 use Rattle.ert_defs.specs.declared.timer.Status.{Status}
 use Rattle.ert_defs.specs.declared.timer.Status.TheVariants.{Armed}
-use Rattle.ert_effects.specs.Sleeping.{Probed, ProbesForNext, probed_entries, AreInOrder, FindsArmed, settled_of}
+use Rattle.ert_effects.specs.Sleeping.{Probed, ProbesForNext, probed_entries, ProbesInOrder, FindsArmed, settled_of}
 use Rattle.ert_table.specs.Calls.{IsMade}
 use Rattle.ert_table.specs.Takes.{Appends, TakesPlace}
 use Rattle.ert_table.specs.declared.view.View.{View}
@@ -67,7 +67,7 @@ pub record AsksNext (g : Settings) (v : View) (p q : Part) (answer : Option ℕ)
 -- the slots below one were probed that have a row, and so many rows have gone: what is left of them was found armed
 pub record ProbesSome (g : Settings) (v : View) (p q : Part) (below n : ℕ) (u : View) : Type 0 where
   pub probes : List Probed
-  pub order : AreInOrder 0 probes below
+  pub order : ProbesInOrder 0 probes below
   pub settled : n ≡ settled_of probes
   pub few : n ≤ below
   pub call : TakesPlace g v (probed_entries p.number probes) u
@@ -80,7 +80,7 @@ pub record ProbesSome (g : Settings) (v : View) (p q : Part) (below n : ℕ) (u 
 -- all were: each row that is left is of a timer that its probe found armed
 pub record ProbesRows (g : Settings) (v : View) (p q : Part) (n : ℕ) (u : View) : Type 0 where
   pub probes : List Probed
-  pub order : AreInOrder 0 probes g.slots
+  pub order : ProbesInOrder 0 probes g.slots
   pub settled : n ≡ settled_of probes
   pub call : TakesPlace g v (probed_entries p.number probes) u
   pub fewer : HasLost n p q

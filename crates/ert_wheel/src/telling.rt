@@ -47,7 +47,7 @@ fn begins(level: u32, time: u64, deadline: u64) -> bool
     requires { level ≤ 4 }
     ensures { IsTrue result ↔ (time ≡ deadline / 512 ^ level * 512 ^ level) }
 {
-    window_begin(deadline, level) == time
+    time == window_begin(deadline, level)
 }
 
 /// A slot whose row tells a time, as far as a look at few rows finds one; else any slot.
