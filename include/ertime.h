@@ -754,14 +754,26 @@ int32_t ert_world_turn_some(ert_world *world, uint32_t sched, uint32_t most, ert
  * `due` is the deadline of a timer, or the beginning of a window in which one is due: of 512 milliseconds, of 512 times
  * that, and so on. After a turn at the beginning of a window the answer lies in it. So a loop wakes five times at most
  * for the timer that is due first, however far it is, and once if few timers are due in the same window. A timer that
- * was cancelled through a seat counts until it would have been due, so `due` may be too early because of it.
+ * was cancelled through a seat doesn't wake it: the call looks whether the timer of the answer is armed, and if it isn't,
+ * lets go of it and goes on with the next, at 1,024 timers at most. Only after as many, or if `due` is not after the last
+ * turn's `to`, may `due` be too early because of such a timer.
  *
  * ERT_EMPTY: no timer is armed, and `due` is as it was. ERT_RANGE: there is no such scheduler. ERT_CLOSED.
- * It changes nothing that another call shows. The answer is kept: until time comes to it, an earlier timer is started, or
- * the timer that it is of is cancelled or restarted, a call takes a few comparisons. Else it looks at 64 timers at most on
- * each level of the wheel, and only if a timer was started whose deadline had passed at all that are due at the next turn.
+ * No memory. The answer is kept: until time comes to it, an earlier timer is started, or the timer that it is of is
+ * cancelled or restarted, a call takes a few comparisons and a look at that timer. Else it looks at 64 timers at most on
+ * each level of the wheel, and only if a timer was started whose deadline had passed at all that are due at the next turn;
+ * and again for each timer that it lets go.
  */
 int32_t ert_world_next_due(ert_world *world, uint32_t sched, uint64_t *due);
+
+/*
+ * Lets go of all timers of a scheduler's wheel that were cancelled through seats, and returns how many they were. Their
+ * slots can be used again, and ert_world_held counts them no more. ert_world_next_due does so for the timers that are due
+ * next; this is for a service whose seats cancel many that are due far ahead.
+ *
+ * ERT_RANGE: there is no such scheduler, and `dropped` is as it was. ERT_CLOSED. Work for all slots of the wheel; no memory.
+ */
+int32_t ert_world_drop_settled(ert_world *world, uint32_t sched, uint64_t *dropped);
 
 /*
  * Makes room in the list of expired timers of a scheduler for `count` more than wait in it.
@@ -1304,12 +1316,19 @@ int32_t ert_shard_turn_some(ert_shard *shard, uint32_t most, ert_turned_some *tu
  * Returns the earliest time at which a timer of the shard can be due, in milliseconds since the start time, as `to` of a
  * turn.
  *
- * What ert_world_next_due says of it holds here too. A timer that another thread cancelled counts until it would have been
- * due.
+ * What ert_world_next_due says of it holds here too, of the timers that other threads cancelled.
  *
- * ERT_EMPTY: the wheel holds no timer, and `due` is as it was. ERT_CLOSED. It changes nothing. Constant work.
+ * ERT_EMPTY: the wheel holds no timer, and `due` is as it was. ERT_CLOSED. Work as of ert_world_next_due.
  */
 int32_t ert_shard_next_due(ert_shard *shard, uint64_t *due);
+
+/*
+ * Lets go of all timers of the shard's wheel that other threads cancelled, and returns how many they were, as
+ * ert_world_drop_settled does.
+ *
+ * ERT_CLOSED. Work for all slots of the wheel; no memory.
+ */
+int32_t ert_shard_drop_settled(ert_shard *shard, uint64_t *dropped);
 
 /*
  * Makes room in the list of expired timers of the shard for `count` more than wait in it, as ert_world_reserve_expired does:

@@ -366,6 +366,14 @@ impl Shard {
         Ok(done_or(status, ffi::ERT_EMPTY)?.then_some(due))
     }
 
+    /// Lets go of all timers of the shard's wheel that other threads have cancelled, as `World::drop_settled` does, and returns
+    /// how many they were.
+    pub fn drop_settled(&mut self) -> Result<u64, Error> {
+        let mut dropped = 0;
+        done(unsafe { ffi::ert_shard_drop_settled(&mut *self.handle, &mut dropped) })?;
+        Ok(dropped)
+    }
+
     /// Makes room in the list of expired timers of the shard for `count` more than wait in it: until as many were due,
     /// `advance` needs no memory, and with room in the mailboxes (`reserve_mail`) neither does `turn`. If none waits yet,
     /// room for as many as the settings have slots is enough for good.

@@ -6,6 +6,7 @@ use Rattle.ert_effects.specs.Chains.{AdvancesWheel, Delivers}
 use Rattle.ert_effects.specs.ClockCalls.{TellsTime, TellsOffset, TellsSystemTime}
 use Rattle.ert_effects.specs.MailCalls.{Takes, Monitors, Demonitors, Notifies}
 use Rattle.ert_effects.specs.RestartCalls.{Restarts}
+use Rattle.ert_effects.specs.Sleeping.{ProbesForNext}
 use Rattle.ert_effects.specs.TimerCalls.{Reads, Cancels, Starts}
 use Rattle.ert_effects.specs.WheelCalls.{TellsAlive}
 use Rattle.ert_effects.specs.declared.answers.MonitorErr.{MonitorErr}
@@ -34,10 +35,12 @@ use Rattle.ert_defs.specs.declared.timer.TimerRef.{TimerRef}
 use Rattle.ert_shard.specs.Hubs.{Rest, GivesShard}
 use Rattle.ert_shard.specs.Renewing.{LetsGo}
 use Rattle.ert_shard.specs.Shards.{Share, IsHome, Owned, ShardGoes, ShardSteps, ShardBy, ShardHasForgotten}
+use Rattle.ert_shard.specs.Sleeping.{ShardDropsSettled}
 use Rattle.ert_shard.specs.Turning.{shard_expired, HasTurnedMost, ShardTurns, TurnsUpTo, ShardExits}
 use Rattle.ert_shard.specs.declared.turns.Turn.{Turn}
 use Rattle.ert_timers.specs.NextDue.{NoneArmedBefore, IsNextHeld}
 use Rattle.ert_timers.specs.Passed.{HasPassed}
+use Rattle.ert_timers.specs.Sleeping.{IsFoundNext}
 
 -- a hub gave a shard, and this one stands behind the shard's handle
 pub record HasShard (processes : ℕ) (old : Rest) (status : ℤ) (hub : Option Rest) (shard : Option Owned) : Type 0 where
@@ -227,9 +230,16 @@ pub record ShardTellsMail (process answer : ℕ) (old new : Owned) : Type 0 wher
   pub waiting : answer ≡ length ((state old.settings old.history).mails process).queue
   pub unchanged : new ≡ old
 
--- what is told is how early a row of the shard's wheel is due, or where the window begins in which it is; no armed timer of
--- the wheel is due before it, and nothing has changed
+-- what is told is how early a row of the shard's wheel is due, or where the window begins in which it is: no armed timer of
+-- the wheel is due before it. Slots were probed until a timer was armed, and the rows of the others have gone
 pub record ShardLooksAhead (answer : Option ℕ) (old new : Owned) : Type 0 where
-  pub held : IsNextHeld old.wheel answer
-  pub armed : NoneArmedBefore (state old.settings old.history) old.share.number answer
-  pub unchanged : new ≡ old
+  pub makes : ShardSteps old (ShardBy old (λ g. ProbesForNext g old.share.number)) new
+  pub held : IsNextHeld new.wheel answer
+  pub armed : NoneArmedBefore (state new.settings new.history) new.share.number answer
+  pub found : IsFoundNext (state new.settings new.history) old.wheel new.wheel answer
+  pub time : new.wheel.passed ≡ old.wheel.passed
+
+-- the rows of settled timers have gone from the wheel of a shard, and so many are told
+pub record ShardDrops (answer : ℕ) (old new : Owned) : Type 0 where
+  pub drops : ShardDropsSettled old new answer
+  pub time : new.wheel.passed ≡ old.wheel.passed

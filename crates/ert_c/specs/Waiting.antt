@@ -22,8 +22,8 @@ use Rattle.ert_c.specs.declared.status.TheConstants.{OK, BAD_TIME, FULL, NO_TIME
 use Rattle.ert_c.specs.declared.timer_calls.ErtTimer.{ErtTimer}
 use Rattle.ert_c.specs.declared.waiting_calls.ErtTurnedSome.{ErtTurnedSome}
 
--- caller 0 gives an armed timer a new deadline: the name of the next, or why there is none. Where there is one its wheel holds no row of
--- the old one. It is refused as full, and takes a free slot, as a start
+-- caller 0 gives an armed timer a new deadline: the name of the next, or why there is none; where there is one its wheel holds
+-- no row of the old one. It is refused as full, and takes a free slot, as a start
 pub record RestartsBy (timer : TimerRef) (start : Start) (answer : Result TimerRef RestartErr) (old new : Seen) : Type 0 where
   pub makes : MakesCall (λ w. By w (λ g. Restarts g 0 (wheel_for g timer) timer start answer)) old new
   pub time : answer ≡ Err BadArg → HasNoDeadline old start

@@ -8,6 +8,7 @@ pub mod Home
 pub mod Kept
 pub mod Lived
 pub mod Parted
+pub mod Probing
 pub mod Received
 pub mod Rejoined
 pub mod Renewed

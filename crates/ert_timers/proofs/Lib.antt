@@ -24,6 +24,7 @@ pub mod Rounds
 pub mod Freed
 pub mod Takings
 pub mod Dropped
+pub mod Probed
 pub mod Starts
 pub mod Roomed
 pub mod Swept

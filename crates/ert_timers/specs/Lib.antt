@@ -1,3 +1,4 @@
+pub mod Asking
 pub mod Changes
 pub mod Codes
 pub mod Dropping
@@ -14,6 +15,7 @@ pub mod Parts
 pub mod Passed
 pub mod Restarting
 pub mod Rooms
+pub mod Sleeping
 pub mod Slots
 pub mod Starting
 pub mod Sweeping

@@ -15,7 +15,8 @@
 //!
 //! **What others do.** Any thread may cancel a timer by one exchange on its word, and tells the part nothing.
 //! So a held timer may be settled already. An advance finds that out when its own exchange misses; a start
-//! finds it out when it runs out of free slots and looks for some. Whoever has the part when a timer is
+//! finds it out when it runs out of free slots and looks for some; `next_due` by a probe of the timer that is due next, and
+//! `probe_rows` by one of each. Whoever has the part when a timer is
 //! cancelled or its message is handed over says so, by `forget` or `reuse`: then the slot is held free at once, and
 //! no start has to look for it.
 //!
@@ -53,7 +54,8 @@
 //! | `forget` | drops the row of a timer that the pass has seen settled, and holds its slot free where its round has uses left | constant |
 //! | `reuse` | holds the slot of a timer free whose message was handed over, where its round has uses left | constant |
 //! | `room` | looks at the time and at every slot, and tells how many can take a timer and from when on one more can | every slot once |
-//! | `next_due` | tells how early a timer may be due | constant while the last answer holds; else 64 timers at most of each level of the wheel, and where one was started late those that the next advance takes |
+//! | `next_due` | probes the slots of the timers that are due next until one is armed, and tells how early a timer may be due | constant while the last answer holds; else 64 timers at most of each level of the wheel, and where one was started late those that the next advance takes; and again for each timer that others cancelled, 1,024 at most |
+//! | `probe_rows` | probes each slot that has a timer, and drops the rows of those that others cancelled | every slot once |
 //! | `tally` | counts | none |
 //! | `drop_settled` | with a pass that holds every actor, looks at each timer that is held, and drops the rows of those that others cancelled | every slot once |
 //!

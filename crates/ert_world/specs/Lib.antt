@@ -9,6 +9,7 @@ pub mod Openings
 pub mod Parts
 pub mod Restarts
 pub mod Seats
+pub mod Sleeping
 pub mod Stepping
 pub mod Ways
 pub mod Worlds

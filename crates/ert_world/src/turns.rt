@@ -16,8 +16,7 @@ impl World {
     ghost use Rattle.ert_defs.specs.Legal.{Legal};
     ghost use Rattle.ert_defs.specs.Mails.{first_of, others_of};
     ghost use Rattle.ert_defs.specs.States.{state};
-    ghost use Rattle.ert_world.specs.Worlds.{Goes, HasPassedAt, By, IsNextHeldAt, IsNearestAt, IsHandedIn, world_sched};
-    ghost use Rattle.ert_timers.specs.NextDue.{NoneArmedBefore};
+    ghost use Rattle.ert_world.specs.Worlds.{Goes, HasPassedAt, By, IsHandedIn, world_sched};
     ghost use Rattle.ert_world.specs.Stepping.{Stays};
 
     /// Serves one request: that in the scheduler's hand, or the first of its inbox. False comes where there is
@@ -73,22 +72,6 @@ impl World {
             &mut part.expired,
         )?;
         Ok((to, (part.expired.len() - before) as u32))
-    }
-
-    /// How early a timer of the scheduler's wheel may be due, in whole milliseconds since the start time, as
-    /// `advance` answers; None where no timer is held. No entry is made.
-    ///
-    /// It tells an event loop how long it may sleep (as `uv_backend_timeout` of libuv): no armed timer is due
-    /// before it. It is the deadline of a timer, or the begin of a window, after the time of the last advance, in which
-    /// one is due (`ert_wheel`, `Wheel::next_due`).
-    pub fn next_due(&mut self, sched: u32) -> Option<u64>
-        requires { sched < self.old.settings.schedulers }
-        ensures held { IsNextHeldAt self.old sched result }
-        ensures armed { NoneArmedBefore (state self.old.settings self.old.history) sched result }
-        ensures nearest { IsNearestAt self.old sched result }
-        ensures same { self.new ≡ self.old }
-    {
-        self.wheels[sched as usize].next_due()
     }
 
     /// Hands over the scheduler's expired timers until there is none, and answers how many messages were put

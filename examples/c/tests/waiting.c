@@ -77,6 +77,7 @@ static void refusals(void) {
     IS(ert_world_shrink_mail(&world, 0), ERT_CLOSED);
     IS(ert_world_reserve_expired(&world, 0, 1), ERT_CLOSED);
     IS(ert_world_shrink_expired(&world, 0), ERT_CLOSED);
+    IS(ert_world_drop_settled(&world, 0, &count), ERT_CLOSED);
     IS(ert_world_cancel_all(&world, 0, &count), ERT_CLOSED);
     opened(&world, 1);
     IS(ert_world_restart(&world, &timer, &start), ERT_RANGE);
@@ -89,6 +90,7 @@ static void refusals(void) {
     IS(ert_world_shrink_mail(&world, 2), ERT_RANGE);
     IS(ert_world_reserve_expired(&world, 1, 1), ERT_RANGE);
     IS(ert_world_shrink_expired(&world, 1), ERT_RANGE);
+    IS(ert_world_drop_settled(&world, 1, &count), ERT_RANGE);
     IS(ert_world_cancel_all(&world, 2, &count), ERT_RANGE);
     IS(ert_world_next_mail(&world, &process), ERT_EMPTY);
     IS(process, 7);
