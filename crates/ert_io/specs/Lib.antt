@@ -3,6 +3,5 @@ pub mod Faults
 pub mod Host
 pub mod Known
 pub mod Memory
-pub mod Readings
 pub mod Told
 pub mod Writing
