@@ -16,15 +16,15 @@ abbrev pub before : {T : Type 0} → List T → Option (List T) → Option (List
 before first known = option_map (λ later. first ++ later) known
 
 -- just these were given, which are the first of those that were left
-pub record Gives {T : Type 0} (old new : StreamTold T) (items : List T) : Type 0 where
+pub record HandsOut {T : Type 0} (old new : StreamTold T) (items : List T) : Type 0 where
   pub given : new.given ≡ old.given ++ items
   pub left : old.left ≡ before items new.left
 
 -- at most n were given
-pub record GivesUpTo {T : Type 0} (n : ℕ) (old new : StreamTold T) : Type 0 where
+pub record HandsUpTo {T : Type 0} (n : ℕ) (old new : StreamTold T) : Type 0 where
   pub items : List T
   pub few : length items ≤ n
-  pub gives : Gives old new items
+  pub gives : HandsOut old new items
 
 -- n more than the known number
 abbrev pub more_by : ℕ → Option ℕ → Option ℕ

@@ -3,5 +3,6 @@ pub mod Faults
 pub mod Host
 pub mod Known
 pub mod Memory
+pub mod Reads
 pub mod Told
 pub mod Writing

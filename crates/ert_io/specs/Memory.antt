@@ -15,8 +15,8 @@ abbrev pub bytes_left : MemSource → List ℕ
 bytes_left s = drop s.next s.bytes.items
 
 -- whether it has none left
-abbrev pub is_read : MemSource → Bool
-is_read s = nat_eq (length (bytes_left s)) 0
+abbrev pub is_used_up : MemSource → Bool
+is_used_up s = nat_eq (length (bytes_left s)) 0
 
 -- how many reads were made
 abbrev pub reads_of : MemSource → ℕ
@@ -51,8 +51,8 @@ abbrev pub sure_left : SureSource → List ℕ
 sure_left s = drop s.next s.bytes.items
 
 -- whether it has none left
-abbrev pub is_sure_read : SureSource → Bool
-is_sure_read s = nat_eq (length (sure_left s)) 0
+abbrev pub is_sure_used_up : SureSource → Bool
+is_sure_used_up s = nat_eq (length (sure_left s)) 0
 
 -- the bytes that a sink which never fails took
 abbrev pub sure_taken : SureSink → List ℕ

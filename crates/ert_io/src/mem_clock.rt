@@ -16,7 +16,7 @@ impl MemClock {
     ghost use Rattle.std.specs.Prelude.{◌≡◌, [], Some};
     ghost use Rattle.ert_io.specs.Clocks.{clock_reads, failing_clock_reads};
 
-    /// Gives `readings`, one in a call. `fails` lists the numbers, from 1, of the calls that are to fail;
+    /// HandsOut `readings`, one in a call. `fails` lists the numbers, from 1, of the calls that are to fail;
     /// a call that finds no reading left fails too.
     pub fn new(readings: Vec<Reading>, fails: Vec<u32>) -> MemClock
         ensures left { ⟦<Self as OsClock>⟧.left result ≡ Some readings.items }

@@ -18,7 +18,7 @@ pub struct MemSource {
 impl MemSource {
     ghost use Rattle.ert_io.specs.Memory.{reads_of, failing_reads};
 
-    /// Gives `bytes`, as many in a call as fit its buffer. `fails` lists the numbers, from 1, of the
+    /// HandsOut `bytes`, as many in a call as fit its buffer. `fails` lists the numbers, from 1, of the
     /// calls that are to fail.
     pub fn new(bytes: Vec<u8>, fails: Vec<u32>) -> MemSource
         ensures left { ⟦<Self as Source>⟧.left result ≡ Some bytes.items }
@@ -36,13 +36,13 @@ impl MemSource {
 }
 
 impl Source for MemSource {
-    ghost use Rattle.ert_io.specs.Memory.{bytes_given, bytes_left, is_read, reads_of, failing_reads};
+    ghost use Rattle.ert_io.specs.Memory.{bytes_given, bytes_left, is_used_up, reads_of, failing_reads};
 
     ghost faults = { λ s. s.calls.faults };
 
     ghost given = { λ s. bytes_given s };
 
-    ghost ended = { λ s. is_read s };
+    ghost ended = { λ s. is_used_up s };
 
     ghost left = { λ s. Some (bytes_left s) };
 

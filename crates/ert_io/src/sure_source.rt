@@ -14,7 +14,7 @@ pub struct SureSource {
 }
 
 impl SureSource {
-    /// Gives `bytes`, as many in a call as fit its buffer.
+    /// HandsOut `bytes`, as many in a call as fit its buffer.
     pub fn new(bytes: Vec<u8>) -> SureSource
         ensures left { ⟦<Self as Source>⟧.left result ≡ Some bytes.items }
         ensures given { ⟦<Self as Source>⟧.given result ≡ [] }
@@ -24,13 +24,13 @@ impl SureSource {
 }
 
 impl Source for SureSource {
-    ghost use Rattle.ert_io.specs.Memory.{sure_given, sure_left, is_sure_read};
+    ghost use Rattle.ert_io.specs.Memory.{sure_given, sure_left, is_sure_used_up};
 
     ghost faults = { λ _. 0 };
 
     ghost given = { λ s. sure_given s };
 
-    ghost ended = { λ s. is_sure_read s };
+    ghost ended = { λ s. is_sure_used_up s };
 
     ghost left = { λ s. Some (sure_left s) };
 
