@@ -2,8 +2,8 @@
 
 use Rattle.std.proofs.Common.{◌≡◌, ◌⊎◌, inl, inr, ◌++◌, ℕ, sym, ap, ◌∙◌, subst, List, Option, Some, None}
 use Rattle.std.proofs.lemmas.List.{append-nil}
-use Rattle.ert_io.specs.Known.{before, IsAtEnd}
-use Rattle.ert_io.specs.Reads.{Input, ReadsAll}
+use Rattle.ert_io.specs.Known.{StreamTold, before, HandsOut, IsAtEnd}
+use Rattle.ert_io.specs.Reads.{Input}
 use Rattle.ert_audit.specs.Audits.{status_telling, IsVerdict, HasAll, Judges}
 use Rattle.ert_audit.specs.Verdicts.{HasVerdict, verdict_line}
 use Rattle.ert_audit.specs.declared.status.AuditStatus.{AuditStatus}
@@ -11,8 +11,8 @@ use Rattle.ert_audit.specs.declared.status.AuditStatus.TheVariants.{WriteFault, 
 use Rattle.ert_audit.specs.declared.verdict.Verdict.{Verdict}
 
 -- what was read to the end is all that there was
-pub all_read : (i j : Input) (read text : List ℕ) → ReadsAll i j read → i.told.left ≡ Some text → read ≡ text
-all_read i j read text takes told = all_of j.told.left read text (sym takes.reads.left ∙ told) takes.none_left
+pub all_read : (old new : StreamTold ℕ) (read text : List ℕ) → HandsOut old new read → IsAtEnd new.left → old.left ≡ Some text → read ≡ text
+all_read old new read text reads end told = all_of new.left read text (sym reads.left ∙ told) end
   where
     all_of : (left : Option (List ℕ)) (read text : List ℕ) → before read left ≡ Some text → IsAtEnd left → read ≡ text
     all_of None read text told end = let none : None ≡ Some text = told in absurd cc
