@@ -13,6 +13,8 @@ pub(crate) struct Log<T> {
     pub ghost ended: { Bool },
 }
 
+const _: () = prove!(size_of::<Log<u8>>() == 0);
+
 impl<T> Model for Log<T> {
     ghost also_owns = { λ _. ftrue };
 }
