@@ -29,6 +29,7 @@ impl Shard {
     ghost use Rattle.ert_shard.specs.Turning.{shard_expired, ShardTurns};
     ghost use Rattle.ert_timers.specs.NextDue.{NoneArmedBefore, IsNextHeld};
     ghost use Rattle.ert_timers.specs.Passed.{HasPassed};
+    ghost use Rattle.ert_world.specs.Worlds.{KeepsRows};
     ghost use Rattle.ert_defs.specs.declared.settings.TheConstants.{MOST_SLOTS};
 
     /// How early a timer of the shard's wheel may be due, in whole milliseconds since the start time, as `turn`
@@ -74,6 +75,7 @@ impl Shard {
         requires { first_of (shard_expired self.old) ≡ Some expired.now }
         ensures call { ShardSteps self.old (λ way. Hands self.old.settings way self.old.share.number result) self.new }
         ensures expired { OnOk result (shard_expired self.new ≡ others_of (shard_expired self.old)) }
+        ensures kept { KeepsRows self.old.wheel self.new.wheel }
     {
         let place = expired.dest - self.from;
         may_get_mail(&mut self.list, place);

@@ -1,4 +1,4 @@
-use Rattle.std.proofs.Common.{◌+◌, ◌∙◌, ap, refl, subst, sym, List, Option, arith}
+use Rattle.std.proofs.Common.{◌+◌, ap, refl, subst, sym, List, Option, arith}
 use Rattle.ert_wheel.proofs.Writes.{sees, alike_after, is_held, is_kept, may_move, moved}
 use Rattle.ert_wheel.proofs.Writes.{keys_of, owners_of, passed_of}
 use Rattle.ert_wheel.proofs.wheel.Wheel.pass.Goals as goal
