@@ -318,7 +318,7 @@ typedef struct {
     uint32_t expired;
     uint32_t put;
     uint32_t dropped;
-    uint32_t more; /* 1 if timers are left that are due or have expired, otherwise 0 */
+    uint32_t more; /* 1 if timers are left that are due or have expired, or have to move first, otherwise 0 */
 } ert_turned_some;
 
 /* The kinds of messages. */
@@ -728,16 +728,17 @@ int32_t ert_world_turn(ert_world *world, uint32_t sched, ert_turned *turned);
  * Makes a turn of a scheduler in which at most `most` timers expire and at most `most` expired timers are delivered.
  *
  * A loop in which very many timers can be due at once takes them in several passes, and handles its input between them.
- * Writes what it did to `turned`: `more` is 1 if timers are left that are due by `to` or have expired, and then the loop
- * should not sleep. The next turn goes on with them, in order of deadline and then of start. If `more` is 0, no timer of
- * the wheel is due by `to`, as after ert_world_turn. The turn serves up to 64 requests, as ert_world_turn does. With
- * `most` 0 it tells whether timers are due.
+ * Writes what it did to `turned`: `more` is 1 if timers are left that are due by `to` or have expired, or if the wheel has
+ * not come to `to` because timers have to move within it first, and then the loop should not sleep, but make another turn.
+ * That goes on with them, in order of deadline and then of start. If `more` is 0, no timer of the wheel is due by `to`, as
+ * after ert_world_turn, and none has expired. The turn serves up to 64 requests, as ert_world_turn does. With `most` 0 no
+ * timer expires or moves, and it tells whether there is more.
  *
- * The work is in proportion to `most`, with two exceptions. Timers move within the wheel as their deadlines come near: if
- * turns follow each other, a few in each millisecond; after a sleep, all that are left in the windows that begin (of 512
- * milliseconds, of 512 times that, and so on), each of which costs less than an expiry. And timers that were started when
- * their deadline had passed are all looked at once for each deadline among them, and more often if they were not started
- * in order of deadline.
+ * The work is in proportion to `most`, with one exception. Timers move within the wheel as their deadlines come near, at
+ * most `most` in a turn: if turns follow each other, a few in each millisecond; after a sleep, those of the windows that
+ * begin (of 512 milliseconds, of 512 times that, and so on), in as many turns as they take. The exception: timers that were
+ * started when their deadline had passed are all looked at once for each deadline among them, and more often if they were
+ * not started in order of deadline.
  *
  * ERT_NO_MEMORY: as of ert_world_turn, but that the list needs room for `most` timers, or for all that the wheel holds if
  * those are fewer. ERT_RANGE: there is no such scheduler. ERT_CLOSED.
@@ -1302,9 +1303,10 @@ int32_t ert_shard_turn(ert_shard *shard, ert_turned *turned);
  * Makes a turn of the shard in which at most `most` timers expire and at most `most` expired timers are delivered, as
  * ert_world_turn_some does.
  *
- * Writes what it did to `turned`: `more` is 1 if timers are left that are due by `to` or have expired, and then the thread
- * should not sleep. The next turn goes on with them. If `more` is 0, no timer of the shard is due by `to`. With `most` 0 it
- * serves requests and tells whether timers are due. A timer that another thread cancelled counts as one of the `most` if it
+ * Writes what it did to `turned`: `more` is 1 if timers are left that are due by `to` or have expired, or if the wheel has
+ * not come to `to` because timers have to move within it first, and then the thread should not sleep, but make another turn,
+ * which goes on with them. If `more` is 0, no timer of the shard is due by `to`, and none has expired. With `most` 0 it
+ * serves requests and tells whether there is more. A timer that another thread cancelled counts as one of the `most` if it
  * would be due.
  *
  * ERT_NO_MEMORY: as of ert_shard_turn, but that the list needs room for `most` timers, or for all that the wheel holds if

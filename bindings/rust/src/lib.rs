@@ -668,7 +668,8 @@ impl World {
     }
 
     /// Makes a turn of a scheduler in which so many timers at most expire and so many at most are delivered, and returns
-    /// whether more are due or have expired: the next turn goes on with them, in their order.
+    /// whether there is more: timers that are due or have expired, or timers that have to move within the wheel before it comes
+    /// to the turn's `to`. The next turn goes on with them, in their order.
     pub fn turn_some(&mut self, sched: u32, most: u32) -> Result<(Turned, bool), Error> {
         let mut some = ffi::ert_turned_some::default();
         done(unsafe { ffi::ert_world_turn_some(&mut *self.handle, sched, most, &mut some) })?;

@@ -36,7 +36,7 @@ use Rattle.ert_shard.specs.Hubs.{Rest, GivesShard}
 use Rattle.ert_shard.specs.Renewing.{LetsGo}
 use Rattle.ert_shard.specs.Shards.{Share, IsHome, Owned, ShardGoes, ShardSteps, ShardBy, ShardHasForgotten}
 use Rattle.ert_shard.specs.Sleeping.{ShardDropsSettled}
-use Rattle.ert_shard.specs.Turning.{shard_expired, HasTurnedMost, ShardTurns, TurnsUpTo, ShardExits}
+use Rattle.ert_shard.specs.Turning.{shard_expired, HasTurnedMost, IsMoreLeft, ShardTurns, TurnsUpTo, ShardExits}
 use Rattle.ert_shard.specs.declared.turns.Turn.{Turn}
 use Rattle.ert_timers.specs.NextDue.{NoneArmedBefore, IsNextHeld}
 use Rattle.ert_timers.specs.Passed.{HasPassed}
@@ -203,12 +203,12 @@ pub record ShardTurnsBy (answer : Result Turn OutOfMemory) (old new : Owned) : T
 abbrev pub IsTurnTold : Result Turn OutOfMemory → ErtTurned → ℤ → ErtTurned → Type 0
 IsTurnTold = IsGiven (λ t. record { to = t.to; served = t.served; expired = t.expired; put = t.put; dropped = t.dropped })
 
--- a shard makes a turn in which so many timers at most expire and are handed over: what it did and whether there are more,
--- or out of memory. Where there are no more each row of its wheel is due later than the time of the advance; where there
--- are, it has done as much as it may
+-- a shard makes a turn in which so many timers at most expire and are handed over: what it did and whether there is more,
+-- or out of memory. There is more just where a row of its wheel is due by the time of the advance, the wheel hasn't come to
+-- that time, or expired timers wait; then it has done as much as it may
 pub record ShardTurnsSomeBy (most : ℕ) (answer : Result (Turn × Bool) OutOfMemory) (old new : Owned) : Type 0 where
   pub steps : ShardSteps old (λ way. TurnsUpTo old.settings way old.share most answer) new
-  pub passed : IfOk answer (λ done. done.1 ≡ false → HasPassed new.wheel done.0.to)
+  pub left : IfOk answer (λ done. IsMoreLeft new done.0.to done.1)
   pub done : IfOk answer (λ turned. turned.1 ≡ true → HasTurnedMost old.wheel new.wheel most turned.0)
 
 -- what such a turn of a shard did, or out of memory

@@ -7,6 +7,7 @@ pub mod Gone
 pub mod Home
 pub mod Kept
 pub mod Lived
+pub mod MoreLeft
 pub mod Parted
 pub mod Probing
 pub mod Received

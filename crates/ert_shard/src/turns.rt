@@ -28,6 +28,7 @@ impl Shard {
     ghost use Rattle.ert_shard.specs.Shards.{ShardSteps};
     ghost use Rattle.ert_shard.specs.Turning.{shard_expired, ShardTurns};
     ghost use Rattle.ert_timers.specs.Passed.{HasPassed};
+    ghost use Rattle.ert_world.specs.Worlds.{KeepsRows};
     ghost use Rattle.ert_defs.specs.declared.settings.TheConstants.{MOST_SLOTS};
 
     /// Lets every timer of the shard's wheel expire that is due, and answers the time, in whole milliseconds
@@ -59,6 +60,7 @@ impl Shard {
         requires { first_of (shard_expired self.old) ≡ Some expired.now }
         ensures call { ShardSteps self.old (λ way. Hands self.old.settings way self.old.share.number result) self.new }
         ensures expired { OnOk result (shard_expired self.new ≡ others_of (shard_expired self.old)) }
+        ensures kept { KeepsRows self.old.wheel self.new.wheel }
     {
         let place = expired.dest - self.from;
         may_get_mail(&mut self.list, place);

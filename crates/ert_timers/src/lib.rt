@@ -48,7 +48,7 @@
 //! | `start` | looks at the time, stores the word of a free slot, asks whether the destination has exited | constant; where none is held free the settings' `looks` at most, or all slots where there are fewer |
 //! | `restart` | looks at the time, and exchanges the word of an armed timer for that of the next one in its slot; or takes another slot, cancels and starts | as `start` |
 //! | `advance` | looks at the time, and tries each due timer in order of deadline and then of start | the due timers and the buckets that are visited |
-//! | `advance_some` | does so with so many timers at most, and tells whether more are due | the timers that it tries, the timers that are left in a window that begins, and late timers (`ert_wheel`, `Wheel::first_due`) |
+//! | `advance_some` | does so with so many timers at most, and tells what is left | the timers that it tries, as many that move in the wheel, and late timers (`ert_wheel`, `Wheel::first_due`) |
 //! | `sweep` | tries each timer of a process that has exited | those timers, each once |
 //! | `held_for` | finds a timer of a process that is held | constant, amortized: a slot without a timer leaves the chain |
 //! | `forget` | drops the row of a timer that the pass has seen settled, and holds its slot free where its round has uses left | constant |

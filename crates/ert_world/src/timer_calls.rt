@@ -20,7 +20,7 @@ impl World {
     ghost use Rattle.ert_world.specs.Frees.{IsUsedUpAt, UsesFreeAt};
     ghost use Rattle.ert_world.specs.Restarts.{HasNoDeadline};
     ghost use Rattle.ert_world.specs.Stepping.{Stays};
-    ghost use Rattle.ert_world.specs.Worlds.{Goes, HasForgotten, StayForgotten, By, HasProcessExited, IsLetGoIn};
+    ghost use Rattle.ert_world.specs.Worlds.{Goes, HasForgotten, StayForgotten, By, HasProcessExited, IsLetGoIn, KeepRows};
 
     /// Starts a timer on a wheel (`erlang` module reference, `start_timer` and `send_after`).
     ///
@@ -85,6 +85,7 @@ impl World {
         requires handed { is_taken ((state self.old.settings self.old.history).status timer) ≡ false }
         ensures history { self.new.history ≡ self.old.history }
         ensures stays { Stays self.old self.new }
+        ensures kept { KeepRows self.old self.new }
     {
         self.wheels[timer.wheel as usize].reuse(&self.pass, timer);
     }

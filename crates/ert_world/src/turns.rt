@@ -13,10 +13,11 @@ impl World {
     ghost use Rattle.std.specs.Prelude.{◌≡◌, ◌<◌, ◌≤◌, Some, None, length, IfOk, OnOk};
     ghost use Rattle.ert_effects.specs.Chains.{Serves, AdvancesWheel, Hands, Delivers, Turns};
     ghost use Rattle.ert_effects.specs.RequestCalls.{Picks};
+    ghost use Rattle.ert_effects.specs.Ways.{Grows};
     ghost use Rattle.ert_defs.specs.Legal.{Legal};
     ghost use Rattle.ert_defs.specs.Mails.{first_of, others_of};
     ghost use Rattle.ert_defs.specs.States.{state};
-    ghost use Rattle.ert_world.specs.Worlds.{Goes, HasPassedAt, By, IsHandedIn, world_sched};
+    ghost use Rattle.ert_world.specs.Worlds.{Goes, HasPassedAt, By, IsHandedIn, KeepRows, way_of, world_sched};
     ghost use Rattle.ert_world.specs.Stepping.{Stays};
 
     /// Serves one request: that in the scheduler's hand, or the first of its inbox. False comes where there is
@@ -95,6 +96,7 @@ impl World {
         ensures stays { Stays self.old self.new }
         ensures expired { OnOk result ((world_sched self.new sched).expired ≡ others_of (world_sched self.old sched).expired) }
         ensures handed { OnOk result (IsHandedIn self.new expired.now.timer) }
+        ensures wheels { self.new.wheels ≡ self.old.wheels }
     {
         may_get_mail(&mut self.list, expired.dest);
         let handed = self.mails[expired.dest as usize].deliver(
@@ -103,6 +105,22 @@ impl World {
             expired,
         )?;
         self.scheds[sched as usize].expired.pop();
+        Ok(handed)
+    }
+
+    /// Hands over the scheduler's first expired timer, and holds its slot free.
+    #[inline(always)]
+    pub(crate) fn hand_next(&mut self, sched: u32, expired: &TimerRow) -> Result<Handed, NoMemory>
+        requires sched { sched < self.old.settings.schedulers }
+        requires first { first_of (world_sched self.old sched).expired ≡ Some expired.now }
+        ensures call { Grows (Hands self.old.settings (way_of self.old) sched result) self.old.history self.new.history }
+        ensures legal { Legal self.new.settings self.new.history }
+        ensures expired { OnOk result ((world_sched self.new sched).expired ≡ others_of (world_sched self.old sched).expired) }
+        ensures stays { Stays self.old self.new }
+        ensures kept { KeepRows self.old self.new }
+    {
+        let handed = self.hand_over(sched, expired)?;
+        self.reuse(expired.timer);
         Ok(handed)
     }
 

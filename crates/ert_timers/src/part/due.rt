@@ -3,7 +3,7 @@ ghost use Rattle.std.specs.Prelude.{◌≡◌};
 
 use super::WheelPart;
 use ert_defs::TimerRef;
-use ert_wheel::HeldRow;
+use ert_wheel::FirstDue;
 
 impl WheelPart {
     ghost use Rattle.std.specs.Bool.{OnTrue};
@@ -14,17 +14,17 @@ impl WheelPart {
     ghost use Rattle.ert_timers.specs.Parts.{last_timer};
     ghost use Rattle.ert_timers.specs.Trying.{come_to};
     ghost use Rattle.ert_wheel.specs.NextDue.{IsNextDue, TellsNext};
-    ghost use Rattle.ert_wheel.specs.FirstDue.{NoRowDue, IsFirstRowDue};
-    ghost use Rattle.ert_wheel.specs.Rows.{row_told};
+    ghost use Rattle.ert_wheel.specs.FirstDue.{IsFirstTold};
 
-    /// The first row, by deadline and then by start, where it is due at `to`; None where none is. The time of the wheel
-    /// goes on with it.
-    pub(crate) fn first_row_due(&mut self, to: u64) -> Option<HeldRow>
+    /// The first row that is due at `to`, by deadline and then by start, where so many rows at most may move to lower levels of
+    /// the wheel; they are counted down. The time of the wheel goes on with it, and past `to` where no row is due.
+    pub(crate) fn first_row_due(&mut self, to: u64, moves: &mut u32) -> FirstDue
+        requires { to ≤ 8796093022207 }
         ensures part { self.new ≡ come_to self.old self.new.passed }
         ensures time { self.old.passed ≤ self.new.passed }
-        ensures row { MatchOption result (NoRowDue self.old.keys to) (λ row. IsFirstRowDue self.old.keys to (row_told self.old.keys row)) }
+        ensures first { IsFirstTold self.old.keys self.new.passed to result }
     {
-        self.wheel.first_due(to)
+        self.wheel.first_due(to, moves)
     }
 
     /// Whether no row is due at `to`, as far as the buckets tell: where it is false, one may be.
