@@ -1,11 +1,11 @@
 -- The row of a slot tells when the next one is due.
 
-use Rattle.std.proofs.Common.{Bool, true, false, None, option_map, subst, sym, ◌∙◌, refl, ◌≡◌, ℕ, ◌+◌, ◌*◌, ◌/◌, ◌^◌, ◌<◌, ◌≤◌, List, Option, Some, ap, inl, inr, arith}
+use Rattle.std.proofs.Common.{Bool, true, false, None, option_map, subst, sym, ◌∙◌, refl, ◌≡◌, ◌≢◌, ℕ, zero, suc, ◌+◌, ◌*◌, ◌/◌, ◌^◌, ◌<◌, ◌≤◌, List, Option, Some, ap, inl, inr, arith}
 use Rattle.std.proofs.Math.Nat.{lt-div-mul-add, div-eq_of_lt-le}
 use Rattle.std.proofs.lemmas.Bool.{cases_eq}
 use Rattle.std.specs.Bool.{OnTrue}
 use Rattle.ert_wheel.proofs.Times.{some_wide}
-use Rattle.ert_wheel.specs.NextDue.{NoneBefore, IsNextDue, Tells, IsToldBy, TellsNext}
+use Rattle.ert_wheel.specs.NextDue.{NoneBefore, IsNextDue, Tells, HasSomeRow, IsToldBy, TellsNext}
 use Rattle.ert_wheel.specs.Rows.{key_in, told_at}
 use Rattle.ert_wheel.specs.declared.row.HeldRow.{HeldRow}
 use Rattle.ert_wheel.specs.declared.row.Key.{Key}

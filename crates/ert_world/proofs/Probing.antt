@@ -1,7 +1,7 @@
 -- A scheduler probes slots of its wheel: the wheel comes back, and what the scheduler has is the same.
 
 use Rattle.std.proofs.Common.{◌≡◌, ℕ, ◌<◌, Bool, true, false, cond, List, [], ◌∷◌, length, slice_index_or, None, refl, sym, ap, subst, ◌∙◌}
-use Rattle.std.proofs.lemmas.List.{get_or_default}
+use Rattle.std.proofs.lemmas.List.{get_or_default, set-get_or}
 use Rattle.std.specs.Prelude.{slice_set}
 use Rattle.ert_defs.specs.Actors.{has_actor}
 use Rattle.ert_defs.specs.Entries.{probe_entry}
@@ -25,7 +25,6 @@ use Rattle.ert_timers.specs.Passed.{LosesRows}
 use Rattle.ert_world.proofs.Armed.{AreCalm}
 use Rattle.ert_world.proofs.Calls.{Has, Does, parts_in, finish, makes, schedulers_at}
 use Rattle.ert_world.proofs.Returned.{wheel_back, sched_back}
-use Rattle.ert_world.proofs.Rooms.{same_set}
 use Rattle.ert_world.proofs.SchedCalls.{Had, had, now_stands}
 use Rattle.ert_world.proofs.WheelCalls.{wheel_named}
 use Rattle.ert_world.proofs.Tidying.{lost_hold, one_holds}
@@ -63,6 +62,10 @@ pub sched_same : (g : Settings) (v u : View) (w : ℕ) (probes : List Probed) �
 sched_same g v u w probes held call =
     own_after g v (probed_entries w probes) u (λ (s : State). s.scheds w) (λ s e not. sched_own g v.actors w held s e not) call (probed_by g w probes)
     ∙ probed_run g w probes (state g v.front)
+
+-- what stands at a place is put there
+same_set : {X : Type 0} (xs : List X) (i : ℕ) (x : X) → x ≡ slice_index_or xs i x → slice_set xs i x ≡ xs
+same_set xs i x is = ap (slice_set xs i) is ∙ set-get_or xs i x
 
 -- what no scheduler has
 no_part : SchedPart
