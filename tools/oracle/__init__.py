@@ -1,0 +1,1 @@
+"""The model, written again from docs/MODEL.md and docs/FORMATS.md alone."""
