@@ -94,7 +94,7 @@ uint32_t ert_version(void);
 #define ERT_BAD_READING (-7) /* `mono` is negative, or 2^62 (146 years) or more; or `sys` is not between -2^61 and 2^61,
                                 that is 1896-12-06 to 2043-01-25 */
 #define ERT_BAD_COUNT (-8)   /* schedulers, processes, slots, callers or looks are outside their limits */
-#define ERT_OFFSET_WIDE (-9) /* the time offset would leave -2^62 to 2^62 */
+#define ERT_OFFSET_WIDE (-9) /* the time offset would be -2^62 or less, or 2^62 or more */
 #define ERT_RANGE (-10)      /* there is no such process or scheduler */
 #define ERT_BAD_TIME (-11)   /* no timer can be due then */
 #define ERT_FULL (-12)       /* no slot of the wheel can take a timer, or the process can have no further monitor */
@@ -398,9 +398,9 @@ int32_t ert_world_close(ert_world *world);
  *
  * Call it once for each pass of an event loop, before the turns of the schedulers, and before a start that must
  * count from now. A `mono` below that of an earlier reading counts as that one. A tick makes a check of the two
- * clocks if the last one is 60 seconds old, or if `force` is not 0. A check in multi time warp mode sets the time
- * offset if it is off by more than 1 ms. If the offset is final, a check with time correction sets the rate of the
- * clock, by up to 1 percent, until the next check (ERTS User's Guide, "Time Correction").
+ * clocks if the last check or finalization is 60 seconds old, or if `force` is not 0. A check in multi time warp mode
+ * sets the time offset if it is off by more than 1 ms. If the offset is final, a check with time correction sets the
+ * rate of the clock, by up to 1 percent, until the next check (ERTS User's Guide, "Time Correction").
  *
  * Writes what it did to `moved`. ERT_BAD_READING and ERT_OFFSET_WIDE: refused, and the clock is as it was.
  * ERT_CLOSED. Constant work; no memory.
