@@ -11,7 +11,7 @@
 
 text_test_() ->
     case has_library() of
-        true -> {timeout, 300, [fun answers/0, fun bytes/0, fun examples/0, fun long/0, fun many/0, fun nothing_is_left/0]};
+        true -> [{timeout, 60, Test} || Test <- [fun answers/0, fun bytes/0, fun examples/0, fun deep/0, fun long/0, fun many/0, fun nothing_is_left/0]];
         false -> fun without_library/0
     end.
 
@@ -94,6 +94,13 @@ is_refused(File, Line) ->
     ?assertMatch({File, <<"refused ", _/binary>>}, {File, shown(File)}),
     Line.
 
+%% As much of the stack of a scheduler as a text can take, and one bracket more.
+deep() ->
+    [
+        ?assertMatch({error, {refused, <<"scenario:1:", _/binary>>}}, ertime:run_scenario(["{\"x\":", lists:duplicate(Depth, "{\"a\":"), "1", lists:duplicate(Depth, "}"), "}"]))
+     || Depth <- [126, 127]
+    ].
+
 %% More than there is room for at first, the most bytes, and more.
 long() ->
     Turns = lists:join(",", lists:duplicate(10000, "[\"turn\",0]")),
@@ -112,13 +119,13 @@ many() ->
 
 %% Neither of calls that were answered, nor of those whose process was killed meanwhile.
 nothing_is_left() ->
-    Long = list_to_binary(scenario(lists:join(",", lists:duplicate(20000, "[\"turn\",0]")))),
+    Long = list_to_binary(scenario(lists:join(",", lists:duplicate(10000, "[\"turn\",0]")))),
     Before = binaries(),
     Call = fun() -> {ok, _} = ertime:run_scenario(Long) end,
-    _ = [element(1, spawn_monitor(Call)) || _ <- lists:seq(1, 50)],
-    [exit(Pid, kill) || _ <- lists:seq(1, 50), Pid <- [spawn(Call)], ok =:= timer:sleep(1)],
-    _ = [receive {'DOWN', _, _, _, normal} -> ok end || _ <- lists:seq(1, 50)],
-    ?assert(has_less(Before + 1000000, 500)).
+    Monitors = [element(2, spawn_monitor(Call)) || _ <- lists:seq(1, 20)],
+    _ = [begin Pid = spawn(Call), timer:sleep(1), exit(Pid, kill) end || _ <- lists:seq(1, 20)],
+    ?assertEqual([normal], lists:usort([receive {'DOWN', Monitor, _, _, Reason} -> Reason end || Monitor <- Monitors])),
+    ?assert(has_less(Before + byte_size(Long), 500)).
 
 binaries() ->
     try

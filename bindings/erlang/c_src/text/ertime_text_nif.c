@@ -3,9 +3,10 @@
  * (ertime_text.h). It is a file of its own, which is loaded by the first call: that library is several times as large as
  * the one of the clocks, and a test of timers needs none of it.
  *
- * A call takes as long as its text asks for, so it is made on a dirty scheduler. It has two binaries, for the output and
- * for the message, with room for what most texts get. Where one was too small the call is made again, with the room that
- * it told. The binaries are cut to what they hold, and become the caller's, or are let go of: nothing else is kept.
+ * A call takes as long as its text asks for, so it is made on a dirty scheduler. Of the stack there, 320 KB by default, it
+ * takes 143 KB at most, where a text has the most brackets within each other (x86-64). It has two binaries, for the output
+ * and for the message, with room for what most texts get. Where one was too small the call is made again, with the room
+ * that it told. The binaries are cut to what they hold, and become the caller's, or are let go of: nothing else is kept.
  */
 #include <erl_nif.h>
 #include <ertime_text.h>
