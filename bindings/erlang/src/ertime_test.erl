@@ -119,7 +119,8 @@ under(Clock, Fun, Rest) ->
         ended(Pid, Monitor, Drive)
     after
         exit(Guard, kill),
-        exit(Watch, kill),
+        kill(Watch, erlang:monitor(process, Watch)),
+        forget(Monitor),
         Before =:= none orelse clear(Clock, Pid, maps:get(output, Rest), Before)
     end.
 
@@ -256,6 +257,13 @@ in_process(Clock, Callers, Fun) ->
     catch
         Class:Reason:Stack -> {?MODULE, raised, Class, Reason, [Frame || Frame <- Stack, element(1, Frame) =/= ?MODULE]}
     end}).
+
+%% What the watch has told of the test since it ended.
+forget(Monitor) ->
+    receive
+        {?MODULE, Monitor, _} -> forget(Monitor)
+    after 0 -> ok
+    end.
 
 guard(Caller, Pid) ->
     Monitors = {erlang:monitor(process, Caller), erlang:monitor(process, Pid)},
