@@ -34,8 +34,9 @@ tests() ->
         {"a timeout and its event", [silent, late], tolerant, strict, fun connection/1}
     ].
 
+%% However long that takes beside them.
 passes(Faults, Test) ->
-    ok = ertime:seeds(asked("EXAMPLE_SEEDS", "50"), #{faults => Faults}, Test).
+    ok = ertime:seeds(asked("EXAMPLE_SEEDS", "50"), #{faults => Faults, limit => infinity}, Test).
 
 %% Within 200 seeds, and made to one fault or two with which it fails again.
 found(Faults, Test) ->
