@@ -24,6 +24,7 @@
 -define(MOST_NEW, 2000).
 -define(HELPERS, 32).
 -define(FEW, 8).
+-define(QUICK, 50). % microseconds
 -define(REST, 10). % times as long as a look took
 
 -record(others, {
@@ -191,24 +192,32 @@ asked(Pid, false) ->
 
 %% --- side by side -------------------------------------------------------------------------------------------------
 
-%% A process answers when it is run next, for which it has to wait its turn: so many are asked at once. For a few of them no process
-%% is spawned, which those who wait for other clocks would have to look at.
-parallel(_, []) ->
-    [];
-parallel(Fun, Items) when length(Items) =< ?FEW ->
-    ahead(fun() -> [Fun(Item) || Item <- Items] end);
+%% A process answers when it is run next, for which it has to wait its turn. That is at once where its scheduler has nothing else to
+%% do. From the first one on that takes longer, many are asked at the same time. For a few of them no process is spawned, which
+%% those who wait for other clocks would have to look at.
 parallel(Fun, Items) ->
-    ahead(fun() ->
-        Size = (length(Items) + ?HELPERS - 1) div ?HELPERS,
-        Helpers = [spawn_opt(fun() -> exit({?MODULE, [Fun(Item) || Item <- Part]}) end, [monitor, {priority, high}]) || Part <- parts(Items, Size)],
-        lists:append([
-            receive
-                {'DOWN', Monitor, process, Pid, {?MODULE, Answers}} -> Answers;
-                {'DOWN', Monitor, process, Pid, Reason} -> error(Reason)
-            end
-         || {Pid, Monitor} <- Helpers
-        ])
-    end).
+    ahead(fun() -> in_turn(Fun, Items) end).
+
+in_turn(_, []) ->
+    [];
+in_turn(Fun, [Item | Items]) ->
+    Start = erlang:monotonic_time(microsecond),
+    Answer = Fun(Item),
+    case erlang:monotonic_time(microsecond) - Start > ?QUICK andalso length(Items) > ?FEW of
+        true -> [Answer | at_once(Fun, Items)];
+        false -> [Answer | in_turn(Fun, Items)]
+    end.
+
+at_once(Fun, Items) ->
+    Size = (length(Items) + ?HELPERS - 1) div ?HELPERS,
+    Helpers = [spawn_opt(fun() -> exit({?MODULE, [Fun(Item) || Item <- Part]}) end, [monitor, {priority, high}]) || Part <- parts(Items, Size)],
+    lists:append([
+        receive
+            {'DOWN', Monitor, process, Pid, {?MODULE, Answers}} -> Answers;
+            {'DOWN', Monitor, process, Pid, Reason} -> error(Reason)
+        end
+     || {Pid, Monitor} <- Helpers
+    ]).
 
 parts(Items, Size) when length(Items) =< Size -> [Items];
 parts(Items, Size) ->

@@ -196,7 +196,7 @@ held(Before, Fun) ->
         Fun()
     after
         _ = [is_free(Pid) || Pid <- Held],
-        ertime_keeper:take({holds, self()})
+        _ = ertime_keeper:take({holds, self()})
     end.
 
 %% Before it runs again.
