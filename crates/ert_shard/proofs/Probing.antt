@@ -1,6 +1,6 @@
 -- A shard's scheduler probes slots of its wheel: what it has is the same.
 
-use Rattle.std.proofs.Common.{◌≡◌, ℕ, ◌<◌, true, false, List, [], ◌∷◌, Option, refl, sym, ap, subst, ◌∙◌}
+use Rattle.std.proofs.Common.{◌≡◌, ℕ, ◌<◌, true, List, [], ◌∷◌, Option, refl, sym, ap, subst, ◌∙◌}
 use Rattle.ert_defs.specs.Mails.{SchedState}
 use Rattle.ert_defs.specs.States.{State, state}
 use Rattle.ert_defs.specs.declared.entry.Actor.TheVariants.{Wheel, Sched}

@@ -1,9 +1,8 @@
 -- A turn of a shard, by its steps, and how long nothing can be due.
 
-use Rattle.std.proofs.Common.{◌≡◌, ℕ, ◌+◌, ◌≤◌, Bool, ◌||◌, List, count_by, Option, Ok, Err, inl, inr, refl, subst, ◌∙◌, arith}
+use Rattle.std.proofs.Common.{◌≡◌, ℕ, ◌+◌, ◌≤◌, Bool, ◌||◌, List, count_by, Ok, Err, inl, inr, refl, subst, ◌∙◌, arith}
 use Rattle.std.proofs.Math.Nat.{lt_of_lt_of_le}
 use Rattle.std.specs.Option.{is_some}
-use Rattle.ert_defs.specs.States.{state}
 use Rattle.ert_defs.specs.declared.entry.Entry.{Entry}
 use Rattle.ert_defs.specs.declared.memory.NoMemory.{NoMemory}
 use Rattle.ert_defs.specs.declared.settings.Settings.{Settings}
@@ -14,15 +13,11 @@ use Rattle.ert_effects.specs.Ways.{Growth, Way, Grows, Then}
 use Rattle.ert_effects.specs.declared.answers.Left.{Left}
 use Rattle.ert_effects.specs.declared.answers.Left.TheVariants.{Due}
 use Rattle.ert_shard.specs.Serving.{ShardServesAll}
-use Rattle.ert_shard.specs.Shards.{Share, Owned, owned, shard_way, as_share, ShardGoes, ShardSteps, ShardParts, AreShardPartsFit}
+use Rattle.ert_shard.specs.Shards.{Share, Owned, shard_way, as_share, ShardGoes, ShardSteps}
 use Rattle.ert_shard.specs.Turning.{ShardTurns, TurnsUpTo}
 use Rattle.ert_shard.specs.declared.turns.Turn.{Turn}
 use Rattle.ert_shard.proofs.Called.{rows_then}
-use Rattle.ert_table.specs.Desks.{settings_of, front_of}
-use Rattle.ert_table.specs.declared.desk.Desk.{Desk}
-use Rattle.ert_table.specs.declared.desk.Pass.{Pass}
-use Rattle.ert_timers.specs.NextDue.{NoneArmedBefore}
-use Rattle.ert_timers.specs.Parts.{Part, PartStands as WheelStands}
+use Rattle.ert_timers.specs.Parts.{Part}
 use Rattle.ert_timers.specs.Passed.{HasPassed, LosesRows}
 use Rattle.ert_timers.specs.Trying.{LosesSome}
 use Rattle.ert_timers.proofs.Passing.{rows_lost}
@@ -175,11 +170,3 @@ passed_on p q to loses passed = record {
 -- so many rows that went in an advance are gone after what follows, and of what was before
 pub fewer_after : (o p q r : Part) (most : ℕ) → LosesRows o p → LosesSome Due most p q → LosesRows q r → count_by is_some r.keys + most ≤ count_by is_some o.keys
 fewer_after o p q r most lost fewer loses = omega (arith, rows_lost o p lost, fewer, rows_lost q r loses)
-
--- what the wheel tells of its armed timers holds of the shard
-pub none_armed_in : (before : Owned) (d : Desk) (p : Pass) (s : Share) (parts : ShardParts) (answer : Option ℕ) → owned d p s parts.wheel ≡ before
-    → AreShardPartsFit d p s parts → ((g : Settings) (h : List Entry) → WheelStands g h parts.wheel → NoneArmedBefore (state g h) parts.wheel.number answer)
-    → NoneArmedBefore (state before.settings before.history) before.share.number answer
-none_armed_in before d p s parts answer is fit told =
-    subst (λ (o : Owned). NoneArmedBefore (state o.settings o.history) o.share.number answer) is
-    (subst (λ n. NoneArmedBefore (state (settings_of d) (front_of p)) n answer) fit.stand.wheel_is (told (settings_of d) (front_of p) (fit.stand.wheel refl)))

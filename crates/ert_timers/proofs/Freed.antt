@@ -1,15 +1,13 @@
 -- What is left of the slots that are held free.
 
-use Rattle.std.proofs.Common.{◌≡◌, ◌≢◌, ◌⊎◌, ⊎_elim, ℕ, Bool, true, false, cond, not, ◌&&◌, nat_eq, Option, Some, None, Result, Ok, Err, MatchResult, inl, inr, sym, ap, subst, ◌∙◌, ne_eqb}
+use Rattle.std.proofs.Common.{◌≡◌, ◌⊎◌, ℕ, Bool, true, false, cond, not, ◌&&◌, Option, Some, None, Result, Ok, Err, MatchResult, inl, inr, sym, ap, subst, ◌∙◌, ne_eqb}
 use Rattle.std.proofs.lemmas.Bool.{cases_eq}
 use Rattle.std.specs.FinSet as sets
 use Rattle.ert_defs.specs.declared.settings.Settings.{Settings}
 use Rattle.ert_defs.specs.declared.timer.Start.{Start}
 use Rattle.ert_defs.specs.declared.timer.TimerRef.{TimerRef}
-use Rattle.ert_effects.specs.declared.answers.RestartErr.{RestartErr}
-use Rattle.ert_effects.specs.declared.answers.StartErr.{StartErr}
 use Rattle.ert_table.specs.declared.view.View.{View}
-use Rattle.ert_timers.specs.Changes.{freed, given_back, has_uses, kept, picked}
+use Rattle.ert_timers.specs.Changes.{freed, given_back, has_uses, picked}
 use Rattle.ert_timers.specs.Frees.{HoldsNoneFree, KeepsFree, TakesFree, UsesFree}
 use Rattle.ert_timers.specs.Parts.{Part, last_timer, slot_at}
 use Rattle.ert_timers.specs.Starting.{Arms, Ends, TakesSlot}

@@ -382,21 +382,6 @@ finds_last : (k : ℕ) (probes : List Probed) (one : Probed) → one.slot ≡ k 
 finds_last k [] one slot armed = inl (slot, armed)
 finds_last k (p ∷ probes) one slot armed = inr (finds_last k probes one slot armed)
 
--- no slot was probed yet
-pub probes_none : (g : Settings) (v : View) (p : Part) → PartStands g v.front p → ProbesSome g v p p 0 0 v
-probes_none g v p stands = record {
-  probes = [];
-  order = omega arith;
-  settled = refl;
-  few = omega arith;
-  call = none_probed g v p stands;
-  stands = stands;
-  loses = loses_none p;
-  time = refl;
-  fewer = omega arith;
-  armed = λ k key low has. absurd (omega (arith, low));
-}
-
 -- the next has no row
 pub probes_vacant : (g : Settings) (v u : View) (p q : Part) (n m : ℕ) → ProbesSome g v p q n m u → key_in q.keys n ≡ None → ProbesSome g v p q (n + 1) m u
 probes_vacant g v u p q n m some none = record {

@@ -1,6 +1,6 @@
 -- A slot is taken: one that is held free, or one that is found by looks at the slots of a round.
 
-use Rattle.std.proofs.Common.{◌≡◌, ◌⊎◌, ℕ, ◌<◌, ◌≤◌, true, false, inl, inr, [], length, Option, Some, None, IfNone, IfSome, refl, sym, ap, subst, ◌∙◌, arith, append-nil}
+use Rattle.std.proofs.Common.{◌≡◌, ℕ, ◌<◌, ◌≤◌, true, false, [], length, Option, Some, None, IfNone, IfSome, refl, sym, ap, subst, ◌∙◌, arith, append-nil}
 use Rattle.std.specs.FinSet as sets
 use Rattle.ert_defs.specs.States.{uses_at, state}
 use Rattle.ert_defs.specs.Timers.{turned, is_taken}

@@ -1,6 +1,6 @@
 -- What a call leaves of the slots that are held free.
 
-use Rattle.std.specs.Prelude.{◌≡◌, ◌⊎◌, ℕ, ◌≤◌, true, false, Option, Some, Result, Ok, Err}
+use Rattle.std.specs.Prelude.{◌≡◌, ◌⊎◌, ℕ, ◌≤◌, true, false, Option, Some, Result, Ok}
 use Rattle.std.specs.FinSet as set
 use Rattle.ert_defs.specs.declared.timer.TimerRef.{TimerRef}
 use Rattle.ert_timers.specs.Parts.{Part, last_timer}

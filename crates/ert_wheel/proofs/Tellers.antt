@@ -1,11 +1,11 @@
 -- The row of a slot tells when the next one is due.
 
-use Rattle.std.proofs.Common.{Bool, true, false, None, option_map, subst, sym, ◌∙◌, refl, ◌≡◌, ◌≢◌, ℕ, zero, suc, ◌+◌, ◌*◌, ◌/◌, ◌^◌, ◌<◌, ◌≤◌, List, Option, Some, ap, inl, inr, arith}
+use Rattle.std.proofs.Common.{Bool, true, false, None, option_map, subst, sym, ◌∙◌, refl, ◌≡◌, ℕ, ◌+◌, ◌*◌, ◌/◌, ◌^◌, ◌<◌, ◌≤◌, List, Option, Some, ap, inl, inr, arith}
 use Rattle.std.proofs.Math.Nat.{lt-div-mul-add, div-eq_of_lt-le}
 use Rattle.std.proofs.lemmas.Bool.{cases_eq}
 use Rattle.std.specs.Bool.{OnTrue}
 use Rattle.ert_wheel.proofs.Times.{some_wide}
-use Rattle.ert_wheel.specs.NextDue.{NoneBefore, IsNextDue, Tells, HasSomeRow, IsToldBy, TellsNext}
+use Rattle.ert_wheel.specs.NextDue.{NoneBefore, IsNextDue, Tells, IsToldBy, TellsNext}
 use Rattle.ert_wheel.specs.Rows.{key_in, told_at}
 use Rattle.ert_wheel.specs.declared.row.HeldRow.{HeldRow}
 use Rattle.ert_wheel.specs.declared.row.Key.{Key}
@@ -87,11 +87,6 @@ row_tells keys passed time slot row is tells =
     let here : Some row ≡ Some (told_at slot tells.key) = is ∙ ap (option_map (told_at slot)) tells.has in
     let same : row ≡ told_at slot tells.key = cc in
     subst (λ (d : ℕ). IsToldBy passed time d) (sym (ap (λ (r : HeldRow). r.deadline) same)) tells.told
-
-pub no_row_tells : (keys : List (Option Key)) (passed time slot : ℕ) → None ≡ option_map (told_at slot) (key_in keys slot)
-    → TellsNext keys passed time slot → ⊥
-no_row_tells keys passed time slot is tells =
-    let bad : None ≡ Some (told_at slot tells.key) = is ∙ ap (option_map (told_at slot)) tells.has in cc
 
 -- some row tells when the next one is due
 pub some_tells : (keys : List (Option Key)) (passed time : ℕ) → IsNextDue keys passed time → (slot : ℕ) × TellsNext keys passed time slot

@@ -4,9 +4,7 @@ use Rattle.std.proofs.Common.{◌≡◌, ℕ, ◌<◌, List, [], length, Option,
 use Rattle.std.proofs.lemmas.Option.{slice_get-get_or, get_or_from_slice_get}
 use Rattle.std.specs.Prelude.{slice_set}
 use Rattle.ert_defs.specs.States.{State, state}
-use Rattle.ert_defs.specs.declared.entry.Entry.{Entry}
-use Rattle.ert_defs.specs.declared.settings.Settings.{Settings}
-use Rattle.ert_effects.specs.Sleeping.{DropsSettled, FindsArmed, ProbesForNext}
+use Rattle.ert_effects.specs.Sleeping.{DropsSettled, ProbesForNext}
 use Rattle.ert_table.specs.Calls.{IsMade}
 use Rattle.ert_table.specs.Desks.{settings_of, view_of, front_of, Belongs}
 use Rattle.ert_table.specs.Takes.{TakesPlace}
@@ -19,7 +17,7 @@ use Rattle.ert_timers.specs.Sleeping.{HasLost, IsFoundNext, ProbesRows}
 use Rattle.ert_timers.specs.Tidy.{IsTidy}
 use Rattle.ert_wheel.specs.Rows.{key_in}
 use Rattle.ert_wheel.specs.declared.row.Key.{Key}
-use Rattle.ert_world.specs.Worlds.{Seen, AreSound, By, seen}
+use Rattle.ert_world.specs.Worlds.{Seen, AreSound, By}
 use Rattle.ert_world.specs.declared.world.World.TheInside.{Inside}
 use Rattle.ert_world.proofs.Calls.{Has, Does, parts_in, schedulers_at, seen_at, has_at, does_at}
 use Rattle.ert_world.proofs.Probing.{probed}

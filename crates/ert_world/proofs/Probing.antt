@@ -12,7 +12,6 @@ use Rattle.ert_defs.specs.declared.entry.Entry.{Entry}
 use Rattle.ert_defs.specs.declared.settings.Settings.{Settings}
 use Rattle.ert_effects.specs.Sleeping.{Probed, probed_entries}
 use Rattle.ert_table.proofs.Parts.{own_after, sched_own, AreByThemselves}
-use Rattle.ert_table.specs.Calls.{AreOnlyOf, IsMade}
 use Rattle.ert_table.specs.Desks.{settings_of, view_of, front_of, Belongs}
 use Rattle.ert_table.specs.Held.{is_held}
 use Rattle.ert_table.specs.Takes.{TakesPlace}

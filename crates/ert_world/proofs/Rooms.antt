@@ -1,6 +1,6 @@
 -- A look at all slots of a wheel cancels nothing, and changes no part.
 
-use Rattle.std.proofs.Common.{◌≡◌, ℕ, zero, suc, ◌<◌, set, List, [], ◌∷◌, slice_index_or, inl, refl, sym, ap, subst, ◌∙◌}
+use Rattle.std.proofs.Common.{◌≡◌, ℕ, zero, suc, ◌<◌, set, List, [], ◌∷◌, slice_index_or, inl, refl, sym, subst}
 use Rattle.ert_effects.specs.RoomCalls.{TellsRoom, ShowsRoom, no_room, with_found}
 use Rattle.ert_effects.specs.declared.answers.Room.{Room}
 use Rattle.ert_defs.specs.States.{State}

@@ -1,6 +1,6 @@
 use Rattle.std.proofs.Common.{refl}
 use Rattle.ert_table.specs.Desks.{settings_of, view_of, front_of}
-use Rattle.ert_timers.proofs.Probed.{asks_anew, asks_kept, asks_more, probed_sched, told_has, told_low}
+use Rattle.ert_timers.proofs.Probed.{asks_kept, asks_more, probed_sched, told_has, told_low}
 use Rattle.ert_timers.proofs.part.WheelPart.ask_next.Goals as goal
 
 pub probe_row-requires-clause-low : goal.probe_row-requires-clause-low

@@ -1,4 +1,4 @@
-use Rattle.std.proofs.Common.{sym, subst}
+use Rattle.std.proofs.Common.{subst}
 use Rattle.ert_effects.specs.RoomCalls.{TellsRoom}
 use Rattle.ert_table.specs.Desks.{settings_of, front_of}
 use Rattle.ert_timers.proofs.LawsHold.{rooms_only}
