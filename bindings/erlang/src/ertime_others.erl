@@ -22,10 +22,10 @@
 -define(GRACE, 20).
 -define(LONG, 20000).
 -define(MOST_NEW, 2000).
--define(HELPERS, 32).
+-define(HELPERS, 256).
 -define(FEW, 8).
 -define(QUICK, 50). % microseconds
--define(REST, 10). % times as long as a look took
+-define(REST, 30). % times as long as a look took
 
 -record(others, {
     pids = #{},      % pid => from when on it is looked at again: all that are known and see no clock
@@ -164,10 +164,13 @@ follow(Counts, Followed, Members, Others = #others{pids = Pids, seen = Seen, els
         Busy -> {busy, Busy, Others#others{answers = maps:merge(Before, Answers), pids = maps:merge(Pids, all_now([It || It = {Pid, _} <- maps:to_list(Pids), lists:member(Pid, Busy)]))}}
     end.
 
-%% It has done nothing since. (One that was suspended for good doesn't work.)
+%% It has done nothing since. (One that was suspended for good doesn't work.) One that was just about to wait has been asked by this,
+%% which is one more.
 is_still(Pid, Count) ->
     case state(Pid) of
-        {Status, Count} -> Status =:= waiting orelse Status =:= suspended;
+        {waiting, Count} -> true;
+        {suspended, Count} -> true;
+        {_, Count} -> state(Pid) =:= {waiting, Count + 1};
         _ -> false
     end.
 

@@ -6,7 +6,7 @@ busy = fn again ->
   again.(again)
 end
 
-for _ <- 1..String.to_integer(System.get_env("EXAMPLE_BUSY", "0"))//1 do
+for _ <- List.duplicate(:busy, String.to_integer(System.get_env("EXAMPLE_BUSY", "0"))) do
   spawn(fn ->
     Ertime.use(:real)
     busy.(busy)
