@@ -6,7 +6,7 @@
 #     make dist         a tar archive for machines without the toolchain, in build/dist
 #                       (make dist TARGET=aarch64 the one of the C library for that processor, by a cross compiler)
 #     make deb          packages for Debian, in build/deb
-#     make hex          the package for Erlang and Elixir with the C library of both processors, in build/hex (it needs
+#     make hex          the package for Erlang and Elixir with the C libraries for both processors, in build/hex (it needs
 #                       the cross compiler too)
 #     make wasm         the programs as modules for browsers and node, in build/wasm
 #     make page         the page to play with time, one file that a browser opens from the disk, in build/page
@@ -283,11 +283,12 @@ deb: all
 	cd $(DEB) && SOURCE_DATE_EPOCH=$(EPOCH) dpkg-buildpackage -b -us -uc -nc -d
 	@ls $(B)/deb/*.deb
 
-# The library for aarch64 is made by another run of make, in a folder below, of what was built for it.
-OTHER = crates/ert_c/out/aarch64-unknown-linux-gnu/libert_c.a
-hex: $(B)/libertime.a $(B)/THIRD-PARTY
-	$(MAKE) TARGET=aarch64 B=$(B)/aarch64 ARCHIVE=$(OTHER) HEAP=$(B)/aarch64/heap.o $(B)/aarch64/libertime.a
-	$(PYTHON) packaging/hex $(B)/hex $(B)/THIRD-PARTY $(B)/libertime.a $(B)/aarch64/libertime.a
+# The libraries for aarch64 are made by another run of make, in a folder below, of what was built for it.
+TO_HEX = $(addprefix $(B)/,$(ARCHIVES) $(addprefix aarch64/,$(ARCHIVES)))
+hex: $(addprefix $(B)/,$(ARCHIVES)) $(B)/THIRD-PARTY
+	$(MAKE) TARGET=aarch64 B=$(B)/aarch64 ARCHIVE=$(firstword $(OTHERS)) TEXT_ARCHIVE=$(lastword $(OTHERS)) \
+	  HEAP=$(B)/aarch64/heap.o $(filter $(B)/aarch64/%,$(TO_HEX))
+	$(PYTHON) packaging/hex $(B)/hex $(B)/THIRD-PARTY $(TO_HEX)
 
 # All documents, the pages and the references as a site, with the page to play with time where it is built or its proved
 # crate is there. Nothing is proved for it. The search needs a server: `python3 -m http.server -d build/site` is one.

@@ -7,7 +7,8 @@
  * ert_world_next_due and of a start that is refused, the longest advance by a millisecond, until all have expired, and the
  * exit of a process with as many timers. At last the longest turn of a server with as many timers over 285 seconds: of three
  * timers of a connection packets restart two, of 60 and 30 seconds, in random order, and the third is due within an hour.
- * A window of 262 seconds begins in these too. */
+ * A window of 262 seconds begins in these too. And the longest turn of 256 timers at most after a leap of an hour, in which all
+ * timers are due: they were restarted in random order. */
 #define _POSIX_C_SOURCE 199309L
 
 #include <inttypes.h>
@@ -18,7 +19,7 @@
 
 #include "ertime.h"
 
-enum { SPREAD = 200000, LOOKS = 7, KINDS = 3, SERVED = 285000, FIRST = 1000, PACKETS = 100 };
+enum { SPREAD = 200000, LOOKS = 7, KINDS = 3, SERVED = 285000, FIRST = 1000, PACKETS = 100, HOUR = 3600000, PIECE = 256 };
 
 static ert_world world = ERT_INIT;
 static ert_reading reading;
@@ -135,9 +136,9 @@ static uint64_t drawn(void) {
 
 /* The timer of a kind of a connection, as its message tells it. */
 static ert_start timer_of(uint32_t at) {
-    static const int64_t waits[KINDS] = {60000, 30000, 3600000};
+    static const int64_t waits[KINDS] = {60000, 30000, HOUR};
     uint32_t kind = at % KINDS;
-    int64_t wait = kind == 2 ? FIRST + (int64_t)(drawn() % 3600000) : waits[kind];
+    int64_t wait = kind == 2 ? FIRST + (int64_t)(drawn() % HOUR) : waits[kind];
     return (ert_start){.when = wait, .msg = at};
 }
 
@@ -179,6 +180,45 @@ static double longest_turn(void) {
     return longest;
 }
 
+/* The longest turn of so many timers at most after a leap, until all have expired and their messages were taken. */
+static double longest_piece(void) {
+    double longest = 0;
+    uint64_t taken = 0;
+    ert_moved moved;
+    ert_turned_some turned;
+    ert_mail mail;
+    ert_timer *timers = calloc(slots, sizeof *timers);
+    if (timers == NULL) {
+        exit(EXIT_FAILURE);
+    }
+    for (uint32_t i = 0; i < slots; i++) {
+        ert_start start = {.when = HOUR};
+        must(ert_world_start(&world, 0, &start, &timers[i]));
+    }
+    for (uint32_t i = 0; i < slots; i++) {
+        ert_start start = {.when = 1 + (int64_t)(drawn() % HOUR)};
+        must(ert_world_restart(&world, &timers[drawn() % slots], &start));
+    }
+    reading.mono += HOUR * INT64_C(1000000);
+    reading.sys += HOUR * INT64_C(1000000);
+    must(ert_world_tick(&world, &reading, 0, &moved));
+    do {
+        double begun = nanoseconds();
+        must(ert_world_turn_some(&world, 0, PIECE, &turned));
+        double took = nanoseconds() - begun;
+        longest = took > longest ? took : longest;
+        while (ert_world_take(&world, 0, &mail) == ERT_OK) {
+            taken++;
+        }
+    } while (turned.more != 0);
+    if (taken != slots) {
+        fprintf(stderr, "%" PRIu64 " of %" PRIu32 " timers expired\n", taken, slots);
+        exit(EXIT_FAILURE);
+    }
+    free(timers);
+    return longest;
+}
+
 int main(int count, char **words) {
     slots = count == 2 ? (uint32_t)strtoul(words[1], NULL, 10) : 0;
     if (slots == 0) {
@@ -193,6 +233,9 @@ int main(int count, char **words) {
     printf(" %.0f", leave());
     must(ert_world_close(&world));
     open_world();
-    printf(" %.0f\n", longest_turn());
+    printf(" %.0f", longest_turn());
+    must(ert_world_close(&world));
+    open_world();
+    printf(" %.0f\n", longest_piece());
     must(ert_world_close(&world));
 }

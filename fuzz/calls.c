@@ -364,12 +364,22 @@ static void do_look(Run *run) {
     look(run, some(run, run->mirror.settings.schedulers));
 }
 
+static void do_drop(Run *run) {
+    uint32_t sched = some(run, run->mirror.settings.schedulers);
+    uint64_t before = 0, dropped = 0, held = 0;
+    SAME(ert_world_held(&run->world, sched, &before), ERT_OK);
+    SAME(ert_world_drop_settled(&run->world, sched, &dropped), ERT_OK);
+    SAME(ert_world_held(&run->world, sched, &held), ERT_OK);
+    SAME(held, mirror_drop_settled(&run->mirror, sched));
+    SAME(before, held + dropped);
+}
+
 /* The calls, those that tell most more than once. */
 static void (*const calls[])(Run *) = {
     do_start, do_start, do_start, do_start, do_start, do_start, do_start,   do_cancel,   do_cancel, do_read, do_tick,
     do_tick,  do_tick,  do_tick,  do_times, do_take,  do_take,  do_ask,     do_ask,      do_step,   do_step, do_step,
     do_step,  do_step,  do_step,  do_step,  do_look,  do_look,  do_look,    do_look,     do_process, do_finalize,
-    do_mail,  do_mail,  do_mail,  do_restart, do_restart,
+    do_mail,  do_mail,  do_mail,  do_restart, do_restart, do_drop,
 };
 
 /* At the end every timer that is armed is let expire, and every message taken. */

@@ -388,7 +388,22 @@ void mirror_next_due(const Mirror *mirror, uint32_t sched, int32_t status, uint6
     if (next >= 0 && mirror->timers[next].deadline < due) {
         mirror_fail("next_due is too late", (long long)due, (long long)mirror->timers[next].deadline);
     }
+    if (next < 0 && !(wheel->was_advanced && due <= wheel->advanced_to)) {
+        mirror_fail("next_due of timers that seats cancelled", (long long)due, -1);
+    }
     if (wheel->was_advanced && due <= wheel->advanced_to && !is_deadline) {
         mirror_fail("next_due has passed, and is no deadline", (long long)due, (long long)wheel->advanced_to);
     }
+}
+
+uint64_t mirror_drop_settled(Mirror *mirror, uint32_t sched) {
+    uint64_t armed = 0;
+    for (uint32_t i = 0; i < mirror->started; i++) {
+        Timer *timer = &mirror->timers[i];
+        if (timer->name.wheel == sched) {
+            timer->by_seat = false;
+            armed += timer->fate == ARMED;
+        }
+    }
+    return armed;
 }

@@ -103,5 +103,7 @@ uint32_t mirror_notify(Mirror *mirror, uint32_t process);
 
 /* Tests what `ert_world_next_due` told. */
 void mirror_next_due(const Mirror *mirror, uint32_t sched, int32_t status, uint64_t due);
+/* How many timers the wheel holds once those that seats cancelled are dropped. */
+uint64_t mirror_drop_settled(Mirror *mirror, uint32_t sched);
 
 #endif

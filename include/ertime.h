@@ -318,7 +318,7 @@ typedef struct {
     uint32_t expired;
     uint32_t put;
     uint32_t dropped;
-    uint32_t more; /* 1 if timers are left that are due or have expired, otherwise 0 */
+    uint32_t more; /* 1 if timers are left that are due or have expired, or have to move first, otherwise 0 */
 } ert_turned_some;
 
 /* The kinds of messages. */
@@ -475,11 +475,10 @@ int32_t ert_world_start(ert_world *world, uint32_t sched, const ert_start *start
  *
  * Writes how many slots can take a timer now to `room`, and to `ready` the earliest time at which one that waits
  * for its deadlines can take a timer again, in milliseconds since the start time, as `to` of a turn: 0 if none
- * waits. So a start that was refused by ERT_FULL can be made then, or once a timer of the wheel has been cancelled
- * or delivered.
+ * waits. If `room` is not 0, the next start on the wheel is not refused. Otherwise one that was refused by ERT_FULL can
+ * be made at `ready`, or once a timer of the wheel has been cancelled or delivered.
  *
- * ERT_RANGE: there is no such scheduler. ERT_CLOSED. It changes nothing, and looks at each slot of the wheel once;
- * no memory.
+ * ERT_RANGE: there is no such scheduler. ERT_CLOSED. It looks at each slot of the wheel once; no memory.
  */
 int32_t ert_world_ready(ert_world *world, uint32_t sched, uint32_t *room, uint64_t *ready);
 
@@ -729,16 +728,17 @@ int32_t ert_world_turn(ert_world *world, uint32_t sched, ert_turned *turned);
  * Makes a turn of a scheduler in which at most `most` timers expire and at most `most` expired timers are delivered.
  *
  * A loop in which very many timers can be due at once takes them in several passes, and handles its input between them.
- * Writes what it did to `turned`: `more` is 1 if timers are left that are due by `to` or have expired, and then the loop
- * should not sleep. The next turn goes on with them, in order of deadline and then of start. If `more` is 0, no timer of
- * the wheel is due by `to`, as after ert_world_turn. The turn serves up to 64 requests, as ert_world_turn does. With
- * `most` 0 it tells whether timers are due.
+ * Writes what it did to `turned`: `more` is 1 if timers are left that are due by `to` or have expired, or if the wheel has
+ * not come to `to` because timers have to move within it first, and then the loop should not sleep, but make another turn.
+ * That goes on with them, in order of deadline and then of start. If `more` is 0, no timer of the wheel is due by `to`, as
+ * after ert_world_turn, and none has expired. The turn serves up to 64 requests, as ert_world_turn does. With `most` 0 no
+ * timer expires or moves, and it tells whether there is more.
  *
- * The work is in proportion to `most`, with two exceptions. Timers move within the wheel as their deadlines come near: if
- * turns follow each other, a few in each millisecond; after a sleep, all that are left in the windows that begin (of 512
- * milliseconds, of 512 times that, and so on), each of which costs less than an expiry. And timers that were started when
- * their deadline had passed are all looked at once for each deadline among them, and more often if they were not started
- * in order of deadline.
+ * The work is in proportion to `most`, with one exception. Timers move within the wheel as their deadlines come near, at
+ * most `most` in a turn: if turns follow each other, a few in each millisecond; after a sleep, those of the windows that
+ * begin (of 512 milliseconds, of 512 times that, and so on), in as many turns as they take. The exception: timers that were
+ * started when their deadline had passed are all looked at once for each deadline among them, and more often if they were
+ * not started in order of deadline.
  *
  * ERT_NO_MEMORY: as of ert_world_turn, but that the list needs room for `most` timers, or for all that the wheel holds if
  * those are fewer. ERT_RANGE: there is no such scheduler. ERT_CLOSED.
@@ -755,14 +755,26 @@ int32_t ert_world_turn_some(ert_world *world, uint32_t sched, uint32_t most, ert
  * `due` is the deadline of a timer, or the beginning of a window in which one is due: of 512 milliseconds, of 512 times
  * that, and so on. After a turn at the beginning of a window the answer lies in it. So a loop wakes five times at most
  * for the timer that is due first, however far it is, and once if few timers are due in the same window. A timer that
- * was cancelled through a seat counts until it would have been due, so `due` may be too early because of it.
+ * was cancelled through a seat doesn't wake it: the call looks whether the timer of the answer is armed, and if it isn't,
+ * lets go of it and goes on with the next, at 1,024 timers at most. Only after as many, or if `due` is not after the last
+ * turn's `to`, may `due` be too early because of such a timer.
  *
  * ERT_EMPTY: no timer is armed, and `due` is as it was. ERT_RANGE: there is no such scheduler. ERT_CLOSED.
- * It changes nothing that another call shows. The answer is kept: until time comes to it, an earlier timer is started, or
- * the timer that it is of is cancelled or restarted, a call takes a few comparisons. Else it looks at 64 timers at most on
- * each level of the wheel, and only if a timer was started whose deadline had passed at all that are due at the next turn.
+ * No memory. The answer is kept: until time comes to it, an earlier timer is started, or the timer that it is of is
+ * cancelled or restarted, a call takes a few comparisons and a look at that timer. Else it looks at 64 timers at most on
+ * each level of the wheel, and only if a timer was started whose deadline had passed at all that are due at the next turn;
+ * and again for each timer that it lets go.
  */
 int32_t ert_world_next_due(ert_world *world, uint32_t sched, uint64_t *due);
+
+/*
+ * Lets go of all timers of a scheduler's wheel that were cancelled through seats, and returns how many they were. Their
+ * slots can be used again, and ert_world_held counts them no more. ert_world_next_due does so for the timers that are due
+ * next; this is for a service whose seats cancel many that are due far ahead.
+ *
+ * ERT_RANGE: there is no such scheduler, and `dropped` is as it was. ERT_CLOSED. Work for all slots of the wheel; no memory.
+ */
+int32_t ert_world_drop_settled(ert_world *world, uint32_t sched, uint64_t *dropped);
 
 /*
  * Makes room in the list of expired timers of a scheduler for `count` more than wait in it.
@@ -1291,9 +1303,10 @@ int32_t ert_shard_turn(ert_shard *shard, ert_turned *turned);
  * Makes a turn of the shard in which at most `most` timers expire and at most `most` expired timers are delivered, as
  * ert_world_turn_some does.
  *
- * Writes what it did to `turned`: `more` is 1 if timers are left that are due by `to` or have expired, and then the thread
- * should not sleep. The next turn goes on with them. If `more` is 0, no timer of the shard is due by `to`. With `most` 0 it
- * serves requests and tells whether timers are due. A timer that another thread cancelled counts as one of the `most` if it
+ * Writes what it did to `turned`: `more` is 1 if timers are left that are due by `to` or have expired, or if the wheel has
+ * not come to `to` because timers have to move within it first, and then the thread should not sleep, but make another turn,
+ * which goes on with them. If `more` is 0, no timer of the shard is due by `to`, and none has expired. With `most` 0 it
+ * serves requests and tells whether there is more. A timer that another thread cancelled counts as one of the `most` if it
  * would be due.
  *
  * ERT_NO_MEMORY: as of ert_shard_turn, but that the list needs room for `most` timers, or for all that the wheel holds if
@@ -1305,12 +1318,19 @@ int32_t ert_shard_turn_some(ert_shard *shard, uint32_t most, ert_turned_some *tu
  * Returns the earliest time at which a timer of the shard can be due, in milliseconds since the start time, as `to` of a
  * turn.
  *
- * What ert_world_next_due says of it holds here too. A timer that another thread cancelled counts until it would have been
- * due.
+ * What ert_world_next_due says of it holds here too, of the timers that other threads cancelled.
  *
- * ERT_EMPTY: the wheel holds no timer, and `due` is as it was. ERT_CLOSED. It changes nothing. Constant work.
+ * ERT_EMPTY: the wheel holds no timer, and `due` is as it was. ERT_CLOSED. Work as of ert_world_next_due.
  */
 int32_t ert_shard_next_due(ert_shard *shard, uint64_t *due);
+
+/*
+ * Lets go of all timers of the shard's wheel that other threads cancelled, and returns how many they were, as
+ * ert_world_drop_settled does.
+ *
+ * ERT_CLOSED. Work for all slots of the wheel; no memory.
+ */
+int32_t ert_shard_drop_settled(ert_shard *shard, uint64_t *dropped);
 
 /*
  * Makes room in the list of expired timers of the shard for `count` more than wait in it, as ert_world_reserve_expired does:

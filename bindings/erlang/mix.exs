@@ -10,12 +10,32 @@ defmodule Ertime.MixProject do
       package: [
         licenses: ["Apache-2.0"],
         links: %{},
-        files: ~w(README.md mix.exs rebar.config lib src c_src/Makefile c_src/*.c c_src/*.h)
+        files:
+          ~w(README.md mix.exs rebar.config lib src c_src/Makefile c_src/*.c c_src/*.h c_src/text/*.c)
       ],
-      docs: [main: "Ertime", extras: ["README.md"]],
+      docs: docs(),
       compilers: [:ertime_nif | Mix.compilers()],
       erlc_options: [:debug_info],
       deps: []
+    ]
+  end
+
+  # For ex_doc, which isn't asked for here: `mix docs` of a project that has it in its dependencies.
+  defp docs do
+    # The guide, in a tarball and in a clone.
+    guides = Enum.filter(["ERLANG.md", "../../docs/ERLANG.md"], &File.exists?/1)
+
+    [
+      main: "Ertime",
+      extras: ["README.md" | guides],
+      groups_for_modules: [
+        "In Elixir": [Ertime, Ertime.Case, Ertime.Generators],
+        "A clock by hand": [:ertime, :ertime_clock, :ertime_cth, :ertime_transform],
+        "Times and timers": [:ertime_times, :ertime_timers, :ertime_timer, :ertime_monitors],
+        Faults: [:ertime_faults, :ertime_proper, :ertime_nodes],
+        "A live node": [:ertime_tap, :ertime_tap_history, :ertime_tap_log],
+        "Scenarios and histories": [:ertime_text]
+      ]
     ]
   end
 

@@ -36,6 +36,8 @@
     open/0, open/1, close/1, advance/1, advance/2, warp/1, warp/2, warp/3, drift/2, use/1, unuse/1, with/2, use_everywhere/1,
     allow/2, transform/1, untransform/1, report/0, clock/0, info/0, info/1, rest/1, test/1, test/2, seeds/3
 ]).
+%% The programs over texts.
+-export([run_scenario/1, judge/1]).
 %% For transformed code.
 -export([receive_start/1, receive_stop/1, elixir_send_after/3, elixir_send_after/4]).
 
@@ -506,6 +508,15 @@ process(Name) when is_atom(Name) -> whereis(Name);
 process({global, Name}) -> global:whereis_name(Name);
 process({via, Module, Name}) -> Module:whereis_name(Name);
 process(_) -> undefined.
+
+%% @equiv ertime_text:run_scenario(Scenario)
+-spec run_scenario(iodata()) -> {ok, Transcript :: binary()} | {error, ertime_text:reason()}.
+run_scenario(Scenario) -> ertime_text:run_scenario(Scenario).
+
+%% @equiv ertime_text:judge(History)
+-spec judge(iodata()) ->
+    {ok, {legal, Entries :: non_neg_integer()}} | {illegal, Line :: pos_integer(), Message :: binary()} | {error, ertime_text:reason()}.
+judge(History) -> ertime_text:judge(History).
 
 %% @doc The clock that the calling process sees, or `none'.
 -spec clock() -> clock() | none.

@@ -31,7 +31,7 @@
 start(Clock, Owner, Asker, #{schedule := Schedule, always := Always, record := Record, tell := Tell}) ->
     Self = self(),
     {Pid, Monitor} = spawn_monitor(fun() ->
-        erlang:put('$ertime', none),
+        ertime_use:stand_apart(),
         Drive = #drive{
             clock = Clock,
             owner = Owner,

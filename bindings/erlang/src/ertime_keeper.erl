@@ -5,7 +5,7 @@
 %% It also wakes those who wait with a timeout of a clock that was closed, by the runtime's clock.
 -module(ertime_keeper).
 
--export([start/0, later/2, put/2, put_new/2, take/1, drop/2, has/1, get/1, allow/2, allowed/1, disallow/1, resume/1, stop/1]).
+-export([start/0, later/2, put/2, put_new/2, take/1, drop/2, has/1, get/1, allow/2, allowed/1, disallow/1, resume/1, stop/1, is_any_held/0]).
 
 -compile({no_auto_import, [put/2, get/1]}).
 
@@ -127,6 +127,10 @@ get(Key) ->
 
 has(Key) ->
     ets:member(?TABLE, Key).
+
+%% Whether a process lets others stand still that belong to no test which it knows (`ertime_test:held/2').
+is_any_held() ->
+    lists:any(fun([Pid]) -> is_process_alive(Pid) end, ets:match(?TABLE, {{holds, '$1'}, '_'})).
 
 %% --- processes that were allowed a clock --------------------------------------------------------------------------
 

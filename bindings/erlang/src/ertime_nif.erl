@@ -8,11 +8,19 @@
     serial/2, late/3, cost/2, lead/1, unlead/1, join/1, leave/1, members/1, timers/1
 ]).
 
+%% Where NIFs are.
+-export([file/1]).
+
 -compile({no_auto_import, [demonitor/1, monitor/1]}).
 -on_load(load/0).
 
 load() ->
-    erlang:load_nif(filename:join(priv(), "ertime_nif"), 0).
+    erlang:load_nif(file("ertime_nif"), 0).
+
+%% The file of a NIF of the package, without its suffix.
+-spec file(string()) -> string().
+file(Name) ->
+    filename:join(priv(), Name).
 
 priv() ->
     case code:priv_dir(ertime) of

@@ -24,7 +24,7 @@ started(To) ->
     Self = self(),
     spawn(fun() ->
         erlang:put('$ertime', none),
-        serve(erlang:monitor(process, Self), To)
+        serve(erlang:monitor(process, Self), To, #{})
     end).
 
 filter_id(Pid) ->
@@ -34,31 +34,42 @@ filter_id(Pid) ->
 drops(#{meta := #{gl := Pid}}, Pid) -> stop;
 drops(_, _) -> ignore.
 
-serve(Monitor, To) ->
+%% Whoever writes waits for it until it is answered, and it waits for the one to whom it has passed that on: by a monitor, so
+%% that the one who writes is seen to wait for somebody who may be at work.
+serve(Monitor, To, Passed) ->
     receive
-        {io_request, From, As, Request} ->
-            _ = answer(From, As, Request, To),
-            serve(Monitor, To);
-        {'DOWN', Monitor, process, _, _} ->
-            leave(To);
-        {?MODULE, leave} ->
-            leave(To);
-        _ ->
-            serve(Monitor, To)
+        {'DOWN', Monitor, process, _, _} -> leave(To, Passed);
+        {?MODULE, leave} -> leave(To, Passed);
+        Message -> serve(Monitor, To, served(Message, To, Passed))
     end.
 
 %% It stays a while, for what is logged late of processes that have ended.
-leave(To) ->
+leave(To, Passed) ->
     receive
-        {io_request, From, As, Request} ->
-            _ = answer(From, As, Request, To),
-            leave(To)
+        Message -> leave(To, served(Message, To, Passed))
     after 100 ->
         logger:remove_primary_filter(filter_id(self()))
     end.
 
-answer(From, As, Request, none) -> From ! {io_reply, As, reply(Request)};
-answer(From, As, Request, To) -> To ! {io_request, From, As, Request}.
+served({io_request, From, As, Request}, none, Passed) ->
+    From ! {io_reply, As, reply(Request)},
+    Passed;
+served({io_request, From, As, Request}, To, Passed) ->
+    Monitor = erlang:monitor(process, To),
+    To ! {io_request, self(), Monitor, Request},
+    Passed#{Monitor => {From, As}};
+served({io_reply, Monitor, Reply}, _, Passed) when is_map_key(Monitor, Passed) ->
+    true = erlang:demonitor(Monitor, [flush]),
+    answer(Monitor, Reply, Passed);
+served({'DOWN', Monitor, process, _, _}, _, Passed) when is_map_key(Monitor, Passed) ->
+    answer(Monitor, {error, terminated}, Passed);
+served(_, _, Passed) ->
+    Passed.
+
+answer(Monitor, Reply, Passed) ->
+    {{From, As}, Others} = maps:take(Monitor, Passed),
+    From ! {io_reply, As, Reply},
+    Others.
 
 reply({put_chars, _, _}) -> ok;
 reply({put_chars, _, _, _, _}) -> ok;

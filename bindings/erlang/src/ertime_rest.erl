@@ -12,7 +12,7 @@
 %% waited for in any case.
 -module(ertime_rest).
 
--export([wait/1, wait/2, describe/1, monitored_by/1]).
+-export([wait/1, wait/2, describe/1, monitored_by/1, processes_of/1]).
 
 -define(KEY, '$ertime_rest').
 -define(YIELDS, 200).
@@ -23,7 +23,6 @@
 -record(known, {
     clock,
     members = #{},    % pid => []
-    calls = #{},      % of those: pid => {its reductions, whom it monitors}
     busy = none,      % the member that was found at work last
     allowed = [],     % those of them that were allowed the clock
     suspended = #{},  % pid => {its reductions, the millisecond in which it was first seen suspended with them}
@@ -96,48 +95,27 @@ between(Known, Seen, true) ->
     confirmed(Known, Seen);
 between(Known = #known{clock = Clock, members = Members, others = Others}, Seen, false) ->
     case ertime_others:discover(Clock, Members, Others) of
-        {[], [], New} -> called(Known#known{others = New}, Seen);
+        {[], [], New} -> among(Known#known{others = New}, Seen);
         {Joined, Undecided, New} -> {busy, Undecided, Known#known{members = maps:merge(Members, maps:from_keys(Joined, [])), others = New}}
     end.
 
-%% Whom each monitors as long as it has this count. To be asked is work for a process, so the count is taken afterwards, and is that
-%% of the next look if nothing else was.
-called(Known = #known{members = Members, calls = Before, others = Others}, Seen) ->
-    Counts = [It || It = {Pid, _} <- Seen, is_map_key(Pid, Members)],
-    Calls = maps:from_list([{Pid, calls(Pid, Count, Before)} || {Pid, Count} <- Counts]),
-    New = Known#known{calls = Calls},
-    case [Pid || {Pid, Count} <- Counts, element(1, map_get(Pid, Calls)) =/= Count] of
-        [] -> among(New, Seen, Others);
-        _ -> {busy, [], New}
+%% Others are asked for nothing where none of them is at work.
+among(Known = #known{others = Others}, Seen) ->
+    case confirmed(Known, Seen) of
+        {rest, New} ->
+            case ertime_others:all_wait(Others) of
+                true -> {rest, New#known{others = ertime_others:rested(Others)}};
+                false -> asked(New, Seen)
+            end;
+        Busy ->
+            Busy
     end.
 
-calls(Pid, Count, Before) ->
-    case Before of
-        #{Pid := {Count, _} = Known} ->
-            Known;
-        _ ->
-            Monitored = monitored_by(Pid),
-            case process_info(Pid, reductions) of
-                {_, After} -> {After, Monitored};
-                undefined -> {none, []}
-            end
+asked(Known = #known{members = Members, others = Others}, Seen) ->
+    case ertime_others:ask([It || It = {Pid, _} <- Seen, is_map_key(Pid, Members)], Members, Others) of
+        {rest, New} -> {rest, Known#known{others = ertime_others:rested(New)}};
+        {busy, Busy, New} -> {busy, Busy, Known#known{others = New}}
     end.
-
-%% Sees for whom they wait, until everybody who was at work while the members rested is known not to be among them.
-among(Known = #known{members = Members, calls = Calls}, Seen, Others) ->
-    Called = lists:usort([Pid || {_, Pids} <- maps:values(Calls), Pid <- Pids, not is_map_key(Pid, Members), Pid =/= self()]),
-    case ertime_others:ask(Called, Members, Others) of
-        {busy, Busy} ->
-            {busy, Busy, Known};
-        Asked ->
-            case confirmed(Known, Seen) of
-                {rest, New} -> more(New, Seen, ertime_others:look(Asked));
-                Busy -> Busy
-            end
-    end.
-
-more(Known, _, none) -> {rest, Known};
-more(Known, Seen, Others) -> among(Known, Seen, Others).
 
 %% They are as they were.
 confirmed(Known, Seen) ->
@@ -185,9 +163,9 @@ suspended(Pid, Count, Known = #known{suspended = Suspended}) ->
             {busy, Known};
         #{Pid := {Count, _}} ->
             puts_no_term(),
-            case process_info(Pid, [status, reductions]) of
+            case not ertime_keeper:is_any_held() andalso process_info(Pid, [status, reductions]) of
                 [{_, suspended}, {_, Count}] -> {Count, Known};
-                _ -> {busy, Known}
+                _ -> {busy, Known#known{suspended = Suspended#{Pid => {Count, Now}}}}
             end;
         _ ->
             {busy, Known#known{suspended = Suspended#{Pid => {Count, Now}}}}
@@ -219,9 +197,12 @@ puts_no_term() ->
 %% The processes of this node that it monitors.
 monitored_by(Pid) ->
     case process_info(Pid, monitors) of
-        {monitors, Monitors} -> lists:append([pid_of(Monitor) || Monitor <- Monitors]);
+        {monitors, Monitors} -> processes_of(Monitors);
         undefined -> []
     end.
+
+processes_of(Monitors) ->
+    lists:append([pid_of(Monitor) || Monitor <- Monitors]).
 
 pid_of({process, Pid}) when is_pid(Pid), node(Pid) =:= node() -> [Pid];
 pid_of({process, {Name, Node}}) when Node =:= node() -> [P || P <- [whereis(Name)], is_pid(P)];

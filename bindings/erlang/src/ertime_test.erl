@@ -2,7 +2,7 @@
 %% A test under a clock of its own: in a process of its own (`ertime:test/2'), or in one that a test framework has started.
 -module(ertime_test).
 
--export([run/2, outcome/2, set_up/1, set_up/2, done/1, tear_down/1, clear/3, in_process/3]).
+-export([run/2, outcome/2, set_up/1, set_up/2, done/1, tear_down/1, before/0, clear/4, held/2, in_process/3]).
 
 -include("ertime.hrl").
 
@@ -105,7 +105,8 @@ watch(Clock, Owner, #{advance := Advance, limit := Limit}, Tell) ->
 
 under(Clock, Fun, Rest) ->
     Self = self(),
-    Callers = [Self | case get('$callers') of undefined -> []; Before -> Before end],
+    Callers = [Self | case get('$callers') of undefined -> []; Others -> Others end],
+    Before = case maps:get(schedule, Rest) of none -> none; _ -> before() end,
     {Pid, Monitor} = spawn_monitor(?MODULE, in_process, [Clock, Callers, Fun]),
     maps:get(output, Rest) =:= none orelse group_leader(maps:get(output, Rest), Pid),
     Tell = fun(Reason) -> Self ! {?MODULE, Monitor, Reason} end,
@@ -118,8 +119,9 @@ under(Clock, Fun, Rest) ->
         ended(Pid, Monitor, Drive)
     after
         exit(Guard, kill),
-        exit(Watch, kill),
-        maps:get(schedule, Rest) =:= none orelse clear(Clock, Pid, maps:get(output, Rest))
+        kill(Watch, erlang:monitor(process, Watch)),
+        forget(Monitor),
+        Before =:= none orelse clear(Clock, Pid, maps:get(output, Rest), Before)
     end.
 
 ended(Pid, Monitor, Drive) ->
@@ -142,43 +144,60 @@ ended(Pid, Monitor, Drive) ->
 done(none) -> {[], []};
 done(Drive) -> ertime_drive:stop(Drive).
 
+%% The processes that were there before a test. (Their numbers don't tell that: they are given again.)
+-spec before() -> #{pid() => []}.
+before() ->
+    maps:from_keys(processes(), []).
+
 %% Waits until the processes that a test has left end, as those that are linked to it do, and ends the rest: whoever runs it again
-%% finds their names free. They are those that it, or one of them, has spawned, and younger ones that see its clock or have the
-%% group leader of its run.
--spec clear(ertime:clock(), pid(), pid() | none) -> ok.
-clear(Clock, Test, Output) ->
-    Kill = fun(Pids) -> [exit(Pid, kill) || Pid <- Pids] end,
-    {Left, _} = left(Clock, Test, Output),
-    wait_for(watched(Left), ?STILL, Kill),
-    clear_again(Clock, Test, Output, Kill, ?ROUNDS).
+%% finds their names free. They are those that it, or one of them, has spawned, and others that weren't there before it and see its
+%% clock or have the group leader of its run.
+-spec clear(ertime:clock(), pid(), pid() | none, #{pid() => []}) -> ok.
+clear(Clock, Test, Output, Before) ->
+    Find = fun() -> left(Clock, Test, Output, Before) end,
+    {Left, _} = Find(),
+    wait_for(watched(Left), ?STILL, fun kill_all/1),
+    clear_again(Find, Before, ?ROUNDS).
 
 %% Those that are spawned meanwhile, again and again. None of them goes on while it is looked at: to be asked for something else
 %% lets a process run.
-clear_again(_, _, _, _, 0) ->
+clear_again(_, _, 0) ->
     ok;
-clear_again(Clock, Test, Output, Kill, Rounds) ->
-    case left(Clock, Test, Output) of
+clear_again(Find, Before, Rounds) ->
+    case Find() of
         {[], false} ->
             ok;
         %% What ends may be a process of this package.
         {[], true} when Rounds > ?ROUNDS - ?LOOKS ->
-            clear_again(Clock, Test, Output, Kill, Rounds - 1);
+            clear_again(Find, Before, Rounds - 1);
         _ ->
-            Held = hold_younger(Test),
-            {Left, _} = left(Clock, Test, Output),
-            _ = Kill(Left),
-            _ = [is_free(Pid) || Pid <- Held],
-            wait_for(watched(Left), ?STILL, Kill),
-            clear_again(Clock, Test, Output, Kill, Rounds - 1)
+            Killed = held(Before, fun() ->
+                {Left, _} = Find(),
+                kill_all(Left),
+                Left
+            end),
+            wait_for(watched(Killed), ?STILL, fun kill_all/1),
+            clear_again(Find, Before, Rounds - 1)
     end.
 
-hold_younger(Test) ->
+kill_all(Pids) ->
+    lists:foreach(fun(Pid) -> exit(Pid, kill) end, Pids).
+
+%% Calls a function while all processes that weren't there before stand still. Those of other clocks don't rest meanwhile.
+-spec held(#{pid() => []}, fun(() -> Result)) -> Result.
+held(Before, Fun) ->
+    ertime_keeper:put({holds, self()}, true),
     Priority = process_flag(priority, high),
     _ = erlang:system_flag(multi_scheduling, block_normal),
-    Held = [Pid || Pid <- processes(), Pid =/= self(), age(Pid) > age(Test), is_held(Pid)],
+    Held = [Pid || Pid <- processes(), Pid =/= self(), not is_map_key(Pid, Before), is_held(Pid)],
     _ = erlang:system_flag(multi_scheduling, unblock_normal),
     _ = process_flag(priority, Priority),
-    Held.
+    try
+        Fun()
+    after
+        _ = [is_free(Pid) || Pid <- Held],
+        _ = ertime_keeper:take({holds, self()})
+    end.
 
 %% Before it runs again.
 is_held(Pid) ->
@@ -199,33 +218,20 @@ watched(Pids) ->
     maps:from_list([{erlang:monitor(process, Pid), Pid} || Pid <- Pids]).
 
 %% And whether any process ended while they were looked for, which may have left another one.
-left(Clock, Test, Output) ->
-    Others = [Pid || {_, Pid} <- lists:sort([{age(Pid), Pid} || Pid <- processes(), Pid =/= self()])],
-    lists:foldl(
-        fun(Pid, {Found, Gone}) ->
-            case is_left(Pid, Clock, [Test | Found], Output) of
-                true -> {[Pid | Found], Gone};
-                false -> {Found, Gone};
-                gone -> {Found, true}
-            end
-        end,
-        {[], false},
-        Others
-    ).
+left(Clock, Test, Output, Before) ->
+    Infos = [{Pid, process_info(Pid, [parent, group_leader, dictionary])} || Pid <- processes(), Pid =/= self(), not is_map_key(Pid, Before)],
+    {Own, Others} = lists:partition(fun({_, Info}) -> is_of(Clock, Output, Info) end, [It || It = {_, Info} <- Infos, Info =/= undefined]),
+    {family([Pid || {Pid, _} <- Own], [Test], Others), lists:keymember(undefined, 2, Infos)}.
 
-is_left(Pid, Clock, [Test | _] = Before, Output) ->
-    case process_info(Pid, [parent, group_leader, dictionary]) of
-        [{parent, Parent}, {group_leader, Leader}, {dictionary, Dictionary}] ->
-            Leader =:= Output orelse lists:member(Parent, Before) orelse
-                (lists:keyfind('$ertime', 1, Dictionary) =:= {'$ertime', Clock} andalso age(Pid) > age(Test));
-        undefined ->
-            gone
+is_of(Clock, Output, [_, {_, Leader}, {_, Dictionary}]) ->
+    Leader =:= Output orelse lists:keyfind('$ertime', 1, Dictionary) =:= {'$ertime', Clock}.
+
+%% With those that one of them, or the test, has spawned.
+family(Found, Parents, Others) ->
+    case lists:partition(fun({_, [{parent, Parent} | _]}) -> lists:member(Parent, Parents ++ Found) end, Others) of
+        {[], _} -> Found;
+        {Children, Rest} -> family([Pid || {Pid, _} <- Children] ++ Found, Parents, Rest)
     end.
-
-%% Greater for a younger process.
-age(Pid) ->
-    [_, Number, Serial] = string:lexemes(pid_to_list(Pid), "<>."),
-    {list_to_integer(Serial), list_to_integer(Number)}.
 
 %% None has ended for so many real milliseconds: then they are ended, once.
 wait_for(Monitors, _, _) when map_size(Monitors) =:= 0 ->
@@ -251,6 +257,13 @@ in_process(Clock, Callers, Fun) ->
     catch
         Class:Reason:Stack -> {?MODULE, raised, Class, Reason, [Frame || Frame <- Stack, element(1, Frame) =/= ?MODULE]}
     end}).
+
+%% What the watch has told of the test since it ended.
+forget(Monitor) ->
+    receive
+        {?MODULE, Monitor, _} -> forget(Monitor)
+    after 0 -> ok
+    end.
 
 guard(Caller, Pid) ->
     Monitors = {erlang:monitor(process, Caller), erlang:monitor(process, Pid)},

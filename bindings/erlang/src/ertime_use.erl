@@ -11,10 +11,11 @@
 %% it was found, so a process that changes these looks again.
 -module(ertime_use).
 
--export([clock/0, open_clock/0, clock_if_open/0, count_seen/1, is_seen/0, turn_on/0, lost/0, put_clock/1, put_everywhere/1, everywhere/0, allow/2, disallow/1, clock_of/2, facts/1]).
+-export([clock/0, open_clock/0, clock_if_open/0, count_seen/1, is_seen/0, turn_on/0, lost/0, put_clock/1, put_everywhere/1, everywhere/0, allow/2, disallow/1, stand_apart/0, clock_of/2, facts/1]).
 
 -define(KEY, '$ertime').
 -define(SEEN, '$ertime_seen').
+-define(APART, '$ertime_apart').
 -define(EPOCH, '$ertime_epoch').
 -define(OUTLIVED, "this process has outlived the clock that it saw: end it with its test, or let it call ertime:use(real)").
 
@@ -122,7 +123,7 @@ for_now(Clock) ->
         closed -> none
     end.
 
-own_from_now(real) ->
+own_from_now(None) when None =:= real; None =:= apart ->
     put_own(none);
 own_from_now(Clock) ->
     case join(Clock) of
@@ -262,7 +263,14 @@ allowed(Pid) ->
             end
     end.
 
-%% What clock/0 would tell another process of this node, as far as can be seen. The facts of some processes may be known.
+%% The calling process works for a clock and sees none: no process of a test waits for it.
+stand_apart() ->
+    put(?KEY, none),
+    put(?APART, true),
+    ok.
+
+%% What clock/0 would tell another process of this node, as far as can be seen; `apart' of one that stands apart. The facts of some
+%% processes may be known.
 clock_of(Pid, Facts) ->
     case search([Pid], #{}, Facts) of
         real -> none;
@@ -299,7 +307,7 @@ search([Pid | Pids], Searched, Facts, Nobody) ->
 
 own(Dictionary) ->
     case lists:keyfind(?KEY, 1, Dictionary) of
-        {_, none} -> real;
+        {_, none} -> case lists:keymember(?APART, 1, Dictionary) of true -> apart; false -> real end;
         {_, Clock} -> open_or_closed(Clock);
         false -> none
     end.

@@ -35,7 +35,7 @@
 start(Clock, Owner, Options = #{advance := Advance}) ->
     Self = self(),
     Pid = spawn(fun() ->
-        put('$ertime', none),
+        ertime_use:stand_apart(),
         %% Else those that keep all schedulers busy could keep it from running.
         maps:get(pace, Options, false) andalso process_flag(priority, high),
         Advance =:= auto andalso ertime_keeper:put({auto, Clock}, self()),

@@ -67,7 +67,10 @@ pause_test() ->
     ?assertEqual([1000, 2000, 3000, 4000, 5000], [At || {other, At} <- Seen]).
 
 %% Whoever waits for a process that stands still wakes with it: that is no deadlock.
-paused_server_test() ->
+paused_server_test_() ->
+    {timeout, 60, fun paused_server/0}.
+
+paused_server() ->
     ok = ertime:transform([gen]),
     ?assertEqual(2500, under([{500, {pause, answering, 2000}}], fun() ->
         Pid = spawn_link(fun() -> register(answering, self()), receive {From, ask} -> From ! answer end end),

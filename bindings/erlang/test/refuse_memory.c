@@ -28,6 +28,8 @@ static bool is_refused(void) {
 REFUSED(void *, malloc, NULL, (size_t size), size)
 REFUSED(void *, realloc, NULL, (void *at, size_t size), at, size)
 REFUSED(void *, enif_alloc, NULL, (size_t size), size)
+REFUSED(int, enif_alloc_binary, 0, (size_t size, ErlNifBinary *it), size, it)
+REFUSED(int, enif_realloc_binary, 0, (ErlNifBinary *it, size_t size), it, size)
 REFUSED(ErlNifEnv *, enif_alloc_env, NULL, (void), )
 REFUSED(void *, enif_alloc_resource, NULL, (ErlNifResourceType *type, size_t size), type, size)
 REFUSED(ErlNifMutex *, enif_mutex_create, NULL, (char *name), name)

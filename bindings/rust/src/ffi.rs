@@ -240,6 +240,7 @@ unsafe extern "C" {
         turned: *mut ert_turned_some,
     ) -> i32;
     pub fn ert_world_next_due(world: *mut ert_world, sched: u32, due: *mut u64) -> i32;
+    pub fn ert_world_drop_settled(world: *mut ert_world, sched: u32, dropped: *mut u64) -> i32;
     pub fn ert_world_reserve_expired(world: *mut ert_world, sched: u32, count: usize) -> i32;
     pub fn ert_world_shrink_expired(world: *mut ert_world, sched: u32) -> i32;
     pub fn ert_seat_open(seat: *mut ert_seat, world: *mut ert_world) -> i32;
@@ -320,6 +321,7 @@ unsafe extern "C" {
         turned: *mut ert_turned_some,
     ) -> i32;
     pub fn ert_shard_next_due(shard: *mut ert_shard, due: *mut u64) -> i32;
+    pub fn ert_shard_drop_settled(shard: *mut ert_shard, dropped: *mut u64) -> i32;
     pub fn ert_shard_reserve_expired(shard: *mut ert_shard, count: usize) -> i32;
     pub fn ert_shard_shrink_expired(shard: *mut ert_shard) -> i32;
 }

@@ -668,7 +668,8 @@ impl World {
     }
 
     /// Makes a turn of a scheduler in which so many timers at most expire and so many at most are delivered, and returns
-    /// whether more are due or have expired: the next turn goes on with them, in their order.
+    /// whether there is more: timers that are due or have expired, or timers that have to move within the wheel before it comes
+    /// to the turn's `to`. The next turn goes on with them, in their order.
     pub fn turn_some(&mut self, sched: u32, most: u32) -> Result<(Turned, bool), Error> {
         let mut some = ffi::ert_turned_some::default();
         done(unsafe { ffi::ert_world_turn_some(&mut *self.handle, sched, most, &mut some) })?;
@@ -679,11 +680,20 @@ impl World {
     /// armed. No timer is due before it, and after a turn it is later than the turn's `to`.
     ///
     /// It is a timer's deadline, or the begin of a window in which one is due: a loop that sleeps until then and makes
-    /// a turn wakes five times at most for the timer that is due first, and once where timers are few.
+    /// a turn wakes five times at most for the timer that is due first, and once where timers are few. A timer that a seat
+    /// cancelled doesn't wake it, unless it is one of more than 1,024 that are let go at once.
     pub fn next_due(&mut self, sched: u32) -> Result<Option<u64>, Error> {
         let mut due = 0;
         let status = unsafe { ffi::ert_world_next_due(&mut *self.handle, sched, &mut due) };
         Ok(done_or(status, ffi::ERT_EMPTY)?.then_some(due))
+    }
+
+    /// Lets go of all timers of a scheduler's wheel that seats have cancelled, and returns how many they were: their slots can
+    /// be used again. `next_due` does so for those that are due next, 1,024 at most.
+    pub fn drop_settled(&mut self, sched: u32) -> Result<u64, Error> {
+        let mut dropped = 0;
+        done(unsafe { ffi::ert_world_drop_settled(&mut *self.handle, sched, &mut dropped) })?;
+        Ok(dropped)
     }
 
     /// Makes room in the list of expired timers of a scheduler for `count` more than wait in it: until as many were due,

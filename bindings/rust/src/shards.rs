@@ -351,7 +351,8 @@ impl Shard {
     }
 
     /// Makes a turn of the shard in which so many timers at most expire and so many at most are delivered, and returns
-    /// whether more are due or have expired: the next turn goes on with them, in their order.
+    /// whether there is more: timers that are due or have expired, or timers that have to move within the wheel before it comes
+    /// to the turn's `to`. The next turn goes on with them, in their order.
     pub fn turn_some(&mut self, most: u32) -> Result<(Turned, bool), Error> {
         let mut some = ffi::ert_turned_some::default();
         done(unsafe { ffi::ert_shard_turn_some(&mut *self.handle, most, &mut some) })?;
@@ -364,6 +365,14 @@ impl Shard {
         let mut due = 0;
         let status = unsafe { ffi::ert_shard_next_due(&mut *self.handle, &mut due) };
         Ok(done_or(status, ffi::ERT_EMPTY)?.then_some(due))
+    }
+
+    /// Lets go of all timers of the shard's wheel that other threads have cancelled, as `World::drop_settled` does, and returns
+    /// how many they were.
+    pub fn drop_settled(&mut self) -> Result<u64, Error> {
+        let mut dropped = 0;
+        done(unsafe { ffi::ert_shard_drop_settled(&mut *self.handle, &mut dropped) })?;
+        Ok(dropped)
     }
 
     /// Makes room in the list of expired timers of the shard for `count` more than wait in it: until as many were due,

@@ -2,7 +2,8 @@
 
 use Rattle.std.proofs.Common.{◌≡◌, ◌⊎◌, inl, inr, ◌++◌, ℕ, sym, ap, ◌∙◌, subst, List, Option, Some, None}
 use Rattle.std.proofs.lemmas.List.{append-nil}
-use Rattle.ert_io.specs.Known.{then, before, IsAtEnd}
+use Rattle.ert_io.specs.Known.{StreamTold, before, HandsOut, IsAtEnd}
+use Rattle.ert_io.specs.Reads.{Input}
 use Rattle.ert_audit.specs.Audits.{status_telling, IsVerdict, HasAll, Judges}
 use Rattle.ert_audit.specs.Verdicts.{HasVerdict, verdict_line}
 use Rattle.ert_audit.specs.declared.status.AuditStatus.{AuditStatus}
@@ -10,17 +11,15 @@ use Rattle.ert_audit.specs.declared.status.AuditStatus.TheVariants.{WriteFault, 
 use Rattle.ert_audit.specs.declared.verdict.Verdict.{Verdict}
 
 -- what was read to the end is all that there was
-pub all_read : (old new : Option (List ℕ)) (read text : List ℕ) → old ≡ before read new → IsAtEnd new → old ≡ Some text → read ≡ text
-all_read old (Some rest) read text taken end whole =
-    let e : Some (read ++ rest) ≡ Some text = sym taken ∙ whole in
-    sym (append-nil read) ∙ ap (λ (x : List ℕ). read ++ x) (sym end) ∙ some_same (read ++ rest) text e
+pub all_read : (old new : StreamTold ℕ) (read text : List ℕ) → HandsOut old new read → IsAtEnd new.left → old.left ≡ Some text → read ≡ text
+all_read old new read text reads end told = all_of new.left read text (sym reads.left ∙ told) end
   where
-    some_same : (x y : List ℕ) → Some x ≡ Some y → x ≡ y
-    some_same x y e = cc
-all_read old None read text taken end whole = absurd (none_some text (sym taken ∙ whole))
-  where
-    none_some : (x : List ℕ) → None ≡ Some x → ⊥
-    none_some x e = cc
+    all_of : (left : Option (List ℕ)) (read text : List ℕ) → before read left ≡ Some text → IsAtEnd left → read ≡ text
+    all_of None read text told end = let none : None ≡ Some text = told in absurd cc
+    all_of (Some rest) read text told end =
+        let both : Some (read ++ rest) ≡ Some text = told in
+        let same : read ++ rest ≡ text = cc in
+        sym (append-nil read) ∙ ap (λ (x : List ℕ). read ++ x) (sym end) ∙ same
 
 -- the status, unless the output failed or memory ran out
 pub told_so : (read text : List ℕ) (found wanted : Verdict) (status : AuditStatus)
@@ -37,11 +36,11 @@ told_so read text found wanted status one same has wants sure which = elim which
 ]
 
 -- a status that tells a verdict, where the output failed or memory ran out otherwise
-pub judges : {text : List ℕ} {left left_new taken taken_new : Option (List ℕ)} (verdict : Verdict) (status : AuditStatus)
-    → HasAll text left left_new verdict
+pub judges : {text : List ℕ} {i j : Input} {taken taken_new : List ℕ} (verdict : Verdict) (status : AuditStatus)
+    → HasAll text i j verdict
     → (status ≡ status_telling verdict) ⊎ (status ≡ WriteFault) ⊎ (status ≡ NoMemory)
-    → (status ≡ status_telling verdict → taken_new ≡ then taken (verdict_line verdict))
-    → IsVerdict status → Judges status text left left_new taken taken_new
+    → (status ≡ status_telling verdict → taken_new ≡ taken ++ verdict_line verdict)
+    → IsVerdict status → Judges status text i j taken taken_new
 judges verdict status has which told is = elim which [
   | inl tells ↦ record { verdict = verdict; has = has; tells = tells; writes = told tells }
   | inr other ↦ elim other [

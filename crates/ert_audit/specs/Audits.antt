@@ -1,7 +1,7 @@
 -- How an audit ends, and what it has then read and written.
 
-use Rattle.std.specs.Prelude.{◌≡◌, ◌≤◌, ℕ, List, length, Option}
-use Rattle.ert_io.specs.Known.{then, before, IsAtEnd}
+use Rattle.std.specs.Prelude.{◌≡◌, ℕ, List, ◌++◌}
+use Rattle.ert_io.specs.Reads.{Input, ReadsAll}
 use Rattle.ert_io.specs.Writing.{WritesFront}
 use Rattle.ert_audit.specs.Verdicts.{HasVerdict, verdict_line}
 use Rattle.ert_audit.specs.declared.status.AuditStatus.{AuditStatus}
@@ -32,23 +32,21 @@ IsVerdict Illegal = Unit {0}
 IsVerdict Refused = Unit {0}
 IsVerdict _ = ⊥
 
--- all bytes were read, they are no more than an input may have, and they have this verdict
-pub record HasAll (text : List ℕ) (left left_new : Option (List ℕ)) (verdict : Verdict) : Type 0 where
-  pub taken : left ≡ before text left_new
-  pub short : length text ≤ 16777216
-  pub end : IsAtEnd left_new
+-- all bytes were read, and they have this verdict
+pub record HasAll (text : List ℕ) (i j : Input) (verdict : Verdict) : Type 0 where
+  pub takes : ReadsAll i j text
   pub is : HasVerdict text verdict
 
 -- all bytes were read, and the line of their verdict was written, which is that of the status
-pub record Judges (status : AuditStatus) (text : List ℕ) (left left_new taken taken_new : Option (List ℕ)) : Type 0 where
+pub record Judges (status : AuditStatus) (text : List ℕ) (i j : Input) (taken taken_new : List ℕ) : Type 0 where
   pub verdict : Verdict
-  pub has : HasAll text left left_new verdict
+  pub has : HasAll text i j verdict
   pub tells : status ≡ status_telling verdict
-  pub writes : taken_new ≡ then taken (verdict_line verdict)
+  pub writes : taken_new ≡ taken ++ verdict_line verdict
 
 -- all bytes were read, and the first part of the line of their verdict was written
-pub record StopsInLine (left left_new taken taken_new : Option (List ℕ)) : Type 0 where
+pub record StopsInLine (i j : Input) (taken taken_new : List ℕ) : Type 0 where
   pub text : List ℕ
   pub verdict : Verdict
-  pub has : HasAll text left left_new verdict
+  pub has : HasAll text i j verdict
   pub writes : WritesFront taken taken_new (verdict_line verdict)

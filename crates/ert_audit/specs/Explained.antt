@@ -1,6 +1,6 @@
 -- What was written of a message.
 
-use Rattle.std.specs.Prelude.{ℕ, List, Option}
+use Rattle.std.specs.Prelude.{ℕ, List}
 use Rattle.ert_io.specs.Writing.{WritesFront}
 use Rattle.ert_audit.specs.Messages.{IsIllegalMessage}
 use Rattle.ert_audit.specs.Refusals.{IsRefusalMessage}
@@ -14,7 +14,7 @@ IsMessage Refused text message = IsRefusalMessage text message
 IsMessage _ text message = ⊥
 
 -- the first part of the message on a text was written
-pub record TellsPart (status : AuditStatus) (text : List ℕ) (taken taken_new : Option (List ℕ)) : Type 0 where
+pub record TellsPart (status : AuditStatus) (text : List ℕ) (taken taken_new : List ℕ) : Type 0 where
   pub message : List ℕ
   pub is : IsMessage status text message
   pub writes : WritesFront taken taken_new message

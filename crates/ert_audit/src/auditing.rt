@@ -1,6 +1,7 @@
-ghost use Rattle.std.specs.Prelude.{◌≡◌, ◌⊎◌, ◌≤◌, ℕ, List, Some, None, IsTrue, false, length};
+ghost use Rattle.std.specs.Prelude.{◌≡◌, ◌⊎◌, ◌≤◌, ◌++◌, ℕ, List, Some, None, IsTrue, false, length};
 ghost use Rattle.ert_io.specs.Faults.{Rose};
-ghost use Rattle.ert_io.specs.Known.{then, before, TakesUpTo};
+ghost use Rattle.ert_io.specs.Known.{stream_told, HandsUpTo};
+ghost use Rattle.ert_io.specs.Reads.{ReadsMore, input_of};
 ghost use Rattle.ert_io.specs.Writing.{WritesFront};
 ghost use Rattle.ert_audit.specs.Audits.{IsVerdict, Judges, StopsInLine, status_telling};
 ghost use Rattle.ert_audit.specs.Verdicts.{HasVerdict, verdict_line};
@@ -27,16 +28,19 @@ pub fn audit<R: AllocGlobal, I: Source, O: Sink>(rt: &R, input: &mut I, output: 
     requires { O.room output.old ≡ None }
 
     // The input was read to its end, its text has this verdict, and the line of that was written.
-    ensures judged { IsVerdict result.status → Judges result.status result.text.items (I.left input.old) (I.left input.new) (O.taken output.old) (O.taken output.new) }
+    ensures judged { IsVerdict result.status → Judges result.status result.text.items (input_of I.given I.ended I.left I.faults input.old) (input_of I.given I.ended I.left I.faults input.new)
+        (O.taken output.old) (O.taken output.new) }
     ensures read_fault { result.status ≡ AuditStatus.ReadFault → Rose (I.faults input.old) (I.faults input.new) × (output.new ≡ output.old) }
-    ensures read_in_part { result.status ≡ AuditStatus.ReadFault → TakesUpTo 16777216 (I.left input.old) (I.left input.new) }
+    ensures read_in_part { result.status ≡ AuditStatus.ReadFault
+        → HandsUpTo 16777216 (stream_told (I.given input.old) (I.left input.old)) (stream_told (I.given input.new) (I.left input.new)) }
     ensures too_long { result.status ≡ AuditStatus.TooLong → (output.new ≡ output.old)
-        × ((taken : List ℕ) × (length taken ≡ 16777217) × (I.left input.old ≡ before taken (I.left input.new))) }
+        × ReadsMore (input_of I.given I.ended I.left I.faults input.old) (input_of I.given I.ended I.left I.faults input.new) }
     ensures write_fault { result.status ≡ AuditStatus.WriteFault → Rose (O.faults output.old) (O.faults output.new) }
 
     // After a failed write, or without memory, the first part of the line stands.
     ensures stops { (result.status ≡ AuditStatus.WriteFault) ⊎ (result.status ≡ AuditStatus.NoMemory)
-        → (output.new ≡ output.old) ⊎ StopsInLine (I.left input.old) (I.left input.new) (O.taken output.old) (O.taken output.new) }
+        → (output.new ≡ output.old) ⊎ StopsInLine (input_of I.given I.ended I.left I.faults input.old) (input_of I.given I.ended I.left I.faults input.new)
+        (O.taken output.old) (O.taken output.new) }
 
     // Where nothing fails, only running out of memory keeps a text from its verdict.
     ensures complete { (Rose (I.faults input.old) (I.faults input.new) → ⊥) → (Rose (O.faults output.old) (O.faults output.new) → ⊥)
@@ -74,7 +78,7 @@ fn without_text(alloc: Global, status: AuditStatus) -> Audited
 fn tell<O: Sink>(alloc: Global, verdict: Verdict, output: &mut O) -> AuditStatus
     requires { O.room output.old ≡ None }
     ensures which { (result ≡ status_telling verdict) ⊎ (result ≡ AuditStatus.WriteFault) ⊎ (result ≡ AuditStatus.NoMemory) }
-    ensures told { result ≡ status_telling verdict → O.taken output.new ≡ then (O.taken output.old) (verdict_line verdict) }
+    ensures told { result ≡ status_telling verdict → O.taken output.new ≡ O.taken output.old ++ verdict_line verdict }
     ensures front { WritesFront (O.taken output.old) (O.taken output.new) (verdict_line verdict) }
     ensures later { O.faults output.old ≤ O.faults output.new }
     ensures cause { result ≡ AuditStatus.WriteFault → Rose (O.faults output.old) (O.faults output.new) }
@@ -93,7 +97,7 @@ fn tell<O: Sink>(alloc: Global, verdict: Verdict, output: &mut O) -> AuditStatus
 /// Writes a line, and tells whether all of it was written.
 fn write_line<O: Sink>(output: &mut O, line: &[u8]) -> bool
     requires { O.room output.old ≡ None }
-    ensures whole { IsTrue result → O.taken output.new ≡ then (O.taken output.old) line.now }
+    ensures whole { IsTrue result → O.taken output.new ≡ O.taken output.old ++ line.now }
     ensures front { WritesFront (O.taken output.old) (O.taken output.new) line.now }
     ensures later { O.faults output.old ≤ O.faults output.new }
     ensures cause { result ≡ false → Rose (O.faults output.old) (O.faults output.new) }

@@ -1,7 +1,8 @@
 //! The program `ertaudit`: it reads a history of the clock and timer service, and tells whether it is legal.
 //!
-//! `main` only hands the standard streams to `audit` of `ert_audit`, whose contract says what each status means, and then
-//! to `explain`, which writes the message that tells why to standard error.
+//! `main` only hands the standard streams to `audit` of `ert_audit`, whose contract says what each status means, of the
+//! bytes that the reads gave and of those that the writes took, and then to `explain`, which writes the message that tells
+//! why to standard error.
 #![tactic(auto)]
 
 use ert_audit::{audit, explain};

@@ -5,13 +5,14 @@ use Rattle.ert_effects.specs.Chains.{Exits, Serves, AdvancesWheel, Delivers, Tur
 use Rattle.ert_effects.specs.MailCalls.{Takes, Monitors, Demonitors, Notifies}
 use Rattle.ert_effects.specs.RequestCalls.{Asks, inbox_for}
 use Rattle.ert_effects.specs.RoomCalls.{TellsRoom}
+use Rattle.ert_effects.specs.Sleeping.{ProbesForNext}
 use Rattle.ert_effects.specs.TimerCalls.{Reads, Cancels, Starts}
 use Rattle.ert_effects.specs.Ways.{Growth, Way}
 use Rattle.ert_effects.specs.WheelCalls.{TellsAlive}
 use Rattle.ert_effects.specs.declared.answers.MonitorErr.{MonitorErr}
 use Rattle.ert_effects.specs.declared.answers.Room.{Room}
 use Rattle.ert_effects.specs.declared.answers.StartErr.{StartErr}
-use Rattle.ert_effects.specs.declared.answers.StartErr.TheVariants.{NoMemory}
+use Rattle.ert_effects.specs.declared.answers.StartErr.TheVariants.{BadArg, Full, NoMemory}
 use Rattle.ert_effects.specs.declared.answers.Taken.{Taken}
 use Rattle.ert_effects.specs.declared.answers.Turned.{Turned}
 use Rattle.ert_defs.specs.States.{state}
@@ -20,8 +21,11 @@ use Rattle.ert_defs.specs.declared.mail.Request.{Request}
 use Rattle.ert_defs.specs.declared.memory.NoMemory.{NoMemory as OutOfMemory}
 use Rattle.ert_defs.specs.declared.timer.Start.{Start}
 use Rattle.ert_defs.specs.declared.timer.TimerRef.{TimerRef}
+use Rattle.ert_world.specs.Frees.{IsUsedUpAt, UsesFreeAt}
+use Rattle.ert_world.specs.Restarts.{HasNoDeadline}
+use Rattle.ert_world.specs.Sleeping.{DropsSettledAt, HasSameTimeAt, IsFoundAt}
 use Rattle.ert_world.specs.Stepping.{Stays}
-use Rattle.ert_world.specs.Worlds.{Seen, Goes, By, HasForgotten, HasPassedAt, IsNextHeldAt, IsNearestAt}
+use Rattle.ert_world.specs.Worlds.{Seen, Goes, By, HasForgotten, HasPassedAt, IsNextHeldAt, IsNearestAt, StayForgotten}
 use Rattle.ert_timers.specs.NextDue.{NoneArmedBefore}
 use Rattle.ert_c.specs.Through.{Through, TellsC, IfBelow, IsOutOfRange, IsRefusedAs}
 use Rattle.ert_c.specs.Told.{start_of, request_kind_at, request_of, IsStartTold, IsRoomTold, IsToldDone}
@@ -55,10 +59,16 @@ abbrev pub AnswersAtProcess : {A P : Type 0} → ℕ → (A → Seen → Seen �
 AnswersAtProcess n call tells kept found old status new =
     Through (found ≡ kept) (AtProcess n call (λ answer. tells answer kept status found) status (found ≡ kept)) old status new
 
--- caller 0 starts a timer, with this answer, which is never out of memory
+-- caller 0 starts a timer, with this answer, which is never out of memory, and tells that it has no deadline only where it has
+-- none. No row comes to a wheel of a timer that was started before. It is refused as full only where the wheel has had 2^53
+-- timers or holds no slot free afterwards, and takes no free slot but that of its timer
 pub record StartsBy (wheel : ℕ) (start : Start) (answer : Result TimerRef StartErr) (old new : Seen) : Type 0 where
   pub makes : MakesCall (λ w. By w (λ g. Starts g 0 wheel start answer)) old new
+  pub time : answer ≡ Err BadArg → HasNoDeadline old start
   pub memory : answer ≢ Err NoMemory
+  pub forgotten : StayForgotten old new
+  pub full : answer ≡ Err Full → IsUsedUpAt old new wheel
+  pub frees : UsesFreeAt old new wheel answer
 
 -- C starts a timer on the wheel of a scheduler, for a process; where there is no such scheduler or process,
 -- nothing has changed
@@ -89,9 +99,10 @@ ReadsBy timer answer = MakesCall (λ w. By w (λ g. Reads g (Caller 0) timer ans
 abbrev pub TellsAliveBy : ℕ → Bool → Seen → Seen → Type 0
 TellsAliveBy process answer = MakesCall (λ w. By w (λ g. TellsAlive g (Caller 0) process answer))
 
--- caller 0 lets a process exit: whether it was alive, and then every wheel is swept
-abbrev pub ExitsBy : ℕ → Bool → Seen → Seen → Type 0
-ExitsBy process answer = MakesCall (λ w way. Exits w.settings way 0 process answer)
+-- caller 0 lets a process exit: whether it was alive, and then every wheel is swept, and forgets what was cancelled
+pub record ExitsBy (process : ℕ) (answer : Bool) (old new : Seen) : Type 0 where
+  pub makes : MakesCall (λ w way. Exits w.settings way 0 process answer) old new
+  pub stays : Stays old new
 
 -- caller 0 puts a request into the inbox of its scheduler, or there is no memory
 abbrev pub AsksBy : Request → Result (Unit {0}) OutOfMemory → Seen → Seen → Type 0
@@ -127,11 +138,13 @@ pub record ServesBy (sched : ℕ) (answer : Result Bool OutOfMemory) (old new : 
 -- of the wheel is due later
 pub record AdvancesBy (sched : ℕ) (answer : Result (ℕ × ℕ) OutOfMemory) (old new : Seen) : Type 0 where
   pub makes : MakesCall (λ w way. AdvancesWheel w.settings way sched answer) old new
+  pub stays : Stays old new
   pub passed : IfOk answer (λ advanced. HasPassedAt new sched advanced.0)
 
--- a scheduler hands its expired timers over: how many were put and dropped, or out of memory
-abbrev pub DeliversBy : ℕ → Result (ℕ × ℕ) OutOfMemory → Seen → Seen → Type 0
-DeliversBy sched answer = MakesCall (λ w way. Delivers w.settings way sched answer)
+-- a scheduler hands its expired timers over: how many were put and dropped, or out of memory. No row comes to a wheel
+pub record DeliversBy (sched : ℕ) (answer : Result (ℕ × ℕ) OutOfMemory) (old new : Seen) : Type 0 where
+  pub makes : MakesCall (λ w way. Delivers w.settings way sched answer) old new
+  pub stays : Stays old new
 
 -- a scheduler makes a turn: what it did, or out of memory. The wheels forget what it cancelled, and each row of its
 -- own is due later than the time of the advance
@@ -140,10 +153,19 @@ pub record TurnsBy (sched : ℕ) (answer : Result Turned OutOfMemory) (old new :
   pub stays : Stays old new
   pub passed : IfOk answer (λ turned. HasPassedAt new sched turned.to)
 
--- what is told is how early a row of the wheel is due, or where the window begins in which it is; no armed timer is due
--- before it, and nothing has changed
+-- what is told is how early a row of the wheel is due, or where the window begins in which it is: no armed timer is due
+-- before it. Slots were probed until a timer was armed, and the rows of the others have gone
 pub record LooksAheadForC (sched : ℕ) (answer : Option ℕ) (old new : Seen) : Type 0 where
-  pub held : IsNextHeldAt old sched answer
-  pub armed : NoneArmedBefore (state old.settings old.history) sched answer
-  pub nearest : IsNearestAt old sched answer
-  pub unchanged : new ≡ old
+  pub makes : MakesCall (λ w. By w (λ g. ProbesForNext g sched)) old new
+  pub stays : Stays old new
+  pub held : IsNextHeldAt new sched answer
+  pub armed : NoneArmedBefore (state new.settings new.history) sched answer
+  pub nearest : IsNearestAt new sched answer
+  pub found : IsFoundAt old new sched answer
+  pub time : HasSameTimeAt old new sched
+
+-- the rows of settled timers have gone from a wheel, and so many are told
+pub record DropsForC (sched answer : ℕ) (old new : Seen) : Type 0 where
+  pub drops : DropsSettledAt old new sched answer
+  pub stays : Stays old new
+  pub time : HasSameTimeAt old new sched

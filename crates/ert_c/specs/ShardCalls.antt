@@ -6,12 +6,15 @@ use Rattle.ert_effects.specs.Chains.{AdvancesWheel, Delivers}
 use Rattle.ert_effects.specs.ClockCalls.{TellsTime, TellsOffset, TellsSystemTime}
 use Rattle.ert_effects.specs.MailCalls.{Takes, Monitors, Demonitors, Notifies}
 use Rattle.ert_effects.specs.RestartCalls.{Restarts}
+use Rattle.ert_effects.specs.Sleeping.{ProbesForNext}
 use Rattle.ert_effects.specs.TimerCalls.{Reads, Cancels, Starts}
 use Rattle.ert_effects.specs.WheelCalls.{TellsAlive}
 use Rattle.ert_effects.specs.declared.answers.MonitorErr.{MonitorErr}
 use Rattle.ert_effects.specs.declared.answers.RestartErr.{RestartErr}
 use Rattle.ert_effects.specs.declared.answers.StartErr.{StartErr}
-use Rattle.ert_effects.specs.declared.answers.StartErr.TheVariants.{NoMemory}
+use Rattle.ert_effects.specs.declared.answers.StartErr.TheVariants.{Full, NoMemory}
+use Rattle.ert_effects.specs.declared.answers.RestartErr.TheVariants.{Full as FullAgain}
+use Rattle.ert_timers.specs.Frees.{IsUsedUp, UsesFree}
 use Rattle.ert_effects.specs.declared.answers.Taken.{Taken}
 use Rattle.ert_c.specs.ClockCalls.{state_as}
 use Rattle.ert_c.specs.Through.{Through, TellsC, IfBelow, IsOutOfRange}
@@ -32,10 +35,12 @@ use Rattle.ert_defs.specs.declared.timer.TimerRef.{TimerRef}
 use Rattle.ert_shard.specs.Hubs.{Rest, GivesShard}
 use Rattle.ert_shard.specs.Renewing.{LetsGo}
 use Rattle.ert_shard.specs.Shards.{Share, IsHome, Owned, ShardGoes, ShardSteps, ShardBy, ShardHasForgotten}
-use Rattle.ert_shard.specs.Turning.{shard_expired, HasTurnedMost, ShardTurns, TurnsUpTo, ShardExits}
+use Rattle.ert_shard.specs.Sleeping.{ShardDropsSettled}
+use Rattle.ert_shard.specs.Turning.{shard_expired, HasTurnedMost, IsMoreLeft, ShardTurns, TurnsUpTo, ShardExits}
 use Rattle.ert_shard.specs.declared.turns.Turn.{Turn}
 use Rattle.ert_timers.specs.NextDue.{NoneArmedBefore, IsNextHeld}
 use Rattle.ert_timers.specs.Passed.{HasPassed}
+use Rattle.ert_timers.specs.Sleeping.{IsFoundNext}
 
 -- a hub gave a shard, and this one stands behind the shard's handle
 pub record HasShard (processes : ℕ) (old : Rest) (status : ℤ) (hub : Option Rest) (shard : Option Owned) : Type 0 where
@@ -113,20 +118,25 @@ pub record ShardReadsOffset (status : ℤ) (offset : ErtOffset) (old new : Owned
   pub state : offset.state ≡ state_as offset_state
   pub steps : ShardSteps old (ShardBy old (λ g. TellsOffset g (Caller (old.share.number + 1)) (offset.offset, offset_state))) new
 
--- a shard starts a timer on its wheel as its caller, with this answer, which is never out of memory
+-- a shard starts a timer on its wheel as its caller, with this answer, which is never out of memory; it is refused as full only
+-- where the wheel has had 2^53 timers or holds no slot free afterwards, and takes no free slot but that of its timer
 pub record ShardStartsBy (start : Start) (answer : Result TimerRef StartErr) (old new : Owned) : Type 0 where
   pub goes : ShardGoes old (ShardBy old (λ g. Starts g (old.share.number + 1) old.share.number start answer)) new
   pub memory : answer ≢ Err NoMemory
+  pub full : answer ≡ Err Full → IsUsedUp old.wheel new.wheel
+  pub frees : UsesFree old.wheel new.wheel answer
 
 -- C starts a timer on the wheel of a shard; where the process isn't of the shard, nothing has changed
 abbrev pub ShardStarts : ErtStart → ErtTimer → ErtTimer → Option Owned → ℤ → Option Owned → Type 0
 ShardStarts start = AnswersAtHome start.dest (ShardStartsBy (start_of start)) IsStartTold
 
 -- a shard gives an armed timer a new deadline as its caller: the name of the next, or why there is none; where there is one
--- the shard's wheel holds no row of the old one
+-- the shard's wheel holds no row of the old one. It is refused and takes a free slot as a start
 pub record ShardRestartsBy (timer : TimerRef) (start : Start) (answer : Result TimerRef RestartErr) (old new : Owned) : Type 0 where
   pub goes : ShardGoes old (ShardBy old (λ g. Restarts g (old.share.number + 1) old.share.number timer start answer)) new
   pub forgotten : LetsGo timer answer new
+  pub full : answer ≡ Err FullAgain → IsUsedUp old.wheel new.wheel
+  pub frees : UsesFree old.wheel new.wheel answer
 
 -- C gives a timer a new deadline; where the process isn't of the shard, nothing has changed
 abbrev pub ShardRestarts : ErtStart → ErtTimer → ErtTimer → Option Owned → ℤ → Option Owned → Type 0
@@ -193,12 +203,12 @@ pub record ShardTurnsBy (answer : Result Turn OutOfMemory) (old new : Owned) : T
 abbrev pub IsTurnTold : Result Turn OutOfMemory → ErtTurned → ℤ → ErtTurned → Type 0
 IsTurnTold = IsGiven (λ t. record { to = t.to; served = t.served; expired = t.expired; put = t.put; dropped = t.dropped })
 
--- a shard makes a turn in which so many timers at most expire and are handed over: what it did and whether there are more,
--- or out of memory. Where there are no more each row of its wheel is due later than the time of the advance; where there
--- are, it has done as much as it may
+-- a shard makes a turn in which so many timers at most expire and are handed over: what it did and whether there is more,
+-- or out of memory. There is more just where a row of its wheel is due by the time of the advance, the wheel hasn't come to
+-- that time, or expired timers wait; then it has done as much as it may
 pub record ShardTurnsSomeBy (most : ℕ) (answer : Result (Turn × Bool) OutOfMemory) (old new : Owned) : Type 0 where
   pub steps : ShardSteps old (λ way. TurnsUpTo old.settings way old.share most answer) new
-  pub passed : IfOk answer (λ done. done.1 ≡ false → HasPassed new.wheel done.0.to)
+  pub left : IfOk answer (λ done. IsMoreLeft new done.0.to done.1)
   pub done : IfOk answer (λ turned. turned.1 ≡ true → HasTurnedMost old.wheel new.wheel most turned.0)
 
 -- what such a turn of a shard did, or out of memory
@@ -220,9 +230,16 @@ pub record ShardTellsMail (process answer : ℕ) (old new : Owned) : Type 0 wher
   pub waiting : answer ≡ length ((state old.settings old.history).mails process).queue
   pub unchanged : new ≡ old
 
--- what is told is how early a row of the shard's wheel is due, or where the window begins in which it is; no armed timer of
--- the wheel is due before it, and nothing has changed
+-- what is told is how early a row of the shard's wheel is due, or where the window begins in which it is: no armed timer of
+-- the wheel is due before it. Slots were probed until a timer was armed, and the rows of the others have gone
 pub record ShardLooksAhead (answer : Option ℕ) (old new : Owned) : Type 0 where
-  pub held : IsNextHeld old.wheel answer
-  pub armed : NoneArmedBefore (state old.settings old.history) old.share.number answer
-  pub unchanged : new ≡ old
+  pub makes : ShardSteps old (ShardBy old (λ g. ProbesForNext g old.share.number)) new
+  pub held : IsNextHeld new.wheel answer
+  pub armed : NoneArmedBefore (state new.settings new.history) new.share.number answer
+  pub found : IsFoundNext (state new.settings new.history) old.wheel new.wheel answer
+  pub time : new.wheel.passed ≡ old.wheel.passed
+
+-- the rows of settled timers have gone from the wheel of a shard, and so many are told
+pub record ShardDrops (answer : ℕ) (old new : Owned) : Type 0 where
+  pub drops : ShardDropsSettled old new answer
+  pub time : new.wheel.passed ≡ old.wheel.passed

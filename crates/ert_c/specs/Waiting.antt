@@ -1,18 +1,19 @@
 -- What a service does by the calls that give a timer a new deadline, tell how much waits, and hand over or take so many
 -- messages at most, and how C is told the answers.
 
-use Rattle.std.specs.Prelude.{◌≡◌, ℕ, ℤ, Bool, true, false, length, Result, Ok, Err, IfOk}
+use Rattle.std.specs.Prelude.{◌≡◌, ℕ, ℤ, Bool, true, length, Result, Ok, Err, IfOk}
 use Rattle.ert_defs.specs.States.{state}
 use Rattle.ert_defs.specs.declared.memory.NoMemory.{NoMemory as OutOfMemory}
 use Rattle.ert_defs.specs.declared.timer.Start.{Start}
 use Rattle.ert_defs.specs.declared.timer.TimerRef.{TimerRef}
 use Rattle.ert_effects.specs.declared.answers.Turned.{Turned}
-use Rattle.ert_world.specs.Bounded.{HasDoneMost, TurnsSome}
+use Rattle.ert_world.specs.Bounded.{HasDoneMost, IsMoreAt, TurnsSome}
 use Rattle.ert_world.specs.Held.{HoldsSoManyRows, AreArmed}
 use Rattle.ert_effects.specs.RestartCalls.{Restarts}
-use Rattle.ert_world.specs.Restarts.{HasNoDeadline, wheel_for}
+use Rattle.ert_world.specs.Frees.{IsUsedUpAt, UsesFreeAt}
+use Rattle.ert_world.specs.Restarts.{Forgets, HasNoDeadline, wheel_for}
 use Rattle.ert_world.specs.Stepping.{Stays}
-use Rattle.ert_world.specs.Worlds.{Seen, By, HasPassedAt, world_sched}
+use Rattle.ert_world.specs.Worlds.{Seen, By, world_sched}
 use Rattle.ert_effects.specs.declared.answers.RestartErr.{RestartErr}
 use Rattle.ert_effects.specs.declared.answers.RestartErr.TheVariants.{BadArg, NotArmed, Full}
 use Rattle.ert_c.specs.Calls.{MakesCall}
@@ -21,10 +22,14 @@ use Rattle.ert_c.specs.declared.status.TheConstants.{OK, BAD_TIME, FULL, NO_TIME
 use Rattle.ert_c.specs.declared.timer_calls.ErtTimer.{ErtTimer}
 use Rattle.ert_c.specs.declared.waiting_calls.ErtTurnedSome.{ErtTurnedSome}
 
--- caller 0 gives an armed timer a new deadline: the name of the next, or why there is none
+-- caller 0 gives an armed timer a new deadline: the name of the next, or why there is none; where there is one its wheel holds
+-- no row of the old one. It is refused as full, and takes a free slot, as a start
 pub record RestartsBy (timer : TimerRef) (start : Start) (answer : Result TimerRef RestartErr) (old new : Seen) : Type 0 where
   pub makes : MakesCall (λ w. By w (λ g. Restarts g 0 (wheel_for g timer) timer start answer)) old new
   pub time : answer ≡ Err BadArg → HasNoDeadline old start
+  pub forgotten : Forgets timer answer new
+  pub full : answer ≡ Err Full → IsUsedUpAt old new (wheel_for old.settings timer)
+  pub frees : UsesFreeAt old new (wheel_for old.settings timer) answer
 
 -- the timer that was started in its place, or why none was
 abbrev pub IsRestarted : Result TimerRef RestartErr → ErtTimer → ℤ → ErtTimer → Type 0
@@ -53,12 +58,13 @@ pub record TellsMail (process answer : ℕ) (old new : Seen) : Type 0 where
   pub waiting : answer ≡ length ((state old.settings old.history).mails process).queue
   pub unchanged : new ≡ old
 
--- a scheduler makes a turn in which so many timers at most expire and are handed over: what it did and whether there are
--- more, or out of memory
+-- a scheduler makes a turn in which so many timers at most expire and are handed over: what it did and whether there is
+-- more, or out of memory. There is more just where a row of its wheel is due by the time of the advance, the wheel hasn't
+-- come to that time, or expired timers wait; then it has done as much as it may
 pub record TurnsSomeBy (sched most : ℕ) (answer : Result (Turned × Bool) OutOfMemory) (old new : Seen) : Type 0 where
   pub makes : MakesCall (λ w way. TurnsSome w.settings way sched most answer) old new
   pub stays : Stays old new
-  pub passed : IfOk answer (λ done. done.1 ≡ false → HasPassedAt new sched done.0.to)
+  pub left : IfOk answer (λ done. IsMoreAt new sched done.0.to done.1)
   pub done : IfOk answer (λ turned. turned.1 ≡ true → HasDoneMost old new sched most turned.0)
 
 -- what such a turn did, for C

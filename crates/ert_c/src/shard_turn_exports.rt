@@ -1,8 +1,9 @@
 //! The exported calls of a shard's scheduler, and those that make room in its list of expired timers and give it back.
-ghost use Rattle.ert_c.specs.ShardCalls.{ShardAdvancesBy, ShardDeliversBy, ShardTurnsBy, ShardLooksAhead, IsTurnTold};
+ghost use Rattle.ert_c.specs.ShardCalls.{ShardAdvancesBy, ShardDeliversBy, ShardTurnsBy, ShardLooksAhead, ShardDrops, IsTurnTold};
 ghost use Rattle.ert_c.specs.ShardMailing.{ShardChangesListRoom};
 ghost use Rattle.ert_c.specs.Through.{AnswersThrough};
 ghost use Rattle.ert_c.specs.Told.{IsAdvanceTold, IsDelivered, IsDueTold};
+ghost use Rattle.ert_c.specs.Waiting.{IsCount};
 
 use crate::handle::opened;
 use crate::mail_calls::tell_done;
@@ -11,6 +12,7 @@ use crate::status::CLOSED;
 use crate::turn_calls::{
     ErtAdvanced, ErtDelivered, ErtTurned, tell, tell_advanced, tell_delivered, tell_due,
 };
+use crate::waiting_calls::tell_count;
 use ert_defs::NoMemory;
 use ert_shard::Turn;
 
@@ -48,6 +50,15 @@ pub extern "C" fn ert_shard_next_due(shard: &mut ErtShard, due: &mut u64) -> i32
 {
     let answer = opened!(shard).next_due();
     tell_due(answer, due)
+}
+
+/// Drops the timers of a shard's wheel that others have cancelled, and tells how many they were.
+#[unsafe(no_mangle)]
+pub extern "C" fn ert_shard_drop_settled(shard: &mut ErtShard, dropped: &mut u64) -> i32
+    ensures { AnswersThrough ShardDrops (λ answer _. IsCount answer) dropped.old dropped.new shard.old.place.value result shard.new.place.value }
+{
+    let answer = opened!(shard).drop_settled();
+    tell_count(u64::from(answer), dropped)
 }
 
 /// Makes room in the list of expired timers of a shard for so many more.

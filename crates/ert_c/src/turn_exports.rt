@@ -1,7 +1,8 @@
 //! The exported calls of schedulers, and those that make room in a list of expired timers and give it back.
-ghost use Rattle.ert_c.specs.Calls.{AnswersAtSched, ServesBy, AdvancesBy, DeliversBy, TurnsBy, LooksAheadForC};
+ghost use Rattle.ert_c.specs.Calls.{AnswersAtSched, ServesBy, AdvancesBy, DeliversBy, TurnsBy, LooksAheadForC, DropsForC};
 ghost use Rattle.ert_c.specs.Mailing.{ChangesListRoom};
 ghost use Rattle.ert_c.specs.Told.{IsServed, IsAdvanceTold, IsDelivered, IsTurned, IsDueTold};
+ghost use Rattle.ert_c.specs.Waiting.{IsCount};
 
 use crate::handle::{ErtWorld, at_sched, opened};
 use crate::mail_calls::tell_done;
@@ -10,6 +11,7 @@ use crate::turn_calls::{
     ErtAdvanced, ErtDelivered, ErtTurned, tell_advanced, tell_delivered, tell_due, tell_served,
     tell_turned,
 };
+use crate::waiting_calls::tell_count;
 
 /// Serves one request of a scheduler.
 #[unsafe(no_mangle)]
@@ -67,6 +69,16 @@ pub extern "C" fn ert_world_next_due(world: &mut ErtWorld, sched: u32, due: &mut
     let service = at_sched!(world, sched);
     let answer = service.next_due(sched);
     tell_due(answer, due)
+}
+
+/// Drops the timers of a scheduler's wheel that seats have cancelled, and tells how many they were.
+#[unsafe(no_mangle)]
+pub extern "C" fn ert_world_drop_settled(world: &mut ErtWorld, sched: u32, dropped: &mut u64) -> i32
+    ensures { AnswersAtSched sched (DropsForC sched) (λ answer _. IsCount answer) dropped.old dropped.new world.old.place.value result world.new.place.value }
+{
+    let service = at_sched!(world, sched);
+    let answer = service.drop_settled(sched);
+    tell_count(u64::from(answer), dropped)
 }
 
 /// Makes room in the list of expired timers of a scheduler for so many more.

@@ -19,7 +19,7 @@ pub struct ErtTurnedSome {
     pub expired: u32,
     pub put: u32,
     pub dropped: u32,
-    /// Whether expired timers wait.
+    /// Whether there is more: timers that are due by then or have expired, or rows that have to move first.
     pub more: u32,
 }
 

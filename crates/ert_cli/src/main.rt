@@ -1,7 +1,8 @@
 //! The program `ertime`: it reads a scenario of the clock and timer service, and writes one line for each reply.
 //!
 //! `main` only hands the command line, the standard streams and the machine's clock to `ertime` of `ert_program`,
-//! whose contract says what each status means. Where that has refused its input, `explain` of `ert_explain` writes the
+//! whose contract says what each status means, of the bytes that the reads of these streams gave, of those that their
+//! writes took, and of the readings. Where that has refused its input, `explain` of `ert_explain` writes the
 //! message that tells why to standard error.
 #![tactic(auto)]
 

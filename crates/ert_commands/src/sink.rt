@@ -1,4 +1,4 @@
-ghost use Rattle.std.specs.Prelude.{◌≡◌, ◌<◌, ◌≤◌, [], ◌++◌, Some, length, IfOk, OnOk, OnErr};
+ghost use Rattle.std.specs.Prelude.{◌≡◌, ◌<◌, ◌≤◌, [], ◌++◌, length, IfOk, OnOk, OnErr};
 ghost use Rattle.ert_io.specs.Faults.{one_more};
 
 use ert_io::{Failed, Sink};
@@ -39,7 +39,7 @@ impl Sink for TextSink {
 
     ghost faults = { λ s. s.faults };
 
-    ghost taken = { λ s. Some (text_of s) };
+    ghost taken = { λ s. text_of s };
 
     fn write(&mut self, bytes: &[u8]) -> Result<usize, Failed>
         requires { 0 < length bytes.now }

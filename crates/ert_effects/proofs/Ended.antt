@@ -4,11 +4,10 @@ use Rattle.std.proofs.Common.{◌≡◌, ℕ, zero, suc, ◌+◌, ◌*◌, Bool,
 use Rattle.ert_effects.proofs.Advanced.{advance_is}
 use Rattle.ert_effects.specs.Chains.{Serves, Delivers, HasTurned, SweepsWheel, SweepsWheels, Exits}
 use Rattle.ert_effects.specs.RequestCalls.{Asks}
-use Rattle.ert_effects.specs.Ways.{Step, Way, alone, beside}
+use Rattle.ert_effects.specs.Ways.{Way, alone, beside}
 use Rattle.ert_effects.specs.WheelCalls.{Try, Advances, MarksExit, Sweeps, orphans_by, orphan_entries}
 use Rattle.ert_effects.specs.declared.answers.Turned.{Turned}
 use Rattle.ert_defs.specs.Entries.{is_ours, mark_entry}
-use Rattle.ert_defs.specs.States.{State}
 use Rattle.ert_defs.specs.declared.entry.Actor.TheVariants.{Wheel, Inbox, Caller}
 use Rattle.ert_defs.specs.declared.entry.Entry.{Entry}
 use Rattle.ert_defs.specs.declared.entry.Event.{Event}

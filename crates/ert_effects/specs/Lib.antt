@@ -5,6 +5,7 @@ pub mod MailCalls
 pub mod RequestCalls
 pub mod RestartCalls
 pub mod RoomCalls
+pub mod Sleeping
 pub mod SomeCalls
 pub mod TimerCalls
 pub mod Told

@@ -1,5 +1,7 @@
 //! What the calls of the service answer, where no lower crate has a type for it.
 
+ghost use Rattle.std.specs.Prelude.{◌≡◌};
+
 use ert_defs::{Mail, NoMemory};
 
 /// Why a timer wasn't started. No timer changed.
@@ -41,6 +43,31 @@ pub struct Room {
     /// Of the slots that rest and aren't taken, the least time at which one rests no longer, in milliseconds
     /// after the start time of the service; None where there is none.
     pub ready: Option<u64>,
+}
+
+/// What an advance that tries so many timers at most has left.
+#[derive(Clone, Copy, Debug, PartialEq, Eq)]
+pub enum Left {
+    /// No timer is due by the time that it tells.
+    Nothing,
+    /// More timers are due by then: just so many were tried.
+    Due,
+    /// The wheel hasn't come to that time. Rows of later timers have to move first, and so many at most move in a call.
+    Moving,
+}
+
+impl Left {
+    ghost use Rattle.ert_effects.specs.SomeCalls.{is_more};
+
+    /// Whether the next advance goes on with something.
+    pub fn is_more(self) -> bool
+        ensures { result ≡ is_more self }
+    {
+        match self {
+            Left::Nothing => false,
+            Left::Due | Left::Moving => true,
+        }
+    }
 }
 
 /// What became of an expired timer.

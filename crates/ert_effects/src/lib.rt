@@ -35,7 +35,9 @@ mod told_answers;
 mod worked;
 mod worked_some;
 
-pub use answers::{Handed, MonitorErr, RestartErr, Room, SERVED_A_TURN, StartErr, Taken, Turned};
+pub use answers::{
+    Handed, Left, MonitorErr, RestartErr, Room, SERVED_A_TURN, StartErr, Taken, Turned,
+};
 pub use laws::{answers_are_read, exits_settle_timers, messages_are_read, turns_deliver_all};
 pub use told_answers::{asks_are_told, exits_are_told, turns_are_told};
 pub use worked::{

@@ -3,26 +3,25 @@
 use Rattle.std.proofs.Common.{◌≡◌, ℕ, ◌+◌, ◌-◌, ◌<◌, List, [], ◌++◌, take, drop, length, length-append, Option, None, Some, refl, ap, sym, ◌∙◌, append-nil, append_assoc, arith}
 use Rattle.std.proofs.lemmas.List.{take-append-drop, length-take-le}
 use Rattle.std.specs.Prelude.{Result, Ok, Err, IfErr, OnOk}
-use Rattle.ert_io.proofs.Parts.{then-then}
-use Rattle.ert_io.specs.Known.{then, more_by, HasRoomFor}
+use Rattle.ert_io.specs.Known.{more_by, HasRoomFor}
 use Rattle.ert_io.specs.Told.{SinkTold, sink_told, took, room_left, TakesFront}
 use Rattle.ert_io.specs.Writing.{written_of}
 use Rattle.ert_io.specs.declared.writing.WriteErr.{WriteErr}
 
 -- a write appended a text, and its length came off the room
-pub took_is : (taken taken_new : Option (List ℕ)) (room room_new : Option ℕ) (text : List ℕ)
-    → taken_new ≡ then taken text → room ≡ more_by (length text) room_new → sink_told taken_new room_new ≡ took (sink_told taken room) text
+pub took_is : (taken taken_new : List ℕ) (room room_new : Option ℕ) (text : List ℕ)
+    → taken_new ≡ taken ++ text → room ≡ more_by (length text) room_new → sink_told taken_new room_new ≡ took (sink_told taken room) text
 took_is taken taken_new room None text e f =
-    ap (λ (k : Option (List ℕ)). sink_told k None) e ∙ ap (λ (r : Option ℕ). sink_told (then taken text) (room_left (length text) r)) (sym f)
+    ap (λ (k : List ℕ). sink_told k None) e ∙ ap (λ (r : Option ℕ). sink_told (taken ++ text) (room_left (length text) r)) (sym f)
 took_is taken taken_new room (Some r) text e f =
     let back : r ≡ (r + length text) - length text = omega arith in
-    ap (λ (k : Option (List ℕ)). sink_told k (Some r)) e
-    ∙ ap (λ (n : ℕ). sink_told (then taken text) (Some n)) back
-    ∙ ap (λ (x : Option ℕ). sink_told (then taken text) (room_left (length text) x)) (sym f)
+    ap (λ (k : List ℕ). sink_told k (Some r)) e
+    ∙ ap (λ (n : ℕ). sink_told (taken ++ text) (Some n)) back
+    ∙ ap (λ (x : Option ℕ). sink_told (taken ++ text) (room_left (length text) x)) (sym f)
 
 -- a write appended the first n bytes of a text
-pub took_front : (taken taken_new : Option (List ℕ)) (room room_new : Option ℕ) (text : List ℕ) (n : ℕ) → n < length text
-    → taken_new ≡ then taken (take n text) → room ≡ more_by n room_new → TakesFront (sink_told taken room) (sink_told taken_new room_new) text
+pub took_front : (taken taken_new : List ℕ) (room room_new : Option ℕ) (text : List ℕ) (n : ℕ) → n < length text
+    → taken_new ≡ taken ++ take n text → room ≡ more_by n room_new → TakesFront (sink_told taken room) (sink_told taken_new room_new) text
 took_front taken taken_new room room_new text n less e f =
     let long : length (take n text) ≡ n = length-take-le n text (omega arith) in
     record {
@@ -42,12 +41,8 @@ after_both (Some r) a b =
 -- two texts, as one
 pub took-took : (t : SinkTold) (a b : List ℕ) → took (took t a) b ≡ took t (a ++ b)
 took-took t a b =
-    ap (λ (k : Option (List ℕ)). sink_told k (room_left (length b) (room_left (length a) t.room))) (then-then t.taken a b)
-    ∙ ap (λ (r : Option ℕ). sink_told (then t.taken (a ++ b)) r) (after_both t.room a b)
-
-then-none : (known : Option (List ℕ)) → known ≡ then known []
-then-none None = refl
-then-none (Some xs) = ap (λ (t : List ℕ). Some t) (sym (append-nil xs))
+    ap (λ (k : List ℕ). sink_told k (room_left (length b) (room_left (length a) t.room))) (append_assoc t.taken a b)
+    ∙ ap (λ (r : Option ℕ). sink_told (t.taken ++ (a ++ b)) r) (after_both t.room a b)
 
 after_none : (room : Option ℕ) → room ≡ room_left 0 room
 after_none None = refl
@@ -56,9 +51,9 @@ after_none (Some r) =
     ap (λ (n : ℕ). Some n) same
 
 -- and none
-pub took-none : (taken : Option (List ℕ)) (room : Option ℕ) → sink_told taken room ≡ took (sink_told taken room) []
+pub took-none : (taken : List ℕ) (room : Option ℕ) → sink_told taken room ≡ took (sink_told taken room) []
 took-none taken room =
-    ap (λ (k : Option (List ℕ)). sink_told k room) (then-none taken) ∙ ap (λ (r : Option ℕ). sink_told (then taken []) r) (after_none room)
+    ap (λ (k : List ℕ). sink_told k room) (sym (append-nil taken)) ∙ ap (λ (r : Option ℕ). sink_told (taken ++ []) r) (after_none room)
 
 -- where two texts fit, the second fits after the first
 pub fits_after : (room : Option ℕ) (a b : List ℕ) → HasRoomFor room (length (a ++ b)) → HasRoomFor (room_left (length a) room) (length b)
@@ -86,9 +81,9 @@ front_of old new text rest whole is w = record {
 }
 
 -- whatever `write_all` answers, a first part of the bytes was taken
-pub write_front : (r : Result (Unit {0}) WriteErr) (taken taken_new : Option (List ℕ)) (room room_new : Option ℕ) (text : List ℕ)
-    → OnOk r (taken_new ≡ then taken text) → OnOk r (room ≡ more_by (length text) room_new)
-    → IfErr r (λ e. taken_new ≡ then taken (take (written_of e) text)) → IfErr r (λ e. written_of e < length text)
+pub write_front : (r : Result (Unit {0}) WriteErr) (taken taken_new : List ℕ) (room room_new : Option ℕ) (text : List ℕ)
+    → OnOk r (taken_new ≡ taken ++ text) → OnOk r (room ≡ more_by (length text) room_new)
+    → IfErr r (λ e. taken_new ≡ taken ++ take (written_of e) text) → IfErr r (λ e. written_of e < length text)
     → IfErr r (λ e. room ≡ more_by (written_of e) room_new) → TakesFront (sink_told taken room) (sink_told taken_new room_new) text
 write_front (Ok u) taken taken_new room room_new text all fits part less left = record {
   front = text;

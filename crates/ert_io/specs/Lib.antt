@@ -3,6 +3,6 @@ pub mod Faults
 pub mod Host
 pub mod Known
 pub mod Memory
-pub mod Readings
+pub mod Reads
 pub mod Told
 pub mod Writing

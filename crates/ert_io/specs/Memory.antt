@@ -1,14 +1,22 @@
 -- What a source and a sink in memory are, to who uses them.
 
-use Rattle.std.specs.Prelude.{ℕ, List, drop}
+use Rattle.std.specs.Prelude.{ℕ, List, Bool, take, drop, length, nat_eq}
 use Rattle.ert_io.specs.declared.mem_source.MemSource.{MemSource}
 use Rattle.ert_io.specs.declared.mem_sink.MemSink.{MemSink}
 use Rattle.ert_io.specs.declared.sure_source.SureSource.{SureSource}
 use Rattle.ert_io.specs.declared.sure_sink.SureSink.{SureSink}
 
--- the bytes that a source has left
+-- the bytes that a source gave
+abbrev pub bytes_given : MemSource → List ℕ
+bytes_given s = take s.next s.bytes.items
+
+-- the bytes that it has left
 abbrev pub bytes_left : MemSource → List ℕ
 bytes_left s = drop s.next s.bytes.items
+
+-- whether it has none left
+abbrev pub is_used_up : MemSource → Bool
+is_used_up s = nat_eq (length (bytes_left s)) 0
 
 -- how many reads were made
 abbrev pub reads_of : MemSource → ℕ
@@ -34,9 +42,17 @@ writes_of s = s.calls.made
 abbrev pub failing_writes : MemSink → List ℕ
 failing_writes s = s.calls.fails.items
 
--- the bytes that a source which never fails has left
+-- the bytes that a source which never fails gave
+abbrev pub sure_given : SureSource → List ℕ
+sure_given s = take s.next s.bytes.items
+
+-- the bytes that it has left
 abbrev pub sure_left : SureSource → List ℕ
 sure_left s = drop s.next s.bytes.items
+
+-- whether it has none left
+abbrev pub is_sure_used_up : SureSource → Bool
+is_sure_used_up s = nat_eq (length (sure_left s)) 0
 
 -- the bytes that a sink which never fails took
 abbrev pub sure_taken : SureSink → List ℕ

@@ -1,7 +1,6 @@
 -- What an error of `write_all` tells, and what was written of a text.
 
-use Rattle.std.specs.Prelude.{◌≡◌, ℕ, List, ◌++◌, Option}
-use Rattle.ert_io.specs.Known.{then}
+use Rattle.std.specs.Prelude.{◌≡◌, ℕ, List, ◌++◌}
 use Rattle.ert_io.specs.declared.writing.WriteErr.{WriteErr}
 use Rattle.ert_io.specs.declared.writing.WriteErr.TheVariants.{WriteFault}
 
@@ -10,8 +9,8 @@ abbrev pub written_of : WriteErr → ℕ
 written_of (WriteFault written) = written
 
 -- the first part of a text was written
-pub record WritesFront (old new : Option (List ℕ)) (text : List ℕ) : Type 0 where
+pub record WritesFront (old new text : List ℕ) : Type 0 where
   pub front : List ℕ
   pub others : List ℕ
-  pub taken : new ≡ then old front
+  pub taken : new ≡ old ++ front
   pub whole : front ++ others ≡ text

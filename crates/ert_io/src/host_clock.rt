@@ -1,12 +1,13 @@
-ghost use Rattle.std.specs.Prelude.{◌≡◌, ◌≤◌, ◌≤ℤ◌, pos, IfOk, IfSome, OnOk, OnErr};
+ghost use Rattle.std.specs.Prelude.{◌≡◌, ◌≤◌, ◌≤ℤ◌, [], ◌∷◌, ◌++◌, pos, IfOk, IfSome, OnOk, OnErr};
 ghost use Rattle.ert_io.specs.Faults.{one_more};
 
 use crate::failed::Failed;
+use crate::log::Log;
 use crate::os_clock::OsClock;
 use ert_defs::Reading;
 use std::time::{Clock, Instant, SystemTime, UNIX_EPOCH};
 
-/// The clocks of the machine. The readings that they have left aren't told.
+/// The clocks of the machine. They tell the readings that they gave, and not those that they have left.
 ///
 /// `mono` is the nanoseconds since the moment at which this was made, and `sys` those since 1970. A clock
 /// that can't be read, that tells a time before 1970, or whose nanoseconds don't fit 64 signed bits makes
@@ -18,18 +19,22 @@ pub struct HostClock<C> {
     // When this was made.
     began: Option<Instant>,
     faults: u64,
+    // The readings that were given.
+    log: Log<Reading>,
 }
 
 impl<C: Clock> HostClock<C> {
     /// Reads the clocks of `clock`, and counts `mono` from now on.
     pub fn new(clock: C) -> HostClock<C>
-        ensures { ⟦<Self as OsClock>⟧.faults result ≡ 0 }
+        ensures faults { ⟦<Self as OsClock>⟧.faults result ≡ 0 }
+        ensures given { ⟦<Self as OsClock>⟧.given result ≡ [] }
     {
         let began = Instant::now(&clock).ok();
         HostClock {
             clock,
             began,
             faults: 0,
+            log: Log::new(),
         }
     }
 }
@@ -37,15 +42,22 @@ impl<C: Clock> HostClock<C> {
 impl<C: Clock> OsClock for HostClock<C> {
     ghost faults = { λ s. s.faults };
 
+    ghost given = { λ s. s.log.items };
+
     fn read(&mut self) -> Result<Reading, Failed>
         ensures mono { IfOk result (λ r. pos 0 ≤ℤ r.mono) }
         ensures sys { IfOk result (λ r. pos 0 ≤ℤ r.sys) }
+        ensures given { IfOk result (λ r. ⟦<Self as OsClock>⟧.given self.new ≡ ⟦<Self as OsClock>⟧.given self.old ++ r ∷ []) }
+        ensures kept { OnErr result (⟦<Self as OsClock>⟧.given self.new ≡ ⟦<Self as OsClock>⟧.given self.old) }
         ensures ok { OnOk result (⟦<Self as OsClock>⟧.faults self.new ≡ ⟦<Self as OsClock>⟧.faults self.old) }
         ensures err { OnErr result (⟦<Self as OsClock>⟧.faults self.new ≡ one_more (⟦<Self as OsClock>⟧.faults self.old)) }
         ensures later { ⟦<Self as OsClock>⟧.faults self.old ≤ ⟦<Self as OsClock>⟧.faults self.new }
     {
         match reading_since(&self.clock, self.began) {
-            Some(reading) => Ok(reading),
+            Some(reading) => {
+                self.log = self.log.and(&[reading]);
+                Ok(reading)
+            }
             None => {
                 self.faults = self.faults.saturating_add(1);
                 Err(Failed)

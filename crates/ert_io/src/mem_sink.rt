@@ -1,4 +1,4 @@
-ghost use Rattle.std.specs.Prelude.{◌≡◌, ◌<◌, ◌≤◌, [], ◌++◌, Some, length, take, min, Contains, IfOk, IsErr, OnOk, OnErr};
+ghost use Rattle.std.specs.Prelude.{◌≡◌, ◌<◌, ◌≤◌, [], ◌++◌, length, take, min, Contains, IfOk, IsErr, OnOk, OnErr};
 ghost use Rattle.ert_io.specs.Faults.{one_more};
 
 use crate::calls::Calls;
@@ -23,7 +23,7 @@ impl MemSink {
     /// to fail; a call that finds no memory for its bytes fails too.
     pub fn new(alloc: Global, piece: usize, fails: Vec<u32>) -> MemSink
         requires { 1 ≤ piece }
-        ensures taken { ⟦<Self as Sink>⟧.taken result ≡ Some [] }
+        ensures taken { ⟦<Self as Sink>⟧.taken result ≡ [] }
         ensures faults { ⟦<Self as Sink>⟧.faults result ≡ 0 }
         ensures piece { piece_of result ≡ piece }
         ensures writes { writes_of result ≡ 0 }
@@ -38,7 +38,7 @@ impl MemSink {
 
     /// The bytes that were taken.
     pub fn bytes(&self) -> &[u8]
-        ensures { ⟦<Self as Sink>⟧.taken self.now ≡ Some result.now }
+        ensures { ⟦<Self as Sink>⟧.taken self.now ≡ result.now }
     {
         self.taken.as_slice()
     }
@@ -49,7 +49,7 @@ impl Sink for MemSink {
 
     ghost faults = { λ s. s.calls.faults };
 
-    ghost taken = { λ s. Some (taken_of s) };
+    ghost taken = { λ s. taken_of s };
 
     fn write(&mut self, bytes: &[u8]) -> Result<usize, Failed>
         requires { 0 < length bytes.now }

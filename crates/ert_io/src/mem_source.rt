@@ -18,10 +18,11 @@ pub struct MemSource {
 impl MemSource {
     ghost use Rattle.ert_io.specs.Memory.{reads_of, failing_reads};
 
-    /// Gives `bytes`, as many in a call as fit its buffer. `fails` lists the numbers, from 1, of the
+    /// HandsOut `bytes`, as many in a call as fit its buffer. `fails` lists the numbers, from 1, of the
     /// calls that are to fail.
     pub fn new(bytes: Vec<u8>, fails: Vec<u32>) -> MemSource
         ensures left { ⟦<Self as Source>⟧.left result ≡ Some bytes.items }
+        ensures given { ⟦<Self as Source>⟧.given result ≡ [] }
         ensures faults { ⟦<Self as Source>⟧.faults result ≡ 0 }
         ensures reads { reads_of result ≡ 0 }
         ensures failing { failing_reads result ≡ fails.items }
@@ -35,9 +36,13 @@ impl MemSource {
 }
 
 impl Source for MemSource {
-    ghost use Rattle.ert_io.specs.Memory.{bytes_left, reads_of, failing_reads};
+    ghost use Rattle.ert_io.specs.Memory.{bytes_given, bytes_left, is_used_up, reads_of, failing_reads};
 
     ghost faults = { λ s. s.calls.faults };
+
+    ghost given = { λ s. bytes_given s };
+
+    ghost ended = { λ s. is_used_up s };
 
     ghost left = { λ s. Some (bytes_left s) };
 
@@ -45,9 +50,11 @@ impl Source for MemSource {
         requires { 0 < length buf.old }
         ensures fails { IsErr result ↔ Contains (failing_reads self.old) (reads_of self.new) }
         ensures count { IfOk result (λ n. n ≡ min (length (bytes_left self.old)) (length buf.new)) }
-        ensures bytes { IfOk result (λ n. bytes_left self.old ≡ take n buf.new ++ bytes_left self.new) }
+        ensures given { IfOk result (λ n. bytes_given self.new ≡ bytes_given self.old ++ take n buf.new) }
+        ensures left { IfOk result (λ n. bytes_left self.old ≡ take n buf.new ++ bytes_left self.new) }
         ensures end { IfOk result (λ n. n ≡ 0 → bytes_left self.new ≡ []) }
-        ensures kept { OnErr result (bytes_left self.new ≡ bytes_left self.old) }
+        ensures kept { OnErr result (bytes_given self.new ≡ bytes_given self.old) }
+        ensures left_kept { OnErr result (bytes_left self.new ≡ bytes_left self.old) }
         ensures ok { OnOk result (⟦<Self as Source>⟧.faults self.new ≡ ⟦<Self as Source>⟧.faults self.old) }
         ensures err { OnErr result (⟦<Self as Source>⟧.faults self.new ≡ one_more (⟦<Self as Source>⟧.faults self.old)) }
         ensures later { ⟦<Self as Source>⟧.faults self.old ≤ ⟦<Self as Source>⟧.faults self.new }
@@ -68,7 +75,8 @@ impl Source for MemSource {
 pub(crate) fn give(from: &[u8], next: usize, to: &mut [u8]) -> usize
     requires { next ≤ length from.now }
     ensures count { result ≡ min (length from.now - next) (length to.old) }
-    ensures bytes { drop next from.now ≡ take result to.new ++ drop (next + result) from.now }
+    ensures given { take (next + result) from.now ≡ take next from.now ++ take result to.new }
+    ensures left { drop next from.now ≡ take result to.new ++ drop (next + result) from.now }
 {
     copy_front(&from[next..], to)
 }

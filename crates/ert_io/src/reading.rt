@@ -1,6 +1,6 @@
-ghost use Rattle.std.specs.Prelude.{◌≡◌, ◌≢◌, ℕ, ◌+◌, ◌<◌, ◌≤◌, List, Err, length, vec_len, IfOk, OnOk, OnErr, IsErrOf};
+ghost use Rattle.std.specs.Prelude.{◌≡◌, ◌≢◌, ℕ, ◌+◌, ◌++◌, ◌<◌, ◌≤◌, List, Err, true, length, vec_len, IfOk, OnOk, OnErr, IsErrOf};
 ghost use Rattle.ert_io.specs.Faults.{Rose};
-ghost use Rattle.ert_io.specs.Known.{before, IsAtEnd, TakesUpTo};
+ghost use Rattle.ert_io.specs.Known.{stream_told, before, HandsOut, HandsUpTo, IsAtEnd};
 ghost use Rattle.ert_io.specs.declared.reading.ReadErr.TheVariants.{NoMemory};
 
 use crate::source::Source;
@@ -40,13 +40,16 @@ const PIECE: usize = 65_536;
 /// Where they are more, it takes `limit + 1` of them and answers `TooLong`. Where a read fails it has taken
 /// `limit` at most, and where no memory is left `limit + 1` at most.
 pub fn read_all<S: Source>(alloc: Global, source: &mut S, limit: usize) -> Result<Vec<u8>, ReadErr>
-    ensures bytes { IfOk result (λ v. S.left source.old ≡ before v.items (S.left source.new)) }
-    ensures end { OnOk result (IsAtEnd (S.left source.new)) }
+    ensures bytes { IfOk result (λ v. HandsOut (stream_told (S.given source.old) (S.left source.old)) (stream_told (S.given source.new) (S.left source.new)) v.items) }
+    ensures ended { OnOk result (S.ended source.new ≡ true) }
+    ensures none_left { OnOk result (IsAtEnd (S.left source.new)) }
     ensures short { IfOk result (λ v. length v.items ≤ limit) }
     ensures too_long { IsErrOf result ReadErr.TooLong
-        → (taken : List ℕ) × (length taken ≡ limit + 1) × (S.left source.old ≡ before taken (S.left source.new)) }
-    ensures fault { IsErrOf result ReadErr.ReadFault → TakesUpTo limit (S.left source.old) (S.left source.new) }
-    ensures memory { IsErrOf result ReadErr.NoMemory → TakesUpTo (limit + 1) (S.left source.old) (S.left source.new) }
+        → (bytes : List ℕ) × (length bytes ≡ limit + 1) × HandsOut (stream_told (S.given source.old) (S.left source.old)) (stream_told (S.given source.new) (S.left source.new)) bytes }
+    ensures fault { IsErrOf result ReadErr.ReadFault
+        → HandsUpTo limit (stream_told (S.given source.old) (S.left source.old)) (stream_told (S.given source.new) (S.left source.new)) }
+    ensures memory { IsErrOf result ReadErr.NoMemory
+        → HandsUpTo (limit + 1) (stream_told (S.given source.old) (S.left source.old)) (stream_told (S.given source.new) (S.left source.new)) }
     ensures later { S.faults source.old ≤ S.faults source.new }
     ensures cause { IsErrOf result ReadErr.ReadFault → Rose (S.faults source.old) (S.faults source.new) }
 {
@@ -71,12 +74,15 @@ fn append_piece<S: Source>(
     requires { 0 < length space.old }
     ensures bound { IfOk result (λ n. n ≤ length space.old) }
     ensures count { IfOk result (λ n. vec_len bytes.new ≡ vec_len bytes.old + n) }
-    ensures taken { OnOk result (before bytes.old.items (S.left source.old) ≡ before bytes.new.items (S.left source.new)) }
-    ensures end { IfOk result (λ n. n ≡ 0 → IsAtEnd (S.left source.new)) }
+    ensures given { OnOk result ((more : List ℕ) × (bytes.new.items ≡ bytes.old.items ++ more)
+        × HandsOut (stream_told (S.given source.old) (S.left source.old)) (stream_told (S.given source.new) (S.left source.new)) more) }
+    ensures ended { IfOk result (λ n. n ≡ 0 → S.ended source.new ≡ true) }
+    ensures none_left { IfOk result (λ n. n ≡ 0 → IsAtEnd (S.left source.new)) }
     ensures not_long { OnErr result (result ≢ Err ReadErr.TooLong) }
-    ensures lost { IsErrOf result ReadErr.NoMemory → TakesUpTo (length space.old) (S.left source.old) (S.left source.new) }
+    ensures lost { IsErrOf result ReadErr.NoMemory
+        → HandsUpTo (length space.old) (stream_told (S.given source.old) (S.left source.old)) (stream_told (S.given source.new) (S.left source.new)) }
     ensures fault { IsErrOf result ReadErr.ReadFault → bytes.new ≡ bytes.old }
-    ensures kept { IsErrOf result ReadErr.ReadFault → S.left source.new ≡ S.left source.old }
+    ensures kept { IsErrOf result ReadErr.ReadFault → stream_told (S.given source.new) (S.left source.new) ≡ stream_told (S.given source.old) (S.left source.old) }
     ensures later { S.faults source.old ≤ S.faults source.new }
     ensures cause { IsErrOf result ReadErr.ReadFault → Rose (S.faults source.old) (S.faults source.new) }
 {

@@ -1,6 +1,6 @@
-ghost use Rattle.std.specs.Prelude.{◌≡◌, ℕ, ◌<◌, ◌≤◌, List, Option, None, length, take, IfOk, OnErr};
+ghost use Rattle.std.specs.Prelude.{◌≡◌, ℕ, ◌++◌, ◌<◌, ◌≤◌, List, Option, None, length, take, IfOk, OnErr};
 ghost use Rattle.ert_io.specs.Faults.{Rose};
-ghost use Rattle.ert_io.specs.Known.{then, more_by, HasRoomFor};
+ghost use Rattle.ert_io.specs.Known.{more_by, HasRoomFor};
 
 use crate::failed::Failed;
 
@@ -9,8 +9,8 @@ pub trait Sink {
     // How many writes have failed: it never falls, and stops at 18446744073709551615.
     ghost faults: { Self → ℕ };
 
-    // The bytes that were taken, where the sink tells them.
-    ghost taken: { Self → Option (List ℕ) } = { λ _. None };
+    // All bytes that were taken so far.
+    ghost taken: { Self → List ℕ };
 
     // How many more bytes there is room for, where the sink tells it.
     ghost room: { Self → Option ℕ } = { λ _. None };
@@ -21,7 +21,7 @@ pub trait Sink {
         requires fits { HasRoomFor (room self.old) (length bytes.now) }
         ensures least { IfOk result (λ n. 0 < n) }
         ensures most { IfOk result (λ n. n ≤ length bytes.now) }
-        ensures bytes { IfOk result (λ n. taken self.new ≡ then (taken self.old) (take n bytes.now)) }
+        ensures bytes { IfOk result (λ n. taken self.new ≡ taken self.old ++ take n bytes.now) }
         ensures kept { OnErr result (taken self.new ≡ taken self.old) }
         ensures room { IfOk result (λ n. room self.old ≡ more_by n (room self.new)) }
         ensures room_kept { OnErr result (room self.new ≡ room self.old) }

@@ -55,7 +55,7 @@ impl Sink for SureSink {
 
     ghost faults = { λ _. 0 };
 
-    ghost taken = { λ s. Some (sure_taken s) };
+    ghost taken = { λ s. sure_taken s };
 
     ghost room = { λ s. Some (sure_room s) };
 

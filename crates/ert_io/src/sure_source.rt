@@ -14,18 +14,23 @@ pub struct SureSource {
 }
 
 impl SureSource {
-    /// Gives `bytes`, as many in a call as fit its buffer.
+    /// HandsOut `bytes`, as many in a call as fit its buffer.
     pub fn new(bytes: Vec<u8>) -> SureSource
-        ensures { ⟦<Self as Source>⟧.left result ≡ Some bytes.items }
+        ensures left { ⟦<Self as Source>⟧.left result ≡ Some bytes.items }
+        ensures given { ⟦<Self as Source>⟧.given result ≡ [] }
     {
         SureSource { bytes, next: 0 }
     }
 }
 
 impl Source for SureSource {
-    ghost use Rattle.ert_io.specs.Memory.{sure_left};
+    ghost use Rattle.ert_io.specs.Memory.{sure_given, sure_left, is_sure_used_up};
 
     ghost faults = { λ _. 0 };
+
+    ghost given = { λ s. sure_given s };
+
+    ghost ended = { λ s. is_sure_used_up s };
 
     ghost left = { λ s. Some (sure_left s) };
 
@@ -33,7 +38,8 @@ impl Source for SureSource {
         requires { 0 < length buf.old }
         ensures sure { IsOk result }
         ensures count { IfOk result (λ n. n ≡ min (length (sure_left self.old)) (length buf.new)) }
-        ensures bytes { IfOk result (λ n. sure_left self.old ≡ take n buf.new ++ sure_left self.new) }
+        ensures given { IfOk result (λ n. sure_given self.new ≡ sure_given self.old ++ take n buf.new) }
+        ensures left { IfOk result (λ n. sure_left self.old ≡ take n buf.new ++ sure_left self.new) }
         ensures end { IfOk result (λ n. n ≡ 0 → sure_left self.new ≡ []) }
     {
         let count = give(self.bytes.as_slice(), self.next, buf);

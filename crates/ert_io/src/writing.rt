@@ -1,6 +1,6 @@
-ghost use Rattle.std.specs.Prelude.{◌≡◌, ◌<◌, ◌≤◌, length, take, IfErr, OnOk, OnErr};
+ghost use Rattle.std.specs.Prelude.{◌≡◌, ◌++◌, ◌<◌, ◌≤◌, length, take, IfErr, OnOk, OnErr};
 ghost use Rattle.ert_io.specs.Faults.{Rose};
-ghost use Rattle.ert_io.specs.Known.{then, more_by, HasRoomFor};
+ghost use Rattle.ert_io.specs.Known.{more_by, HasRoomFor};
 ghost use Rattle.ert_io.specs.Writing.{written_of};
 
 use crate::sink::Sink;
@@ -17,8 +17,8 @@ pub enum WriteErr {
 /// Appends all of `bytes`, which fit the room of the sink. It takes no memory.
 pub fn write_all<K: Sink>(sink: &mut K, bytes: &[u8]) -> Result<(), WriteErr>
     requires { HasRoomFor (K.room sink.old) (length bytes.now) }
-    ensures ok { OnOk result (K.taken sink.new ≡ then (K.taken sink.old) bytes.now) }
-    ensures err { IfErr result (λ e. K.taken sink.new ≡ then (K.taken sink.old) (take (written_of e) bytes.now)) }
+    ensures ok { OnOk result (K.taken sink.new ≡ K.taken sink.old ++ bytes.now) }
+    ensures err { IfErr result (λ e. K.taken sink.new ≡ K.taken sink.old ++ take (written_of e) bytes.now) }
     ensures written { IfErr result (λ e. written_of e < length bytes.now) }
     ensures room { OnOk result (K.room sink.old ≡ more_by (length bytes.now) (K.room sink.new)) }
     ensures room_left { IfErr result (λ e. K.room sink.old ≡ more_by (written_of e) (K.room sink.new)) }

@@ -1,17 +1,19 @@
 -- How `run` and `race` end, by what was read and by what then was answered.
 
 use Rattle.std.proofs.Common.{◌≡◌, ℕ, Bool, List, [], ◌++◌, Option, Some, None, inl, inr, refl, sym, ap, subst, ◌∙◌, append-nil, arith}
-use Rattle.std.specs.Prelude.{Result, Ok, Err, IfOk, OnErr, IsErrOf}
+use Rattle.std.specs.Prelude.{Result, Ok, Err, IfOk, IfSome, OnErr, IsErrOf}
 use Rattle.ert_io.specs.Faults.{Rose}
-use Rattle.ert_io.specs.Known.{TakesUpTo}
+use Rattle.ert_io.proofs.SeveralReads.{handed_none, handed_fewer}
+use Rattle.ert_io.specs.Known.{StreamTold, before, HandsUpTo, IsAtEnd}
+use Rattle.ert_io.specs.Reads.{Input, ReadsAll}
 use Rattle.ert_race.specs.Written.{Returned}
 use Rattle.ert_scenario.specs.Scenarios.{Plan, IsScenario, HasRefusal}
 use Rattle.ert_scenario.specs.declared.scenario.ScenarioErr.{ScenarioErr}
 use Rattle.ert_script.specs.declared.output.RunErr.{RunErr}
 use Rattle.ert_script.specs.declared.output.RunErr.TheVariants.{WriteFault as OutputFailed, NoMemory as OutOfMemory}
 use Rattle.ert_program.specs.Endings.{end_of, without_desk}
-use Rattle.ert_program.specs.Inputs.{Doing, ReadsAll, HasRead, RanOn, WritesPart, InputEnds}
-use Rattle.ert_program.specs.Streams.{Input, Output}
+use Rattle.ert_program.specs.Inputs.{Doing, IsPossibleInput, HasRead, RanOn, WritesPart, InputEnds}
+use Rattle.ert_program.specs.Streams.{Output}
 use Rattle.ert_program.specs.Unread.{EndsUnread}
 use Rattle.ert_program.specs.declared.ending.EndStatus.TheVariants.{NoMemory}
 use Rattle.ert_program.specs.declared.ending.Ended.{Ended}
@@ -20,17 +22,21 @@ use Rattle.ert_program.specs.declared.ending.Ended.{Ended}
 abbrev pub NeverBoth : Type 0
 NeverBoth = (race : Bool) (bytes : List ℕ) (plan : Plan) (e : ScenarioErr) → IsScenario race bytes plan → HasRefusal race bytes e → ⊥
 
--- the bytes that were read are all that there were
-pub all_taken : (text bytes : List ℕ) (rest : Option (List ℕ)) → ReadsAll (Some text) rest bytes → bytes ≡ text
-all_taken text bytes None takes = let same : Some text ≡ None = takes.taken in cc
-all_taken text bytes (Some later) takes =
-    let both : Some text ≡ Some (bytes ++ later) = takes.taken in
-    let same : text ≡ bytes ++ later = cc in
-    sym (same ∙ ap (λ (xs : List ℕ). bytes ++ xs) takes.end ∙ append-nil bytes)
+whole_left : (left left_new : Option (List ℕ)) (bytes : List ℕ) → left ≡ before bytes left_new → IsAtEnd left_new → IfSome left (λ all. all ≡ bytes)
+whole_left left None bytes taken end = subst (λ (k : Option (List ℕ)). IfSome k (λ all. all ≡ bytes)) (sym taken) tt
+whole_left left (Some later) bytes taken end =
+    subst (λ (k : Option (List ℕ)). IfSome k (λ all. all ≡ bytes)) (sym taken) (ap (λ (xs : List ℕ). bytes ++ xs) end ∙ append-nil bytes)
 
-takes_none : (left : Option (List ℕ)) → TakesUpTo 16777217 left left
-takes_none None = record { bytes = []; few = omega arith; taken = refl }
-takes_none (Some bytes) = record { bytes = []; few = omega arith; taken = refl }
+-- the bytes that were read may be the whole input
+pub possible : (i j : Input) (bytes : List ℕ) → ReadsAll i j bytes → IsPossibleInput i.told.left bytes
+possible i j bytes takes = record { whole = whole_left i.told.left j.told.left bytes takes.reads.left takes.none_left; short = takes.short }
+
+-- and where that is told, they are it
+pub all_taken : (i j : Input) (text bytes : List ℕ) → i.told.left ≡ Some text → ReadsAll i j bytes → bytes ≡ text
+all_taken i j text bytes told takes = sym (subst (λ (k : Option (List ℕ)). IfSome k (λ all. all ≡ bytes)) told (possible i j bytes takes).whole)
+
+takes_none : (told : StreamTold ℕ) → HandsUpTo 16777217 told told
+takes_none told = handed_fewer 16777217 told told [] (omega arith) (handed_none told)
 
 -- memory ran out before anything was read or written
 unread_memory : (race : Bool) (i : Input) (o : Output) → EndsUnread race i i o o (without_desk NoMemory)
@@ -40,7 +46,7 @@ unread_memory race i o = record {
   read_fault = λ how. cc;
   too_long = λ how. cc;
   write_fault = λ how. cc;
-  no_memory = λ how. (takes_none i.left, refl);
+  no_memory = λ how. (takes_none i.told, refl);
   others = (λ how. cc, λ how. cc);
   no_desk = refl;
   no_refusal = λ how. refl;
@@ -61,7 +67,7 @@ unread_ends race does i j o p e un = record {
 }
 
 -- so is what came of the run of a plan that was read
-pub ran_ends : (race : Bool) (does : Doing) (i j : Input) (o p : Output) (plan : Plan) (ran : Result Returned RunErr) → HasRead race i.left j.left plan
+pub ran_ends : (race : Bool) (does : Doing) (i j : Input) (o p : Output) (plan : Plan) (ran : Result Returned RunErr) → HasRead race i j plan
     → IfOk ran (RanOn does plan o.told p.told) → OnErr ran (WritesPart does plan o.told p.told) → (IsErrOf ran OutputFailed → Rose o.faults p.faults)
     → InputEnds race does i j o p (end_of ran)
 ran_ends race does i j o p plan (Ok r) read ok err cause = record {
@@ -95,8 +101,8 @@ ran_ends race does i j o p plan (Err OutOfMemory) read ok err cause = record {
   complete = λ quiet fine bytes p left short is. inr refl;
 }
   where
-    all : TakesUpTo 16777217 i.left j.left
-    all = let short = read.takes.short in record { bytes = read.bytes; few = omega arith; taken = read.takes.taken }
+    all : HandsUpTo 16777217 i.told j.told
+    all = let short = read.takes.short in handed_fewer 16777217 i.told j.told read.bytes (omega arith) read.takes.reads
 
 -- and so is out of memory before the input is read
 pub memory_ends : (race : Bool) (does : Doing) (i : Input) (o : Output) (e : Ended) → e ≡ without_desk NoMemory → InputEnds race does i i o o e

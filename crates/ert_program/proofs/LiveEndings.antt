@@ -4,6 +4,7 @@ use Rattle.std.proofs.Common.{◌≡◌, ◌<◌, ◌⊎◌, ℕ, List, [], ◌�
 use Rattle.ert_defs.specs.Readings.{IsValid}
 use Rattle.ert_defs.specs.declared.settings.Reading.{Reading}
 use Rattle.ert_io.specs.Faults.{Rose}
+use Rattle.ert_io.specs.Known.{StreamTold, before}
 use Rattle.ert_io.specs.Told.{took}
 use Rattle.ert_program.specs.Lives.{AreValid, LiveRefused, Watched, LiveEnds}
 use Rattle.ert_program.specs.Streams.{ClockStream, Output}
@@ -20,23 +21,27 @@ among (x ∷ taken) (r ∷ readings) later rest bad same below all =
     among taken readings later rest bad others (omega arith) all.1
 
 -- so no reading of valid ones is refused
-none_refused : (n : ℕ) (left now : Option (List Reading)) (text : List ℕ) (readings later : List Reading) → LiveRefused n left now text
-    → left ≡ Some (readings ++ later) → length readings ≡ n → AreValid readings → ⊥
-none_refused n left None text readings later refused told many all =
-    let same : None ≡ Some (readings ++ later) = sym refused.given ∙ told in cc
-none_refused n left (Some rest) text readings later refused told many all =
-    let both : Some ((refused.readings ++ refused.bad ∷ []) ++ rest) ≡ Some (readings ++ later) = sym refused.given ∙ told in
-    let same : (refused.readings ++ refused.bad ∷ []) ++ rest ≡ readings ++ later = cc in
+none_among : (left : Option (List Reading)) (taken readings later : List Reading) (bad : Reading)
+    → before (taken ++ bad ∷ []) left ≡ Some (readings ++ later) → length taken < length readings → AreValid readings → IsValid bad
+none_among None taken readings later bad told below all = let none : None ≡ Some (readings ++ later) = told in absurd cc
+none_among (Some rest) taken readings later bad told below all =
+    let both : Some ((taken ++ bad ∷ []) ++ rest) ≡ Some (readings ++ later) = told in
+    let same : (taken ++ bad ∷ []) ++ rest ≡ readings ++ later = cc in
+    among taken readings later rest bad same below all
+
+none_refused : (n : ℕ) (old new : StreamTold Reading) (text : List ℕ) (readings later : List Reading) → LiveRefused n old new text
+    → old.left ≡ Some (readings ++ later) → length readings ≡ n → AreValid readings → ⊥
+none_refused n old new text readings later refused told many all =
     let fewer = refused.count in
-    refused.not_valid (among refused.readings readings later rest refused.bad same (omega arith) all)
+    refused.not_valid (none_among new.left refused.readings readings later refused.bad (sym refused.given.left ∙ told) (omega arith) all)
 
 completes : (n : ℕ) (c d : ClockStream) (e : Ended) (text : List ℕ) → Watched n c d e text → (Rose c.faults d.faults → ⊥) → (readings later : List Reading)
-    → c.left ≡ Some (readings ++ later) → length readings ≡ n → AreValid readings → (e.status ≡ Done) ⊎ (e.status ≡ NoMemory)
+    → c.told.left ≡ Some (readings ++ later) → length readings ≡ n → AreValid readings → (e.status ≡ Done) ⊎ (e.status ≡ NoMemory)
 completes n c d e text made sound readings later told many all =
     elim made.only [
       | inl done ↦ inl done
       | inr other ↦ elim other [
-        | inl refused ↦ absurd (none_refused n c.left d.left text readings later (made.refused refused) told many all)
+        | inl refused ↦ absurd (none_refused n c.told d.told text readings later (made.refused refused) told many all)
         | inr failed ↦ absurd (sound (made.clock_fault failed).0)
       ]
     ]

@@ -1,7 +1,7 @@
 -- Readings that a world lived through.
 
 use Rattle.std.specs.Arc.{arc_value}
-use Rattle.std.proofs.Common.{◌≡◌, ◌<◌, ◌≤◌, ◌+◌, ℕ, ℤ, List, [], ◌∷◌, ◌++◌, length, length-append, Option, None, Some, refl, inl, inr, sym, ap, subst, ◌∙◌, append_assoc, append-nil, arith}
+use Rattle.std.proofs.Common.{◌≡◌, ◌<◌, ◌≤◌, ◌+◌, ℕ, ℤ, List, [], ◌∷◌, ◌++◌, length, length-append, None, Some, refl, inl, inr, sym, ap, subst, ◌∙◌, append_assoc, append-nil, arith}
 use Rattle.ert_effects.specs.Ways.{Way, alone}
 use Rattle.ert_defs.specs.Lines.{Face}
 use Rattle.ert_defs.specs.Readings.{IsValid}
@@ -9,7 +9,8 @@ use Rattle.ert_defs.specs.declared.entry.Entry.{Entry}
 use Rattle.ert_defs.specs.declared.settings.Reading.{Reading}
 use Rattle.ert_defs.specs.declared.settings.Settings.{Settings}
 use Rattle.ert_io.specs.Faults.{Rose}
-use Rattle.ert_io.specs.Readings.{reading_before}
+use Rattle.ert_io.proofs.SeveralReads.{handed_both, handed_none, handed_fewer}
+use Rattle.ert_io.specs.Known.{StreamTold, HandsOut, HandsUpTo}
 use Rattle.ert_ops.specs.declared.op.Op.{Op}
 use Rattle.ert_ops.specs.declared.op.Op.TheVariants as ops
 use Rattle.ert_race.specs.Written.{Returned}
@@ -28,7 +29,7 @@ use Rattle.ert_transcript.specs.declared.reply.Reply.TheVariants as replies
 use Rattle.ert_program.proofs.Transcripts.{stands_for}
 use Rattle.ert_race.proofs.Written.{script_of}
 use Rattle.ert_program.specs.Endings.{without_desk}
-use Rattle.ert_program.specs.Lives.{AreValid, live_settings, live_ops, live_part, live_lines, refused_reading, IsLiveText, readings_before, TakesReadings, LiveDone, LiveRefused, LiveStopped, Watched, Lived, TellsTimes}
+use Rattle.ert_program.specs.Lives.{AreValid, live_settings, live_ops, live_part, live_lines, refused_reading, IsLiveText, LiveDone, LiveRefused, LiveStopped, Watched, Lived, TellsTimes}
 use Rattle.ert_program.specs.Streams.{ClockStream}
 use Rattle.ert_program.specs.declared.ending.EndStatus.TheVariants.{Done, Refused, ClockFault}
 
@@ -111,33 +112,28 @@ is_live first others w text lived = record {
 
 -- the readings that were taken
 
-before_more : (taken : List Reading) (r : Reading) (known : Option (List Reading))
-    → readings_before taken (reading_before r known) ≡ readings_before (taken ++ r ∷ []) known
-before_more taken r None = refl
-before_more taken r (Some rs) = ap (λ (t : List Reading). Some t) (sym (append_assoc taken (r ∷ []) rs))
-
 all_more : (rs : List Reading) (r : Reading) → AreValid rs → IsValid r → AreValid (rs ++ r ∷ [])
 all_more [] r all valid = (valid, tt)
 all_more (x ∷ rs) r all valid = (all.0, all_more rs r all.1 valid)
 
 -- so many valid readings were taken so far, and a world lived through them
-pub record IsWatched (count : ℕ) (left now : Option (List Reading)) (w : Seen) (text : List ℕ) : Type 0 where
+pub record IsWatched (count : ℕ) (old now : StreamTold Reading) (w : Seen) (text : List ℕ) : Type 0 where
   pub first : Reading
   pub others : List Reading
   pub counted : length (first ∷ others) ≡ count
-  pub given : left ≡ readings_before (first ∷ others) now
+  pub given : HandsOut old now (first ∷ others)
   pub valid : AreValid (first ∷ others)
   pub lived : Lived first others w text
 
-pub watched_first : (first : Reading) (left now : Option (List Reading)) (w : Seen) (text : List ℕ) → IsValid first
-    → left ≡ reading_before first now → Lived first [] w text → IsWatched 1 left now w text
-watched_first first left now w text valid given lived =
+pub watched_first : (first : Reading) (old now : StreamTold Reading) (w : Seen) (text : List ℕ) → IsValid first
+    → HandsOut old now (first ∷ []) → Lived first [] w text → IsWatched 1 old now w text
+watched_first first old now w text valid given lived =
     record { first = first; others = []; counted = refl; given = given; valid = (valid, tt); lived = lived }
 
-pub watched_more : (count : ℕ) (left mid now : Option (List Reading)) (w u : Seen) (text text_new : List ℕ) (r : Reading)
-    → (far : IsWatched count left mid w text) → IsValid r → mid ≡ reading_before r now → Lived far.first (far.others ++ r ∷ []) u text_new
-    → IsWatched (count + 1) left now u text_new
-watched_more count left mid now w u text text_new r far valid given lived =
+pub watched_more : (count : ℕ) (old mid now : StreamTold Reading) (w u : Seen) (text text_new : List ℕ) (r : Reading)
+    → (far : IsWatched count old mid w text) → IsValid r → HandsOut mid now (r ∷ []) → Lived far.first (far.others ++ r ∷ []) u text_new
+    → IsWatched (count + 1) old now u text_new
+watched_more count old mid now w u text text_new r far valid given lived =
     let first : Reading = far.first in
     let long : length (far.others ++ r ∷ []) ≡ length far.others + 1 = length-append far.others (r ∷ []) in
     let before = far.counted in
@@ -145,14 +141,14 @@ watched_more count left mid now w u text text_new r far valid given lived =
       first = first;
       others = far.others ++ r ∷ [];
       counted = omega arith;
-      given = far.given ∙ ap (λ (k : Option (List Reading)). readings_before (first ∷ far.others) k) given ∙ before_more (first ∷ far.others) r now;
+      given = handed_both old mid now (first ∷ far.others) (r ∷ []) far.given given;
       valid = all_more (first ∷ far.others) r far.valid valid;
       lived = lived;
     }
 
 -- what was made, at each end
 
-stopped_with : (n : ℕ) (c d : ClockStream) (text : List ℕ) → Rose c.faults d.faults → LiveStopped n c.left d.left text → Watched n c d (without_desk ClockFault) text
+stopped_with : (n : ℕ) (c d : ClockStream) (text : List ℕ) → Rose c.faults d.faults → LiveStopped n c.told d.told text → Watched n c d (without_desk ClockFault) text
 stopped_with n c d text rose stopped = record {
   done = λ e. cc;
   refused = λ e. cc;
@@ -161,7 +157,7 @@ stopped_with n c d text rose stopped = record {
   no_desk = λ e. refl;
 }
 
-refused_with : (n : ℕ) (c d : ClockStream) (text : List ℕ) → LiveRefused n c.left d.left text → Watched n c d (without_desk Refused) text
+refused_with : (n : ℕ) (c d : ClockStream) (text : List ℕ) → LiveRefused n c.told d.told text → Watched n c d (without_desk Refused) text
 refused_with n c d text refused = record {
   done = λ e. cc;
   refused = λ e. refused;
@@ -170,36 +166,32 @@ refused_with n c d text refused = record {
   no_desk = λ e. refl;
 }
 
-before_none : (left : Option (List Reading)) → left ≡ readings_before [] left
-before_none None = refl
-before_none (Some rs) = refl
-
-pub stopped_first : (n : ℕ) (c d : ClockStream) (text : List ℕ) → 0 < n → d.left ≡ c.left → Rose c.faults d.faults → text ≡ []
+pub stopped_first : (n : ℕ) (c d : ClockStream) (text : List ℕ) → 0 < n → d.told ≡ c.told → Rose c.faults d.faults → text ≡ []
     → Watched n c d (without_desk ClockFault) text
 stopped_first n c d text some kept rose empty =
-    stopped_with n c d text rose (record { readings = []; count = some; given = sym kept ∙ before_none d.left; valid = tt; are = empty })
+    stopped_with n c d text rose (record { readings = []; count = some; given = subst (λ (k : StreamTold Reading). HandsOut c.told k []) (sym kept) (handed_none c.told); valid = tt; are = empty })
 
-pub stopped_later : (n : ℕ) (c d : ClockStream) (count : ℕ) (now : Option (List Reading)) (w : Seen) (text : List ℕ) → count < n
-    → IsWatched count c.left now w text → d.left ≡ now → Rose c.faults d.faults → Watched n c d (without_desk ClockFault) text
+pub stopped_later : (n : ℕ) (c d : ClockStream) (count : ℕ) (now : StreamTold Reading) (w : Seen) (text : List ℕ) → count < n
+    → IsWatched count c.told now w text → d.told ≡ now → Rose c.faults d.faults → Watched n c d (without_desk ClockFault) text
 stopped_later n c d count now w text below far kept rose =
     let before = far.counted in
     stopped_with n c d text rose
     (record {
       readings = far.first ∷ far.others;
       count = omega arith;
-      given = far.given ∙ ap (λ (k : Option (List Reading)). readings_before (far.first ∷ far.others) k) (sym kept);
+      given = subst (λ (k : StreamTold Reading). HandsOut c.told k (far.first ∷ far.others)) (sym kept) far.given;
       valid = far.valid;
       are = is_live far.first far.others w text far.lived;
     })
 
-pub refused_first : (n : ℕ) (c d : ClockStream) (text : List ℕ) (bad : Reading) → 0 < n → c.left ≡ reading_before bad d.left → (IsValid bad → ⊥)
+pub refused_first : (n : ℕ) (c d : ClockStream) (text : List ℕ) (bad : Reading) → 0 < n → HandsOut c.told d.told (bad ∷ []) → (IsValid bad → ⊥)
     → text ≡ refused_reading 1 → Watched n c d (without_desk Refused) text
 refused_first n c d text bad some given not whole =
     refused_with n c d text
     (record { readings = []; bad = bad; lines = []; count = some; given = given; valid = tt; not_valid = not; are = refl; whole = whole })
 
-pub refused_later : (n : ℕ) (c d : ClockStream) (count : ℕ) (now : Option (List Reading)) (w : Seen) (lines text : List ℕ) (bad : Reading)
-    → count < n → IsWatched count c.left now w lines → now ≡ reading_before bad d.left → (IsValid bad → ⊥)
+pub refused_later : (n : ℕ) (c d : ClockStream) (count : ℕ) (now : StreamTold Reading) (w : Seen) (lines text : List ℕ) (bad : Reading)
+    → count < n → IsWatched count c.told now w lines → HandsOut now d.told (bad ∷ []) → (IsValid bad → ⊥)
     → text ≡ lines ++ refused_reading (count + 1) → Watched n c d (without_desk Refused) text
 refused_later n c d count now w lines text bad below far given not whole =
     let before = far.counted in
@@ -209,8 +201,7 @@ refused_later n c d count now w lines text bad below far given not whole =
       bad = bad;
       lines = lines;
       count = omega arith;
-      given = far.given ∙ ap (λ (k : Option (List Reading)). readings_before (far.first ∷ far.others) k) given
-          ∙ before_more (far.first ∷ far.others) bad d.left;
+      given = handed_both c.told now d.told (far.first ∷ far.others) (bad ∷ []) far.given given;
       valid = far.valid;
       not_valid = not;
       are = is_live far.first far.others w lines far.lived;
@@ -218,14 +209,14 @@ refused_later n c d count now w lines text bad below far given not whole =
     })
 
 pub watched_all : (n : ℕ) (c d : ClockStream) (count : ℕ) (w : Seen) (lines text : List ℕ) (r : Returned) → count ≡ n
-    → IsWatched count c.left d.left w lines → text ≡ lines ++ end_line w.clock.face.time
+    → IsWatched count c.told d.told w lines → text ≡ lines ++ end_line w.clock.face.time
     → settings_of (arc_value r.0) ≡ w.settings → KnowsAll (arc_value r.0) r.1 w.history → KeepsLaws w.settings w.history
     → Watched n c d (record { status = Done; desk = Some r; refusal = None }) text
 watched_all n c d count w lines text r all far whole named knows laws =
     let first : Reading = far.first in
     let has : Lived first far.others w lines = far.lived in
     let there = stands_for (live_settings first) has.start w (ops.Time ∷ ops.System ∷ live_ops far.others) has.replies [] has.opened has.runs has.stands in
-    let made : LiveDone n c.left d.left text r = record {
+    let made : LiveDone n c.told d.told text r = record {
       first = first;
       others = far.others;
       lines = lines;
@@ -245,25 +236,17 @@ watched_all n c d count w lines text r all far whole named knows laws =
     }
 
 -- one reading was taken
-pub takes_one : (n : ℕ) (r : Reading) (left left_new : Option (List Reading)) → 1 ≤ n → left ≡ reading_before r left_new → TakesReadings n left left_new
-takes_one n r left None some given = record { readings = r ∷ []; few = some; given = given }
-takes_one n r left (Some later) some given = record { readings = r ∷ []; few = some; given = given }
+pub takes_one : (n : ℕ) (r : Reading) (old new : StreamTold Reading) → 1 ≤ n → HandsOut old new (r ∷ []) → HandsUpTo n old new
+takes_one n r old new some given = handed_fewer n old new (r ∷ []) some given
 
 -- all were taken
-pub takes_all : (n count : ℕ) (left now : Option (List Reading)) (w : Seen) (lines : List ℕ) → count ≡ n → IsWatched count left now w lines → TakesReadings n left now
-takes_all n count left now w lines all far =
-    let before = far.counted in
-    record { readings = far.first ∷ far.others; few = omega arith; given = far.given }
+pub takes_all : (n count : ℕ) (old now : StreamTold Reading) (w : Seen) (lines : List ℕ) → count ≡ n → IsWatched count old now w lines → HandsUpTo n old now
+takes_all n count old now w lines all far = let before = far.counted in handed_fewer n old now (far.first ∷ far.others) (omega arith) far.given
 
 -- so many were taken, and one more
-pub takes_next : (n count : ℕ) (left mid left_new : Option (List Reading)) (w : Seen) (lines : List ℕ) (r : Reading) → count < n
-    → IsWatched count left mid w lines → mid ≡ reading_before r left_new → TakesReadings n left left_new
-takes_next n count left mid left_new w lines r below far given =
+pub takes_next : (n count : ℕ) (old mid new : StreamTold Reading) (w : Seen) (lines : List ℕ) (r : Reading) → count < n
+    → IsWatched count old mid w lines → HandsOut mid new (r ∷ []) → HandsUpTo n old new
+takes_next n count old mid new w lines r below far given =
     let before = far.counted in
     let more : length ((far.first ∷ far.others) ++ r ∷ []) ≡ length (far.first ∷ far.others) + 1 = length-append (far.first ∷ far.others) (r ∷ []) in
-    record {
-      readings = (far.first ∷ far.others) ++ r ∷ [];
-      few = omega arith;
-      given = far.given ∙ ap (λ (k : Option (List Reading)). readings_before (far.first ∷ far.others) k) given
-          ∙ before_more (far.first ∷ far.others) r left_new;
-    }
+    handed_fewer n old new ((far.first ∷ far.others) ++ r ∷ []) (omega arith) (handed_both old mid new (far.first ∷ far.others) (r ∷ []) far.given given)

@@ -1,7 +1,7 @@
 -- A scenario that was made and run, and its summary.
 
 use Rattle.std.specs.Arc.{arc_value}
-use Rattle.std.proofs.Common.{◌≡◌, ◌<◌, ℕ, List, [], refl, inl, inr, sym, ap, subst, ◌∙◌}
+use Rattle.std.proofs.Common.{◌≡◌, ℕ, List, [], refl, inl, inr, ap, ◌∙◌}
 use Rattle.std.specs.Prelude.{Result, Ok, Err, IfOk, IsErrOf}
 use Rattle.ert_defs.specs.Lines.{Face}
 use Rattle.ert_defs.specs.States.{state}

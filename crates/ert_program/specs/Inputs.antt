@@ -1,16 +1,17 @@
 -- What a command leaves that reads a scenario and does what that asks for.
 
-use Rattle.std.specs.Prelude.{◌≡◌, ◌≢◌, ◌≤◌, ◌⊎◌, ℕ, Bool, List, Option, Some, length, IsSomeAnd}
+use Rattle.std.specs.Prelude.{◌≡◌, ◌≢◌, ◌≤◌, ◌⊎◌, ℕ, Bool, List, Option, Some, length, IfSome, IsSomeAnd}
 use Rattle.ert_defs.specs.declared.entry.Entry.{Entry}
 use Rattle.ert_io.specs.Faults.{Rose}
-use Rattle.ert_io.specs.Known.{before, IsAtEnd, TakesUpTo}
+use Rattle.ert_io.specs.Known.{HandsUpTo}
+use Rattle.ert_io.specs.Reads.{Input, ReadsAll, ReadsMore}
 use Rattle.ert_io.specs.Told.{SinkTold, took, TakesFront}
 use Rattle.ert_race.specs.Written.{Returned, HasHistory}
 use Rattle.ert_scenario.specs.Scenarios.{Plan, IsScenario, HasRefusal}
 use Rattle.ert_scenario.specs.declared.scenario.ScenarioErr.{ScenarioErr}
 use Rattle.ert_transcript.specs.Scripts.{IsBeginning}
 use Rattle.ert_program.specs.Refusals.{refusal_line}
-use Rattle.ert_program.specs.Streams.{Input, Output}
+use Rattle.ert_program.specs.Streams.{Output}
 use Rattle.ert_program.specs.declared.ending.Ended.{Ended}
 use Rattle.ert_program.specs.declared.ending.EndStatus.TheVariants.{Done, Usage, Refused, ReadFault, WriteFault, ClockFault, NoMemory, TooLong}
 use Rattle.ert_program.specs.declared.ending.Refusal.{Refusal}
@@ -19,28 +20,21 @@ use Rattle.ert_program.specs.declared.ending.Refusal.{Refusal}
 abbrev pub Doing : Type 1
 Doing = Plan → List Entry → List ℕ → Type 0
 
--- these bytes were read, they are all that there were, and no more than an input may have
-pub record ReadsAll (old new : Option (List ℕ)) (bytes : List ℕ) : Type 0 where
-  pub taken : old ≡ before bytes new
+-- before they are read: these bytes may be the whole input, as far as it tells what it has left
+pub record IsPossibleInput (left : Option (List ℕ)) (bytes : List ℕ) : Type 0 where
+  pub whole : IfSome left (λ all. all ≡ bytes)
   pub short : length bytes ≤ 16777216
-  pub end : IsAtEnd new
-
--- more bytes were read than an input may have
-pub record TakesMore (left left_new : Option (List ℕ)) : Type 0 where
-  pub bytes : List ℕ
-  pub many : length bytes ≡ 16777217
-  pub taken : left ≡ before bytes left_new
 
 -- all bytes were read, and they are a scenario with this plan, with a race or without as is wanted
-pub record HasRead (race : Bool) (left left_new : Option (List ℕ)) (plan : Plan) : Type 0 where
+pub record HasRead (race : Bool) (i j : Input) (plan : Plan) : Type 0 where
   pub bytes : List ℕ
-  pub takes : ReadsAll left left_new bytes
+  pub takes : ReadsAll i j bytes
   pub is : IsScenario race bytes plan
 
 -- all bytes were read, they are a scenario, and the text of what was done with it was written
-pub record DidAll (race : Bool) (does : Doing) (left left_new : Option (List ℕ)) (old new : SinkTold) : Type 0 where
+pub record DidAll (race : Bool) (does : Doing) (i j : Input) (old new : SinkTold) : Type 0 where
   pub plan : Plan
-  pub read : HasRead race left left_new plan
+  pub read : HasRead race i j plan
   pub history : List Entry
   pub text : List ℕ
   pub is : does plan history text
@@ -55,15 +49,15 @@ pub record RanOn (does : Doing) (plan : Plan) (old new : SinkTold) (r : Returned
   pub desk : HasHistory plan.settings history r
 
 -- all bytes were read, they are a scenario, and it was done on a desk
-pub record DidOn (race : Bool) (does : Doing) (left left_new : Option (List ℕ)) (old new : SinkTold) (r : Returned) : Type 0 where
+pub record DidOn (race : Bool) (does : Doing) (i j : Input) (old new : SinkTold) (r : Returned) : Type 0 where
   pub plan : Plan
-  pub read : HasRead race left left_new plan
+  pub read : HasRead race i j plan
   pub ran : RanOn does plan old new r
 
 -- all bytes were read, the refusal that is returned has them, they have that refusal, and its line was written
-pub record RefusesInput (race : Bool) (left left_new : Option (List ℕ)) (old new : SinkTold) (refusal : Refusal) : Type 0 where
+pub record RefusesInput (race : Bool) (i j : Input) (old new : SinkTold) (refusal : Refusal) : Type 0 where
   pub wanted : refusal.race ≡ race
-  pub takes : ReadsAll left left_new refusal.bytes.items
+  pub takes : ReadsAll i j refusal.bytes.items
   pub is : HasRefusal race refusal.bytes.items refusal.why
   pub writes : new ≡ took old (refusal_line refusal.why)
 
@@ -78,34 +72,34 @@ pub record WritesPart (does : Doing) (plan : Plan) (old new : SinkTold) : Type 0
   pub writes : TakesFront old new text
 
 -- a scenario was read, and the first part of what it asks for was written
-pub record PartDone (race : Bool) (does : Doing) (left left_new : Option (List ℕ)) (old new : SinkTold) : Type 0 where
+pub record PartDone (race : Bool) (does : Doing) (i j : Input) (old new : SinkTold) : Type 0 where
   pub plan : Plan
-  pub read : HasRead race left left_new plan
+  pub read : HasRead race i j plan
   pub part : WritesPart does plan old new
 
 -- all bytes were read, they have a refusal, and the first part of its line was written
-pub record PartRefused (race : Bool) (left left_new : Option (List ℕ)) (old new : SinkTold) : Type 0 where
+pub record PartRefused (race : Bool) (i j : Input) (old new : SinkTold) : Type 0 where
   pub bytes : List ℕ
-  pub takes : ReadsAll left left_new bytes
+  pub takes : ReadsAll i j bytes
   pub why : ScenarioErr
   pub is : HasRefusal race bytes why
   pub writes : TakesFront old new (refusal_line why)
 
 -- the first part of what the input asks for was written
-abbrev pub StopsShort : Bool → Doing → Option (List ℕ) → Option (List ℕ) → SinkTold → SinkTold → Type 0
-StopsShort race does left left_new old new = PartDone race does left left_new old new ⊎ PartRefused race left left_new old new
+abbrev pub StopsShort : Bool → Doing → Input → Input → SinkTold → SinkTold → Type 0
+StopsShort race does i j old new = PartDone race does i j old new ⊎ PartRefused race i j old new
 
 -- the command came to an end, between two moments of the input and of the output
 pub record InputEnds (race : Bool) (does : Doing) (i j : Input) (o p : Output) (e : Ended) : Type 0 where
-  pub done : e.status ≡ Done → DidAll race does i.left j.left o.told p.told
-  pub refused : e.status ≡ Refused → IsSomeAnd e.refusal (RefusesInput race i.left j.left o.told p.told)
-  pub read_fault : e.status ≡ ReadFault → Rose i.faults j.faults × TakesUpTo 16777216 i.left j.left × (p ≡ o)
-  pub too_long : e.status ≡ TooLong → TakesMore i.left j.left × (p ≡ o)
+  pub done : e.status ≡ Done → DidAll race does i j o.told p.told
+  pub refused : e.status ≡ Refused → IsSomeAnd e.refusal (RefusesInput race i j o.told p.told)
+  pub read_fault : e.status ≡ ReadFault → Rose i.faults j.faults × HandsUpTo 16777216 i.told j.told × (p ≡ o)
+  pub too_long : e.status ≡ TooLong → ReadsMore i j × (p ≡ o)
   -- after a failed write, or without memory, the first part of what would have been written stands
-  pub write_fault : e.status ≡ WriteFault → Rose o.faults p.faults × StopsShort race does i.left j.left o.told p.told
-  pub no_memory : e.status ≡ NoMemory → TakesUpTo 16777217 i.left j.left × ((p ≡ o) ⊎ StopsShort race does i.left j.left o.told p.told)
+  pub write_fault : e.status ≡ WriteFault → Rose o.faults p.faults × StopsShort race does i j o.told p.told
+  pub no_memory : e.status ≡ NoMemory → HandsUpTo 16777217 i.told j.told × ((p ≡ o) ⊎ StopsShort race does i j o.told p.told)
   pub others : (e.status ≢ Usage) × (e.status ≢ ClockFault)
   -- where nothing fails and the input is a scenario, only running out of memory keeps it from being done
   pub complete : (Rose i.faults j.faults → ⊥) → (Rose o.faults p.faults → ⊥)
-      → (bytes : List ℕ) (plan : Plan) → i.left ≡ Some bytes → length bytes ≤ 16777216 → IsScenario race bytes plan
+      → (bytes : List ℕ) (plan : Plan) → i.told.left ≡ Some bytes → length bytes ≤ 16777216 → IsScenario race bytes plan
       → (e.status ≡ Done) ⊎ (e.status ≡ NoMemory)

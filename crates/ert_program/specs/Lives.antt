@@ -1,6 +1,6 @@
 -- What `live` leaves.
 
-use Rattle.std.specs.Prelude.{◌≡◌, ◌≢◌, ◌<◌, ◌≤◌, ◌+◌, ◌⊎◌, ℕ, ℤ, pos, true, List, [], ◌∷◌, ◌++◌, length, codes, decimal, Option, Some, None, option_map, IsSomeAnd}
+use Rattle.std.specs.Prelude.{◌≡◌, ◌≢◌, ◌<◌, ◌+◌, ◌⊎◌, ℕ, ℤ, pos, true, List, [], ◌∷◌, ◌++◌, length, codes, decimal, Some, None, IsSomeAnd}
 use Rattle.std.specs.Fmt.{signed_decimal}
 use Rattle.ert_effects.specs.Ways.{alone}
 use Rattle.ert_defs.specs.Legal.{Legal}
@@ -12,6 +12,7 @@ use Rattle.ert_defs.specs.declared.settings.Reading.{Reading}
 use Rattle.ert_defs.specs.declared.settings.Settings.{Settings}
 use Rattle.ert_defs.specs.declared.settings.TheConstants.{SCENARIO_LOOKS}
 use Rattle.ert_io.specs.Faults.{Rose}
+use Rattle.ert_io.specs.Known.{StreamTold, HandsOut, HandsUpTo}
 use Rattle.ert_io.specs.Told.{took, TakesFront}
 use Rattle.ert_ops.specs.declared.op.Op.{Op}
 use Rattle.ert_ops.specs.declared.op.Op.TheVariants as ops
@@ -72,24 +73,14 @@ abbrev pub AreLive : List Reading → List ℕ → Type 0
 AreLive [] text = text ≡ []
 AreLive (first ∷ others) text = IsLiveText first others text
 
--- these readings, and then the known ones
-abbrev pub readings_before : List Reading → Option (List Reading) → Option (List Reading)
-readings_before taken known = option_map (λ later. taken ++ later) known
-
--- at most n readings were taken
-pub record TakesReadings (n : ℕ) (left left_new : Option (List Reading)) : Type 0 where
-  pub readings : List Reading
-  pub few : length readings ≤ n
-  pub given : left ≡ readings_before readings left_new
-
 -- n valid readings were taken; the text is their lines and the end line, and the desk that is returned has for its
 -- history just the entries of their script run
-pub record LiveDone (n : ℕ) (left left_new : Option (List Reading)) (text : List ℕ) (r : Returned) : Type 0 where
+pub record LiveDone (n : ℕ) (old new : StreamTold Reading) (text : List ℕ) (r : Returned) : Type 0 where
   pub first : Reading
   pub others : List Reading
   pub lines : List ℕ
   pub count : length (first ∷ others) ≡ n
-  pub given : left ≡ readings_before (first ∷ others) left_new
+  pub given : HandsOut old new (first ∷ others)
   pub valid : AreValid (first ∷ others)
   pub is : IsLiveText first others lines
   pub whole : text ≡ lines ⋅ end_line (state (live_settings first) is.entries).clock.now
@@ -97,30 +88,30 @@ pub record LiveDone (n : ℕ) (left left_new : Option (List Reading)) (text : Li
 
 -- fewer than n valid readings were taken, and then one that isn't valid; the text is the lines of the valid
 -- ones, and the line of the other
-pub record LiveRefused (n : ℕ) (left left_new : Option (List Reading)) (text : List ℕ) : Type 0 where
+pub record LiveRefused (n : ℕ) (old new : StreamTold Reading) (text : List ℕ) : Type 0 where
   pub readings : List Reading
   pub bad : Reading
   pub lines : List ℕ
   pub count : length readings < n
-  pub given : left ≡ readings_before (readings ++ bad ∷ []) left_new
+  pub given : HandsOut old new (readings ++ bad ∷ [])
   pub valid : AreValid readings
   pub not_valid : IsValid bad → ⊥
   pub are : AreLive readings lines
   pub whole : text ≡ lines ⋅ refused_reading (length readings + 1)
 
 -- fewer than n valid readings were taken, and the clock failed; the text is their lines
-pub record LiveStopped (n : ℕ) (left left_new : Option (List Reading)) (text : List ℕ) : Type 0 where
+pub record LiveStopped (n : ℕ) (old new : StreamTold Reading) (text : List ℕ) : Type 0 where
   pub readings : List Reading
   pub count : length readings < n
-  pub given : left ≡ readings_before readings left_new
+  pub given : HandsOut old new readings
   pub valid : AreValid readings
   pub are : AreLive readings text
 
 -- what the readings made: an end, and the text that it writes
 pub record Watched (n : ℕ) (c d : ClockStream) (e : Ended) (text : List ℕ) : Type 0 where
-  pub done : e.status ≡ Done → IsSomeAnd e.desk (LiveDone n c.left d.left text)
-  pub refused : e.status ≡ Refused → LiveRefused n c.left d.left text
-  pub clock_fault : e.status ≡ ClockFault → Rose c.faults d.faults × LiveStopped n c.left d.left text
+  pub done : e.status ≡ Done → IsSomeAnd e.desk (LiveDone n c.told d.told text)
+  pub refused : e.status ≡ Refused → LiveRefused n c.told d.told text
+  pub clock_fault : e.status ≡ ClockFault → Rose c.faults d.faults × LiveStopped n c.told d.told text
   pub only : (e.status ≡ Done) ⊎ (e.status ≡ Refused) ⊎ (e.status ≡ ClockFault)
   pub no_desk : e.status ≢ Done → e.desk ≡ None
 
@@ -137,16 +128,16 @@ pub record WatchBreaksOff (n : ℕ) (c d : ClockStream) (o p : Output) : Type 0 
 
 -- `live` with so many readings came to an end, between two moments of the clock and of the output
 pub record LiveEnds (n : ℕ) (c d : ClockStream) (o p : Output) (e : Ended) : Type 0 where
-  pub done : e.status ≡ Done → Writes o p (λ text. IsSomeAnd e.desk (LiveDone n c.left d.left text))
+  pub done : e.status ≡ Done → Writes o p (λ text. IsSomeAnd e.desk (LiveDone n c.told d.told text))
   pub no_desk : e.status ≢ Done → e.desk ≡ None
-  pub refused : e.status ≡ Refused → Writes o p (LiveRefused n c.left d.left)
-  pub clock_fault : e.status ≡ ClockFault → Rose c.faults d.faults × Writes o p (LiveStopped n c.left d.left)
+  pub refused : e.status ≡ Refused → Writes o p (LiveRefused n c.told d.told)
+  pub clock_fault : e.status ≡ ClockFault → Rose c.faults d.faults × Writes o p (LiveStopped n c.told d.told)
   pub write_fault : e.status ≡ WriteFault → Rose o.faults p.faults × WatchBreaksOff n c d o p
-  pub no_memory : e.status ≡ NoMemory → TakesReadings n c.left d.left × (p ≡ o)
+  pub no_memory : e.status ≡ NoMemory → HandsUpTo n c.told d.told × (p ≡ o)
   pub only : (e.status ≡ Done) ⊎ (e.status ≡ Refused) ⊎ (e.status ≡ ClockFault) ⊎ (e.status ≡ WriteFault) ⊎ (e.status ≡ NoMemory)
   -- where nothing fails and the readings are valid, only running out of memory keeps it from being done
   pub complete : (Rose c.faults d.faults → ⊥) → (Rose o.faults p.faults → ⊥)
-      → (readings later : List Reading) → c.left ≡ Some (readings ++ later) → length readings ≡ n → AreValid readings
+      → (readings later : List Reading) → c.told.left ≡ Some (readings ++ later) → length readings ≡ n → AreValid readings
       → (e.status ≡ Done) ⊎ (e.status ≡ NoMemory)
 
 -- a world lived through some readings, of which the first opened it: it did their ops, and the text is its lines

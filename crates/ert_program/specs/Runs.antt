@@ -5,14 +5,15 @@ use Rattle.ert_program.specs.declared.command.Command.{Command}
 use Rattle.ert_program.specs.declared.command.Command.TheVariants.{Run}
 use Rattle.ert_defs.specs.declared.entry.Entry.{Entry}
 use Rattle.ert_io.specs.Known.{HasRoomFor}
+use Rattle.ert_io.specs.Reads.{Input}
 use Rattle.ert_io.specs.Told.{SinkTold}
 use Rattle.ert_race.specs.Written.{Returned}
-use Rattle.ert_scenario.specs.Scenarios.{Plan, HasRefusal}
+use Rattle.ert_scenario.specs.Scenarios.{Plan, IsScenario, HasRefusal}
 use Rattle.ert_scenario.specs.declared.scenario.ScenarioErr.{ScenarioErr}
 use Rattle.ert_transcript.specs.Scripts.{IsTranscript}
-use Rattle.ert_program.specs.Inputs.{ReadsAll, HasRead, DidOn, MayWriteOfPlan, InputEnds}
+use Rattle.ert_program.specs.Inputs.{IsPossibleInput, DidOn, MayWriteOfPlan, InputEnds}
 use Rattle.ert_program.specs.Refusals.{refusal_line}
-use Rattle.ert_program.specs.Streams.{Input, Output}
+use Rattle.ert_program.specs.Streams.{Output}
 use Rattle.ert_program.specs.declared.ending.Ended.{Ended}
 
 -- a text is a transcript of a plan, and the history is that of its script run
@@ -25,7 +26,7 @@ abbrev pub RunEnds : Input → Input → Output → Output → Ended → Type 0
 RunEnds = InputEnds false RunOf
 
 -- `run` was done, and returned this desk
-abbrev pub RunOn : Option (List ℕ) → Option (List ℕ) → SinkTold → SinkTold → Returned → Type 0
+abbrev pub RunOn : Input → Input → SinkTold → SinkTold → Returned → Type 0
 RunOn = DidOn false RunOf
 
 -- where the output tells its room, what `run` may write of a plan fits it: a transcript, or the beginning of one
@@ -34,8 +35,8 @@ PlanFits plan room = (text : List ℕ) → MayWriteOfPlan RunOf plan text → Ha
 
 -- and so does what it may write of the input
 pub record InputFits (left : Option (List ℕ)) (room : Option ℕ) : Type 0 where
-  pub done : (rest : Option (List ℕ)) (plan : Plan) → HasRead false left rest plan → PlanFits plan room
-  pub refused : (rest : Option (List ℕ)) (bytes : List ℕ) (why : ScenarioErr) → ReadsAll left rest bytes → HasRefusal false bytes why
+  pub done : (bytes : List ℕ) (plan : Plan) → IsPossibleInput left bytes → IsScenario false bytes plan → PlanFits plan room
+  pub refused : (bytes : List ℕ) (why : ScenarioErr) → IsPossibleInput left bytes → HasRefusal false bytes why
       → HasRoomFor room (length (refusal_line why))
 
 -- where the output tells its room, the command is `run`, and all that it may write fits

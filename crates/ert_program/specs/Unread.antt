@@ -2,23 +2,24 @@
 
 use Rattle.std.specs.Prelude.{◌≡◌, ◌≢◌, ◌≤◌, ℕ, Bool, List, Some, None, length, IsSomeAnd}
 use Rattle.ert_io.specs.Faults.{Rose}
-use Rattle.ert_io.specs.Known.{TakesUpTo}
+use Rattle.ert_io.specs.Known.{HandsUpTo}
+use Rattle.ert_io.specs.Reads.{Input, ReadsMore}
 use Rattle.ert_scenario.specs.Scenarios.{Plan, IsScenario}
-use Rattle.ert_program.specs.Inputs.{TakesMore, RefusesInput, PartRefused}
-use Rattle.ert_program.specs.Streams.{Input, Output}
+use Rattle.ert_program.specs.Inputs.{RefusesInput, PartRefused}
+use Rattle.ert_program.specs.Streams.{Output}
 use Rattle.ert_program.specs.declared.ending.Ended.{Ended}
 use Rattle.ert_program.specs.declared.ending.EndStatus.TheVariants.{Done, Usage, Refused, ReadFault, WriteFault, ClockFault, NoMemory, TooLong}
 
 -- it ended with no scenario: the input failed or was too long, or it was refused, or memory ran out
 pub record EndsUnread (race : Bool) (i j : Input) (o p : Output) (e : Ended) : Type 0 where
   pub not_done : e.status ≢ Done
-  pub refused : e.status ≡ Refused → IsSomeAnd e.refusal (RefusesInput race i.left j.left o.told p.told)
-  pub read_fault : e.status ≡ ReadFault → Rose i.faults j.faults × TakesUpTo 16777216 i.left j.left × (p ≡ o)
-  pub too_long : e.status ≡ TooLong → TakesMore i.left j.left × (p ≡ o)
-  pub write_fault : e.status ≡ WriteFault → Rose o.faults p.faults × PartRefused race i.left j.left o.told p.told
-  pub no_memory : e.status ≡ NoMemory → TakesUpTo 16777217 i.left j.left × (p ≡ o)
+  pub refused : e.status ≡ Refused → IsSomeAnd e.refusal (RefusesInput race i j o.told p.told)
+  pub read_fault : e.status ≡ ReadFault → Rose i.faults j.faults × HandsUpTo 16777216 i.told j.told × (p ≡ o)
+  pub too_long : e.status ≡ TooLong → ReadsMore i j × (p ≡ o)
+  pub write_fault : e.status ≡ WriteFault → Rose o.faults p.faults × PartRefused race i j o.told p.told
+  pub no_memory : e.status ≡ NoMemory → HandsUpTo 16777217 i.told j.told × (p ≡ o)
   pub others : (e.status ≢ Usage) × (e.status ≢ ClockFault)
   pub no_desk : e.desk ≡ None
   pub no_refusal : e.status ≢ Refused → e.refusal ≡ None
   pub complete : (Rose i.faults j.faults → ⊥) → (Rose o.faults p.faults → ⊥)
-      → (bytes : List ℕ) (plan : Plan) → i.left ≡ Some bytes → length bytes ≤ 16777216 → IsScenario race bytes plan → e.status ≡ NoMemory
+      → (bytes : List ℕ) (plan : Plan) → i.told.left ≡ Some bytes → length bytes ≤ 16777216 → IsScenario race bytes plan → e.status ≡ NoMemory

@@ -2,10 +2,11 @@
 ghost use Rattle.std.specs.Prelude.{◌≡◌, ◌≤◌, ◌++◌, [], ◌∷◌, List, None, IfOk, OnOk, OnErr, string_bytes};
 ghost use Rattle.ert_defs.specs.Readings.{IsValid};
 ghost use Rattle.ert_defs.specs.declared.settings.Reading.{Reading as OneReading};
+ghost use Rattle.ert_io.specs.Known.{stream_told, HandsUpTo};
 ghost use Rattle.ert_ops.specs.declared.op.Op.TheVariants as ops;
 ghost use Rattle.ert_script.specs.Scripts.{Does};
 ghost use Rattle.ert_transcript.specs.declared.reply.Reply.TheVariants as replies;
-ghost use Rattle.ert_program.specs.Lives.{live_settings, TakesReadings, live_part, refused_reading, Watched, LiveEnds, Lived, TellsTimes};
+ghost use Rattle.ert_program.specs.Lives.{live_settings, live_part, refused_reading, Watched, LiveEnds, Lived, TellsTimes};
 ghost use Rattle.ert_program.specs.Streams.{clock_stream_of, output_of};
 
 use crate::ending::{EndStatus, Ended};
@@ -22,7 +23,7 @@ use std::fmt::Write;
 pub fn live<O: Sink, C: OsClock>(alloc: Global, n: u64, clock: &mut C, output: &mut O) -> Ended
     requires some { 1 ≤ n }
     requires room { O.room output.old ≡ None }
-    ensures ends { LiveEnds n (clock_stream_of C.left C.faults clock.old) (clock_stream_of C.left C.faults clock.new)
+    ensures ends { LiveEnds n (clock_stream_of C.given C.left C.faults clock.old) (clock_stream_of C.given C.left C.faults clock.new)
         (output_of O.taken O.room O.faults output.old) (output_of O.taken O.room O.faults output.new) result }
     ensures no_refusal { result.refusal ≡ None }
     ensures later { O.faults output.old ≤ O.faults output.new }
@@ -47,8 +48,8 @@ fn watch<C: OsClock>(
 ) -> Result<Ended, NoMemory>
     requires some { 1 ≤ n }
     requires empty { string_bytes page.old ≡ [] }
-    ensures ok { IfOk result (λ made. Watched n (clock_stream_of C.left C.faults clock.old) (clock_stream_of C.left C.faults clock.new) made (string_bytes page.new)) }
-    ensures err { OnErr result (TakesReadings n (C.left clock.old) (C.left clock.new)) }
+    ensures ok { IfOk result (λ made. Watched n (clock_stream_of C.given C.left C.faults clock.old) (clock_stream_of C.given C.left C.faults clock.new) made (string_bytes page.new)) }
+    ensures err { OnErr result (HandsUpTo n (stream_told (C.given clock.old) (C.left clock.old)) (stream_told (C.given clock.new) (C.left clock.new))) }
     ensures no_refusal { IfOk result (λ made. made.refusal ≡ None) }
     ensures later { C.faults clock.old ≤ C.faults clock.new }
 {

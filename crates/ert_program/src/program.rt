@@ -1,13 +1,14 @@
 ghost use Rattle.std.specs.Prelude.{◌≡◌, ◌≢◌, ◌≤◌, ◌⊎◌, ℕ, false, Some, None, IsSomeAnd};
 ghost use Rattle.ert_program.specs.declared.command.Command.TheVariants.{Run, Race, Live, Stress};
 ghost use Rattle.ert_io.specs.Faults.{Rose};
+ghost use Rattle.ert_io.specs.Reads.{input_of};
 ghost use Rattle.ert_io.specs.Told.{took, TakesFront};
 ghost use Rattle.ert_program.specs.Endings.{command_asked, reads_input, reads_clock, HasItsRefusal, UsageEnds};
 ghost use Rattle.ert_program.specs.Lives.{LiveEnds};
 ghost use Rattle.ert_program.specs.Races.{RaceEnds, RaceOn};
 ghost use Rattle.ert_program.specs.Refusals.{usage_line};
 ghost use Rattle.ert_program.specs.Runs.{AllFits, RunEnds, RunOn};
-ghost use Rattle.ert_program.specs.Streams.{told_by_sink, input_of, output_of, clock_stream_of};
+ghost use Rattle.ert_program.specs.Streams.{told_by_sink, output_of, clock_stream_of};
 ghost use Rattle.ert_program.specs.Stresses.{StressEnds};
 
 use crate::command::Command;
@@ -41,13 +42,13 @@ pub fn ertime<
 >(rt: &R, words: &[String], input: &mut I, output: &mut O, clock: &mut C, gate: &G) -> Ended
     requires fits { AllFits (command_asked words.now) (I.left input.old) (O.room output.old) }
     ensures run { command_asked words.now ≡ Some Run
-        → RunEnds (input_of I.left I.faults input.old) (input_of I.left I.faults input.new)
+        → RunEnds (input_of I.given I.ended I.left I.faults input.old) (input_of I.given I.ended I.left I.faults input.new)
         (output_of O.taken O.room O.faults output.old) (output_of O.taken O.room O.faults output.new) result }
     ensures race { command_asked words.now ≡ Some Race
-        → RaceEnds (input_of I.left I.faults input.old) (input_of I.left I.faults input.new)
+        → RaceEnds (input_of I.given I.ended I.left I.faults input.old) (input_of I.given I.ended I.left I.faults input.new)
         (output_of O.taken O.room O.faults output.old) (output_of O.taken O.room O.faults output.new) result }
     ensures live { (n : ℕ) → command_asked words.now ≡ Some (Live n)
-        → LiveEnds n (clock_stream_of C.left C.faults clock.old) (clock_stream_of C.left C.faults clock.new)
+        → LiveEnds n (clock_stream_of C.given C.left C.faults clock.old) (clock_stream_of C.given C.left C.faults clock.new)
         (output_of O.taken O.room O.faults output.old) (output_of O.taken O.room O.faults output.new) result }
     ensures stress { (seed n : ℕ) → command_asked words.now ≡ Some (Stress seed n)
         → StressEnds seed n (output_of O.taken O.room O.faults output.old) (output_of O.taken O.room O.faults output.new) result }
@@ -56,9 +57,11 @@ pub fn ertime<
 
     // The desk that `run` and `race` return has the very history of what was written; `live` and `stress` say it themselves.
     ensures run_desk { command_asked words.now ≡ Some Run → result.status ≡ EndStatus.Done
-        → IsSomeAnd result.desk (RunOn (I.left input.old) (I.left input.new) (told_by_sink O.taken O.room output.old) (told_by_sink O.taken O.room output.new)) }
+        → IsSomeAnd result.desk (RunOn (input_of I.given I.ended I.left I.faults input.old) (input_of I.given I.ended I.left I.faults input.new)
+        (told_by_sink O.taken O.room output.old) (told_by_sink O.taken O.room output.new)) }
     ensures race_desk { command_asked words.now ≡ Some Race → result.status ≡ EndStatus.Done
-        → IsSomeAnd result.desk (RaceOn (I.left input.old) (I.left input.new) (told_by_sink O.taken O.room output.old) (told_by_sink O.taken O.room output.new)) }
+        → IsSomeAnd result.desk (RaceOn (input_of I.given I.ended I.left I.faults input.old) (input_of I.given I.ended I.left I.faults input.new)
+        (told_by_sink O.taken O.room output.old) (told_by_sink O.taken O.room output.new)) }
     ensures no_desk { result.status ≢ EndStatus.Done → result.desk ≡ None }
     ensures refusal { HasItsRefusal result }
     ensures no_refusal { result.status ≢ EndStatus.Refused → result.refusal ≡ None }

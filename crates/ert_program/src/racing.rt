@@ -2,13 +2,14 @@
 ghost use Rattle.std.specs.Prelude.{◌≡◌, ◌≢◌, ◌≤◌, None, true, is_some, option_map, IfSome, IfOk, OnErr, IsErrOf, IsSomeAnd};
 ghost use Rattle.ert_defs.specs.Settings.{IsChecked};
 ghost use Rattle.ert_io.specs.Faults.{Rose};
+ghost use Rattle.ert_io.specs.Reads.{input_of};
 ghost use Rattle.ert_ops.specs.Races.{IsRace, race_of};
 ghost use Rattle.ert_ops.specs.Ranges.{AreOpsInRange};
 ghost use Rattle.ert_scenario.specs.Scenarios.{plan_of};
 ghost use Rattle.ert_program.specs.Endings.{HasItsRefusal};
 ghost use Rattle.ert_program.specs.Inputs.{RanOn, WritesPart};
 ghost use Rattle.ert_program.specs.Races.{RaceOf, RaceOn, RaceEnds};
-ghost use Rattle.ert_program.specs.Streams.{told_by_sink, input_of, output_of};
+ghost use Rattle.ert_program.specs.Streams.{told_by_sink, output_of};
 
 use crate::ending::{EndStatus, Ended};
 use crate::reading::read_input;
@@ -32,10 +33,11 @@ pub fn race<R: Threads + Wait + Sync, G: Gate + Sync, I: Source, O: Sink>(
     gate: &G,
 ) -> Ended
     requires room { O.room output.old ≡ None }
-    ensures ends { RaceEnds (input_of I.left I.faults input.old) (input_of I.left I.faults input.new)
+    ensures ends { RaceEnds (input_of I.given I.ended I.left I.faults input.old) (input_of I.given I.ended I.left I.faults input.new)
         (output_of O.taken O.room O.faults output.old) (output_of O.taken O.room O.faults output.new) result }
     ensures desk { result.status ≡ EndStatus.Done
-        → IsSomeAnd result.desk (RaceOn (I.left input.old) (I.left input.new) (told_by_sink O.taken O.room output.old) (told_by_sink O.taken O.room output.new)) }
+        → IsSomeAnd result.desk (RaceOn (input_of I.given I.ended I.left I.faults input.old) (input_of I.given I.ended I.left I.faults input.new)
+        (told_by_sink O.taken O.room output.old) (told_by_sink O.taken O.room output.new)) }
     ensures no_desk { result.status ≢ EndStatus.Done → result.desk ≡ None }
     ensures refusal { HasItsRefusal result }
     ensures no_refusal { result.status ≢ EndStatus.Refused → result.refusal ≡ None }

@@ -1,12 +1,13 @@
 //! The first part of `run` and of `race`: a scenario is read, or the input is refused.
-ghost use Rattle.std.specs.Prelude.{◌≡◌, ◌≤◌, ℕ, List, Option, length, IfOk, IfErr, OnOk};
+ghost use Rattle.std.specs.Prelude.{◌≡◌, ◌≤◌, ℕ, List, length, IfOk, IfErr, OnOk};
 ghost use Rattle.ert_io.specs.Known.{HasRoomFor};
+ghost use Rattle.ert_io.specs.Reads.{input_of};
 ghost use Rattle.ert_scenario.specs.Scenarios.{HasRefusal, plan_of};
 ghost use Rattle.ert_scenario.specs.declared.scenario.ScenarioErr.{ScenarioErr as Why};
 ghost use Rattle.ert_program.specs.Endings.{HasItsRefusal};
-ghost use Rattle.ert_program.specs.Inputs.{ReadsAll, HasRead};
+ghost use Rattle.ert_program.specs.Inputs.{IsPossibleInput, HasRead};
 ghost use Rattle.ert_program.specs.Refusals.{refusal_line};
-ghost use Rattle.ert_program.specs.Streams.{input_of, output_of};
+ghost use Rattle.ert_program.specs.Streams.{output_of};
 ghost use Rattle.ert_program.specs.Unread.{EndsUnread};
 
 use crate::ending::{EndStatus, Ended, Refusal};
@@ -23,11 +24,11 @@ pub(crate) fn read_input<I: Source, O: Sink>(
     input: &mut I,
     output: &mut O,
 ) -> Result<Scenario, Ended>
-    requires fits { (rest : Option (List ℕ)) (bytes : List ℕ) (why : Why) → ReadsAll (I.left input.old) rest bytes → HasRefusal race bytes why
+    requires fits { (bytes : List ℕ) (why : Why) → IsPossibleInput (I.left input.old) bytes → HasRefusal race bytes why
         → HasRoomFor (O.room output.old) (length (refusal_line why)) }
-    ensures ok { IfOk result (λ s. HasRead race (I.left input.old) (I.left input.new) (plan_of s)) }
+    ensures ok { IfOk result (λ s. HasRead race (input_of I.given I.ended I.left I.faults input.old) (input_of I.given I.ended I.left I.faults input.new) (plan_of s)) }
     ensures unwritten { OnOk result (output.new ≡ output.old) }
-    ensures err { IfErr result (λ e. EndsUnread race (input_of I.left I.faults input.old) (input_of I.left I.faults input.new)
+    ensures err { IfErr result (λ e. EndsUnread race (input_of I.given I.ended I.left I.faults input.old) (input_of I.given I.ended I.left I.faults input.new)
         (output_of O.taken O.room O.faults output.old) (output_of O.taken O.room O.faults output.new) e) }
     ensures refusal { IfErr result (λ e. HasItsRefusal e) }
     ensures later { I.faults input.old ≤ I.faults input.new }

@@ -3,6 +3,7 @@ ghost use Rattle.std.specs.Prelude.{◌≡◌, ◌≢◌, ◌≤◌, None, lengt
 ghost use Rattle.ert_defs.specs.Settings.{IsChecked};
 ghost use Rattle.ert_io.specs.Faults.{Rose};
 ghost use Rattle.ert_io.specs.Known.{HasRoomFor};
+ghost use Rattle.ert_io.specs.Reads.{input_of};
 ghost use Rattle.ert_io.specs.Told.{took, TakesFront};
 ghost use Rattle.ert_ops.specs.Ranges.{AreOpsInRange};
 ghost use Rattle.ert_scenario.specs.Scenarios.{plan_of};
@@ -10,7 +11,7 @@ ghost use Rattle.ert_transcript.specs.Texts.{end_line};
 ghost use Rattle.ert_program.specs.Endings.{HasItsRefusal};
 ghost use Rattle.ert_program.specs.Inputs.{RanOn, WritesPart};
 ghost use Rattle.ert_program.specs.Runs.{RunOf, RunOn, RunEnds, InputFits, PlanFits};
-ghost use Rattle.ert_program.specs.Streams.{told_by_sink, input_of, output_of};
+ghost use Rattle.ert_program.specs.Streams.{told_by_sink, output_of};
 
 use crate::ending::{EndStatus, Ended};
 use crate::reading::read_input;
@@ -26,10 +27,11 @@ use std::sync::Arc;
 /// returns the world's desk. Input that is no scenario is refused by a line.
 pub fn run<I: Source, O: Sink>(alloc: Global, input: &mut I, output: &mut O) -> Ended
     requires fits { InputFits (I.left input.old) (O.room output.old) }
-    ensures ends { RunEnds (input_of I.left I.faults input.old) (input_of I.left I.faults input.new)
+    ensures ends { RunEnds (input_of I.given I.ended I.left I.faults input.old) (input_of I.given I.ended I.left I.faults input.new)
         (output_of O.taken O.room O.faults output.old) (output_of O.taken O.room O.faults output.new) result }
     ensures desk { result.status ≡ EndStatus.Done
-        → IsSomeAnd result.desk (RunOn (I.left input.old) (I.left input.new) (told_by_sink O.taken O.room output.old) (told_by_sink O.taken O.room output.new)) }
+        → IsSomeAnd result.desk (RunOn (input_of I.given I.ended I.left I.faults input.old) (input_of I.given I.ended I.left I.faults input.new)
+        (told_by_sink O.taken O.room output.old) (told_by_sink O.taken O.room output.new)) }
     ensures no_desk { result.status ≢ EndStatus.Done → result.desk ≡ None }
     ensures refusal { HasItsRefusal result }
     ensures no_refusal { result.status ≢ EndStatus.Refused → result.refusal ≡ None }

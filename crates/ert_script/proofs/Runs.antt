@@ -105,7 +105,7 @@ pub record IsSoFar (start : Seen) (ls : Labels) (list : List Op) (v : Seen) (aft
   pub whole : front ++ page ≡ lines_of ls list replies
 
 -- before the first op nothing was done and nothing written
-pub so_far_first : (w : Seen) (ls : Labels) (taken : Option (List ℕ)) (room : Option ℕ) → StandsFor w.settings w.history w
+pub so_far_first : (w : Seen) (ls : Labels) (taken : List ℕ) (room : Option ℕ) → StandsFor w.settings w.history w
     → IsSoFar w ls [] w ls (sink_told taken room) (sink_told taken room) []
 so_far_first w ls taken room stands = record { replies = []; front = []; runs = runs_none w ls; stands = stands; took = took-none taken room; whole = refl }
 

@@ -1,6 +1,6 @@
 -- What is told of the entries of an advance with a bound, and that they leave the hand.
 
-use Rattle.std.proofs.Common.{◌≡◌, ℕ, Bool, true, false, List, [], ◌∷◌, ◌++◌, Result, Ok, Err, refl, sym, ap, ◌∙◌, append-nil}
+use Rattle.std.proofs.Common.{◌≡◌, ℕ, true, List, [], ◌∷◌, ◌++◌, Result, Ok, Err, refl, sym, ap, ◌∙◌, append-nil}
 use Rattle.ert_defs.specs.Actors.{has_actor}
 use Rattle.ert_defs.specs.Entries.{look_entry, advanced_entry}
 use Rattle.ert_defs.specs.Mails.{SchedState}
@@ -12,6 +12,8 @@ use Rattle.ert_defs.specs.declared.memory.NoMemory.{NoMemory}
 use Rattle.ert_defs.specs.declared.settings.Settings.{Settings}
 use Rattle.ert_effects.specs.SomeCalls.{AdvancesSome}
 use Rattle.ert_effects.specs.WheelCalls.{Advances, expiry_entries}
+use Rattle.ert_effects.specs.declared.answers.Left.{Left}
+use Rattle.ert_effects.specs.declared.answers.Left.TheVariants.{Nothing, Due, Moving}
 use Rattle.ert_shard.specs.Shards.{Share, AreHome}
 use Rattle.ert_shard.proofs.Home.{advances_home}
 use Rattle.ert_table.proofs.Parts.{own_after, sched_own, AreByThemselves}
@@ -49,9 +51,19 @@ front_home s [] fs all = tt
 front_home s (e ∷ es) fs all = (all.0, front_home s es fs all.1)
 
 -- the entries of one with a bound are those of an advance: all, or but for the record
-pub some_are : (s : Share) (g : Settings) (most : ℕ) (answer : Result (ℕ × ℕ × Bool) NoMemory) (st : State) (es : List Entry)
+pub some_are : (s : Share) (g : Settings) (most : ℕ) (answer : Result (ℕ × ℕ × Left) NoMemory) (st : State) (es : List Entry)
     → AdvancesSome g s.number most answer st es → AreOfTurn s es
-some_are s g most (Ok (to, expired, true)) st es some =
+some_are s g most (Ok (to, expired, Nothing)) st es some =
+    all_are s g (Ok (to, expired)) st es (record {
+      now = some.now;
+      tries = some.tries;
+      expired = some.expired;
+      settled = some.settled;
+      due = some.due;
+      once = some.once;
+      entries = some.entries;
+    })
+some_are s g most (Ok (to, expired, Due)) st es some =
     let record_of : List Entry = advanced_entry s.number to ∷ [] in
     let all : AreOfTurn s (es ++ record_of) = all_are s g (Ok (to, expired)) st (es ++ record_of) (record {
       now = some.now;
@@ -68,16 +80,23 @@ some_are s g most (Ok (to, expired, true)) st es some =
       leave = front_leaves es record_of all.leave;
       home = front_home s es record_of all.home;
     }
-some_are s g most (Ok (to, expired, false)) st es some =
-    all_are s g (Ok (to, expired)) st es (record {
+some_are s g most (Ok (to, expired, Moving)) st es some =
+    let record_of : List Entry = advanced_entry s.number to ∷ [] in
+    let all : AreOfTurn s (es ++ record_of) = all_are s g (Ok (to, expired)) st (es ++ record_of) (record {
       now = some.now;
       tries = some.tries;
       expired = some.expired;
       settled = some.settled;
       due = some.due;
       once = some.once;
-      entries = some.entries;
-    })
+      entries = ap (λ l. l ++ record_of) some.entries
+          ∙ ap (λ l. look_entry (Sched s.number) some.now ∷ (l ++ record_of)) (append-nil (expiry_entries s.number some.tries));
+    }) in
+    record {
+      only = front_only (Sched s.number ∷ (Wheel s.number ∷ [])) es record_of all.only;
+      leave = front_leaves es record_of all.leave;
+      home = front_home s es record_of all.home;
+    }
 some_are s g most (Err e) st es some = all_are s g (Err e) st es some
 
 -- entries that leave the hand, for a pass that holds the scheduler

@@ -7,7 +7,9 @@ pub mod Gone
 pub mod Home
 pub mod Kept
 pub mod Lived
+pub mod MoreLeft
 pub mod Parted
+pub mod Probing
 pub mod Received
 pub mod Rejoined
 pub mod Renewed

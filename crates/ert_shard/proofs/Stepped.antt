@@ -1,26 +1,23 @@
 -- A turn of a shard, by its steps, and how long nothing can be due.
 
-use Rattle.std.proofs.Common.{◌≡◌, ℕ, ◌+◌, ◌≤◌, Bool, true, ◌||◌, List, count_by, Option, Ok, Err, inl, inr, refl, subst, ◌∙◌, arith}
+use Rattle.std.proofs.Common.{◌≡◌, ℕ, ◌+◌, ◌≤◌, Bool, ◌||◌, List, count_by, Ok, Err, inl, inr, refl, subst, ◌∙◌, arith}
 use Rattle.std.proofs.Math.Nat.{lt_of_lt_of_le}
 use Rattle.std.specs.Option.{is_some}
-use Rattle.ert_defs.specs.States.{state}
 use Rattle.ert_defs.specs.declared.entry.Entry.{Entry}
 use Rattle.ert_defs.specs.declared.memory.NoMemory.{NoMemory}
 use Rattle.ert_defs.specs.declared.settings.Settings.{Settings}
 use Rattle.ert_effects.proofs.Growing.{grows_then}
 use Rattle.ert_effects.specs.Chains.{AdvancesWheel, Delivers}
-use Rattle.ert_effects.specs.SomeCalls.{AdvancesWheelSome}
+use Rattle.ert_effects.specs.SomeCalls.{AdvancesWheelSome, is_more}
 use Rattle.ert_effects.specs.Ways.{Growth, Way, Grows, Then}
+use Rattle.ert_effects.specs.declared.answers.Left.{Left}
+use Rattle.ert_effects.specs.declared.answers.Left.TheVariants.{Due}
 use Rattle.ert_shard.specs.Serving.{ShardServesAll}
-use Rattle.ert_shard.specs.Shards.{Share, Owned, owned, shard_way, as_share, ShardGoes, ShardSteps, ShardParts, AreShardPartsFit}
+use Rattle.ert_shard.specs.Shards.{Share, Owned, shard_way, as_share, ShardGoes, ShardSteps}
 use Rattle.ert_shard.specs.Turning.{ShardTurns, TurnsUpTo}
 use Rattle.ert_shard.specs.declared.turns.Turn.{Turn}
 use Rattle.ert_shard.proofs.Called.{rows_then}
-use Rattle.ert_table.specs.Desks.{settings_of, front_of}
-use Rattle.ert_table.specs.declared.desk.Desk.{Desk}
-use Rattle.ert_table.specs.declared.desk.Pass.{Pass}
-use Rattle.ert_timers.specs.NextDue.{NoneArmedBefore}
-use Rattle.ert_timers.specs.Parts.{Part, PartStands as WheelStands}
+use Rattle.ert_timers.specs.Parts.{Part}
 use Rattle.ert_timers.specs.Passed.{HasPassed, LosesRows}
 use Rattle.ert_timers.specs.Trying.{LosesSome}
 use Rattle.ert_timers.proofs.Passing.{rows_lost}
@@ -126,17 +123,17 @@ turn_undelivered old one two new served advanced e serves advances delivers =
     (served_then old one new served (λ g n way. Then (AdvancesWheel g way n (Ok advanced)) (Delivers g way n (Err e))) serves
     (steps_then one two new (λ g n way. AdvancesWheel g way n (Ok advanced)) (λ g n way. Delivers g way n (Err e)) advances delivers))
 
-pub turned_up_to : (most : ℕ) (old one two new : Owned) (t : Turn) (due waits : Bool)
+pub turned_up_to : (most : ℕ) (old one two new : Owned) (t : Turn) (left : Left) (waits : Bool)
     → ShardSteps old (λ way. ShardServesAll old.settings way old.share (Ok t.served)) one
-    → ShardSteps one (λ way. AdvancesWheelSome one.settings way one.share.number most (Ok (t.to, t.expired, due))) two
+    → ShardSteps one (λ way. AdvancesWheelSome one.settings way one.share.number most (Ok (t.to, t.expired, left))) two
     → ShardSteps two (λ way. DeliversSome two.settings way two.share.number most (Ok (t.put, t.dropped, waits))) new
-    → ShardSteps old (λ way. TurnsUpTo old.settings way old.share most (Ok (t, (due || waits)))) new
-turned_up_to most old one two new t due waits serves advances delivers =
+    → ShardSteps old (λ way. TurnsUpTo old.settings way old.share most (Ok (t, (is_more left || waits)))) new
+turned_up_to most old one two new t left waits serves advances delivers =
     steps_as old new
-    (λ way. Then (ShardServesAll old.settings way old.share (Ok t.served)) (Then (AdvancesWheelSome old.settings way old.share.number most (Ok (t.to, t.expired, due))) (DeliversSome old.settings way old.share.number most (Ok (t.put, t.dropped, waits)))))
-    (λ way. TurnsUpTo old.settings way old.share most (Ok (t, (due || waits)))) (λ m made. record { due = due; waits = waits; more_is = refl; runs = made })
-    (served_then old one new t.served (λ g n way. Then (AdvancesWheelSome g way n most (Ok (t.to, t.expired, due))) (DeliversSome g way n most (Ok (t.put, t.dropped, waits)))) serves
-    (steps_then one two new (λ g n way. AdvancesWheelSome g way n most (Ok (t.to, t.expired, due))) (λ g n way. DeliversSome g way n most (Ok (t.put, t.dropped, waits))) advances delivers))
+    (λ way. Then (ShardServesAll old.settings way old.share (Ok t.served)) (Then (AdvancesWheelSome old.settings way old.share.number most (Ok (t.to, t.expired, left))) (DeliversSome old.settings way old.share.number most (Ok (t.put, t.dropped, waits)))))
+    (λ way. TurnsUpTo old.settings way old.share most (Ok (t, (is_more left || waits)))) (λ m made. record { left = left; waits = waits; more_is = refl; runs = made })
+    (served_then old one new t.served (λ g n way. Then (AdvancesWheelSome g way n most (Ok (t.to, t.expired, left))) (DeliversSome g way n most (Ok (t.put, t.dropped, waits)))) serves
+    (steps_then one two new (λ g n way. AdvancesWheelSome g way n most (Ok (t.to, t.expired, left))) (λ g n way. DeliversSome g way n most (Ok (t.put, t.dropped, waits))) advances delivers))
 
 pub some_unserved : (most : ℕ) (old new : Owned) (e : NoMemory) → ShardSteps old (λ way. ShardServesAll old.settings way old.share (Err e)) new
     → ShardSteps old (λ way. TurnsUpTo old.settings way old.share most (Err e)) new
@@ -151,7 +148,7 @@ some_unadvanced most old mid new served e serves advances =
     (λ way. TurnsUpTo old.settings way old.share most (Err e)) (λ m made. inr (inl (served, made)))
     (served_then old mid new served (λ g n way. AdvancesWheelSome g way n most (Err e)) serves advances)
 
-pub some_undelivered : (most : ℕ) (old one two new : Owned) (served : ℕ) (advanced : ℕ × ℕ × Bool) (e : NoMemory)
+pub some_undelivered : (most : ℕ) (old one two new : Owned) (served : ℕ) (advanced : ℕ × ℕ × Left) (e : NoMemory)
     → ShardSteps old (λ way. ShardServesAll old.settings way old.share (Ok served)) one
     → ShardSteps one (λ way. AdvancesWheelSome one.settings way one.share.number most (Ok advanced)) two
     → ShardSteps two (λ way. DeliversSome two.settings way two.share.number most (Err e)) new
@@ -171,13 +168,5 @@ passed_on p q to loses passed = record {
 }
 
 -- so many rows that went in an advance are gone after what follows, and of what was before
-pub fewer_after : (o p q r : Part) (most : ℕ) → LosesRows o p → LosesSome true most p q → LosesRows q r → count_by is_some r.keys + most ≤ count_by is_some o.keys
+pub fewer_after : (o p q r : Part) (most : ℕ) → LosesRows o p → LosesSome Due most p q → LosesRows q r → count_by is_some r.keys + most ≤ count_by is_some o.keys
 fewer_after o p q r most lost fewer loses = omega (arith, rows_lost o p lost, fewer, rows_lost q r loses)
-
--- what the wheel tells of its armed timers holds of the shard
-pub none_armed_in : (before : Owned) (d : Desk) (p : Pass) (s : Share) (parts : ShardParts) (answer : Option ℕ) → owned d p s parts.wheel ≡ before
-    → AreShardPartsFit d p s parts → ((g : Settings) (h : List Entry) → WheelStands g h parts.wheel → NoneArmedBefore (state g h) parts.wheel.number answer)
-    → NoneArmedBefore (state before.settings before.history) before.share.number answer
-none_armed_in before d p s parts answer is fit told =
-    subst (λ (o : Owned). NoneArmedBefore (state o.settings o.history) o.share.number answer) is
-    (subst (λ n. NoneArmedBefore (state (settings_of d) (front_of p)) n answer) fit.stand.wheel_is (told (settings_of d) (front_of p) (fit.stand.wheel refl)))

@@ -1,6 +1,6 @@
 -- The steps of a shard's scheduler on its wheel: an advance, and a sweep.
 
-use Rattle.std.proofs.Common.{◌≡◌, ℕ, ◌+◌, ◌-◌, ◌<◌, ◌≤◌, Bool, true, arith, List, [], ◌∷◌, ◌++◌, length, Ok, Err, refl, sym, ap, subst, ◌∙◌}
+use Rattle.std.proofs.Common.{◌≡◌, ℕ, ◌+◌, ◌-◌, ◌<◌, ◌≤◌, true, arith, List, [], ◌∷◌, ◌++◌, length, Ok, Err, refl, sym, ap, subst, ◌∙◌}
 use Rattle.ert_defs.specs.States.{State, state}
 use Rattle.ert_defs.specs.Timers.{Row}
 use Rattle.ert_defs.specs.declared.entry.Actor.TheVariants.{Wheel, Sched, Caller}
@@ -9,6 +9,7 @@ use Rattle.ert_defs.specs.declared.memory.NoMemory.{NoMemory}
 use Rattle.ert_defs.specs.declared.settings.Settings.{Settings}
 use Rattle.ert_effects.specs.Chains.{AdvancesWheel, SweepsWheel}
 use Rattle.ert_effects.specs.SomeCalls.{AdvancesSome, AdvancesWheelSome}
+use Rattle.ert_effects.specs.declared.answers.Left.{Left}
 use Rattle.ert_effects.specs.WheelCalls.{Advances, Sweeps, IsSwept}
 use Rattle.ert_laws.proofs.Few.{expired_few}
 use Rattle.ert_shard.specs.Turning.{shard_expired}
@@ -119,14 +120,14 @@ advance_ok before d p q s to n m parts new x has belongs named stands loses expi
     (λ st es made. all_are s (settings_of d) (Ok (to, length expired.gained)) st es made) expired.call expired.expired expired.waits wheel hand now was
 
 -- one with a bound
-pub some_ok : (before : Owned) (d : Desk) (p q : Pass) (s : Share) (most to n m : ℕ) (more : Bool) (parts : ShardParts) (new : Part) (x : SchedPart)
+pub some_ok : (before : Owned) (d : Desk) (p q : Pass) (s : Share) (most to n m : ℕ) (left : Left) (parts : ShardParts) (new : Part) (x : SchedPart)
     → Has before d p s parts → Belongs d q → new.number ≡ parts.wheel.number → WheelStands (settings_of d) (front_of q) new → LosesRows parts.wheel new
-    → HasExpiredSome (settings_of d) (view_of p) parts.wheel new most to more parts.sched.expired x.expired (view_of q)
+    → HasExpiredSome (settings_of d) (view_of p) parts.wheel new most to left parts.sched.expired x.expired (view_of q)
     → x.wheel ≡ parts.sched.wheel → x.hand ≡ parts.sched.hand → n ≡ length x.expired.rows → m ≡ length parts.sched.expired.rows
-    → Did before d q s (record parts { wheel = new; sched = x }) (λ o way. AdvancesWheelSome o.settings way o.share.number most (Ok (to, n - m, more)))
-some_ok before d p q s most to n m more parts new x has belongs named stands loses expired wheel hand now was =
-    counted before d p q s n m expired.gained parts new x (λ k g i. AdvancesSome g i most (Ok (to, k, more))) has belongs named stands loses
-    (λ st es made. some_are s (settings_of d) most (Ok (to, length expired.gained, more)) st es made) expired.call expired.expired expired.waits wheel hand now was
+    → Did before d q s (record parts { wheel = new; sched = x }) (λ o way. AdvancesWheelSome o.settings way o.share.number most (Ok (to, n - m, left)))
+some_ok before d p q s most to n m left parts new x has belongs named stands loses expired wheel hand now was =
+    counted before d p q s n m expired.gained parts new x (λ k g i. AdvancesSome g i most (Ok (to, k, left))) has belongs named stands loses
+    (λ st es made. some_are s (settings_of d) most (Ok (to, length expired.gained, left)) st es made) expired.call expired.expired expired.waits wheel hand now was
 
 -- one without memory leaves the list
 unmoved : (before : Owned) (d : Desk) (p q : Pass) (s : Share) (e : NoMemory) (parts : ShardParts) (x : SchedPart) → Has before d p s parts

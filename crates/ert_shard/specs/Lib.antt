@@ -3,4 +3,5 @@ pub mod Receiving
 pub mod Renewing
 pub mod Serving
 pub mod Shards
+pub mod Sleeping
 pub mod Turning

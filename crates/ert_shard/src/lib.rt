@@ -29,7 +29,8 @@
 //! | `Shard::held`, `expired`, `mail_count` | | no entry: how much waits | constant |
 //! | `Shard::reserve_mail`, `shrink_mail` | | no entry: makes room for messages in a mailbox, gives back what its messages don't need | those messages |
 //! | `Shard::reserve_expired`, `shrink_expired` | | no entry: makes room for timers in the shard's list of expired ones, gives back what those that wait don't need | those timers |
-//! | `Shard::next_due`, `Hub::published` | | no entry: how early a timer may be due; the last published time | as in `ert_world` |
+//! | `Shard::next_due`, `drop_settled` | the shard's scheduler | tells how early a timer may be due; drops the timers that others cancelled | as in `ert_world` |
+//! | `Hub::published` | | no entry: the last published time | as in `ert_world` |
 //!
 //! **What it promises.** Users see of a shard its desk, its settings, the history that it knows, its share and its wheel
 //! (`specs/Shards`, `Owned`). Each call says what it answers, and that the history grows by a piece in which the entries
@@ -50,15 +51,16 @@
 //! it, until the shard comes back.
 //!
 //! **What it hasn't.** A shard starts no timer for a process of another shard, and asks no other shard's scheduler. A
-//! timer that another shard cancelled keeps its row and its slot until it would be due.
+//! timer that another shard cancelled keeps its row and its slot until it would be due, `next_due` comes on it first, or
+//! `drop_settled` drops it.
 //!
-//! **Memory.** `start`, `restart`, `cancel_timer`, `read_timer`, `take`, `take_some`, `exit`, the calls on the clock, `join`
+//! **Memory.** `start`, `restart`, `cancel_timer`, `read_timer`, `take`, `take_some`, `exit`, `next_due`, `drop_settled`, the calls on the clock, `join`
 //! and `join_all` take none, and of the calls of `next_mail` only the first of a shard does, for its list. Where there is
 //! none, `next_mail`, `ask`, `monitor`, `notify`, `reserve_mail`, `shrink_mail`, `reserve_expired` and `shrink_expired` change
 //! nothing, `serve` keeps the request in the hand, `advance` and `advance_some` let no timer expire, `deliver` and
 //! `deliver_some` keep what wasn't handed over, `shard` and `seat` leave everything as it was.
 //!
-//! It stands on `ert_defs`, `ert_clock`, `ert_effects`, `ert_table`, `ert_calls`, `ert_timers`, `ert_mail`
+//! It stands on `ert_defs`, `ert_clock`, `ert_effects`, `ert_table`, `ert_calls`, `ert_wheel`, `ert_timers`, `ert_mail`
 //! and `ert_world`, and its proofs on the laws of `ert_laws`.
 #![tactic(auto)]
 
@@ -77,6 +79,7 @@ mod reserving;
 mod restart;
 mod seating;
 mod shard;
+mod sleeping;
 mod turns;
 
 pub use dividing::ShardErr;

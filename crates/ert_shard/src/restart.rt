@@ -4,10 +4,12 @@ use ert_defs::{Start, TimerRef};
 use ert_effects::RestartErr;
 
 impl Shard {
-    ghost use Rattle.std.specs.Prelude.{◌+◌};
+    ghost use Rattle.std.specs.Prelude.{◌≡◌, ◌+◌, Err};
     ghost use Rattle.ert_effects.specs.RestartCalls.{Restarts};
+    ghost use Rattle.ert_effects.specs.declared.answers.RestartErr.TheVariants.{Full};
     ghost use Rattle.ert_shard.specs.Renewing.{LetsGo};
     ghost use Rattle.ert_shard.specs.Shards.{ShardGoes, ShardBy, IsHome};
+    ghost use Rattle.ert_timers.specs.Frees.{IsUsedUp, UsesFree};
 
     /// Gives an armed timer, of whatever wheel, a new deadline, and answers its new name (as `uv_timer_again` of libuv):
     /// it is cancelled, and one is started on the shard's wheel, for a process of its own.
@@ -19,6 +21,8 @@ impl Shard {
     pub fn restart(&mut self, timer: TimerRef, start: &Start) -> Result<TimerRef, RestartErr>
         requires { IsHome self.old.share start.now.dest }
         ensures call { ShardGoes self.old (ShardBy self.old (λ g. Restarts g (self.old.share.number + 1) self.old.share.number timer start.now result)) self.new }
+        ensures full { result ≡ Err Full → IsUsedUp self.old.wheel self.new.wheel }
+        ensures frees { UsesFree self.old.wheel self.new.wheel result }
         ensures forgotten { LetsGo timer result self.new }
     {
         self.wheel

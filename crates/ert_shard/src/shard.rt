@@ -53,7 +53,8 @@ impl Shard {
     ghost use Rattle.ert_effects.specs.ClockCalls.{TellsTime, TellsOffset, TellsSystemTime};
     ghost use Rattle.ert_effects.specs.TimerCalls.{Reads, Cancels, Starts};
     ghost use Rattle.ert_effects.specs.WheelCalls.{TellsAlive};
-    ghost use Rattle.ert_effects.specs.declared.answers.StartErr.TheVariants.{NoMemory};
+    ghost use Rattle.ert_effects.specs.declared.answers.StartErr.TheVariants.{Full, NoMemory};
+    ghost use Rattle.ert_timers.specs.Frees.{IsUsedUp, UsesFree};
     ghost use Rattle.ert_defs.specs.declared.entry.Actor.TheVariants.{Caller};
     ghost use Rattle.ert_shard.specs.Shards.{ShardGoes, ShardSteps, ShardBy, IsHome, ShardHasForgotten};
 
@@ -120,6 +121,8 @@ impl Shard {
         requires { IsHome self.old.share start.now.dest }
         ensures call { ShardGoes self.old (ShardBy self.old (λ g. Starts g (self.old.share.number + 1) self.old.share.number start.now result)) self.new }
         ensures memory { result ≢ Err NoMemory }
+        ensures full { result ≡ Err Full → IsUsedUp self.old.wheel self.new.wheel }
+        ensures frees { UsesFree self.old.wheel self.new.wheel result }
     {
         self.wheel
             .start(&self.desk, &mut self.pass, self.number + 1, start)

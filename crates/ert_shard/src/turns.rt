@@ -27,23 +27,9 @@ impl Shard {
     ghost use Rattle.ert_defs.specs.States.{state};
     ghost use Rattle.ert_shard.specs.Shards.{ShardSteps};
     ghost use Rattle.ert_shard.specs.Turning.{shard_expired, ShardTurns};
-    ghost use Rattle.ert_timers.specs.NextDue.{NoneArmedBefore, IsNextHeld};
     ghost use Rattle.ert_timers.specs.Passed.{HasPassed};
+    ghost use Rattle.ert_world.specs.Worlds.{KeepsRows};
     ghost use Rattle.ert_defs.specs.declared.settings.TheConstants.{MOST_SLOTS};
-
-    /// How early a timer of the shard's wheel may be due, in whole milliseconds since the start time, as `turn`
-    /// answers; None where no timer is held. No entry is made.
-    ///
-    /// It tells an event loop how long it may sleep: no armed timer of the wheel is due before it. It is the deadline of
-    /// a timer that is held, or the begin of a window, after the time of the last advance, in which one is due
-    /// (`ert_wheel`, `Wheel::next_due`). A timer that another shard cancelled is held until it would be due.
-    pub fn next_due(&mut self) -> Option<u64>
-        ensures held { IsNextHeld self.old.wheel result }
-        ensures armed { NoneArmedBefore (state self.old.settings self.old.history) self.old.share.number result }
-        ensures same { self.new ≡ self.old }
-    {
-        self.wheel.next_due()
-    }
 
     /// Lets every timer of the shard's wheel expire that is due, and answers the time, in whole milliseconds
     /// since the start time, and how many expired.
@@ -74,6 +60,7 @@ impl Shard {
         requires { first_of (shard_expired self.old) ≡ Some expired.now }
         ensures call { ShardSteps self.old (λ way. Hands self.old.settings way self.old.share.number result) self.new }
         ensures expired { OnOk result (shard_expired self.new ≡ others_of (shard_expired self.old)) }
+        ensures kept { KeepsRows self.old.wheel self.new.wheel }
     {
         let place = expired.dest - self.from;
         may_get_mail(&mut self.list, place);

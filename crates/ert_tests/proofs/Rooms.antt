@@ -1,13 +1,14 @@
 -- How much room a run needs whose whole input is known: by the law of one transcript.
 
 use Rattle.std.proofs.Common.{◌≡◌, ◌≤◌, ℕ, ◌+◌, Bool, false, List, [], ◌++◌, take, length, length-append, Option, None, Some, inl, inr, sym, ap, subst, ◌∙◌, arith}
+use Rattle.ert_io.specs.Reads.{Input}
 use Rattle.ert_io.specs.Told.{SinkTold, sink_told}
 use Rattle.ert_ops.specs.Labels.{AreOps}
 use Rattle.ert_plain.proofs.Fronts.{first_lines}
 use Rattle.ert_plain.proofs.Runs.{one_text}
 use Rattle.ert_scenario.specs.Scenarios.{Plan, IsScenario, HasRefusal}
 use Rattle.ert_transcript.specs.Scripts.{IsTranscript, lines_of}
-use Rattle.ert_program.proofs.Ends.{NeverBoth, all_taken}
+use Rattle.ert_program.proofs.Ends.{NeverBoth}
 use Rattle.ert_program.proofs.InMemory.{OneScenario, read_whole}
 use Rattle.ert_program.specs.Inputs.{DidAll, MayWriteOfPlan}
 use Rattle.ert_program.specs.Runs.{RunOf, InputFits}
@@ -32,29 +33,28 @@ no_longer plan text whole are is (inr ran) =
     omega arith
 
 -- a run that was done into an empty sink tells the room that the input needs
-told_room : (text bytes : List ℕ) (rest : Option (List ℕ)) (room : Option ℕ) → OneScenario → NeverBoth → AllOps
-    → DidAll false RunOf (Some text) rest (sink_told (Some []) None) (sink_told (Some bytes) room) → InputFits (Some text) (Some (length bytes))
-told_room text bytes rest room one never ops did = record {
-  done = λ left plan read some may.
-      let same : did.plan ≡ plan = one false text did.plan plan here (read_whole false text left plan read) in
+told_room : (text bytes : List ℕ) (i j : Input) (room : Option ℕ) → OneScenario → NeverBoth → AllOps → i.told.left ≡ Some text
+    → DidAll false RunOf i j (sink_told [] None) (sink_told bytes room) → InputFits (Some text) (Some (length bytes))
+told_room text bytes i j room one never ops told did = record {
+  done = λ other plan possible is_other some may.
+      let there : IsScenario false text plan = subst (λ (b : List ℕ). IsScenario false b plan) (sym possible.whole) is_other in
+      let same : did.plan ≡ plan = one false text did.plan plan here there in
       let is : IsTranscript plan.settings plan.ops did.text = subst (λ (p : Plan). IsTranscript p.settings p.ops did.text) same did.is.is in
-      let less = no_longer plan some did.text (ops false text plan (read_whole false text left plan read)) is may in
-      let both : Some bytes ≡ Some did.text = ap (λ (t : SinkTold). t.taken) did.writes in
-      let written : bytes ≡ did.text = cc in
+      let less = no_longer plan some did.text (ops false text plan there) is may in
+      let written : bytes ≡ did.text = ap (λ (t : SinkTold). t.taken) did.writes in
       let long : length bytes ≡ length did.text = ap (λ (xs : List ℕ). length xs) written in
       omega arith;
-  refused = λ left others why takes has.
-      absurd (never false text did.plan why here (subst (λ (b : List ℕ). HasRefusal false b why) (all_taken text others left takes) has));
+  refused = λ others why possible has.
+      absurd (never false text did.plan why here (subst (λ (b : List ℕ). HasRefusal false b why) (sym possible.whole) has));
 }
   where
     here : IsScenario false text did.plan
-    here = read_whole false text rest did.plan did.read
+    here = read_whole false i j text did.plan told did.read
 
-pub room_told : (text bytes : List ℕ) (left rest taken taken_new : Option (List ℕ)) (room : Option ℕ) → OneScenario → NeverBoth → AllOps
-    → left ≡ Some text → taken ≡ Some [] → taken_new ≡ Some bytes → DidAll false RunOf left rest (sink_told taken None) (sink_told taken_new room)
+pub room_told : (text bytes taken taken_new : List ℕ) (i j : Input) (room : Option ℕ) → OneScenario → NeverBoth → AllOps
+    → i.told.left ≡ Some text → taken ≡ [] → taken_new ≡ bytes → DidAll false RunOf i j (sink_told taken None) (sink_told taken_new room)
     → InputFits (Some text) (Some (length bytes))
-room_told text bytes left rest taken taken_new room one never ops here none there did =
-    told_room text bytes rest room one never ops
-    (subst (λ (k : Option (List ℕ)). DidAll false RunOf (Some text) rest (sink_told (Some []) None) (sink_told k room)) there
-    (subst (λ (k : Option (List ℕ)). DidAll false RunOf (Some text) rest (sink_told k None) (sink_told taken_new room)) none
-    (subst (λ (k : Option (List ℕ)). DidAll false RunOf k rest (sink_told taken None) (sink_told taken_new room)) here did)))
+room_told text bytes taken taken_new i j room one never ops here none there did =
+    told_room text bytes i j room one never ops here
+    (subst (λ (k : List ℕ). DidAll false RunOf i j (sink_told [] None) (sink_told k room)) there
+    (subst (λ (k : List ℕ). DidAll false RunOf i j (sink_told k None) (sink_told taken_new room)) none did))

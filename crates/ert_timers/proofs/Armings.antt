@@ -286,6 +286,7 @@ arms g v by p q k coming start timer u stands holds free can part timer_is step 
       dest = ap (λ (x : Part). (slot_at x.slots timer.slot).dest) part
           ∙ (ap (λ n. (slot_at (set p.slots k slot) n).dest) slot_is ∙ ap (λ (x : Slot). x.dest) slot_same);
       rows = subst (λ (x : Part). GainsOne {E = StartErr} p x (Ok timer)) (sym part) (gains_armed p k coming start timer named wide);
+      named = timer_is;
     }
   where
     above_is : (j : ℕ) → j < g.slots → j ≡ k → (slot_at p.slots k).above ≡ (state g (v.front ++ step.between)).above p.number timer.slot

@@ -180,7 +180,7 @@ fit_free slots keys free new owners a x o fit same can more = record {
 put_or : (s : sets.FinSet nat_cmp) (k j : ℕ) → sets.contains (sets.insert s k) j ≡ true → (nat_eq j k || sets.contains s j) ≡ true
 put_or s k j is = sym (sets.contains-insert nat_cmp_total s k j ∙ (λ i. unsigned_tied j k i || sets.contains s j)) ∙ is
 
-put_keeps : (s : sets.FinSet nat_cmp) (k j : ℕ) → sets.contains s j ≡ true → sets.contains (sets.insert s k) j ≡ true
+pub put_keeps : (s : sets.FinSet nat_cmp) (k j : ℕ) → sets.contains s j ≡ true → sets.contains (sets.insert s k) j ≡ true
 put_keeps s k j was =
     (sets.contains-insert nat_cmp_total s k j ∙ (λ i. unsigned_tied j k i || sets.contains s j)) ∙ (ap (λ b. nat_eq j k || b) was ∙ at (nat_eq j k))
   where
@@ -208,7 +208,7 @@ fit_put slots keys free new owners a x o k fit is low vacant =
     (λ j was. ap (λ (f : FreeSet). sets.contains f.held j) is ∙ put_keeps free.held k j was)
 
 -- a set with one less
-taken_and : (s : sets.FinSet nat_cmp) (k j : ℕ) → sets.contains (sets.remove s k) j ≡ (not (nat_eq j k) && sets.contains s j)
+pub taken_and : (s : sets.FinSet nat_cmp) (k j : ℕ) → sets.contains (sets.remove s k) j ≡ (not (nat_eq j k) && sets.contains s j)
 taken_and s k j = sets.contains-remove nat_cmp_total s k j ∙ (λ i. not (unsigned_tied j k i) && sets.contains s j)
 
 pub taken_out : (s : sets.FinSet nat_cmp) (k : ℕ) → sets.contains (sets.remove s k) k ≡ false

@@ -27,7 +27,7 @@ use Rattle.ert_effects.specs.declared.answers.RestartErr.TheVariants.{BadArg as 
 use Rattle.ert_effects.specs.declared.answers.StartErr.TheVariants.{BadArg, Full, NoMemory}
 use Rattle.ert_table.specs.Held.{IsOurs}
 use Rattle.ert_table.proofs.Parts.{free_later, of_one, of_both}
-use Rattle.ert_timers.specs.Laws.{AreWithWheel, LawOfStandingParts, LawOfStartEntries, LawOfRestartEntries, LawOfAdvanceEntries, LawOfSweeps, LawOfRooms}
+use Rattle.ert_timers.specs.Laws.{AreWithWheel, LawOfStandingParts, LawOfStartEntries, LawOfRestartEntries, LawOfAdvanceEntries, LawOfSweeps, LawOfRooms, LawOfProbes}
 use Rattle.ert_laws.specs.Counts.{entries_of, is_arm, is_expire, is_orphan}
 use Rattle.ert_timers.specs.Parts.{IsLive, last_timer}
 use Rattle.ert_timers.proofs.Later.{IsLater, later_free, none_counted, live_free}
@@ -190,3 +190,7 @@ pub rooms_only : LawOfRooms
 rooms_only g by w room s es tells =
     same_only (Caller by) w es _ tells.entries
     (alone (Caller by) w, shown_only by w (natural (down g tells.now)) s 0 g.slots no_room tells.seen tells.probes tells.shows)
+
+pub probed_only : LawOfProbes
+probed_only w [] = tt
+probed_only w (p ∷ probes) = (paired (Sched w) w w refl, probed_only w probes)

@@ -21,8 +21,10 @@ pub mod NextUses
 pub mod Armings
 pub mod Lookings
 pub mod Rounds
+pub mod Freed
 pub mod Takings
 pub mod Dropped
+pub mod Probed
 pub mod Starts
 pub mod Roomed
 pub mod Swept

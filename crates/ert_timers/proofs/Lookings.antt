@@ -88,7 +88,7 @@ put_other s k j other =
     sets.contains-insert nat_cmp_total s k j
     ∙ ((λ i. unsigned_tied j k i || sets.contains s j) ∙ ap (λ b. b || sets.contains s j) (ne_eqb j k other))
 
-put_here : (s : sets.FinSet nat_cmp) (k : ℕ) → sets.contains (sets.insert s k) k ≡ true
+pub put_here : (s : sets.FinSet nat_cmp) (k : ℕ) → sets.contains (sets.insert s k) k ≡ true
 put_here s k =
     sets.contains-insert nat_cmp_total s k k
     ∙ ((λ i. unsigned_tied k k i || sets.contains s k) ∙ ap (λ b. b || sets.contains s k) (eq-eqb k k refl))

@@ -1,6 +1,6 @@
 -- A timer is given a new deadline in another slot than its own, or is refused one.
 
-use Rattle.std.proofs.Common.{◌≡◌, ◌≢◌, ◌⊎◌, ⊎_elim, ℕ, zero, suc, ◌+◌, ◌<◌, ◌≤◌, Bool, true, false, cond, List, [], ◌∷◌, ◌++◌, length, Option, Some, None, Result, Ok, Err, inl, inr, refl, sym, ap, subst, ◌∙◌, arith, get_or-set_other, append-nil}
+use Rattle.std.proofs.Common.{◌≡◌, ◌≢◌, ⊎_elim, ℕ, zero, suc, ◌<◌, ◌≤◌, Bool, true, false, cond, List, [], ◌∷◌, ◌++◌, length, Option, Some, None, Result, Ok, Err, inl, inr, refl, sym, ap, subst, ◌∙◌, arith, get_or-set_other, append-nil}
 use Rattle.std.specs.FinSet as sets
 use Rattle.ert_calls.proofs.Looks.{look_stepped}
 use Rattle.ert_defs.proofs.Slots.{ordered}

@@ -23,6 +23,8 @@ use Rattle.ert_timers.specs.Changes.{given_back}
 use Rattle.ert_laws.specs.Counts.{is_expire, is_orphan}
 use Rattle.ert_timers.specs.Parts.{HoldsCaller, Part, PartStands, slot_at, last_timer, held_row}
 use Rattle.ert_timers.specs.Starting.{HoldsTimer, Orphans, Ends}
+use Rattle.ert_timers.specs.Expiring.{is_hit}
+use Rattle.ert_timers.proofs.Freed.{given_keeps}
 use Rattle.ert_timers.proofs.Later.{live_step, live_unexpired, unexpired_step}
 use Rattle.ert_timers.proofs.Passing.{loses_none, loses_row}
 use Rattle.ert_timers.proofs.Standing.{count_same, holds_back, takes_none, stands_step}
@@ -149,6 +151,7 @@ ends_alive g v by p dest timer was u stands holds not step =
       number = refl;
       stands = marked_stands g v by dest was u p stands holds step;
       loses = loses_none p;
+      frees = λ j was. was;
     }
 
 closing_is : (by w : ℕ) (timer : TimerRef) (missed : Option (Option Status)) → timer.wheel ≡ w → IsSettled missed
@@ -175,6 +178,7 @@ ends_exited g v by p q dest deadline timer was u w is has step orphans =
       loses = loses_row p q timer.slot (key_low p.keys timer.slot (record { deadline = deadline; order = has.order }) has.held)
           (ap (λ (x : Part). x.number) orphans.part) (ap (λ (x : Part). x.slots) orphans.part) (ap (λ (x : Part). x.keys) orphans.part)
           (ap (λ (x : Part). x.passed) orphans.part);
+      frees = given_keeps p q timer.slot (is_hit orphans.missed) orphans.part;
     }
 
 -- a pass holds the same actors after a step

@@ -1,7 +1,6 @@
 -- An advance that tries so many timers at most.
 
-use Rattle.std.proofs.Common.{◌≡◌, ℕ, ◌≤◌, Bool, true, false, ◌||◌, nat_eq, count_by, List, [], ◌∷◌, ◌++◌, refl, sym, ap, subst, ◌∙◌, arith, append-nil}
-use Rattle.std.specs.Option.{is_some}
+use Rattle.std.proofs.Common.{◌≡◌, ℕ, ◌≤◌, true, false, ◌||◌, nat_eq, length, List, [], ◌∷◌, ◌++◌, refl, sym, ap, subst, ◌∙◌, arith, append-nil}
 use Rattle.ert_calls.proofs.Looks.{look_stepped}
 use Rattle.ert_defs.specs.Entries.{look_entry, advanced_entry}
 use Rattle.ert_defs.specs.Milliseconds.{down}
@@ -9,7 +8,10 @@ use Rattle.ert_defs.specs.States.{state}
 use Rattle.ert_defs.specs.declared.entry.Actor.TheVariants.{Sched}
 use Rattle.ert_defs.specs.declared.entry.Entry.{Entry}
 use Rattle.ert_defs.specs.declared.settings.Settings.{Settings}
+use Rattle.ert_effects.specs.SomeCalls.{AreTried, end_entries, is_more}
 use Rattle.ert_effects.specs.WheelCalls.{AllDue, expiry_entries}
+use Rattle.ert_effects.specs.declared.answers.Left.{Left}
+use Rattle.ert_effects.specs.declared.answers.Left.TheVariants.{Nothing, Due, Moving}
 use Rattle.ert_table.proofs.Calls.{step_takes_place, takes_place_then}
 use Rattle.ert_table.specs.Held.{is_held}
 use Rattle.ert_table.specs.Takes.{Appends, MayStep, TakesPlace}
@@ -18,13 +20,10 @@ use Rattle.ert_timers.proofs.Dues.{none_armed_due}
 use Rattle.ert_timers.proofs.Later.{later_step}
 use Rattle.ert_timers.proofs.Tried.{self, waits_by}
 use Rattle.ert_timers.proofs.Trials.{looked_stands}
-use Rattle.ert_timers.proofs.Passing.{holds_less, loses_then}
-use Rattle.ert_timers.proofs.Trying.{loses_come_to, stands_come_to, tries_come_to}
-use Rattle.ert_timers.specs.Changes.{gone_on}
+use Rattle.ert_timers.proofs.Trying.{stands_come_to, tries_come_to}
 use Rattle.ert_timers.specs.ExpiredLists.{Queue}
 use Rattle.ert_timers.specs.Looking.{LooksDown}
 use Rattle.ert_timers.specs.Parts.{HoldsSched, Part, PartStands}
-use Rattle.ert_timers.specs.Passed.{HoldsNone, LosesRows}
 use Rattle.ert_timers.specs.Trying.{HasDue, HasExpiredSome, IsLooked, IsTriedSome, LosesSome, TriesRows, come_to}
 use Rattle.ert_wheel.specs.FirstDue.{NoRowDue, IsFirstRowDue}
 use Rattle.ert_wheel.specs.Rows.{key_of}
@@ -49,18 +48,23 @@ tried_come_to g v p q r to n old new u is up some =
     subst (λ (x : Part). TriesRows g v p x to n old new u) (sym is) (tries_come_to g v p q to n r.passed old new u some up)
 
 -- so many rows fewer are held then
-pub loses_some : (g : Settings) (v : View) (p q r : Part) (to most : ℕ) (more : Bool) (old new : Queue) (u : View) → IsTriedSome g v p q to most more old new u
-    → r.keys ≡ q.keys → LosesSome more most p r
-loses_some g v p q r to most true old new u some keys =
-    let tried : some.count ≡ most = some.tried in
-    omega (arith, tried, some.done.fewer, ap (count_by is_some) keys)
-loses_some g v p q r to most false old new u some keys =
+pub loses_some : (g : Settings) (v : View) (p q : Part) (to most : ℕ) (left : Left) (old new : Queue) (u : View) → IsTriedSome g v p q to most left old new u
+    → LosesSome left most p q
+loses_some g v p q to most Nothing old new u some =
     let tried : some.count ≤ most = some.tried in
-    omega (arith, tried, some.done.fewer, ap (count_by is_some) keys)
+    omega (arith, tried, some.done.fewer)
+loses_some g v p q to most Due old new u some =
+    let tried : some.count ≡ most = some.tried in
+    omega (arith, tried, some.done.fewer)
+loses_some g v p q to most Moving old new u some =
+    let tried : some.count ≤ most = some.tried in
+    omega (arith, tried, some.done.fewer)
 
--- no row is lost where the time goes on
-pub loses_gone_on : (p q r : Part) (to : ℕ) → r ≡ gone_on q to → LosesRows p q → LosesRows p r
-loses_gone_on p q r to on loses = subst (LosesRows p) (sym on) (loses_then p q (gone_on q to) loses (loses_come_to q (gone_on q to).passed (omega arith)))
+-- where the next advance goes on with nothing, nothing is left
+pub nothing_more : (left : Left) → is_more left ≡ false → left ≡ Nothing
+nothing_more Nothing none = refl
+nothing_more Due none = absurd cc
+nothing_more Moving none = absurd cc
 
 -- the first row that is due is one that is
 pub has_due : (p : Part) (to : ℕ) (row : WheelRow) → IsFirstRowDue p.keys to row → HasDue p to
@@ -90,21 +94,25 @@ module _ (g : Settings) (v : View) (p q : Part) (k most to : ℕ) (old mid new :
   same_rows : (state g u.front).rows p.number ≡ (state g v.front).rows p.number
   same_rows = (later_step g v look u p.number looked.step holds.wheel refl).rows
 
-  -- more are due
-  pub stopped_some : IsTriedSome g u p q to most true mid new w → HasExpiredSome g v p q most to true old new w
-  stopped_some some = record {
+  -- so many were tried, as it is told
+  are_tried : (left : Left) (count n : ℕ) → n ≡ count → AreTried left most count → AreTried left most n
+  are_tried left count n same tried = subst (AreTried left most) (sym same) tried
+
+  stopped : (left : Left) → end_entries p.number to left ≡ [] → IsTriedSome g u p q to most left mid new w → HasExpiredSome g v p q most to left old new w
+  stopped left no_end some = record {
     gained = some.done.gained;
     call = record {
       entries = look ∷ (expiry_entries p.number some.done.tries ++ []);
       allowed = record {
         now = looked.now;
+        told = looked.told;
         tries = some.done.tries;
         expired = some.done.count;
         settled = some.done.settled;
         due = subst (λ (l : _). AllDue l to some.done.tries) same_rows some.done.due;
         once = some.done.once;
-        tried = some.done.tried ∙ some.tried;
-        entries = refl;
+        tried = are_tried left some.count (length some.done.tries) some.done.tried some.tried;
+        entries = ap (λ es. look ∷ (expiry_entries p.number some.done.tries ++ es)) (sym no_end);
       };
       call = subst (λ es. TakesPlace g v (look ∷ es) w) (sym (append-nil (expiry_entries p.number some.done.tries)))
           (takes_place_then g v u w (look ∷ []) (expiry_entries p.number some.done.tries) (step_takes_place g v look u looked.step) some.done.call);
@@ -115,15 +123,22 @@ module _ (g : Settings) (v : View) (p q : Part) (k most to : ℕ) (old mid new :
     waits = some.done.waits ∙ ap (λ l. l ++ some.done.gained) (waits_by g v look u p.number looked.step holds.sched has);
   }
 
+  -- it stops before it has come to the time, or where more are due
+  pub stopped_some : (left : Left) → is_more left ≡ true → IsTriedSome g u p q to most left mid new w → HasExpiredSome g v p q most to left old new w
+  stopped_some Nothing more some = absurd cc
+  stopped_some Due more some = stopped Due refl some
+  stopped_some Moving more some = stopped Moving refl some
+
   -- none is, and that is recorded
-  pub ended_some : (r : Part) (x : View) → r ≡ gone_on q to → IsTriedSome g u p q to most false mid new w → Appends g w (advanced_entry p.number to) x
-      → HasExpiredSome g v p r most to false old new x
-  ended_some r x on some step = record {
+  pub ended_some : (x : View) → IsTriedSome g u p q to most Nothing mid new w → Appends g w (advanced_entry p.number to) x
+      → HasExpiredSome g v p q most to Nothing old new x
+  ended_some x some step = record {
     gained = some.done.gained;
     call = record {
       entries = look ∷ (expiry_entries p.number some.done.tries ++ advanced_entry p.number to ∷ []);
       allowed = record {
         now = looked.now;
+        told = looked.told;
         tries = some.done.tries;
         expired = some.done.count;
         settled = some.done.settled;
@@ -137,8 +152,7 @@ module _ (g : Settings) (v : View) (p q : Part) (k most to : ℕ) (old mid new :
           (step_takes_place g w (advanced_entry p.number to) x step);
     };
     held = some.done.held;
-    none = subst (λ (y : Part). HoldsNone y some.done.tries) (sym on)
-        (holds_less q (gone_on q to) some.done.tries (loses_come_to q (gone_on q to).passed (omega arith)) some.done.none);
+    none = some.done.none;
     expired = some.done.expired ∙ ap (λ l. l ++ some.done.gained) rows;
     waits = waits_by g w (advanced_entry p.number to) x p.number step
         (subst (λ actors. is_held actors (Sched p.number) ≡ true) (sym (some.done.call.actors ∙ looked.step.actors)) holds.sched) has

@@ -12,6 +12,7 @@ use Rattle.ert_timers.specs.Parts.{Part, PartStands, slot_at, last_timer}
 use Rattle.ert_timers.specs.Starting.{FindsRound, LooksAround, TakesSlot}
 use Rattle.ert_timers.specs.Passed.{LosesRows}
 use Rattle.ert_timers.proofs.Fit.{taken_was}
+use Rattle.ert_timers.proofs.Freed.{taken_free}
 use Rattle.ert_timers.proofs.Resting.{rested_by}
 use Rattle.ert_timers.proofs.Standing.{clock_at, stands_with}
 use Rattle.ert_timers.proofs.Passing.{loses_then}
@@ -43,6 +44,7 @@ takes_first g v by now p q k stands told is free held = record {
       (subst (λ n. (turned (uses_at (state g v.front) p.number k)).since ≤ n) (sym told) (stands.holds.ready k held));
   look = refl;
   loses = subst (LosesRows p) (sym is) (loses_picked p k);
+  frees = λ j was. taken_free p q k j is was;
 }
 
 -- a slot that is held free after the looks doesn't rest
@@ -57,13 +59,19 @@ rested_then g v by now p q k u stands told some low held =
         subst (λ m. (state g u.front).since m k ≤ now) (sym same)
         (omega (arith, told, some.since k, rounds_begun g v.front p.number k stands.checked stands.legal))
 
+-- a slot isn't held free where none is
+none_was : (p p' : Part) (j : ℕ) → p' ≡ p → sets.contains p'.free j ≡ false → sets.contains p.free j ≡ true → ⊥
+none_was p p' j same empty was =
+    let clash : false ≡ true = sym empty ∙ (ap (λ (x : Part). sets.contains x.free j) same ∙ was) in
+    cc
+
 -- none was, and those of a round were looked at
 pub takes_then : (g : Settings) (v : View) (by now : ℕ) (p p' q r : Part) (slot : Option ℕ) (u : View) → PartStands g v.front p
-    → now ≡ clock_at g (state g v.front) → p' ≡ p → LooksAround g v by now p' q u
+    → now ≡ clock_at g (state g v.front) → p' ≡ p → ((k : ℕ) → sets.contains p'.free k ≡ false) → LooksAround g v by now p' q u
     → IfNone slot ((k : ℕ) → sets.contains q.free k ≡ false) → IfNone slot (r ≡ q)
     → IfSome slot (λ k. sets.contains q.free k ≡ true) → IfSome slot (λ k. r ≡ picked q k) → IfSome slot (MayBecomeFree r)
     → TakesSlot g v by now p r slot u
-takes_then g v by now p p' q r None u stands told same some none left held is free =
+takes_then g v by now p p' q r None u stands told same empty some none left held is free =
     let here = subst (λ (x : Part). LooksAround g v by now x q u) same some in
     record {
       probes = here.probes;
@@ -82,8 +90,9 @@ takes_then g v by now p p' q r None u stands told same some none left held is fr
       rested = tt;
       look = here.look;
       loses = subst (LosesRows p) (sym left) here.loses;
+      frees = λ j was. absurd (none_was p p' j same (empty j) was);
     }
-takes_then g v by now p p' q r (Some k) u stands told same some none left held is free =
+takes_then g v by now p p' q r (Some k) u stands told same empty some none left held is free =
     let here = subst (λ (x : Part). LooksAround g v by now x q u) same some in
     let low : k < g.slots =
     omega (arith, free.low, ap (λ (x : Part). length x.slots) is, here.stands.holds.many) in
@@ -101,4 +110,5 @@ takes_then g v by now p p' q r (Some k) u stands told same some none left held i
           (rested_then g v by now p q k u stands told here low held);
       look = here.look;
       loses = loses_then p q r here.loses (subst (LosesRows q) (sym is) (loses_picked q k));
+      frees = λ j was. absurd (none_was p p' j same (empty j) was);
     }

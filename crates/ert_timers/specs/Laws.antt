@@ -16,6 +16,7 @@ use Rattle.ert_defs.specs.declared.timer.Status.TheVariants.{Armed}
 use Rattle.ert_defs.specs.declared.timer.TimerRef.{TimerRef}
 use Rattle.ert_effects.specs.RestartCalls.{Restarts}
 use Rattle.ert_effects.specs.RoomCalls.{TellsRoom}
+use Rattle.ert_effects.specs.Sleeping.{Probed, probed_entries}
 use Rattle.ert_effects.specs.TimerCalls.{Cancels, Starts}
 use Rattle.ert_effects.specs.WheelCalls.{Advances, Sweeps}
 use Rattle.ert_effects.specs.declared.answers.RestartErr.{RestartErr}
@@ -61,6 +62,10 @@ LawOfSweeps = (g : Settings) (by w process : ℕ) (s : State) (es : List Entry) 
 -- those of a look at how much room there is are of its caller and of the wheel alone
 abbrev pub LawOfRooms : Type 0
 LawOfRooms = (g : Settings) (by w : ℕ) (room : Room) (s : State) (es : List Entry) → TellsRoom g by w room s es → AreWithWheel (Caller by) w es
+
+-- those of probes by a scheduler are of it and of its wheel alone
+abbrev pub LawOfProbes : Type 0
+LawOfProbes = (w : ℕ) (probes : List Probed) → AreWithWheel (Sched w) w (probed_entries w probes)
 
 -- a tidy part holds as many rows as there are armed timers of its wheel
 abbrev pub LawOfTidyCounts : Type 0

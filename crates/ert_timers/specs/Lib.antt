@@ -1,3 +1,4 @@
+pub mod Asking
 pub mod Changes
 pub mod Codes
 pub mod Dropping
@@ -5,6 +6,7 @@ pub mod Expiring
 pub mod ExpiredLists
 pub mod HeldFor
 pub mod Freeing
+pub mod Frees
 pub mod Laws
 pub mod Looking
 pub mod NextDue
@@ -13,6 +15,7 @@ pub mod Parts
 pub mod Passed
 pub mod Restarting
 pub mod Rooms
+pub mod Sleeping
 pub mod Slots
 pub mod Starting
 pub mod Sweeping

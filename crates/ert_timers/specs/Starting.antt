@@ -20,6 +20,7 @@ use Rattle.ert_table.specs.Takes.{Appends, TakesPlace}
 use Rattle.ert_table.specs.declared.view.View.{View}
 use Rattle.ert_timers.specs.Changes.{MayBecomeFree, is_resting, kept, given_back}
 use Rattle.ert_timers.specs.Expiring.{is_hit}
+use Rattle.ert_timers.specs.Frees.{KeepsFree, TakesFree}
 use Rattle.ert_timers.specs.Parts.{Part, PartStands, last_timer, slot_at}
 use Rattle.ert_timers.specs.Passed.{LosesRows, GainsOne}
 use Rattle.ert_timers.specs.declared.part.Use.{Use}
@@ -54,6 +55,7 @@ pub record Arms (g : Settings) (v : View) (by : ℕ) (p q : Part) (slot : ℕ) (
   pub stands : PartStands g u.front q
   pub holds : HoldsTimer q timer next.deadline
   pub dest : (slot_at q.slots timer.slot).dest ≡ start.dest
+  pub named : timer ≡ last_timer q.number q.slots slot
   pub rows : GainsOne {E = StartErr} p q (Ok timer)
 
 -- it is seen whether the destination had exited, and then the timer is cancelled for that
@@ -65,6 +67,7 @@ pub record Ends (g : Settings) (v : View) (by : ℕ) (p q : Part) (dest : ℕ) (
   pub number : q.number ≡ p.number
   pub stands : PartStands g u.front q
   pub loses : LosesRows p q
+  pub frees : KeepsFree p q
 
 -- the status of what is shown of a slot
 abbrev pub status_shown : Option ShownWord → Option Status
@@ -163,3 +166,4 @@ pub record TakesSlot (g : Settings) (v : View) (by now : ℕ) (p q : Part) (slot
   pub rested : IfSome slot (λ k. (turned (uses_at (state g u.front) q.number k)).since ≤ now)
   pub look : (state g u.front).looked (Caller by) ≡ (state g v.front).looked (Caller by)
   pub loses : LosesRows p q
+  pub frees : TakesFree p q slot

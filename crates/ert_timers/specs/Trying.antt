@@ -1,6 +1,6 @@
 -- Timers that are due are tried, one after the other: so many at most, or all.
 
-use Rattle.std.specs.Prelude.{◌≡◌, ℕ, ◌+◌, ◌≤◌, pos, Bool, true, false, List, ◌++◌, length, count_by, Some, Result, Ok, Err}
+use Rattle.std.specs.Prelude.{◌≡◌, ℕ, ◌+◌, ◌≤◌, pos, List, ◌++◌, length, count_by, Some, Result, Ok, Err}
 use Rattle.std.specs.Option.{is_some}
 use Rattle.ert_defs.specs.Milliseconds.{down}
 use Rattle.ert_defs.specs.States.{state}
@@ -11,12 +11,15 @@ use Rattle.ert_defs.specs.declared.memory.NoMemory.{NoMemory}
 use Rattle.ert_defs.specs.declared.settings.Settings.{Settings}
 use Rattle.ert_effects.specs.SomeCalls.{AreTried, AdvancesSome}
 use Rattle.ert_effects.specs.WheelCalls.{Try, expiry_entries, hits, AllMissesSettled, AllDue, AreOnce}
+use Rattle.ert_effects.specs.declared.answers.Left.{Left}
+use Rattle.ert_effects.specs.declared.answers.Left.TheVariants.{Nothing, Due, Moving}
 use Rattle.ert_table.specs.Calls.{IsMade}
 use Rattle.ert_table.specs.Takes.{TakesPlace}
 use Rattle.ert_table.specs.declared.view.View.{View}
 use Rattle.ert_timers.specs.ExpiredLists.{Queue}
 use Rattle.ert_timers.specs.Parts.{Part, PartStands}
 use Rattle.ert_timers.specs.Passed.{HoldsEach, HoldsNone, LosesRows, HasPassed}
+use Rattle.ert_wheel.specs.FirstDue.{HasToMove}
 use Rattle.ert_wheel.specs.Rows.{key_in}
 use Rattle.ert_wheel.specs.declared.row.Key.{Key}
 
@@ -49,9 +52,9 @@ pub record TriesRows (g : Settings) (v : View) (p q : Part) (to n : ℕ) (old ne
   pub waits : expired_after g u.front p.number ≡ expired_after g v.front p.number ++ gained
 
 -- so many timers at most were tried, for which the part stands: just the most where more are due
-pub record IsTriedSome (g : Settings) (v : View) (p q : Part) (to most : ℕ) (more : Bool) (old new : Queue) (u : View) : Type 0 where
+pub record IsTriedSome (g : Settings) (v : View) (p q : Part) (to most : ℕ) (left : Left) (old new : Queue) (u : View) : Type 0 where
   pub count : ℕ
-  pub tried : AreTried more most count
+  pub tried : AreTried left most count
   pub done : TriesRows g v p q to count old new u
   pub looked : IsLooked g u.front q to
 
@@ -66,21 +69,24 @@ pub record HasDue (p : Part) (to : ℕ) : Type 0 where
   pub has : key_in p.keys slot ≡ Some key
   pub due : key.deadline ≤ to
 
--- whether a row is left that is due by a time; where none is, the wheel has passed it
-abbrev pub IsLeft : Part → ℕ → Bool → Type 0
-IsLeft p to true = HasDue p to
-IsLeft p to false = HasPassed p to
+-- what is left: a row that is due by a time, or nothing, and then the wheel has passed the time; or it hasn't come to it, and
+-- rows have to move first
+abbrev pub IsLeft : Part → ℕ → Left → Type 0
+IsLeft p to Nothing = HasPassed p to
+IsLeft p to Due = HasDue p to
+IsLeft p to Moving = HasToMove p.keys p.passed to
 
--- so many rows fewer are held: just the most where more are due, and so many at most where none is
-abbrev pub LosesSome : Bool → ℕ → Part → Part → Type 0
-LosesSome true most p q = count_by is_some q.keys + most ≡ count_by is_some p.keys
-LosesSome false most p q = count_by is_some p.keys ≤ count_by is_some q.keys + most
+-- so many rows fewer are held: just the most where more are due, and else so many at most
+abbrev pub LosesSome : Left → ℕ → Part → Part → Type 0
+LosesSome Nothing most p q = count_by is_some p.keys ≤ count_by is_some q.keys + most
+LosesSome Due most p q = count_by is_some q.keys + most ≡ count_by is_some p.keys
+LosesSome Moving most p q = count_by is_some p.keys ≤ count_by is_some q.keys + most
 
 -- an advance with a bound: the timers that were tried had a row before it and have none after it, and those that expired
 -- come last in the list, and in the scheduler's
-pub record HasExpiredSome (g : Settings) (v : View) (p q : Part) (most to : ℕ) (more : Bool) (old new : Queue) (u : View) : Type 0 where
+pub record HasExpiredSome (g : Settings) (v : View) (p q : Part) (most to : ℕ) (left : Left) (old new : Queue) (u : View) : Type 0 where
   pub gained : List Row
-  pub call : IsMade g v (AdvancesSome g p.number most (Ok (to, length gained, more))) u
+  pub call : IsMade g v (AdvancesSome g p.number most (Ok (to, length gained, left))) u
   pub held : HoldsEach p call.allowed.tries
   pub none : HoldsNone q call.allowed.tries
   pub expired : new.rows ≡ old.rows ++ gained
@@ -92,6 +98,6 @@ pub record HasRefusedSome (g : Settings) (v : View) (w most : ℕ) (e : NoMemory
   pub expired : new.rows ≡ old.rows
 
 -- what comes of an advance with a bound, by the answer
-abbrev pub IsAdvancedSome : Settings → View → Part → Part → ℕ → Result (ℕ × Bool) NoMemory → Queue → Queue → View → Type 0
+abbrev pub IsAdvancedSome : Settings → View → Part → Part → ℕ → Result (ℕ × Left) NoMemory → Queue → Queue → View → Type 0
 IsAdvancedSome g v p q most (Ok answer) old new u = HasExpiredSome g v p q most answer.0 answer.1 old new u
 IsAdvancedSome g v p q most (Err e) old new u = HasRefusedSome g v p.number most e old new u

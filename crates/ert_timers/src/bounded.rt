@@ -5,29 +5,32 @@ use crate::expired_list::ExpiredList;
 use crate::looking::look_down;
 use crate::part::WheelPart;
 use ert_defs::{Actor, NoMemory};
+use ert_effects::Left;
 use ert_table::{Desk, Pass, TimeCarry};
+use ert_wheel::FirstDue;
 
 impl WheelPart {
     ghost use Rattle.std.specs.Option.{is_some};
-    ghost use Rattle.std.specs.Prelude.{◌≡◌, ◌≤◌, IfOk, ℕ, MatchBool, count_by, min};
+    ghost use Rattle.std.specs.Prelude.{◌≡◌, ◌≤◌, IfOk, ℕ, count_by, min};
     ghost use Rattle.ert_effects.specs.SomeCalls.{AreTried};
     ghost use Rattle.ert_table.specs.Desks.{settings_of, view_of, front_of, Belongs};
     ghost use Rattle.ert_timers.specs.Parts.{HoldsSched, PartStands};
     ghost use Rattle.ert_timers.specs.Passed.{LosesRows};
     ghost use Rattle.ert_timers.specs.Trying.{IsLooked, IsLeft, IsAdvancedSome, HasDue, IsTriedSome, LosesSome};
-    ghost use Rattle.ert_wheel.specs.FirstDue.{NoRowDue};
 
-    /// Advances as `advance` does, but tries so many timers at most, and tells whether more are due.
+    /// Advances as `advance` does, but tries so many timers at most, and tells what is left.
     ///
-    /// Where more are due it has tried just so many, and the next advance goes on with the others. All memory is taken before
-    /// the first timer expires: after NoMemory none has.
+    /// Where more are due it has tried just so many, and the next advance goes on with the others. So many rows at most move to
+    /// lower levels of the wheel: where time can't come on for that, `Left::Moving` is told, and the next advance goes on with
+    /// the moves. With 0 none is tried and none moves. All memory is taken before the first timer expires: after NoMemory
+    /// none has.
     pub fn advance_some(
         &mut self,
         desk: &Desk,
         pass: &mut Pass,
         most: u32,
         expired: &mut ExpiredList,
-    ) -> Result<(u64, bool), NoMemory>
+    ) -> Result<(u64, Left), NoMemory>
         requires belongs { Belongs desk.now pass.old }
         requires holds { HoldsSched (view_of pass.old) self.old.number }
         requires stands { PartStands (settings_of desk.now) (front_of pass.old) self.old }
@@ -41,19 +44,19 @@ impl WheelPart {
     {
         expired.reserve(self.rows_at_most(most))?;
         let to = look_down(desk, pass, Actor::Sched(self.number()));
-        if self.try_some(desk, pass, to, most, expired) {
-            return Ok((to, true));
+        let left = self.try_some(desk, pass, to, most, expired);
+        if left.is_more() {
+            return Ok((to, left));
         }
-        self.go_on(to);
         pass.load_time(
             desk,
             Actor::Sched(self.number()),
             &TimeCarry::Advanced { to },
         );
-        Ok((to, false))
+        Ok((to, left))
     }
 
-    /// Tries so many at most of the rows that are due at `to`, in order, and tells whether more are due.
+    /// Tries so many at most of the rows that are due at `to`, in order, and tells what is left.
     fn try_some(
         &mut self,
         desk: &Desk,
@@ -61,23 +64,29 @@ impl WheelPart {
         to: u64,
         most: u32,
         expired: &mut ExpiredList,
-    ) -> bool
+    ) -> Left
         requires belongs { Belongs desk.now pass.old }
         requires holds { HoldsSched (view_of pass.old) self.old.number }
         requires looked { IsLooked (settings_of desk.now) (front_of pass.old) self.old to }
         requires room { min most (count_by is_some self.old.keys) ≤ expired.old.room }
+        requires few { to ≤ 8796093022207 }
         ensures belongs { Belongs desk.now pass.new }
         ensures call { IsTriedSome (settings_of desk.now) (view_of pass.old) self.old self.new to most result expired.old expired.new (view_of pass.new) }
-        ensures left { MatchBool result (HasDue self.new to) (NoRowDue self.new.keys to) }
+        ensures left { IsLeft self.new to result }
     {
         let mut left = most;
-        while let Some(row) = self.first_row_due(to) {
+        let mut moves = most;
+        loop {
+            let row = match self.first_row_due(to, &mut moves) {
+                FirstDue::Row(row) => row,
+                FirstDue::Nothing => return Left::Nothing,
+                FirstDue::Moving => return Left::Moving,
+            };
             if left == 0 {
-                return true;
+                return Left::Due;
             }
             self.expire(desk, pass, row, expired);
             left -= 1;
         }
-        false
     }
 }

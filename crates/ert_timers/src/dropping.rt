@@ -59,7 +59,7 @@ impl WheelPart {
 }
 
 /// Whether the last timer of a slot is armed, by what the slot shows.
-fn is_armed(shown: Option<(Status, u64, u64)>) -> bool
+pub(crate) fn is_armed(shown: Option<(Status, u64, u64)>) -> bool
     ensures { result ≡ laws.is_armed (status_shown shown) }
 {
     matches!(shown, Some((Status::Armed, _, _)))

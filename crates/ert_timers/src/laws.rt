@@ -1,6 +1,6 @@
 //! Laws of the timers of a scheduler, each the contract of a function that does nothing.
 
-ghost use Rattle.ert_timers.specs.Laws.{LawOfStandingParts, LawOfStartEntries, LawOfRestartEntries, LawOfAdvanceEntries, LawOfSweeps, LawOfRooms, LawOfTidyCounts, LawOfWholeCancels};
+ghost use Rattle.ert_timers.specs.Laws.{LawOfStandingParts, LawOfStartEntries, LawOfRestartEntries, LawOfAdvanceEntries, LawOfSweeps, LawOfRooms, LawOfProbes, LawOfTidyCounts, LawOfWholeCancels};
 
 /// A part stands on while its wheel has no more entries, whatever others do meanwhile.
 pub fn parts_stand_on()
@@ -15,6 +15,7 @@ pub fn calls_leave_other_parts()
     ensures advances { LawOfAdvanceEntries }
     ensures sweeps { LawOfSweeps }
     ensures rooms { LawOfRooms }
+    ensures probes { LawOfProbes }
 {}
 
 /// A tidy part holds exactly the armed timers of its wheel: it has as many rows as they are.

@@ -15,7 +15,8 @@
 //!
 //! **What others do.** Any thread may cancel a timer by one exchange on its word, and tells the part nothing.
 //! So a held timer may be settled already. An advance finds that out when its own exchange misses; a start
-//! finds it out when it runs out of free slots and looks for some. Whoever has the part when a timer is
+//! finds it out when it runs out of free slots and looks for some; `next_due` by a probe of the timer that is due next, and
+//! `probe_rows` by one of each. Whoever has the part when a timer is
 //! cancelled or its message is handed over says so, by `forget` or `reuse`: then the slot is held free at once, and
 //! no start has to look for it.
 //!
@@ -47,13 +48,14 @@
 //! | `start` | looks at the time, stores the word of a free slot, asks whether the destination has exited | constant; where none is held free the settings' `looks` at most, or all slots where there are fewer |
 //! | `restart` | looks at the time, and exchanges the word of an armed timer for that of the next one in its slot; or takes another slot, cancels and starts | as `start` |
 //! | `advance` | looks at the time, and tries each due timer in order of deadline and then of start | the due timers and the buckets that are visited |
-//! | `advance_some` | does so with so many timers at most, and tells whether more are due | the timers that it tries, the timers that are left in a window that begins, and late timers (`ert_wheel`, `Wheel::first_due`) |
+//! | `advance_some` | does so with so many timers at most, and tells what is left | the timers that it tries, as many that move in the wheel, and late timers (`ert_wheel`, `Wheel::first_due`) |
 //! | `sweep` | tries each timer of a process that has exited | those timers, each once |
 //! | `held_for` | finds a timer of a process that is held | constant, amortized: a slot without a timer leaves the chain |
 //! | `forget` | drops the row of a timer that the pass has seen settled, and holds its slot free where its round has uses left | constant |
 //! | `reuse` | holds the slot of a timer free whose message was handed over, where its round has uses left | constant |
 //! | `room` | looks at the time and at every slot, and tells how many can take a timer and from when on one more can | every slot once |
-//! | `next_due` | tells how early a timer may be due | constant while the last answer holds; else 64 timers at most of each level of the wheel, and where one was started late those that the next advance takes |
+//! | `next_due` | probes the slots of the timers that are due next until one is armed, and tells how early a timer may be due | constant while the last answer holds; else 64 timers at most of each level of the wheel, and where one was started late those that the next advance takes; and again for each timer that others cancelled, 1,024 at most |
+//! | `probe_rows` | probes each slot that has a timer, and drops the rows of those that others cancelled | every slot once |
 //! | `tally` | counts | none |
 //! | `drop_settled` | with a pass that holds every actor, looks at each timer that is held, and drops the rows of those that others cancelled | every slot once |
 //!

@@ -8,7 +8,7 @@ use ert_effects::RestartErr;
 use ert_table::{Desk, Pass, SlotPlace};
 
 impl WheelPart {
-    ghost use Rattle.std.specs.Prelude.{◌≡◌, ◌≢◌, ◌<◌, ℕ, true, Some, Err};
+    ghost use Rattle.std.specs.Prelude.{◌≡◌, ◌≢◌, ◌<◌, ℕ, true, Some, Err, MatchResult};
     ghost use Rattle.ert_defs.specs.Legal.{names_timer};
     ghost use Rattle.ert_defs.specs.declared.timer.Start.{Start as GivenStart};
     ghost use Rattle.ert_effects.specs.RestartCalls.{RestartEnds};
@@ -17,8 +17,10 @@ impl WheelPart {
     ghost use Rattle.ert_table.specs.Desks.{settings_of, view_of, front_of, state_of, Belongs};
     ghost use Rattle.ert_table.specs.Places.{IsPlaceOf};
     ghost use Rattle.ert_timers.specs.Looking.{now_in};
-    ghost use Rattle.ert_timers.specs.Parts.{HoldsCaller, PartStands};
+    ghost use Rattle.ert_timers.specs.Parts.{HoldsCaller, PartStands, last_timer};
     ghost use Rattle.ert_timers.specs.Freeing.{IsHeld};
+    ghost use Rattle.std.specs.FinSet as set;
+    ghost use Rattle.ert_timers.specs.Frees.{IsUsedUp, KeepsFree, TakesFree, UsesFree};
     ghost use Rattle.ert_timers.specs.Passed.{GainsOne, LosesRows};
     ghost use Rattle.ert_timers.specs.declared.part.Use.{Use as Coming};
     ghost use Rattle.ert_defs.specs.States.{State};
@@ -49,6 +51,8 @@ impl WheelPart {
         ensures number { self.new.number ≡ self.old.number }
         ensures stands { PartStands (settings_of desk.now) (front_of pass.new) self.new }
         ensures call { IsMade (settings_of desk.now) (view_of pass.old) (EndsAfter (settings_of desk.now) by self.old.number timer start (now_in ahead) result) (view_of pass.new) }
+        ensures full { result ≡ Err Full → IsUsedUp self.old self.new }
+        ensures frees { UsesFree self.old self.new result }
         ensures rows { GainsOne self.old self.new result }
         ensures gone { HasLetGo timer result self.new }
     {
@@ -97,6 +101,8 @@ impl WheelPart {
         ensures stands { PartStands (settings_of desk.now) (front_of pass.new) self.new }
         ensures call { IsMade (settings_of desk.now) (view_of pass.old) (λ s es. RestartEnds true by self.old.number timer start.now result es) (view_of pass.new) }
         ensures not_full { result ≢ Err Full }
+        ensures frees { KeepsFree self.old self.new }
+        ensures back { MatchResult result (λ named. named ≡ last_timer self.new.number self.new.slots slot) (λ _. set.contains self.new.free slot ≡ true) }
         ensures rows { GainsOne self.old self.new result }
         ensures gone { HasLetGo timer result self.new }
     {
@@ -124,6 +130,7 @@ impl WheelPart {
         ensures stands { PartStands (settings_of desk.now) (front_of pass.now) self.new }
         ensures gone { IsHeld self.new timer → ⊥ }
         ensures loses { LosesRows self.old self.new }
+        ensures frees { KeepsFree self.old self.new }
         ensures slots { (s : State) (by slot : ℕ) (start : GivenStart) (next : Coming) → HasSlotFor (settings_of desk.now) s by self.old slot start next
             → HasSlotFor (settings_of desk.now) s by self.new slot start next }
     {

@@ -15,6 +15,7 @@ impl WheelPart {
     ghost use Rattle.ert_table.specs.Desks.{settings_of, view_of, front_of, state_of, Belongs};
     ghost use Rattle.ert_table.specs.Places.{IsPlaceOf};
     ghost use Rattle.ert_timers.specs.Parts.{HoldsCaller, PartStands};
+    ghost use Rattle.ert_timers.specs.Frees.{IsUsedUp, UsesFree};
     ghost use Rattle.ert_timers.specs.Passed.{GainsOne};
     ghost use Rattle.ert_timers.specs.Restarting.{MayStay, HasLooked, HasLetGo};
 
@@ -42,6 +43,8 @@ impl WheelPart {
         ensures number { self.new.number ≡ self.old.number }
         ensures stands { PartStands (settings_of desk.now) (front_of pass.new) self.new }
         ensures call { IsMade (settings_of desk.now) (view_of pass.old) (Restarts (settings_of desk.now) by self.old.number timer start.now result) (view_of pass.new) }
+        ensures full { result ≡ Err Full → IsUsedUp self.old self.new }
+        ensures frees { UsesFree self.old self.new result }
         ensures rows { GainsOne self.old self.new result }
         ensures gone { HasLetGo timer result self.new }
     {
@@ -87,6 +90,7 @@ impl WheelPart {
         ensures stands { PartStands (settings_of desk.now) (front_of pass.new) self.new }
         ensures call { IsMade (settings_of desk.now) (view_of pass.old) (λ s es. RestartEnds true by self.old.number timer start.now result es) (view_of pass.new) }
         ensures not_full { result ≢ Err Full }
+        ensures frees { UsesFree self.old self.new result }
         ensures rows { GainsOne self.old self.new result }
         ensures gone { HasLetGo timer result self.new }
     {

@@ -26,16 +26,19 @@ impl WheelPart {
     /// Looks at the time and at every slot: how many slots can take a timer now, and from when on one more
     /// can that rests and isn't taken. A wheel that has had 2^53 timers takes no more.
     ///
-    /// Each slot is looked at once, in order. It changes nothing of the part, and takes no memory.
-    pub fn room(&self, desk: &Desk, pass: &mut Pass, by: u32) -> Room
+    /// Each slot is looked at once, in order. The next start that finds none held free looks at the first of those that can
+    /// take a timer: so it isn't refused where there is one. No memory is taken.
+    pub fn room(&mut self, desk: &Desk, pass: &mut Pass, by: u32) -> Room
         requires belongs { Belongs desk.now pass.old }
-        requires holds { HoldsCaller (settings_of desk.now) (view_of pass.old) by self.now.number }
-        requires stands { PartStands (settings_of desk.now) (front_of pass.old) self.now }
+        requires holds { HoldsCaller (settings_of desk.now) (view_of pass.old) by self.old.number }
+        requires stands { PartStands (settings_of desk.now) (front_of pass.old) self.old }
         ensures belongs { Belongs desk.now pass.new }
-        ensures stands { PartStands (settings_of desk.now) (front_of pass.new) self.now }
-        ensures call { IsMade (settings_of desk.now) (view_of pass.old) (TellsRoom (settings_of desk.now) by self.now.number result) (view_of pass.new) }
+        ensures stands { PartStands (settings_of desk.now) (front_of pass.new) self.new }
+        ensures call { IsMade (settings_of desk.now) (view_of pass.old) (TellsRoom (settings_of desk.now) by self.old.number result) (view_of pass.new) }
+        ensures part { self.new ≡ self.old }
     {
-        let room = self.see_slots(desk, pass, by);
+        let (room, first) = self.see_slots(desk, pass, by);
+        self.begin_next_look_at(first);
         if self.arms() < MOST_TIMERS {
             room
         } else {
@@ -43,20 +46,33 @@ impl WheelPart {
         }
     }
 
-    /// Looks at the time and at every slot, and tells what is known by that.
-    fn see_slots(&self, desk: &Desk, pass: &mut Pass, by: u32) -> Room
+    /// Lets the next look for a free slot begin at this one, where there is one.
+    fn begin_next_look_at(&mut self, first: Option<u32>)
+        ensures { self.new ≡ self.old }
+    {
+        if let Some(slot) = first {
+            self.set_next_look(slot);
+        }
+    }
+
+    /// Looks at the time and at every slot, and tells what is known by that, and the first slot that can take a timer.
+    fn see_slots(&self, desk: &Desk, pass: &mut Pass, by: u32) -> (Room, Option<u32>)
         requires belongs { Belongs desk.now pass.old }
         requires holds { HoldsCaller (settings_of desk.now) (view_of pass.old) by self.now.number }
         requires stands { PartStands (settings_of desk.now) (front_of pass.old) self.now }
         ensures belongs { Belongs desk.now pass.new }
-        ensures call { SeesAll (settings_of desk.now) (view_of pass.old) by self.now result (view_of pass.new) }
+        ensures call { SeesAll (settings_of desk.now) (view_of pass.old) by self.now result.0 (view_of pass.new) }
     {
         let now = look_down(desk, pass, Actor::Caller(by));
         let mut room = NO_ROOM;
+        let mut first = None;
         for slot in 0..self.slot_count() {
             room = self.see_slot(desk, pass, by, slot, now, room);
+            if first.is_none() && room.free > 0 {
+                first = Some(slot);
+            }
         }
-        room
+        (room, first)
     }
 
     /// Looks at a slot: what is known with it, at a time in milliseconds after the start time.

@@ -17,13 +17,14 @@ impl WheelPart {
     ghost use Rattle.std.specs.Prelude.{◌≡◌, ◌≢◌, ◌<◌, ◌≤◌, ℕ, true, false, length, Err};
     ghost use Rattle.ert_defs.specs.Milliseconds.{natural, down};
     ghost use Rattle.ert_effects.specs.TimerCalls.{Starts};
-    ghost use Rattle.ert_effects.specs.declared.answers.StartErr.TheVariants.{NoMemory};
+    ghost use Rattle.ert_effects.specs.declared.answers.StartErr.TheVariants.{Full, NoMemory};
     ghost use Rattle.ert_defs.specs.States.{state};
     ghost use Rattle.ert_table.specs.Desks.{settings_of, view_of, front_of, state_of, Belongs};
     ghost use Rattle.ert_table.specs.Calls.{IsMade};
     ghost use Rattle.ert_timers.specs.Changes.{MayBecomeFree};
     ghost use Rattle.ert_timers.specs.Looking.{now_in};
     ghost use Rattle.ert_timers.specs.Parts.{HoldsCaller, PartStands, slot_at, last_timer};
+    ghost use Rattle.ert_timers.specs.Frees.{IsUsedUp, UsesFree};
     ghost use Rattle.ert_timers.specs.Passed.{GainsOne};
     ghost use Rattle.ert_timers.specs.Starting.{HoldsTimer, IsUseFor, Orphans, Arms, Ends, LooksAt, LooksAtSome, LooksAround, TakesSlot};
 
@@ -54,6 +55,8 @@ impl WheelPart {
         ensures stands { PartStands (settings_of desk.now) (front_of pass.new) self.new }
         ensures call { IsMade (settings_of desk.now) (view_of pass.old) (Starts (settings_of desk.now) by self.old.number start.now result) (view_of pass.new) }
         ensures memory { result ≢ Err NoMemory }
+        ensures full { result ≡ Err Full → IsUsedUp self.old self.new }
+        ensures frees { UsesFree self.old self.new result }
         ensures rows { GainsOne self.old self.new result }
     {
         let Some(ahead) = look_ahead(desk, pass, by, start) else {

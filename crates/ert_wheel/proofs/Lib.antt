@@ -10,6 +10,7 @@ mod Stored
 mod Unsplice
 mod WindowBits
 mod Writes
+pub mod Behind
 pub mod Calls
 pub mod Climbing
 pub mod Closer

@@ -1,18 +1,22 @@
 -- The first due row, and how time comes to its deadline.
 
-use Rattle.std.proofs.Common.{◌≡◌, ℕ, ◌<◌, ◌≤◌, false, max, List, Option, Some, None, MatchOption, sym, subst, ◌∙◌, inl, inr, arith}
+use Rattle.std.proofs.Common.{Bool, true, ap, ◌∙◌, ◌≡◌, ℕ, ◌^◌, ◌<◌, ◌≤◌, false, max, List, Option, Some, None, MatchOption, sym, subst, inl, inr, arith}
 use Rattle.std.proofs.lemmas.Bool.{cases_eq, cases_lt}
 use Rattle.std.proofs.lemmas.Bool.Decides.{nat_tests}
+use Rattle.std.specs.Option.{is_some}
+use Rattle.std.specs.Prelude.{MatchBool}
 use Rattle.ert_wheel.proofs.Near.{due_here, time_is}
+use Rattle.ert_wheel.proofs.Looking.{key_low}
 use Rattle.ert_wheel.proofs.Standing.{end_after}
 use Rattle.ert_wheel.proofs.Times.{lowest}
-use Rattle.ert_wheel.specs.FirstDue.{NoRowDue, IsFirstRowDue, IsReached, NoneDueIn, IsOldestDue}
+use Rattle.ert_wheel.proofs.Views.{place_is}
+use Rattle.ert_wheel.specs.FirstDue.{NoRowDue, IsFirstRowDue, IsPast, IsReached, MayBeDue, NoneDueIn, IsOldestDue, SomeRowDue}
 use Rattle.ert_wheel.specs.Levels.{bucket_of_window}
-use Rattle.ert_wheel.specs.NextDue.{NoRow, NoneBefore, IsNextDue}
-use Rattle.ert_wheel.specs.Rings.{Rings, AreChains}
-use Rattle.ert_wheel.specs.Rows.{key_of, row_at, row_told, comes_before}
+use Rattle.ert_wheel.specs.NextDue.{NoneBefore}
+use Rattle.ert_wheel.specs.Rings.{Rings, Place, AreChains, StandsIn, Finds}
+use Rattle.ert_wheel.specs.Rows.{key_in, key_of, row_at, row_told, comes_before}
 use Rattle.ert_wheel.specs.Walks.{StandOnLevels}
-use Rattle.ert_wheel.specs.Wheels.{held_keys, home_on, places}
+use Rattle.ert_wheel.specs.Wheels.{held_keys, home_on, place_of, places}
 use Rattle.ert_wheel.specs.declared.row.HeldRow.{HeldRow}
 use Rattle.ert_wheel.specs.declared.row.Key.{Key}
 use Rattle.ert_wheel.specs.declared.row.Row.{Row}
@@ -69,19 +73,55 @@ module _ {next : ℕ} {keys : List (Option Key)} {chains : Rings} {levels : Key 
       (subst (λ (ks : List (Option Key)). MatchOption answer (NoneDueIn ks (home_on next levels) bucket time) (λ row. IsOldestDue ks (home_on next levels) bucket time (row_told ks row))) is
       (looks (home_on next levels) (subst (λ (ks : List (Option Key)). AreChains chains (places (home_on next levels) ks)) (sym is) stand.are))))
 
--- without a row none is due, and none is that is due later
-pub no_row_due : (keys : List (Option Key)) (to : ℕ) → NoRow keys → NoRowDue keys to
-no_row_due keys to none = λ slot key has. (let bad : None ≡ Some key = sym (none slot) ∙ has in cc)
+-- where it has come no further than the time, some row is due
+not_past : (keys : List (Option Key)) (passed to stop : ℕ) → IsReached keys passed to stop → stop ≤ to → NoRowDue keys stop → ⊥
+not_past keys passed to stop r by none =
+    elim (r.next.due by).near [
+      | inl due ↦ omega (arith, due.at, none due.slot due.key due.has)
+      | inr begins ↦ omega (arith, r.on, begins.later)
+    ]
 
-pub late_due : (keys : List (Option Key)) (time to : ℕ) → NoneBefore keys time → to < time → NoRowDue keys to
-late_due keys time to none less = λ slot key has. omega (arith, less, none slot key has)
+pub first_at_stop : (keys : List (Option Key)) (to stop : ℕ) (row : HeldRow) → stop ≤ to
+    → IsFirstRowDue keys stop (row_told keys row) → IsFirstRowDue keys to (row_told keys row)
+first_at_stop keys to stop row by f = record { held = f.held; due = omega (arith, by, f.due); first = f.first }
 
--- a time that was passed, or is the next, and is told to be the next due one, is reached
-pub is_reached : (keys : List (Option Key)) (passed to time : ℕ) → IsNextDue keys passed time → time ≤ to → time ≤ passed
-    → IsReached keys to passed time
-is_reached keys passed to time told by on = record {
-  by = by;
-  on = on;
-  due = elim told.near [ inl due ↦ due | inr begins ↦ absurd (omega (arith, on, begins.later)) ];
-  none_before = told.none_before;
-}
+pub none_at_stop : (keys : List (Option Key)) (passed to stop : ℕ) → IsReached keys passed to stop → stop ≤ to
+    → (stop ≤ passed → NoRowDue keys stop) → IsPast keys passed to
+none_at_stop keys passed to stop r by none = absurd (not_past keys passed to stop r by (none r.on))
+
+-- whether a row is late or due at the next time, by the newest of its bucket
+pub any_due : {next : ℕ} {keys : List (Option Key)} {chains : Rings} {levels : Key → ℕ} (stand : StandOnLevels next chains keys levels) (found : Option ℕ)
+    (told : Bool) {bucket : ℕ} → told ≡ is_some found → bucket ≡ bucket_of_window 0 next
+    → ((places : ℕ → Option Place) → AreChains chains places → Finds chains places bucket (2 ^ 64) found)
+    → MatchBool told (SomeRowDue keys next) (NoRowDue keys next)
+any_due {next} {keys} {chains} {levels} stand None told {bucket} is at finds =
+    let home : Key → ℕ = home_on next levels in
+    let f = finds (places home keys) stand.are in
+    subst (λ (b : Bool). MatchBool b (SomeRowDue keys next) (NoRowDue keys next)) (sym is) (λ slot key has.
+    elim (cases_lt next key.deadline) [
+      | inl later ↦ later
+      | inr due ↦
+          let p : Place = record { home = home key; order = key.order } in
+          let there : places home keys slot ≡ Some p = ap (place_of home) has in
+          absurd (omega (
+            arith,
+            f.greatest slot p (omega (arith, stand.slots, key_low keys slot key has)) there
+                (due_here stand slot key has (omega (arith, due)) ∙ sym at) (stand.are.orders slot p there),
+          ))
+    ])
+any_due {next} {keys} {chains} {levels} stand (Some slot) told {bucket} is at finds =
+    let home : Key → ℕ = home_on next levels in
+    let f = finds (places home keys) stand.are in
+    let there : StandsIn (places home keys) bucket slot = f.stands.1 in
+    let k = place_is home (key_in keys slot) there.place there.has in
+    let t : max k.0.deadline next ≡ next =
+    time_is stand slot k.0 next k.1 (omega arith) (omega (arith, end_after 0 next (omega arith) stand.time, lowest next))
+    (ap (λ (p : Place). p.home) k.2 ∙ there.at_home ∙ at) in
+    subst (λ (b : Bool). MatchBool b (SomeRowDue keys next) (NoRowDue keys next)) (sym is)
+    (record { slot = slot; key = k.0; has = k.1; by = omega (arith, t) })
+
+-- and so by a time up to that
+pub any_due_by : (keys : List (Option Key)) (passed to : ℕ) (told : Bool) → to ≤ passed → MatchBool told (SomeRowDue keys passed) (NoRowDue keys passed)
+    → MatchBool told (MayBeDue keys passed to) (NoRowDue keys to)
+any_due_by keys passed to true up due = inl (record { slot = due.slot; key = due.key; has = due.has; by = omega (arith, due.by) })
+any_due_by keys passed to false up none = λ slot key has. omega (arith, up, none slot key has)

@@ -1,8 +1,10 @@
 -- The first of the rows that are due.
 
-use Rattle.std.specs.Prelude.{◌≡◌, ◌⊎◌, ℕ, ◌<◌, ◌≤◌, false, List, Option, Some, max}
-use Rattle.ert_wheel.specs.NextDue.{NoneBefore, IsDueAt, WindowBegins}
-use Rattle.ert_wheel.specs.Rows.{key_in, key_of, row_at, comes_before}
+use Rattle.std.specs.Prelude.{◌≡◌, ◌⊎◌, ℕ, ◌+◌, ◌<◌, ◌≤◌, false, List, Option, Some, max}
+use Rattle.ert_wheel.specs.NextDue.{NoneBefore, IsNextDue, WindowBegins}
+use Rattle.ert_wheel.specs.Rows.{key_in, key_of, row_at, row_told, comes_before}
+use Rattle.ert_wheel.specs.declared.row.FirstDue.{FirstDue}
+use Rattle.ert_wheel.specs.declared.row.FirstDue.TheVariants.{Row as First, Nothing, Moving}
 use Rattle.ert_wheel.specs.declared.row.Key.{Key}
 use Rattle.ert_wheel.specs.declared.row.Row.{Row}
 
@@ -33,12 +35,32 @@ pub record BeginsBy (keys : List (Option Key)) (passed to : ℕ) : Type 0 where
 abbrev pub MayBeDue : List (Option Key) → ℕ → ℕ → Type 0
 MayBeDue keys passed to = SomeRowDue keys (max to passed) ⊎ BeginsBy keys passed to
 
--- the least deadline is at most `to`, and it is no later than the first time that wasn't passed
-pub record IsReached (keys : List (Option Key)) (to passed least : ℕ) : Type 0 where
-  pub by : least ≤ to
-  pub on : least ≤ passed
-  pub due : IsDueAt keys least
-  pub none_before : NoneBefore keys least
+-- no row is due by a time, and that was passed
+pub record IsPast (keys : List (Option Key)) (passed to : ℕ) : Type 0 where
+  pub none : NoRowDue keys to
+  pub on : to < passed
+
+-- A time wasn't passed: a window of a level above the lowest, in which some row is due, begins by the millisecond after it.
+pub record HasToMove (keys : List (Option Key)) (passed to : ℕ) : Type 0 where
+  pub on : passed ≤ to
+  pub begins : BeginsBy keys passed (to + 1)
+
+-- what is told of the first row that is due by a time
+abbrev pub IsFirstTold : List (Option Key) → ℕ → ℕ → FirstDue → Type 0
+IsFirstTold keys passed to (First row) = IsFirstRowDue keys to (row_told keys row)
+IsFirstTold keys passed to Nothing = IsPast keys passed to
+IsFirstTold keys passed to Moving = HasToMove keys passed to
+
+-- where time may come to next: no row is due before that, and it is when the next one is, or just past the time
+pub record IsNextStop (keys : List (Option Key)) (passed to stop : ℕ) : Type 0 where
+  pub none_before : NoneBefore keys stop
+  pub near : stop ≤ to + 1
+  pub due : stop ≤ to → IsNextDue keys passed stop
+
+-- time has come there
+pub record IsReached (keys : List (Option Key)) (passed to stop : ℕ) : Type 0 where
+  pub next : IsNextStop keys passed to stop
+  pub on : stop ≤ passed
 
 -- no row of a bucket is due by a time
 abbrev pub NoneDueIn : List (Option Key) → (Key → ℕ) → ℕ → ℕ → Type 0

@@ -55,6 +55,24 @@ pub record Tells (deadline time : ℕ) : Type 0 where
   pub highest : level ≤ 4
   pub begin : time ≡ deadline / 512 ^ level * 512 ^ level
 
+-- a deadline is in a window of a level above the lowest that begins at a time after the first that wasn't passed
+pub record IsInWindow (passed time deadline : ℕ) : Type 0 where
+  pub later : passed < time
+  pub level : ℕ
+  pub above : 1 ≤ level
+  pub highest : level ≤ 4
+  pub begin : time ≡ deadline / 512 ^ level * 512 ^ level
+
+-- a row with a deadline tells a time: it is due at it, or in a window that begins there
+abbrev pub IsToldBy : ℕ → ℕ → ℕ → Type 0
+IsToldBy passed time deadline = (deadline ≡ time) ⊎ IsInWindow passed time deadline
+
+-- the row of a slot tells a time
+pub record TellsNext (keys : List (Option Key)) (passed time slot : ℕ) : Type 0 where
+  pub key : Key
+  pub has : key_in keys slot ≡ Some key
+  pub told : IsToldBy passed time key.deadline
+
 -- the least deadline of the rows
 pub record IsLeastDeadline (keys : List (Option Key)) (least : ℕ) : Type 0 where
   pub due : IsDueAt keys least

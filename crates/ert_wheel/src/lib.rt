@@ -86,7 +86,12 @@
 //! on to the least deadline first, where that is due. Then the row is in the bucket of the next time: the oldest that has
 //! that deadline. This is the bucket's oldest row, but where rows were put in late; the floor tells their least deadline
 //! once it was looked for. So a call looks at one row, and at all of that bucket once for each deadline of late rows. A
-//! late row that is older than another and has a later deadline is looked at before that one.
+//! late row that is older than another and has a later deadline is looked at before that one. Where no row is due, time
+//! passes the time that was asked for.
+//!
+//! So many rows at most fall in such a call, whatever time has leapt. Before time comes into another window of a level it
+//! stands in the last millisecond before that, until the bucket of the window is empty: the windows of the highest level
+//! first, so four times at most. Where more rows are left than may fall the call says so, and the next one goes on there.
 //!
 //! **Owners.** `own` puts a slot into the chain of an owner as its newest, `disown` takes it out, `is_owned` tells whether
 //! it is in one, and `newest_owned` tells the newest of an owner. This hangs on no row: a slot may have an owner without a row, and a row without an owner.
@@ -118,5 +123,5 @@ mod wheel;
 mod windows;
 
 pub use laws::answers_come_closer;
-pub use row::{BUCKETS, HeldRow, Key, Row};
+pub use row::{BUCKETS, FirstDue, HeldRow, Key, Row};
 pub use wheel::Wheel;

@@ -39,5 +39,16 @@ pub struct HeldRow {
     pub slot: u32,
 }
 
+/// What is told of the first row that is due.
+#[derive(Clone, Copy, Debug, PartialEq, Eq)]
+pub enum FirstDue {
+    /// The row.
+    Row(HeldRow),
+    /// No row is due, and that time was passed.
+    Nothing,
+    /// Rows have to fall before time can come to it: more than may.
+    Moving,
+}
+
 // Due rows are collected and sorted in a list, four in a line of the caches.
 const _: () = prove!(size_of::<HeldRow>() == 16);

@@ -1,8 +1,8 @@
 //! The row that tells how early the next one may be due.
 
-ghost use Rattle.std.specs.Prelude.{◌≡◌, ◌<◌, length};
+ghost use Rattle.std.specs.Prelude.{◌≡◌, ◌↔◌, ◌*◌, ◌/◌, ◌^◌, ◌<◌, ◌≤◌, IsTrue, length};
 ghost use Rattle.std.specs.Bool.{OnTrue};
-ghost use Rattle.ert_wheel.specs.NextDue.{Tells};
+ghost use Rattle.ert_wheel.specs.NextDue.{Tells, IsToldBy};
 ghost use Rattle.ert_wheel.specs.declared.row.TheConstants.{NEVER, BUCKETS};
 
 use crate::kept::Kept;
@@ -21,6 +21,33 @@ pub fn tells(deadline: u64, time: u64) -> bool
 {
     let level = (time.trailing_zeros() / 9).min(4);
     window_begin(deadline, level) == time
+}
+
+/// Whether a row with a deadline is due at a time, or in a window that begins there after the next time. Where `tells` tells
+/// of the highest level on which one begins, this is tried on each.
+pub fn is_told_by(next_time: u64, time: u64, deadline: u64) -> bool
+    ensures { IsTrue result ↔ IsToldBy next_time time deadline }
+{
+    if deadline == time {
+        return true;
+    }
+    if time <= next_time {
+        return false;
+    }
+    for level in 1..5 {
+        if begins(level, time, deadline) {
+            return true;
+        }
+    }
+    false
+}
+
+/// Whether the window of a level in which a deadline is begins at a time.
+fn begins(level: u32, time: u64, deadline: u64) -> bool
+    requires { level ≤ 4 }
+    ensures { IsTrue result ↔ (time ≡ deadline / 512 ^ level * 512 ^ level) }
+{
+    time == window_begin(deadline, level)
 }
 
 /// A slot whose row tells a time, as far as a look at few rows finds one; else any slot.

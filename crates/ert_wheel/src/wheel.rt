@@ -1,7 +1,7 @@
 ghost use Rattle.std.specs.Prelude.{◌≡◌, min};
 
 use crate::chains::Chains;
-use crate::falling::{fall_ahead, move_on};
+use crate::falling::move_on;
 use crate::kept::Kept;
 use crate::marked::MarkedChains;
 use crate::row::{HeldRow, LAST, Row};
@@ -284,8 +284,7 @@ impl<T: Copy> Wheel<T> {
         let after = to.min(LAST - 1) + 1;
         let was = self.next_time;
         let next_time = was.max(after);
-        move_on(&mut self.buckets, &self.kept, was, next_time);
-        self.fallen = fall_ahead(&mut self.buckets, &self.kept, was, next_time, self.fallen);
+        self.fallen = move_on(&mut self.buckets, &self.kept, was, next_time, self.fallen);
         self.next_time = next_time;
         self.floor = self.floor.max(after);
     }

@@ -36,6 +36,15 @@ pub fn bucket_of_window(level: u32, window: u64) -> u32
     level * 1024 + (window & 1023) as u32
 }
 
+/// The bucket of the window of level 1 after that in which a time stands.
+#[inline]
+pub fn bucket_after(time: u64) -> u32
+    ensures is { result ≡ bucket_of_window 1 (time / 512 + 1) }
+    ensures low { result < BUCKETS }
+{
+    1024 + ((time >> 9) + 1 & 1023) as u32
+}
+
 /// The bucket of a time on a level.
 #[inline]
 pub fn bucket_on(level: u32, time: u64) -> u32

@@ -9,10 +9,11 @@ use Rattle.ert_defs.specs.declared.entry.Entry.{Entry}
 use Rattle.ert_defs.specs.declared.memory.NoMemory.{NoMemory}
 use Rattle.ert_defs.specs.declared.settings.Settings.{Settings}
 use Rattle.ert_effects.specs.Chains.{ServesAll, Hands, HandsMany, puts, drops}
-use Rattle.ert_effects.specs.SomeCalls.{AdvancesWheelSome}
+use Rattle.ert_effects.specs.SomeCalls.{AdvancesWheelSome, is_more}
 use Rattle.ert_effects.specs.Ways.{Way, Then}
 use Rattle.ert_effects.specs.declared.answers.Handed.{Handed}
 use Rattle.ert_effects.specs.declared.answers.Handed.TheVariants.{Put, Dropped}
+use Rattle.ert_effects.specs.declared.answers.Left.{Left}
 use Rattle.ert_effects.specs.declared.answers.Turned.{Turned}
 use Rattle.ert_world.proofs.Chained.{Made, Same, made_then}
 use Rattle.ert_world.specs.Bounded.{AreLeft, DeliversSome, TurnsSome}
@@ -87,16 +88,16 @@ module _ {S : Type 0} (settings : S → Settings) (history : S → List Entry) (
         made = record { hows = hows; few = (let all = puts_drops hows in omega (arith, all, put_is, dropped_is, few)); runs = both.made };
       }
 
-  pub turned_some : (most : ℕ) (a b c d : S) (t : Turned) (due waits : Bool) → Alike a b → Alike b c → Does (λ g way. ServesAll g way w (Ok t.served)) a b
-      → Does (λ g way. AdvancesWheelSome g way w most (Ok (t.to, t.expired, due))) b c
+  pub turned_some : (most : ℕ) (a b c d : S) (t : Turned) (left : Left) (waits : Bool) → Alike a b → Alike b c → Does (λ g way. ServesAll g way w (Ok t.served)) a b
+      → Does (λ g way. AdvancesWheelSome g way w most (Ok (t.to, t.expired, left))) b c
       → Does (λ g way. DeliversSome g way w most (Ok (t.put, t.dropped, waits))) c d
-      → Does (λ g way. TurnsSome g way w most (Ok (t, (due || waits)))) a d
-  turned_some most a b c d t due waits on_b on_c one two three =
+      → Does (λ g way. TurnsSome g way w most (Ok (t, (is_more left || waits)))) a d
+  turned_some most a b c d t left waits on_b on_c one two three =
       let all = made_then settings history mark way w (λ g way. ServesAll g way w (Ok t.served))
-      (λ g way. Then (AdvancesWheelSome g way w most (Ok (t.to, t.expired, due))) (DeliversSome g way w most (Ok (t.put, t.dropped, waits)))) a b d on_b one
-      (made_then settings history mark way w (λ g way. AdvancesWheelSome g way w most (Ok (t.to, t.expired, due)))
+      (λ g way. Then (AdvancesWheelSome g way w most (Ok (t.to, t.expired, left))) (DeliversSome g way w most (Ok (t.put, t.dropped, waits)))) a b d on_b one
+      (made_then settings history mark way w (λ g way. AdvancesWheelSome g way w most (Ok (t.to, t.expired, left)))
       (λ g way. DeliversSome g way w most (Ok (t.put, t.dropped, waits))) b c d on_c two three) in
-      record { piece = all.piece; grown = all.grown; made = record { due = due; waits = waits; more_is = refl; runs = all.made } }
+      record { piece = all.piece; grown = all.grown; made = record { left = left; waits = waits; more_is = refl; runs = all.made } }
 
   pub turn_some_unserved : (most : ℕ) (a b : S) (e : NoMemory) → Does (λ g way. ServesAll g way w (Err e)) a b
       → Does (λ g way. TurnsSome g way w most (Err e)) a b
@@ -109,7 +110,7 @@ module _ {S : Type 0} (settings : S → Settings) (history : S → List Entry) (
       let both = made_then settings history mark way w (λ g way. ServesAll g way w (Ok served)) (λ g way. AdvancesWheelSome g way w most (Err e)) a b c same one two in
       record { piece = both.piece; grown = both.grown; made = inr (inl (served, both.made)) }
 
-  pub turn_some_undelivered : (most : ℕ) (a b c d : S) (served : ℕ) (answer : ℕ × ℕ × Bool) (e : NoMemory) → Alike a b → Alike b c
+  pub turn_some_undelivered : (most : ℕ) (a b c d : S) (served : ℕ) (answer : ℕ × ℕ × Left) (e : NoMemory) → Alike a b → Alike b c
       → Does (λ g way. ServesAll g way w (Ok served)) a b → Does (λ g way. AdvancesWheelSome g way w most (Ok answer)) b c
       → Does (λ g way. DeliversSome g way w most (Err e)) c d → Does (λ g way. TurnsSome g way w most (Err e)) a d
   turn_some_undelivered most a b c d served answer e on_b on_c one two three =

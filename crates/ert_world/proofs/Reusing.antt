@@ -11,9 +11,11 @@ use Rattle.ert_timers.specs.Passed.{LosesRows}
 use Rattle.ert_timers.proofs.Passing.{same_last}
 use Rattle.ert_timers.specs.Tidy.{IsTidy}
 use Rattle.ert_world.proofs.Calls.{Has, parts_in, schedulers_at}
+use Rattle.ert_world.proofs.NextDue.{part_at}
+use Rattle.ert_world.proofs.Returned.{at_place}
 use Rattle.ert_world.proofs.WheelCalls.{rows_set}
 use Rattle.ert_world.specs.Stepping.{Stays}
-use Rattle.ert_world.specs.Worlds.{Seen, seen, AreSound}
+use Rattle.ert_world.specs.Worlds.{Seen, seen, AreSound, KeepsRows}
 use Rattle.ert_world.specs.declared.world.World.TheInside.{Inside}
 use Rattle.ert_world.proofs.CancelCalls.{put_back}
 
@@ -53,3 +55,18 @@ freed before b d i old new has low lent named stands loses =
         forgotten = record { piece = []; grown = sym (append-nil (front_of b.pass)); forgotten = tt };
       });
     }
+
+-- and its rows stay
+pub keeps_reused : (p q : Part) (k : ℕ) → q ≡ reused p k → KeepsRows p q
+keeps_reused p q k is = subst (KeepsRows p) (sym is) (record { keys = refl; time = refl })
+
+pub kept_reused : (before : Seen) (b : Inside) (d : Desk) (i : ℕ) (old new : Part) → Has before b d → i < before.settings.schedulers
+    → old ≡ slice_index_or b.wheels.items i old → KeepsRows old new
+    → (j : ℕ) (x : Part) → KeepsRows (slice_index_or before.wheels j x) (slice_index_or (slice_set b.wheels.items i new) j x)
+kept_reused before b d i old new has low lent kept j x =
+    let ws : List Part = b.wheels.items in
+    let here : KeepsRows (slice_index_or ws i x) new = subst (λ (p : Part). KeepsRows p new) (part_at before b d i old has low lent x) kept in
+    subst (λ (w : Seen). KeepsRows (slice_index_or w.wheels j x) (slice_index_or (slice_set ws i new) j x)) has.is
+    (at_place (λ (y : Part). KeepsRows (slice_index_or ws j x) y) ws i j new x (rw has.fit.stand.wheels.counted (schedulers_at has i low))
+    (λ one. subst (λ n. KeepsRows (slice_index_or ws n x) new) (sym one) here)
+    (λ other. record { keys = refl; time = refl }))

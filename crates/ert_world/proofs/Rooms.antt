@@ -1,7 +1,6 @@
 -- A look at all slots of a wheel cancels nothing, and changes no part.
 
-use Rattle.std.proofs.Common.{◌≡◌, ℕ, zero, suc, ◌<◌, set, List, [], ◌∷◌, slice_index_or, inl, refl, sym, ap, subst, ◌∙◌}
-use Rattle.std.proofs.lemmas.List.{set-get_or}
+use Rattle.std.proofs.Common.{◌≡◌, ℕ, zero, suc, ◌<◌, set, List, [], ◌∷◌, slice_index_or, inl, refl, sym, subst}
 use Rattle.ert_effects.specs.RoomCalls.{TellsRoom, ShowsRoom, no_room, with_found}
 use Rattle.ert_effects.specs.declared.answers.Room.{Room}
 use Rattle.ert_defs.specs.States.{State}
@@ -27,18 +26,14 @@ shows_calm by w now s slot (suc n) before room es shows =
 pub room_calm : (g : Settings) (by w : ℕ) (room : Room) (s : State) (es : List Entry) → TellsRoom g by w room s es → AreCalm es
 room_calm g by w room s es tells = subst AreCalm (sym tells.entries) (refl, shows_calm by w _ s 0 g.slots no_room tells.seen tells.probes tells.shows)
 
--- what stands at a place is put there
-pub same_set : {X : Type 0} (xs : List X) (i : ℕ) (x : X) → x ≡ slice_index_or xs i x → set xs i x ≡ xs
-same_set xs i x is = ap (set xs i) is ∙ set-get_or xs i x
-
 -- a call on a wheel by caller 0 that changes nothing of its part
-pub wheel_looked : (before : Seen) (b : Inside) (d e : Desk) (q : Pass) (i : ℕ) (part : Part) (allows : ℕ → Settings → State → List Entry → Type 0)
+pub wheel_looked : (before : Seen) (b : Inside) (d e : Desk) (q : Pass) (i : ℕ) (part new : Part) (allows : ℕ → Settings → State → List Entry → Type 0)
     → d ≡ e → seen_at e b ≡ before → AreSound e b.pass b.next (parts_in b) → Belongs d q → i < before.settings.schedulers
-    → part ≡ slice_index_or b.wheels.items i part → WheelStands (settings_of d) (front_of q) part
+    → part ≡ slice_index_or b.wheels.items i part → new ≡ part → WheelStands (settings_of d) (front_of q) part
     → (made : IsMade (settings_of d) (view_of b.pass) (allows part.number (settings_of d)) (view_of q))
     → ((s : State) (es : List Entry) → allows part.number (settings_of d) s es → AreOnlyOf (Caller 0 ∷ (Wheel part.number ∷ [])) es)
     → ((s : State) (es : List Entry) → allows part.number (settings_of d) s es → AreCalm es)
-    → Does before e q b.next (parts_in b) (λ w. By w (allows i))
-wheel_looked before b d e q i part allows same is fit belongs low lent stands made only calm =
-    subst (λ ws. Does before e q b.next (record (parts_in b) { wheels = ws }) (λ w. By w (allows i))) (same_set b.wheels.items i part lent)
+    → Does before e q b.next (record (parts_in b) { wheels = set b.wheels.items i new }) (λ w. By w (allows i))
+wheel_looked before b d e q i part new allows same is fit belongs low lent unchanged stands made only calm =
+    subst (λ x. Does before e q b.next (record (parts_in b) { wheels = set b.wheels.items i x }) (λ w. By w (allows i))) (sym unchanged)
     (wheel_stepped before b d e q i part part allows same is fit belongs low lent refl stands made only calm (λ alone k key is. inl (is, refl)))

@@ -1,6 +1,7 @@
 pub mod Bounded
 pub mod Cancelling
 pub mod Counted
+pub mod Frees
 pub mod Held
 pub mod Laws
 pub mod Mailing
@@ -8,6 +9,7 @@ pub mod Openings
 pub mod Parts
 pub mod Restarts
 pub mod Seats
+pub mod Sleeping
 pub mod Stepping
 pub mod Ways
 pub mod Worlds

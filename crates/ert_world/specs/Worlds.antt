@@ -127,6 +127,15 @@ pub record ForgetsCancelled (old new : Seen) : Type 0 where
 abbrev pub LoseRows : Seen → Seen → Type 0
 LoseRows old new = (i : ℕ) (d : Part) → LosesRows (slice_index_or old.wheels i d) (slice_index_or new.wheels i d)
 
+-- the rows of a wheel stay, and so does its time
+pub record KeepsRows (p q : Part) : Type 0 where
+  pub keys : q.keys ≡ p.keys
+  pub time : q.passed ≡ p.passed
+
+-- those of each wheel of a world
+abbrev pub KeepRows : Seen → Seen → Type 0
+KeepRows old new = (i : ℕ) (d : Part) → KeepsRows (slice_index_or old.wheels i d) (slice_index_or new.wheels i d)
+
 -- each row that a wheel of a world holds is due later than a time
 abbrev pub HasPassedAt : Seen → ℕ → ℕ → Type 0
 HasPassedAt w i to = (d : Part) → HasPassed (slice_index_or w.wheels i d) to

@@ -30,7 +30,8 @@
 //! | `monitor`, `demonitor`, `notify` | caller 0 | makes, removes and informs monitors of the time offset | the monitors of the process, 64 at most |
 //! | `serve` | a scheduler | answers the request in its hand, or else the first of its inbox | constant |
 //! | `advance` | a scheduler | lets the timers of its wheel expire that are due | those timers and the buckets that are visited |
-//! | `next_due` | | no entry: how early a timer of a wheel may be due | 64 timers at most, and where one was started late those that the next advance takes |
+//! | `next_due` | a scheduler | probes the slots of the timers that are due next until one is armed, and tells how early a timer of its wheel may be due | constant while the last answer holds; else 64 timers at most of each level of the wheel, those that were cancelled by seats, 1,024 at most, and where one was started late those that the next advance takes |
+//! | `drop_settled` | a scheduler | probes each slot that has a timer, and drops those that seats cancelled | every slot once |
 //! | `deliver` | a scheduler | hands over its expired timers, until none is left; the slot of each can then take a timer again | those timers |
 //! | `turn` | a scheduler | serves requests, 64 at most, advances, and delivers | as these three |
 //! | `turn_some` | a scheduler | the same, and delivers so many expired timers at most | as these three |
@@ -57,8 +58,8 @@
 //!
 //! What a world has that no seat touches is as its history tells: the clock moves by the world's ticks alone, and
 //! so do wheels, inboxes, mailboxes and schedulers' lists by its calls. Timers are different: a seat may cancel
-//! one, and its wheel isn't told. The row is held until the timer would be due, so `next_due` may answer too early
-//! for its sake, and never too late.
+//! one, and its wheel isn't told. The row is held until the timer would be due, `next_due` comes on it first, or
+//! `drop_settled` drops it.
 //!
 //! Where no seat was given out, all timers that a wheel holds are armed: `cancel_timer`, and `serve` for a request to
 //! cancel, drop the row of what they cancelled, and `from_parts` drops the rows of what others cancelled before. So
@@ -69,7 +70,7 @@
 //! sweep). They are written and proved once (`chains.rt`), for all that has the steps: a world, and each service
 //! of parts with locks of their own (`ert_service`).
 //!
-//! **Memory.** `start`, `room`, `cancel_timer`, `cancel_all`, `read_timer`, `take`, `take_some`, `exit`, `meet`, the
+//! **Memory.** `start`, `room`, `next_due`, `drop_settled`, `cancel_timer`, `cancel_all`, `read_timer`, `take`, `take_some`, `exit`, `meet`, the
 //! calls on the clock and all calls of a seat take none. Where there is none, `seat`, `ask`, `monitor`, `notify`,
 //! `reserve_mail`, `shrink_mail`, `reserve_expired`, `shrink_expired` and the first `next_mail` change nothing, `advance`
 //! lets no timer expire, `serve` keeps the request in the hand, `deliver` keeps what wasn't handed over, and of a turn what
@@ -97,6 +98,7 @@ mod sched_part;
 mod seat;
 mod seat_err;
 mod seat_parts;
+mod sleeping;
 mod stepping;
 mod steps;
 mod timer_calls;

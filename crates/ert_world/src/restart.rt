@@ -9,7 +9,8 @@ use ert_effects::RestartErr;
 impl World {
     ghost use Rattle.std.specs.Prelude.{◌≡◌, ◌<◌, Err};
     ghost use Rattle.ert_effects.specs.RestartCalls.{Restarts};
-    ghost use Rattle.ert_effects.specs.declared.answers.RestartErr.TheVariants.{BadArg};
+    ghost use Rattle.ert_effects.specs.declared.answers.RestartErr.TheVariants.{BadArg, Full};
+    ghost use Rattle.ert_world.specs.Frees.{IsUsedUpAt, UsesFreeAt};
     ghost use Rattle.ert_world.specs.Restarts.{Forgets, HasNoDeadline, wheel_for};
     ghost use Rattle.ert_world.specs.Worlds.{Goes, By};
 
@@ -23,6 +24,8 @@ impl World {
         requires { start.now.dest < self.old.settings.processes }
         ensures call { Goes self.old (By self.old (λ g. Restarts g 0 (wheel_for g timer) timer start.now result)) self.new }
         ensures time { result ≡ Err BadArg → HasNoDeadline self.old start.now }
+        ensures full { result ≡ Err Full → IsUsedUpAt self.old self.new (wheel_for self.old.settings timer) }
+        ensures frees { UsesFreeAt self.old self.new (wheel_for self.old.settings timer) result }
         ensures forgotten { Forgets timer result self.new }
     {
         let wheel = wheel_for(self.desk.settings(), timer);

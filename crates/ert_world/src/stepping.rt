@@ -63,9 +63,7 @@ impl SchedSteps for World {
 
     #[inline(always)]
     fn hand_first(&mut self, sched: u32, expired: &TimerRow) -> Result<Handed, NoMemory> {
-        let handed = self.hand_over(sched, expired)?;
-        self.reuse(expired.timer);
-        Ok(handed)
+        self.hand_next(sched, expired)
     }
 
     ghost same_settings = { λ a b stays. stays.settings };

@@ -13,13 +13,14 @@ impl World {
     ghost use Rattle.ert_effects.specs.RoomCalls.{TellsRoom};
     ghost use Rattle.ert_effects.specs.TimerCalls.{Reads, Cancels, Starts};
     ghost use Rattle.ert_effects.specs.WheelCalls.{TellsAlive, MarksExit};
-    ghost use Rattle.ert_effects.specs.declared.answers.StartErr.TheVariants.{BadArg, NoMemory};
+    ghost use Rattle.ert_effects.specs.declared.answers.StartErr.TheVariants.{BadArg, Full, NoMemory};
     ghost use Rattle.ert_defs.specs.declared.entry.Actor.TheVariants.{Caller};
     ghost use Rattle.ert_defs.specs.States.{state};
     ghost use Rattle.ert_defs.specs.Timers.{is_taken};
+    ghost use Rattle.ert_world.specs.Frees.{IsUsedUpAt, UsesFreeAt};
     ghost use Rattle.ert_world.specs.Restarts.{HasNoDeadline};
     ghost use Rattle.ert_world.specs.Stepping.{Stays};
-    ghost use Rattle.ert_world.specs.Worlds.{Goes, HasForgotten, StayForgotten, By, HasProcessExited, IsLetGoIn};
+    ghost use Rattle.ert_world.specs.Worlds.{Goes, HasForgotten, StayForgotten, By, HasProcessExited, IsLetGoIn, KeepRows};
 
     /// Starts a timer on a wheel (`erlang` module reference, `start_timer` and `send_after`).
     ///
@@ -33,6 +34,8 @@ impl World {
         ensures call { Goes self.old (By self.old (λ g. Starts g 0 wheel start.now result)) self.new }
         ensures time { result ≡ Err BadArg → HasNoDeadline self.old start.now }
         ensures memory { result ≢ Err NoMemory }
+        ensures full { result ≡ Err Full → IsUsedUpAt self.old self.new wheel }
+        ensures frees { UsesFreeAt self.old self.new wheel result }
         ensures forgotten { StayForgotten self.old self.new }
     {
         self.wheels[wheel as usize].start(&self.desk, &mut self.pass, CALLER, start)
@@ -82,6 +85,7 @@ impl World {
         requires handed { is_taken ((state self.old.settings self.old.history).status timer) ≡ false }
         ensures history { self.new.history ≡ self.old.history }
         ensures stays { Stays self.old self.new }
+        ensures kept { KeepRows self.old self.new }
     {
         self.wheels[timer.wheel as usize].reuse(&self.pass, timer);
     }
@@ -97,8 +101,9 @@ impl World {
     /// How many slots of a wheel can take a timer now, and from when on one more can, of those that rest: a slot
     /// rests once it was used 262,143 times in its round, until the deadlines of all its timers have passed.
     ///
-    /// By it an embedder sees a full wheel coming, and knows how long to wait then. The caller looks at the time
-    /// and at each slot, so it isn't meant for each start. No memory is taken.
+    /// By it an embedder sees a full wheel coming, and knows how long to wait then. Where one can take a timer, the next
+    /// start on the wheel isn't refused. The caller looks at the time and at each slot, so it isn't meant for each start. No
+    /// memory is taken.
     pub fn room(&mut self, wheel: u32) -> Room
         requires { wheel < self.old.settings.schedulers }
         ensures call { Goes self.old (By self.old (λ g. TellsRoom g 0 wheel result)) self.new }

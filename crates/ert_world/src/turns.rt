@@ -13,11 +13,11 @@ impl World {
     ghost use Rattle.std.specs.Prelude.{◌≡◌, ◌<◌, ◌≤◌, Some, None, length, IfOk, OnOk};
     ghost use Rattle.ert_effects.specs.Chains.{Serves, AdvancesWheel, Hands, Delivers, Turns};
     ghost use Rattle.ert_effects.specs.RequestCalls.{Picks};
+    ghost use Rattle.ert_effects.specs.Ways.{Grows};
     ghost use Rattle.ert_defs.specs.Legal.{Legal};
     ghost use Rattle.ert_defs.specs.Mails.{first_of, others_of};
     ghost use Rattle.ert_defs.specs.States.{state};
-    ghost use Rattle.ert_world.specs.Worlds.{Goes, HasPassedAt, By, IsNextHeldAt, IsNearestAt, IsHandedIn, world_sched};
-    ghost use Rattle.ert_timers.specs.NextDue.{NoneArmedBefore};
+    ghost use Rattle.ert_world.specs.Worlds.{Goes, HasPassedAt, By, IsHandedIn, KeepRows, way_of, world_sched};
     ghost use Rattle.ert_world.specs.Stepping.{Stays};
 
     /// Serves one request: that in the scheduler's hand, or the first of its inbox. False comes where there is
@@ -75,22 +75,6 @@ impl World {
         Ok((to, (part.expired.len() - before) as u32))
     }
 
-    /// How early a timer of the scheduler's wheel may be due, in whole milliseconds since the start time, as
-    /// `advance` answers; None where no timer is held. No entry is made.
-    ///
-    /// It tells an event loop how long it may sleep (as `uv_backend_timeout` of libuv): no armed timer is due
-    /// before it. It is the deadline of a timer, or the begin of a window, after the time of the last advance, in which
-    /// one is due (`ert_wheel`, `Wheel::next_due`).
-    pub fn next_due(&mut self, sched: u32) -> Option<u64>
-        requires { sched < self.old.settings.schedulers }
-        ensures held { IsNextHeldAt self.old sched result }
-        ensures armed { NoneArmedBefore (state self.old.settings self.old.history) sched result }
-        ensures nearest { IsNearestAt self.old sched result }
-        ensures same { self.new ≡ self.old }
-    {
-        self.wheels[sched as usize].next_due()
-    }
-
     /// Hands over the scheduler's expired timers until there is none, and answers how many messages were put
     /// into mailboxes and how many were thrown away, since their process has exited.
     ///
@@ -112,6 +96,7 @@ impl World {
         ensures stays { Stays self.old self.new }
         ensures expired { OnOk result ((world_sched self.new sched).expired ≡ others_of (world_sched self.old sched).expired) }
         ensures handed { OnOk result (IsHandedIn self.new expired.now.timer) }
+        ensures wheels { self.new.wheels ≡ self.old.wheels }
     {
         may_get_mail(&mut self.list, expired.dest);
         let handed = self.mails[expired.dest as usize].deliver(
@@ -120,6 +105,22 @@ impl World {
             expired,
         )?;
         self.scheds[sched as usize].expired.pop();
+        Ok(handed)
+    }
+
+    /// Hands over the scheduler's first expired timer, and holds its slot free.
+    #[inline(always)]
+    pub(crate) fn hand_next(&mut self, sched: u32, expired: &TimerRow) -> Result<Handed, NoMemory>
+        requires sched { sched < self.old.settings.schedulers }
+        requires first { first_of (world_sched self.old sched).expired ≡ Some expired.now }
+        ensures call { Grows (Hands self.old.settings (way_of self.old) sched result) self.old.history self.new.history }
+        ensures legal { Legal self.new.settings self.new.history }
+        ensures expired { OnOk result ((world_sched self.new sched).expired ≡ others_of (world_sched self.old sched).expired) }
+        ensures stays { Stays self.old self.new }
+        ensures kept { KeepRows self.old self.new }
+    {
+        let handed = self.hand_over(sched, expired)?;
+        self.reuse(expired.timer);
         Ok(handed)
     }
 

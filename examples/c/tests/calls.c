@@ -385,7 +385,8 @@ static void monitor_calls(void) {
 
 /*
  * A start that knows of no free slot looks at so many as the settings say, from where the last such look stopped: so it
- * is refused until the looks come to the slot whose timer a seat has cancelled. What the world cancels is known at once.
+ * is refused until the looks come to the slot whose timer a seat has cancelled. What the world cancels is known at once, and
+ * what ert_world_ready has seen is found by the next start.
  */
 static void few_looks(void) {
     ert_world w = ERT_INIT;
@@ -394,6 +395,7 @@ static void few_looks(void) {
     ert_start start = {.when = 50};
     ert_timer timers[4], timer;
     uint64_t left;
+    uint32_t room;
     settings.slots = 4;
     settings.callers = 2;
     settings.looks = 1;
@@ -412,6 +414,11 @@ static void few_looks(void) {
     IS(ert_world_cancel(&w, &timers[1], &left), ERT_OK);
     IS(ert_world_start(&w, 0, &start, &timer), ERT_OK);
     IS(timer.slot, 1);
+    IS(ert_seat_cancel(&seat, &timers[3], &left), ERT_OK);
+    IS(ert_world_ready(&w, 0, &room, &left), ERT_OK);
+    IS(room, 1);
+    IS(ert_world_start(&w, 0, &start, &timer), ERT_OK);
+    IS(timer.slot, 3);
     IS(ert_world_close(&w), ERT_OK);
     IS(ert_seat_close(&seat), ERT_OK);
 }

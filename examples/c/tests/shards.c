@@ -100,6 +100,7 @@ static void closed_handles(void) {
     IS(ert_shard_turn(&s, &turned), ERT_CLOSED);
     IS(ert_shard_turn_some(&s, 1, &some), ERT_CLOSED);
     IS(ert_shard_next_due(&s, &left), ERT_CLOSED);
+    IS(ert_shard_drop_settled(&s, &left), ERT_CLOSED);
     IS(ert_shard_close(&s), ERT_CLOSED);
     IS(time, 7);
     IS(left, 7);

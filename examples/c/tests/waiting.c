@@ -77,6 +77,7 @@ static void refusals(void) {
     IS(ert_world_shrink_mail(&world, 0), ERT_CLOSED);
     IS(ert_world_reserve_expired(&world, 0, 1), ERT_CLOSED);
     IS(ert_world_shrink_expired(&world, 0), ERT_CLOSED);
+    IS(ert_world_drop_settled(&world, 0, &count), ERT_CLOSED);
     IS(ert_world_cancel_all(&world, 0, &count), ERT_CLOSED);
     opened(&world, 1);
     IS(ert_world_restart(&world, &timer, &start), ERT_RANGE);
@@ -89,6 +90,7 @@ static void refusals(void) {
     IS(ert_world_shrink_mail(&world, 2), ERT_RANGE);
     IS(ert_world_reserve_expired(&world, 1, 1), ERT_RANGE);
     IS(ert_world_shrink_expired(&world, 1), ERT_RANGE);
+    IS(ert_world_drop_settled(&world, 1, &count), ERT_RANGE);
     IS(ert_world_cancel_all(&world, 2, &count), ERT_RANGE);
     IS(ert_world_next_mail(&world, &process), ERT_EMPTY);
     IS(process, 7);
@@ -188,40 +190,66 @@ static void bounded_turns(void) {
     IS(ert_world_close(&world), ERT_OK);
 }
 
-/* Very many timers that are due at once are handed over in pieces, in order, each once. */
-static void many_at_once(void) {
+/* After a leap of time very many timers are handed over in pieces, in order, each once. Time comes to the leap's end in pieces
+ * too: a timer moves four times at most, so many calls at most tell that there is more. */
+static void after_a_leap(int64_t first, int64_t spread, int64_t end, uint32_t due) {
     ert_world world = ERT_INIT;
     ert_timer timer;
     ert_turned_some some;
     ert_mail mail;
-    uint64_t due = 7;
+    uint32_t calls = 0, done = 0;
+    uint64_t last = 0;
     opened(&world, MANY);
     for (uint32_t it = 0; it < MANY; it += 1) {
-        ert_start start = {.when = 5000, .msg = it, .dest = 0};
+        int64_t deadline = first + (spread * it + MANY - 1) / MANY;
+        ert_start start = {.when = deadline, .msg = it, .dest = 0};
         if (ert_world_start(&world, 0, &start, &timer) != ERT_OK) {
             IS(it, MANY);
             break;
         }
     }
-    tick(&world, 5000);
-    for (uint32_t done = 0; done < MANY; done += PIECE) {
+    tick(&world, end);
+    IS(ert_world_turn_some(&world, 0, 0, &some), ERT_OK);
+    IS(some.to, end);
+    IS(some.more, 1);
+    do {
         IS(ert_world_turn_some(&world, 0, PIECE, &some), ERT_OK);
-        IS(some.to, 5000);
-        IS(some.expired, PIECE);
-        IS(some.put, PIECE);
-        IS(some.more, done + PIECE < MANY);
-        IS(held(&world), MANY - PIECE - done);
-        for (uint32_t it = 0; it < PIECE; it += 1) {
+        IS(some.to, end);
+        IS(some.expired, some.put);
+        IS(some.put <= PIECE, 1);
+        for (uint32_t it = 0; it < some.put; it += 1) {
             IS(ert_world_take(&world, 0, &mail), ERT_OK);
-            IS(mail.msg, done + it);
+            IS(mail.msg >= last, 1);
+            last = mail.msg + 1;
         }
-        IS(in_mailbox(&world, 0), 0);
-    }
-    IS(ert_world_next_due(&world, 0, &due), ERT_EMPTY);
+        done += some.put;
+        calls += 1;
+        IS(held(&world), MANY - done);
+    } while (some.more != 0 && calls < 5 * MANY / PIECE + 5);
+    IS(some.more, 0);
+    IS(done, due);
     IS(ert_world_turn_some(&world, 0, PIECE, &some), ERT_OK);
     IS(some.expired, 0);
     IS(some.more, 0);
     IS(ert_world_close(&world), ERT_OK);
+}
+
+static void many_at_once(void) {
+    static const struct {
+        int64_t first, spread, end;
+        uint32_t due;
+    } leaps[] = {
+        {300, 0, 300, MANY},                       /* within the window of the time */
+        {5000, 0, 5000, MANY},                     /* in another of 512 milliseconds */
+        {5000, 500000, 4999, 0},                   /* before all: some are in the window that begins */
+        {3600000, 0, 3600000, MANY},               /* an hour */
+        {3600000, 60000, 3630000, MANY / 2 + 1},   /* so that half are left */
+        {3600000, 60000, 3600000, 1},              /* and all but one */
+        {200000000, 400000000, 500000000, MANY / 4 * 3 + 1}, /* days */
+    };
+    for (size_t it = 0; it < sizeof leaps / sizeof leaps[0]; it += 1) {
+        after_a_leap(leaps[it].first, leaps[it].spread, leaps[it].end, leaps[it].due);
+    }
 }
 
 /* Timers whose deadlines had passed when they were started, and others in windows of their own, come in order of deadline,

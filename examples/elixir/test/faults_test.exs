@@ -1,27 +1,27 @@
 defmodule FaultsTest do
   # Faults of time by seed: each right version passes all seeds, each wrong one is found, and made small.
   use ExUnit.Case
-  # The environment may ask for more seeds.
+  # The environment may ask for more seeds, and for processes that keep schedulers busy beside: EXAMPLE_SEEDS=2000 EXAMPLE_BUSY=4.
   use Ertime.Case, seeds: String.to_integer(System.get_env("EXAMPLE_SEEDS", "50")), faults: [:silent]
   @moduletag :capture_log
 
   @hour 3_600_000
   @minute 60_000
 
-  @tag timeout: 600_000
+  @tag timeout: :infinity
   test "a lease", do: lease(:monotonic)
 
-  @tag timeout: 600_000
+  @tag timeout: :infinity
   @tag faults: [:late, stall: 5_000, pause: 5_000]
   test "a retry for so long", do: budget(:looks)
 
-  @tag timeout: 600_000
+  @tag timeout: :infinity
   test "a limit of calls", do: limiter(:monotonic)
 
-  @tag timeout: 600_000
+  @tag timeout: :infinity
   test "a cache", do: cache(:monotonic)
 
-  @tag timeout: 600_000
+  @tag timeout: :infinity
   @tag faults: [:silent, :late]
   test "a timeout and its event", do: connection(:tolerant)
 
@@ -33,6 +33,7 @@ defmodule FaultsTest do
         {"a timeout that races with its event", {:connection, :strict}, [:silent, :late]}
       ] do
     @tag seeds: 0
+    @tag timeout: 20_000
     @tag wrong: wrong
     test "#{name} is found", %{wrong: {name, how}} do
       test = fn _clock -> apply(__MODULE__, name, [how]) end

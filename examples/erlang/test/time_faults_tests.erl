@@ -6,24 +6,37 @@
 -define(HOUR, 3600000).
 -define(MINUTE, 60000).
 
-%% The environment may ask for more.
-seeds() ->
-    list_to_integer(os:getenv("EXAMPLE_SEEDS", "50")).
+%% The environment may ask for more, and for processes that keep schedulers busy beside: EXAMPLE_SEEDS=2000 EXAMPLE_BUSY=4.
+asked(Name, Default) ->
+    list_to_integer(os:getenv(Name, Default)).
 
 faults_test_() ->
-    {setup, fun() -> ok = ertime:transform(otp) end, fun(_) -> ok end, [
-        both("a lease", [silent], monotonic, system, fun lease/1),
-        both("a retry for so long", [{stall, 5000}, {pause, 5000}, late], looks, sums, fun budget/1),
-        both("a limit of calls", [silent], monotonic, os, fun limiter/1),
-        both("a cache", [silent], monotonic, system, fun cache/1),
-        both("a timeout and its event", [silent, late], tolerant, strict, fun connection/1)
+    {setup, fun set_up/0, fun(Busy) -> [exit(Pid, kill) || Pid <- Busy] end, [
+        {inparallel, [{Name, {timeout, 36000, fun() -> passes(Faults, Test(Right)) end}} || {Name, Faults, Right, _, Test} <- tests()]},
+        [{Name, {timeout, 20, fun() -> found(Faults, Test(Wrong)) end}} || {Name, Faults, _, Wrong, Test} <- tests()]
     ]}.
 
-both(Name, Faults, Right, Wrong, Test) ->
-    {Name, [
-        {timeout, 600, fun() -> ok = ertime:seeds(seeds(), #{faults => Faults}, Test(Right)) end},
-        {timeout, 60, fun() -> found(Faults, Test(Wrong)) end}
-    ]}.
+set_up() ->
+    ok = ertime:transform(otp),
+    [spawn(fun() -> ertime:use(real), burn() end) || _ <- lists:seq(1, asked("EXAMPLE_BUSY", "0"))].
+
+burn() ->
+    lists:seq(1, 1000),
+    burn().
+
+%% Its name, the faults, the right version, the wrong one, and the test.
+tests() ->
+    [
+        {"a lease", [silent], monotonic, system, fun lease/1},
+        {"a retry for so long", [{stall, 5000}, {pause, 5000}, late], looks, sums, fun budget/1},
+        {"a limit of calls", [silent], monotonic, os, fun limiter/1},
+        {"a cache", [silent], monotonic, system, fun cache/1},
+        {"a timeout and its event", [silent, late], tolerant, strict, fun connection/1}
+    ].
+
+%% However long that takes beside them.
+passes(Faults, Test) ->
+    ok = ertime:seeds(asked("EXAMPLE_SEEDS", "50"), #{faults => Faults, limit => infinity}, Test).
 
 %% Within 200 seeds, and made to one fault or two with which it fails again.
 found(Faults, Test) ->

@@ -214,6 +214,7 @@ defmodule Ertime.Case do
   # done on its exit.
   defp once(module, context, body, under) do
     parent = self()
+    before = :ertime_test.before()
 
     {pid, monitor} =
       spawn_monitor(fn ->
@@ -238,7 +239,7 @@ defmodule Ertime.Case do
 
     done = :ertime_test.done(driver)
     left = ExUnit.OnExitHandler.run(pid, 60_000)
-    if clock != :none, do: :ertime_test.clear(clock, pid, under[:output])
+    if clock != :none, do: :ertime_test.clear(clock, pid, under[:output], before)
     result(raised, left, done)
   end
 

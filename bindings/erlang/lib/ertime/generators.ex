@@ -11,6 +11,7 @@ defmodule Ertime.Generators do
   """
 
   @doc "A generator of schedules, with the options of `:ertime_proper.schedule/1`."
+  @spec schedule(keyword()) :: term()
   def schedule(options \\ []) do
     unless Code.ensure_loaded?(StreamData), do: raise(ArgumentError, "StreamData is not there: add it to the dependencies of the tests")
     {kinds, over} = :ertime_proper.kinds(Map.new(options))

@@ -1,26 +1,30 @@
-//! The first row that is due, and how many rows there are at most.
+//! The first row that is due, the one that tells when, and how many rows there are at most.
 ghost use Rattle.std.specs.Prelude.{◌≡◌};
 
 use super::WheelPart;
-use ert_wheel::HeldRow;
+use ert_defs::TimerRef;
+use ert_wheel::FirstDue;
 
 impl WheelPart {
     ghost use Rattle.std.specs.Bool.{OnTrue};
     ghost use Rattle.ert_timers.specs.Expiring.{AreDue};
     ghost use Rattle.std.specs.Option.{is_some};
-    ghost use Rattle.std.specs.Prelude.{◌≡◌, ◌≤◌, MatchOption, [], count_by, min};
+    ghost use Rattle.std.specs.Prelude.{◌≡◌, ◌<◌, ◌≤◌, IfNone, IfSome, MatchOption, Some, [], count_by, length, min};
+    ghost use Rattle.ert_timers.specs.NextDue.{IsNextHeld};
+    ghost use Rattle.ert_timers.specs.Parts.{last_timer};
     ghost use Rattle.ert_timers.specs.Trying.{come_to};
-    ghost use Rattle.ert_wheel.specs.FirstDue.{NoRowDue, IsFirstRowDue};
-    ghost use Rattle.ert_wheel.specs.Rows.{row_told};
+    ghost use Rattle.ert_wheel.specs.NextDue.{IsNextDue, TellsNext};
+    ghost use Rattle.ert_wheel.specs.FirstDue.{IsFirstTold};
 
-    /// The first row, by deadline and then by start, where it is due at `to`; None where none is. The time of the wheel
-    /// goes on with it.
-    pub(crate) fn first_row_due(&mut self, to: u64) -> Option<HeldRow>
+    /// The first row that is due at `to`, by deadline and then by start, where so many rows at most may move to lower levels of
+    /// the wheel; they are counted down. The time of the wheel goes on with it, and past `to` where no row is due.
+    pub(crate) fn first_row_due(&mut self, to: u64, moves: &mut u32) -> FirstDue
+        requires { to ≤ 8796093022207 }
         ensures part { self.new ≡ come_to self.old self.new.passed }
         ensures time { self.old.passed ≤ self.new.passed }
-        ensures row { MatchOption result (NoRowDue self.old.keys to) (λ row. IsFirstRowDue self.old.keys to (row_told self.old.keys row)) }
+        ensures first { IsFirstTold self.old.keys self.new.passed to result }
     {
-        self.wheel.first_due(to)
+        self.wheel.first_due(to, moves)
     }
 
     /// Whether no row is due at `to`, as far as the buckets tell: where it is false, one may be.
@@ -29,6 +33,37 @@ impl WheelPart {
         ensures { OnTrue result (AreDue self.now to []) }
     {
         !self.wheel.may_be_due(to)
+    }
+
+    /// How early the next row may be due, with the slot of the row that tells it, where both are kept.
+    #[inline]
+    pub(crate) fn kept_due(&self) -> Option<(u64, u32)>
+        ensures held { IfSome result (λ kept. IsNextHeld self.now (Some kept.0)) }
+        ensures tells { IfSome result (λ kept. TellsNext self.now.keys self.now.passed kept.0 kept.1) }
+    {
+        self.wheel.kept_due()
+    }
+
+    /// The slot of a row that tells when the next one is due. None only where the time is before the first that wasn't passed.
+    #[inline]
+    pub(crate) fn teller(&self, time: u64) -> Option<u32>
+        requires { IsNextDue self.now.keys self.now.passed time }
+        ensures tells { IfSome result (TellsNext self.now.keys self.now.passed time) }
+        ensures late { IfNone result (time < self.now.passed) }
+    {
+        self.wheel.teller(time)
+    }
+
+    /// The last timer of a slot.
+    pub(crate) fn last_timer(&self, slot: u32) -> TimerRef
+        requires { slot < length self.now.slots }
+        ensures { result ≡ last_timer self.now.number self.now.slots slot }
+    {
+        TimerRef {
+            wheel: self.number,
+            slot,
+            generation: self.kept_of(slot).generation(),
+        }
     }
 
     /// So many rows, or all where there are fewer.

@@ -2,21 +2,24 @@
 ghost use Rattle.std.specs.Prelude.{◌≡◌};
 
 use super::Wheel;
+use crate::falling::{fall_before, fall_on};
 use crate::oldest::oldest_due;
-use crate::row::HeldRow;
-use crate::windows::bucket_of_window;
+use crate::row::{FirstDue, HeldRow, LAST};
+use crate::windows::{begin_of, bucket_of_window, window_on};
 
 impl<T: Copy> Wheel<T> {
-    ghost use Rattle.std.specs.Prelude.{◌≡◌, ◌≤◌, MatchBool, MatchOption, max};
-    ghost use Rattle.ert_wheel.specs.FirstDue.{NoRowDue, IsFirstRowDue, IsReached, MayBeDue};
+    ghost use Rattle.std.specs.Bool.{OnTrue};
+    ghost use Rattle.std.specs.Prelude.{◌≡◌, ◌+◌, ◌-◌, ◌<◌, ◌≤◌, ℕ, IfSome, MatchBool, MatchOption, max, min};
+    ghost use Rattle.ert_wheel.specs.FirstDue.{NoRowDue, HasToMove, IsFirstRowDue, IsFirstTold, IsNextStop, IsReached, MayBeDue, SomeRowDue};
     ghost use Rattle.ert_wheel.specs.NextDue.{NoneBefore};
-    ghost use Rattle.ert_wheel.specs.Rows.{row_told};
+    ghost use Rattle.ert_wheel.specs.Rows.{key_in, row_told};
+    ghost use Rattle.ert_wheel.specs.declared.row.TheConstants.{LAST};
 
     /// Whether a row may be due at `to`: one is due by then or by the next time, or a window begins by then that has one. False
     /// comes only where none is due by then.
     ///
-    /// Before the time that `next_due` told last it is one comparison. Within the next time's window of 512 milliseconds it
-    /// looks at a few words, and at no row; else it looks for the next due row.
+    /// Before the time that `next_due` told last it is one comparison, and up to the next time one look at a bucket. Within the
+    /// next time's window of 512 milliseconds it looks at a few words, and at no row; else it looks for the next due row.
     #[inline]
     pub fn may_be_due(&self, to: u64) -> bool
         ensures { MatchBool result (MayBeDue self.now.keys self.now.passed to) (NoRowDue self.now.keys to) }
@@ -24,11 +27,23 @@ impl<T: Copy> Wheel<T> {
         if to < self.floor {
             return false;
         }
+        if to <= self.next_time {
+            return self.is_any_due();
+        }
         if to >> 9 > self.next_time >> 9 {
             return self.begins_by(to);
         }
-        let end = to.max(self.next_time) + 1;
+        let end = to + 1;
         self.buckets.first_window(0, self.next_time, end) < end
+    }
+
+    /// Whether a row is late, or due at the next time.
+    #[inline]
+    fn is_any_due(&self) -> bool
+        ensures { MatchBool result (SomeRowDue self.now.keys self.now.passed) (NoRowDue self.now.keys self.now.passed) }
+    {
+        let home = bucket_of_window(0, self.next_time);
+        self.buckets.newest(home).is_some()
     }
 
     /// Whether a row may be due at `to`, where that is in a later window of the lowest level than the next time.
@@ -43,30 +58,73 @@ impl<T: Copy> Wheel<T> {
         }
     }
 
-    /// The first row, by deadline and then by order, where its deadline is at most `to`; None exactly where no row is due
-    /// by then. The row stays in the wheel.
+    /// The first row, by deadline and then by order, where its deadline is at most `to`. It stays in the wheel. Where no row is
+    /// due by then, time passes `to`.
     ///
-    /// Time moves on to its deadline, where that is later than the next time. Where this comes into another window of the
-    /// lowest level, the rows of one bucket move to levels below; all of them, as in `pass`.
+    /// Time moves on to the row's deadline, where that is later than the next time. Before it comes into another window of a
+    /// level the rows of the window's bucket fall, so many at most as `moves` has, which are counted down. Where more are
+    /// left time stands in the last millisecond before the window: the next call goes on there. Each row falls once from each
+    /// level at most.
     ///
-    /// Else the work is constant, but where rows were put in late since time moved on. Then it looks at the rows of the next
+    /// The other work is constant, but where rows were put in late since time moved on. Then it looks at the rows of the next
     /// time's bucket that are older than the first, and at all of them where a row is the first with its deadline.
-    pub fn first_due(&mut self, to: u64) -> Option<HeldRow>
-        ensures first { MatchOption result (NoRowDue self.old.keys to) (λ row. IsFirstRowDue self.old.keys to (row_told self.old.keys row)) }
+    pub fn first_due(&mut self, to: u64, moves: &mut u32) -> FirstDue
+        requires { to < LAST }
+        ensures first { IsFirstTold self.old.keys self.new.passed to result }
         ensures keys { self.new.keys ≡ self.old.keys }
         ensures owners { self.new.owners ≡ self.old.owners }
         ensures values { self.new.values ≡ self.old.values }
         ensures passed { self.old.passed ≤ self.new.passed }
-        ensures no_further { self.new.passed ≤ max self.old.passed to }
+        ensures no_further { self.new.passed ≤ max self.old.passed (to + 1) }
+        ensures fewer { moves.new ≤ moves.old }
     {
         if let Some(row) = self.first_at(self.floor) {
-            if row.deadline > to {
+            if row.deadline <= to {
+                return FirstDue::Row(row);
+            }
+        }
+        match self.reach(to, moves) {
+            Some(stop) => self.first_by(stop, to),
+            None => FirstDue::Moving,
+        }
+    }
+
+    /// Lets time come to the least deadline, where that is at most `to`, and else past `to`. Tells that time; None where more
+    /// rows have to fall before than may.
+    fn reach(&mut self, to: u64, moves: &mut u32) -> Option<u64>
+        requires { to < LAST }
+        ensures reached { MatchOption result (HasToMove self.old.keys self.new.passed to) (IsReached self.old.keys self.new.passed to) }
+        ensures keys { self.new.keys ≡ self.old.keys }
+        ensures owners { self.new.owners ≡ self.old.owners }
+        ensures values { self.new.values ≡ self.old.values }
+        ensures passed { self.old.passed ≤ self.new.passed }
+        ensures no_further { self.new.passed ≤ max self.old.passed (to + 1) }
+        ensures fewer { moves.new ≤ moves.old }
+    {
+        let mut stop = self.next_stop(to);
+        while stop > self.next_time {
+            if !self.come_to(stop, moves) {
                 return None;
             }
-            return Some(row);
+            stop = self.next_stop(to);
         }
-        let least = self.come_to(to)?;
-        self.first_at(least)
+        Some(stop)
+    }
+
+    /// The first row that is due by `to`, where time has come to its deadline, or past `to`.
+    fn first_by(&mut self, reached: u64, to: u64) -> FirstDue
+        requires { IsReached self.old.keys self.old.passed to reached }
+        ensures first { IsFirstTold self.old.keys self.new.passed to result }
+        ensures same { self.new ≡ self.old }
+    {
+        if reached > to {
+            return FirstDue::Nothing;
+        }
+        self.floor = self.floor.max(reached);
+        match self.first_at(reached) {
+            Some(row) => FirstDue::Row(row),
+            None => FirstDue::Nothing,
+        }
     }
 
     /// The first row where it is due at a time before which none is; None where none is due at that time, if this is no later
@@ -84,25 +142,93 @@ impl<T: Copy> Wheel<T> {
         )
     }
 
-    /// Lets time come to the least deadline, where that is at most `to`, and tells it; None exactly where no row is due by
-    /// then.
-    fn come_to(&mut self, to: u64) -> Option<u64>
-        ensures reached { MatchOption result (NoRowDue self.old.keys to) (IsReached self.old.keys to self.new.passed) }
+    /// Where time may come to next: how early a row may be due by `to`, or the millisecond after it.
+    fn next_stop(&self, to: u64) -> u64
+        requires { to < LAST }
+        ensures { IsNextStop self.now.keys self.now.passed to result }
+    {
+        match self.earliest() {
+            Some(time) => time.min(to + 1),
+            None => to + 1,
+        }
+    }
+
+    /// Lets time come to a later one, before which no row is due, but no more rows fall than may. False where time stands
+    /// before the begin of a window that has a row.
+    fn come_to(&mut self, time: u64, moves: &mut u32) -> bool
+        requires before { NoneBefore self.old.keys time }
+        requires later { self.old.passed < time }
+        requires most { time ≤ LAST }
+        ensures come { MatchBool result (self.new.passed ≡ time) (HasToMove self.old.keys self.new.passed (time - 1)) }
         ensures keys { self.new.keys ≡ self.old.keys }
         ensures owners { self.new.owners ≡ self.old.owners }
         ensures values { self.new.values ≡ self.old.values }
         ensures passed { self.old.passed ≤ self.new.passed }
-        ensures no_further { self.new.passed ≤ max self.old.passed to }
+        ensures no_further { self.new.passed ≤ time }
+        ensures fewer { moves.new ≤ moves.old }
     {
-        let mut time = self.earliest()?;
-        while time > self.next_time && time <= to {
-            self.pass(time - 1);
-            time = self.earliest()?;
+        let mut level = if time >> 9 == self.next_time >> 9 {
+            0
+        } else {
+            4
+        };
+        while level > 0 {
+            if self.is_before(level, time, moves) {
+                return false;
+            }
+            level -= 1;
         }
-        if time > to {
-            return None;
+        self.pass_slowly(time - 1, moves);
+        true
+    }
+
+    /// Lets time come to the last millisecond before the window of a level that has a later time, where it isn't in that
+    /// window, and rows of the window fall, no more than may. Whether some are left.
+    fn is_before(&mut self, level: u32, time: u64, moves: &mut u32) -> bool
+        requires level { 1 ≤ level }
+        requires highest { level ≤ 4 }
+        requires before { NoneBefore self.old.keys time }
+        requires later { self.old.passed < time }
+        requires most { time ≤ LAST }
+        ensures left { OnTrue result (HasToMove self.old.keys self.new.passed (time - 1)) }
+        ensures keys { self.new.keys ≡ self.old.keys }
+        ensures owners { self.new.owners ≡ self.old.owners }
+        ensures values { self.new.values ≡ self.old.values }
+        ensures passed { self.old.passed ≤ self.new.passed }
+        ensures no_further { self.new.passed < time }
+        ensures fewer { moves.new ≤ moves.old }
+    {
+        let window = window_on(level, time);
+        if window == window_on(level, self.next_time) {
+            return false;
         }
-        self.floor = self.floor.max(time);
-        Some(time)
+        let begin = begin_of(level, window);
+        let mut none = 0;
+        self.pass_slowly(begin - 2, &mut none);
+        fall_before(&mut self.buckets, &self.kept, self.next_time, level, moves)
+    }
+
+    /// Passes a time as `pass` does, but no more rows fall ahead of time than may.
+    fn pass_slowly(&mut self, to: u64, moves: &mut u32)
+        requires { (slot : ℕ) → IfSome (key_in self.old.keys slot) (λ key. to < key.deadline) }
+        ensures keys { self.new.keys ≡ self.old.keys }
+        ensures owners { self.new.owners ≡ self.old.owners }
+        ensures values { self.new.values ≡ self.old.values }
+        ensures passed { self.new.passed ≡ max self.old.passed (min (to + 1) LAST) }
+        ensures fewer { moves.new ≤ moves.old }
+    {
+        let after = to.min(LAST - 1) + 1;
+        let was = self.next_time;
+        let next_time = was.max(after);
+        self.fallen = fall_on(
+            &mut self.buckets,
+            &self.kept,
+            was,
+            next_time,
+            self.fallen,
+            moves,
+        );
+        self.next_time = next_time;
+        self.floor = self.floor.max(after);
     }
 }

@@ -2,15 +2,15 @@
 use super::Wheel;
 use crate::levels::early_above;
 use crate::row::NEVER;
-use crate::telling::{find_teller, tells};
+use crate::telling::{find_teller, is_told_by, tells};
 use crate::walk::least_in;
 use crate::windows::{bucket_of_window, windows_end};
 
 impl<T: Copy> Wheel<T> {
     ghost use Rattle.std.specs.Bool.{OnTrue};
-    ghost use Rattle.std.specs.Prelude.{◌≡◌, ◌≤◌, ℕ, MatchOption};
+    ghost use Rattle.std.specs.Prelude.{◌≡◌, ◌↔◌, ◌<◌, ◌≤◌, ℕ, IfNone, IfSome, IsSome, IsTrue, MatchOption};
     ghost use Rattle.ert_wheel.specs.FirstDue.{SomeRowDue};
-    ghost use Rattle.ert_wheel.specs.NextDue.{NoRow, NoneBefore, IsNextDue};
+    ghost use Rattle.ert_wheel.specs.NextDue.{NoRow, NoneBefore, IsNextDue, TellsNext};
 
     /// How early the next row may be due, in milliseconds; None exactly where there is no row.
     ///
@@ -52,6 +52,83 @@ impl<T: Copy> Wheel<T> {
         }
         match self.row(self.teller) {
             Some(row) => tells(row.deadline, time),
+            None => false,
+        }
+    }
+
+    /// The slot of a row that tells when the next one is due: it is due at that time, or in a window that begins then. None
+    /// only where the time is before the first that wasn't passed, as where a row was put in late.
+    ///
+    /// After `next_due` it is the slot that is kept: a few comparisons. Only where that has no such row does it go over the
+    /// slots.
+    #[inline]
+    pub fn teller(&self, time: u64) -> Option<u32>
+        requires { IsNextDue self.now.keys self.now.passed time }
+        ensures tells { IfSome result (TellsNext self.now.keys self.now.passed time) }
+        ensures late { IfNone result (time < self.now.passed) }
+    {
+        if self.tells_next(self.teller, time) {
+            return Some(self.teller);
+        }
+        if time < self.next_time {
+            return None;
+        }
+        self.find_told(time)
+    }
+
+    /// The answer of `next_due` that is kept, with the slot whose row tells it; None where it doesn't stand any more, or no row
+    /// is known to tell it.
+    #[inline]
+    pub fn kept_due(&self) -> Option<(u64, u32)>
+        ensures due { IfSome result (λ kept. IsNextDue self.now.keys self.now.passed kept.0) }
+        ensures tells { IfSome result (λ kept. TellsNext self.now.keys self.now.passed kept.0 kept.1) }
+    {
+        if self.tells_next(self.teller, self.floor) {
+            Some((self.floor, self.teller))
+        } else {
+            None
+        }
+    }
+
+    /// Whether a slot is written whose row tells a time, as far as it is seen at once.
+    #[inline]
+    fn tells_next(&self, slot: u32, time: u64) -> bool
+        ensures { OnTrue result (TellsNext self.now.keys self.now.passed time slot) }
+    {
+        if slot as usize >= self.kept.len() {
+            return false;
+        }
+        match self.row(slot) {
+            Some(row) => {
+                row.deadline == time || time > self.next_time && tells(row.deadline, time)
+            }
+            None => false,
+        }
+    }
+
+    /// The least slot whose row tells when the next one is due.
+    #[cold]
+    #[inline(never)]
+    fn find_told(&self, time: u64) -> Option<u32>
+        requires { IsNextDue self.now.keys self.now.passed time }
+        ensures tells { IfSome result (TellsNext self.now.keys self.now.passed time) }
+        ensures found { IsSome result }
+    {
+        for slot in 0..self.kept.len() as u32 {
+            if self.is_teller(slot, time) {
+                return Some(slot);
+            }
+        }
+        None
+    }
+
+    /// Whether the row of a slot tells a time.
+    fn is_teller(&self, slot: u32, time: u64) -> bool
+        requires { slot < self.now.owners.written }
+        ensures { IsTrue result ↔ TellsNext self.now.keys self.now.passed time slot }
+    {
+        match self.row(slot) {
+            Some(row) => is_told_by(self.next_time, time, row.deadline),
             None => false,
         }
     }

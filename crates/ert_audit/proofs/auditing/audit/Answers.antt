@@ -8,9 +8,7 @@ returns-in-Ok-verdict_on-clause-judged g c =
     let verdict = c.in-Ok-verdict_on.verdict in
     judges verdict c.tell.result
     (record {
-      taken = c.in-Ok.ensures.bytes;
-      short = c.in-Ok.ensures.short;
-      end = c.in-Ok.ensures.end;
+      takes = record { reads = c.in-Ok.ensures.bytes; short = c.in-Ok.ensures.short; ended = c.in-Ok.ensures.ended; none_left = c.in-Ok.ensures.none_left };
       is = subst (λ (t : List ℕ). HasVerdict t verdict) c.deref.ensures.value c.in-Ok-verdict_on.ensures;
     })
     c.tell.ensures.which c.tell.ensures.told
@@ -22,9 +20,7 @@ returns-in-Ok-verdict_on-clause-stops g c = λ _.
       text = c.in-Ok.text.items;
       verdict = verdict;
       has = record {
-        taken = c.in-Ok.ensures.bytes;
-        short = c.in-Ok.ensures.short;
-        end = c.in-Ok.ensures.end;
+        takes = record { reads = c.in-Ok.ensures.bytes; short = c.in-Ok.ensures.short; ended = c.in-Ok.ensures.ended; none_left = c.in-Ok.ensures.none_left };
         is = subst (λ (t : List ℕ). HasVerdict t verdict) c.deref.ensures.value c.in-Ok-verdict_on.ensures;
       };
       writes = c.tell.ensures.front;
@@ -33,5 +29,5 @@ returns-in-Ok-verdict_on-clause-stops g c = λ _.
 pub returns-in-Ok-verdict_on-clause-complete : goal.returns-in-Ok-verdict_on-clause-complete
 returns-in-Ok-verdict_on-clause-complete g c = λ read wrote text verdict all short has.
     told_so c.deref.result.now text c.in-Ok-verdict_on.verdict verdict c.tell.result c.one_verdict.ensures
-    (c.deref.ensures.value ∙ all_read _ _ c.in-Ok.text.items text c.in-Ok.ensures.bytes c.in-Ok.ensures.end all)
+    (c.deref.ensures.value ∙ all_read _ _ c.in-Ok.text.items text c.in-Ok.ensures.bytes c.in-Ok.ensures.none_left all)
     c.in-Ok-verdict_on.ensures has (λ fault. wrote (c.tell.ensures.cause fault)) c.tell.ensures.which

@@ -6,6 +6,12 @@ pub returns : goal.returns
 returns c = made_through _ _ _ _ _ c.lend.result.now c.next_due-answer.new.self (c.as_place.ensures.value ∙ c.lend.ensures.value) refl
     (record {
       answer = c.next_due-answer.result;
-      made = record { held = c.next_due-answer.ensures.held; armed = c.next_due-answer.ensures.armed; unchanged = c.next_due-answer.ensures.same };
+      made = record {
+        makes = c.next_due-answer.ensures.call;
+        held = c.next_due-answer.ensures.held;
+        armed = c.next_due-answer.ensures.armed;
+        found = c.next_due-answer.ensures.found;
+        time = c.next_due-answer.ensures.time;
+      };
       told = search rules;
     })

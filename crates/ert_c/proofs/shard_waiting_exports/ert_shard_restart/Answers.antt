@@ -25,6 +25,6 @@ returns c = made_through _ _ _ _ _ c.lend-own.result.now c.restart-answer.new.se
       answer = c.restart-answer.result;
       made = subst (λ (s : Start). ShardRestartsBy (timer_from_c c.args.timer.now) s c.restart-answer.result c.lend-own.result.now c.restart-answer.new.self) c.read-2.ensures
           (subst (λ (t : TimerRef). ShardRestartsBy t c.read-2.result c.restart-answer.result c.lend-own.result.now c.restart-answer.new.self) c.read.ensures
-          (record { goes = c.restart-answer.ensures.call; forgotten = c.restart-answer.ensures.forgotten }));
+          (record { goes = c.restart-answer.ensures.call; forgotten = c.restart-answer.ensures.forgotten; full = c.restart-answer.ensures.full; frees = c.restart-answer.ensures.frees }));
       told = search rules;
     }))

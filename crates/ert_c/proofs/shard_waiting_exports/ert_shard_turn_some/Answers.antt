@@ -6,6 +6,6 @@ pub returns : goal.returns
 returns c = made_through _ _ _ _ _ c.lend.result.now c.turn_some-answer.new.self (c.as_place.ensures.value ∙ c.lend.ensures.value) refl
     (record {
       answer = c.turn_some-answer.result;
-      made = record { steps = c.turn_some-answer.ensures.call; passed = c.turn_some-answer.ensures.passed; done = c.turn_some-answer.ensures.done };
+      made = record { steps = c.turn_some-answer.ensures.call; left = c.turn_some-answer.ensures.left; done = c.turn_some-answer.ensures.done };
       told = search rules;
     })

@@ -14,7 +14,7 @@ returns c =
         answer = c.restart-answer.result;
         made = subst (λ (s : Start). RestartsBy (timer_from_c c.args.timer.now) s c.restart-answer.result c.lend-service.result.now c.restart-answer.new.self) c.read-2.ensures
             (subst (λ (t : TimerRef). RestartsBy t c.read-2.result c.restart-answer.result c.lend-service.result.now c.restart-answer.new.self) c.read.ensures
-            (record { makes = c.restart-answer.ensures.call; time = c.restart-answer.ensures.time }));
+            (record { makes = c.restart-answer.ensures.call; time = c.restart-answer.ensures.time; forgotten = c.restart-answer.ensures.forgotten; full = c.restart-answer.ensures.full; frees = c.restart-answer.ensures.frees }));
         told = search rules;
       };
       above = λ h. absurd (omega (arith, c.if-process-settings.false, ap (λ (g : Settings). g.processes) c.settings.ensures.value, h));

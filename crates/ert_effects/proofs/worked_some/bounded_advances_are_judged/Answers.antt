@@ -1,4 +1,4 @@
-use Rattle.std.proofs.Common.{◌≡◌, ◌≤◌, pos, true, List, [], ◌∷◌, ◌++◌, length, None, refl, arith, lit≤}
+use Rattle.std.proofs.Common.{◌≡◌, ◌≤◌, pos, List, [], ◌∷◌, ◌++◌, length, None, refl, arith, lit≤}
 use Rattle.ert_defs.specs.Entries.{look_entry}
 use Rattle.ert_defs.specs.States.{state}
 use Rattle.ert_defs.specs.Timers.{Row}
@@ -8,6 +8,7 @@ use Rattle.ert_defs.specs.declared.entry.Entry.{Entry}
 use Rattle.ert_defs.specs.declared.timer.Kind.TheVariants.{Wrapped}
 use Rattle.ert_effects.specs.SomeCalls.{end_entries}
 use Rattle.ert_effects.specs.WheelCalls.{Try, hits, expiry_entries, IsDueBy}
+use Rattle.ert_effects.specs.declared.answers.Left.TheVariants.{Due}
 use Rattle.ert_effects.specs.Worked.{one, asked_at_once}
 use Rattle.ert_effects.proofs.worked_some.bounded_advances_are_judged.Goals as goal
 
@@ -23,6 +24,7 @@ pub returns-clause-ended : goal.returns-clause-ended
 returns-clause-ended c =
     record {
       now = pos 1000000;
+      told = refl;
       tries = (record { timer = timer; missed = None }) ∷ [];
       expired = refl;
       settled = (tt, tt);
@@ -33,7 +35,7 @@ returns-clause-ended c =
     }
 
 -- a look alone has no try
-none_tried : (look other : Entry) (tries : List Try) → look ∷ [] ≡ other ∷ (expiry_entries 0 tries ++ end_entries 0 1 true) → length tries ≡ 1 → ⊥
+none_tried : (look other : Entry) (tries : List Try) → look ∷ [] ≡ other ∷ (expiry_entries 0 tries ++ end_entries 0 1 Due) → length tries ≡ 1 → ⊥
 none_tried look other [] same one = absurd (omega (arith, one))
 none_tried look other (t ∷ tries) same one = absurd cc
 
@@ -47,3 +49,17 @@ no_hit (t ∷ tries) hit few = absurd (omega (arith, few))
 
 pub returns-clause-too_many : goal.returns-clause-too_many
 returns-clause-too_many c = λ is. no_hit is.tries is.expired is.tried
+
+pub returns-clause-moving : goal.returns-clause-moving
+returns-clause-moving c =
+    record {
+      now = pos 1000000;
+      told = refl;
+      tries = [];
+      expired = refl;
+      settled = tt;
+      due = tt;
+      once = tt;
+      tried = lit≤ tt;
+      entries = refl;
+    }

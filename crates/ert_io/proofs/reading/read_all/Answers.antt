@@ -1,7 +1,7 @@
 use Rattle.std.proofs.Common.{◌≡◌, ◌≤◌, ◌∙◌, ap, sym, length, take, arith, Err}
 use Rattle.std.proofs.lemmas.List.{length-take}
 use Rattle.std.proofs.lemmas.Result.{err_from_is_err_and}
-use Rattle.ert_io.proofs.SeveralReads.{takes_more}
+use Rattle.ert_io.proofs.SeveralReads.{handed_more}
 use Rattle.ert_io.specs.declared.reading.ReadErr.{ReadErr}
 use Rattle.ert_io.specs.declared.reading.ReadErr.TheVariants.{NoMemory}
 use Rattle.ert_io.proofs.reading.read_all.Goals as goal
@@ -13,4 +13,4 @@ returns-in_err-append_piece-clause-memory g c = λ how.
     let same : p.0 ≡ NoMemory = cc (is) in
     let wanted : length (take c.min-wanted.result c.pieces.piece) ≤ c.min-wanted.result = omega (arith, length-take c.min-wanted.result c.pieces.piece) in
     let short = c.pieces.invariant.short in
-    takes_more _ _ c.pieces.bytes.items _ _ _ c.pieces.invariant.taken (c.in_err-append_piece.ensures.lost (ap (λ (e : ReadErr). Err e) (sym p.2 ∙ same))) (omega arith)
+    handed_more _ _ c.pieces.bytes.items _ _ _ c.pieces.invariant.gives (c.in_err-append_piece.ensures.lost (ap (λ (e : ReadErr). Err e) (sym p.2 ∙ same))) (omega arith)

@@ -1,5 +1,7 @@
-use Rattle.ert_program.proofs.InMemory.{ends_in_memory}
+use Rattle.std.proofs.Common.{refl}
+use Rattle.ert_program.proofs.InMemory.{ends_in_memory, never_rose}
 use Rattle.ert_program.proofs.in_memory.run_in_memory.Goals as goal
 
 pub returns : goal.returns
-returns c = λ plan short is. ends_in_memory _ _ _ _ _ _ c.run.result plan c.one_verdict.ensures.one_scenario c.run.ensures.ends short is
+returns c = λ plan short is.
+    ends_in_memory _ _ _ _ _ c.run.result plan c.one_verdict.ensures.one_scenario c.run.ensures.ends refl never_rose never_rose short is

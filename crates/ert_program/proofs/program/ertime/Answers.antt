@@ -24,8 +24,8 @@ returns-in-Some-Live-clause-live g c = λ n e.
     let is : command_asked c.args.words.now ≡ Some (Live c.in-Some-Live.n) =
     found_is (map string_bytes c.args.words.now) c.in-Ok.command c.in-Some-Live.field-0 (Live c.in-Some-Live.n)
     c.in-Ok.ensures c.in-Some-Live.is (rw c.in-Some-Live.is at c.in-Some-Live.field-0-is) in
-    subst (λ (k : ℕ). LiveEnds k (clock_stream_of g.C.OsClock.left g.C.OsClock.faults c.args.clock.now)
-    (clock_stream_of g.C.OsClock.left g.C.OsClock.faults c.live.new.clock)
+    subst (λ (k : ℕ). LiveEnds k (clock_stream_of g.C.OsClock.given g.C.OsClock.left g.C.OsClock.faults c.args.clock.now)
+    (clock_stream_of g.C.OsClock.given g.C.OsClock.left g.C.OsClock.faults c.live.new.clock)
     (output_of g.O.Sink.taken g.O.Sink.room g.O.Sink.faults c.args.output.now)
     (output_of g.O.Sink.taken g.O.Sink.room g.O.Sink.faults c.live.new.output) c.live.result)
     (same_live c.in-Some-Live.n n (sym is ∙ e)) c.live.ensures.ends

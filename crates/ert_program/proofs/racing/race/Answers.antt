@@ -1,9 +1,10 @@
 use Rattle.std.proofs.Common.{true, subst, sym}
 use Rattle.ert_race.proofs.Listed.{wanted_of}
+use Rattle.ert_io.specs.Reads.{Input, input_of}
 use Rattle.ert_scenario.specs.Scenarios.{plan_of}
 use Rattle.ert_program.specs.Inputs.{InputEnds}
 use Rattle.ert_program.specs.Races.{RaceOf}
-use Rattle.ert_program.specs.Streams.{Input, Output, input_of, output_of}
+use Rattle.ert_program.specs.Streams.{Output, output_of}
 use Rattle.ert_program.specs.declared.ending.Ended.{Ended}
 use Rattle.ert_program.proofs.Ends.{unread_ends, ran_ends}
 use Rattle.ert_program.proofs.racing.race.Goals as goal
@@ -26,8 +27,8 @@ race_scenario-requires-clause-race g c = λ κs bounds.
 
 pub returns-in-Ok-clause-ends : goal.returns-in-Ok-clause-ends
 returns-in-Ok-clause-ends g c =
-    let i : Input = input_of g.I.Source.left g.I.Source.faults c.args.input.now in
-    let j : Input = input_of g.I.Source.left g.I.Source.faults c.read_input.new.input in
+    let i : Input = input_of g.I.Source.given g.I.Source.ended g.I.Source.left g.I.Source.faults c.args.input.now in
+    let j : Input = input_of g.I.Source.given g.I.Source.ended g.I.Source.left g.I.Source.faults c.read_input.new.input in
     let o : Output = output_of g.O.Sink.taken g.O.Sink.room g.O.Sink.faults c.args.output.now in
     let p : Output = output_of g.O.Sink.taken g.O.Sink.room g.O.Sink.faults c.race_scenario.new.output in
     subst (λ (e : Ended). InputEnds true RaceOf i j o p e) (sym c.of_run.ensures)

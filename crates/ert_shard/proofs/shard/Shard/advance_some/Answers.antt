@@ -43,7 +43,7 @@ invariant_of-self-2 c =
     let s = share_of b.number b.from b.to in
     let parts = shard_parts_of b.wheel b.inbox b.sched b.mails.items b.list in
     let x : SchedPart = record { wheel = b.sched.wheel; hand = b.sched.hand; expired = c.advance_some.new.expired } in
-    (did_at c.deref.ensures (some_ok c.args.self.now c.deref.result.now b.pass c.advance_some.new.pass s c.args.most c.in_ok-to.to c.len.result c.len-before.result c.in_ok-to.due parts
+    (did_at c.deref.ensures (some_ok c.args.self.now c.deref.result.now b.pass c.advance_some.new.pass s c.args.most c.in_ok-to.to c.len.result c.len-before.result c.in_ok-to.left parts
     c.advance_some.new.self x (has_at c.deref.ensures c.self.view_is c.self.invariant) c.advance_some.ensures.belongs c.advance_some.ensures.number c.advance_some.ensures.stands
     c.advance_some.ensures.loses c.in_ok-to.ensures.call refl refl c.len.ensures c.len-before.ensures)).fit
 
@@ -53,6 +53,6 @@ returns-clause-call c =
     let s = share_of b.number b.from b.to in
     let parts = shard_parts_of b.wheel b.inbox b.sched b.mails.items b.list in
     let x : SchedPart = record { wheel = b.sched.wheel; hand = b.sched.hand; expired = c.advance_some.new.expired } in
-    (did_at c.deref.ensures (some_ok c.args.self.now c.deref.result.now b.pass c.advance_some.new.pass s c.args.most c.in_ok-to.to c.len.result c.len-before.result c.in_ok-to.due parts
+    (did_at c.deref.ensures (some_ok c.args.self.now c.deref.result.now b.pass c.advance_some.new.pass s c.args.most c.in_ok-to.to c.len.result c.len-before.result c.in_ok-to.left parts
     c.advance_some.new.self x (has_at c.deref.ensures c.self.view_is c.self.invariant) c.advance_some.ensures.belongs c.advance_some.ensures.number c.advance_some.ensures.stands
     c.advance_some.ensures.loses c.in_ok-to.ensures.call refl refl c.len.ensures c.len-before.ensures)).steps

@@ -12,7 +12,9 @@ use Rattle.ert_shard.specs.Shards.{Owned, counted_from, share_of, shard_parts_of
 use Rattle.ert_table.specs.Desks.{settings_of, front_of, state_of}
 use Rattle.ert_table.specs.declared.desk.Desk.{Desk}
 use Rattle.ert_world.proofs.Listed.{list_low, listed_now}
-use Rattle.ert_world.proofs.Reusing.{loses_reused}
+use Rattle.ert_timers.specs.Parts.{Part}
+use Rattle.ert_world.proofs.Reusing.{keeps_reused, loses_reused}
+use Rattle.ert_world.specs.Worlds.{KeepsRows}
 use Rattle.ert_world.specs.declared.sched_part.SchedPart.{SchedPart}
 use Rattle.ert_shard.proofs.shard.Shard.hand_first.Goals as goal
 
@@ -191,4 +193,13 @@ returns-in_err-handed c =
     })
     (λ st all low. listed_now st b.list c.may_get_mail.new.list b.mails.items (c.args.expired.now.dest - b.from) c.deliver.new.self c.may_get_mail.ensures all low)) in
     let result : c.from_residual.result ≡ Err c.in_err-handed.field-0.0 = search rules in
-    rw result (record { call = did.steps; expired = tt })
+    rw result (record {
+      call = did.steps;
+      expired = tt;
+      kept = record { keys = ap (λ (o : Owned). o.wheel.keys) c.self.view_is; time = ap (λ (o : Owned). o.wheel.passed) c.self.view_is };
+    })
+
+pub returns-clause-kept : goal.returns-clause-kept
+returns-clause-kept c =
+    subst (λ (p : Part). KeepsRows p c.reuse.new.self) (ap (λ (o : Owned). o.wheel) c.self.view_is)
+    (keeps_reused c.self.inside.wheel c.reuse.new.self c.args.expired.now.timer.slot c.reuse.ensures.freed)

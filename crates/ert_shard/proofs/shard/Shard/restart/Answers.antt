@@ -4,6 +4,7 @@ use Rattle.ert_shard.proofs.Called.{wheel_stepped}
 use Rattle.ert_shard.proofs.Renewed.{lets_go, restarts_home}
 use Rattle.ert_shard.specs.Shards.{Owned, IsHome, share_of, shard_parts_of}
 use Rattle.ert_table.specs.Desks.{settings_of}
+use Rattle.ert_timers.specs.Frees.{IsUsedUp, UsesFree}
 use Rattle.ert_timers.proofs.LawsHold.{restarts_only}
 use Rattle.ert_shard.proofs.shard.Shard.restart.Goals as goal
 
@@ -29,3 +30,9 @@ returns-clause-call c =
 
 pub returns-clause-forgotten : goal.returns-clause-forgotten
 returns-clause-forgotten c = lets_go _ c.args.timer c.restart.result c.restart.ensures.gone
+
+pub returns-clause-full : goal.returns-clause-full
+returns-clause-full c = λ is. subst (λ (o : Owned). IsUsedUp o.wheel c.restart.new.self) c.self.view_is (c.restart.ensures.full is)
+
+pub returns-clause-frees : goal.returns-clause-frees
+returns-clause-frees c = subst (λ (o : Owned). UsesFree o.wheel c.restart.new.self c.restart.result) c.self.view_is c.restart.ensures.frees

@@ -4,6 +4,7 @@ use Rattle.ert_shard.proofs.Called.{wheel_stepped}
 use Rattle.ert_shard.proofs.Home.{starts_home}
 use Rattle.ert_shard.specs.Shards.{Owned, IsHome, share_of, shard_parts_of}
 use Rattle.ert_table.specs.Desks.{settings_of}
+use Rattle.ert_timers.specs.Frees.{IsUsedUp, UsesFree}
 use Rattle.ert_timers.proofs.LawsHold.{starts_only}
 use Rattle.ert_shard.proofs.shard.Shard.start.Goals as goal
 
@@ -24,3 +25,9 @@ returns-clause-call c =
     (λ m n g. Starts g (m + 1) n c.args.start.now c.start.result) c.deref.ensures c.self.view_is c.self.invariant c.start.ensures.belongs c.start.ensures.number c.start.ensures.stands
     c.start.ensures.call (λ n. starts_only (settings_of c.deref.result.now) (b.number + 1) n c.args.start.now c.start.result)
     (λ n. starts_home s (settings_of c.deref.result.now) (b.number + 1) n c.args.start.now c.start.result (subst (λ (o : Owned). IsHome o.share c.args.start.now.dest) (sym c.self.view_is) c.requires))).goes
+
+pub returns-clause-full : goal.returns-clause-full
+returns-clause-full c = λ is. subst (λ (o : Owned). IsUsedUp o.wheel c.start.new.self) c.self.view_is (c.start.ensures.full is)
+
+pub returns-clause-frees : goal.returns-clause-frees
+returns-clause-frees c = subst (λ (o : Owned). UsesFree o.wheel c.start.new.self c.start.result) c.self.view_is c.start.ensures.frees

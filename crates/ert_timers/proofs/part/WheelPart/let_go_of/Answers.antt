@@ -1,8 +1,9 @@
-use Rattle.std.proofs.Common.{◌≡◌, ◌≢◌, Some, sym, subst, ◌∙◌}
+use Rattle.std.proofs.Common.{◌≡◌, ◌≢◌, false, Some, sym, subst, ◌∙◌}
 use Rattle.ert_defs.specs.States.{state}
 use Rattle.ert_defs.specs.declared.settings.Settings.{Settings}
 use Rattle.ert_defs.specs.declared.timer.Status.TheVariants.{Armed}
 use Rattle.ert_table.specs.Desks.{settings_of, front_of}
+use Rattle.ert_timers.proofs.Freed.{given_keeps}
 use Rattle.ert_timers.proofs.Moved.{held_last, slot_apart}
 use Rattle.ert_timers.specs.Parts.{PartStands}
 use Rattle.ert_timers.proofs.part.WheelPart.let_go_of.Goals as goal
@@ -27,3 +28,8 @@ pub returns-then-timer-number-clause-slots : goal.returns-then-timer-number-clau
 returns-then-timer-number-clause-slots c = λ s by slot start next has.
     let held = c.requires.held (c.if-timer-number.true ∙ c.number.ensures) in
     slot_apart (settings_of c.args.desk.now) s by c.args.self.now c.forget.new.self c.args.timer slot start next has held (c.forget.ensures.held held)
+
+pub returns-then-timer-number-clause-frees : goal.returns-then-timer-number-clause-frees
+returns-then-timer-number-clause-frees c =
+    given_keeps c.args.self.now c.forget.new.self c.args.timer.slot false
+    (c.forget.ensures.held (c.requires.held (c.if-timer-number.true ∙ c.number.ensures)))

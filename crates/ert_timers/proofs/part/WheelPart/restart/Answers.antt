@@ -2,6 +2,7 @@ use Rattle.std.proofs.Common.{◌≡◌, true, [], rules}
 use Rattle.ert_calls.proofs.Named.{names_both, names_no_generation, names_no_slot}
 use Rattle.ert_defs.specs.Legal.{names_timer}
 use Rattle.ert_table.specs.Desks.{settings_of, view_of}
+use Rattle.ert_timers.proofs.Freed.{keeps_uses}
 use Rattle.ert_timers.proofs.Moved.{ends_after, has_looked, none_takes, not_full, restarts, restarts_none}
 use Rattle.ert_timers.proofs.Starts.{ahead_stands, bad_arg}
 use Rattle.ert_timers.proofs.part.WheelPart.restart.Goals as goal
@@ -79,3 +80,15 @@ returns-clause-call c =
     (ends_after (settings_of c.args.desk.now) u u (view_of c.restart_here.new.pass) c.args.by c.args.self.now.number c.args.timer c.args.start.now _ c.restart_here.result [] tt
     (none_takes (settings_of c.args.desk.now) u stands.legal) c.restart_here.ensures.call
     (not_full (settings_of c.args.desk.now) c.args.by c.args.self.now.number c.args.timer _ c.restart_here.result _ [] c.restart_here.ensures.not_full))
+
+pub returns-clause-full : goal.returns-clause-full
+returns-clause-full c = λ is. absurd (c.restart_here.ensures.not_full is)
+
+pub returns-in_default-clause-frees : goal.returns-in_default-clause-frees
+returns-in_default-clause-frees c = keeps_uses c.args.self.now c.args.self.now _ (λ k was. was)
+
+pub returns-then-not-has_slot-clause-frees : goal.returns-then-not-has_slot-clause-frees
+returns-then-not-has_slot-clause-frees c = keeps_uses c.args.self.now c.args.self.now _ (λ k was. was)
+
+pub returns-then-not-has_generation-clause-frees : goal.returns-then-not-has_generation-clause-frees
+returns-then-not-has_generation-clause-frees c = keeps_uses c.args.self.now c.args.self.now _ (λ k was. was)

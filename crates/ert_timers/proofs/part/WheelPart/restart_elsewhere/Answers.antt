@@ -1,7 +1,9 @@
-use Rattle.std.proofs.Common.{◌<◌, true, [], Err, inl, sym, ap, subst, ◌∙◌, arith}
+use Rattle.std.proofs.Common.{◌<◌, true, [], Some, Err, inl, inr, refl, sym, ap, subst, ◌∙◌, arith}
 use Rattle.ert_effects.specs.RestartCalls.{RestartEnds}
 use Rattle.ert_table.specs.Calls.{IsMade}
 use Rattle.ert_table.specs.Desks.{settings_of, view_of}
+use Rattle.ert_timers.proofs.Freed.{found_none, keeps_uses, moved_uses, none_uses, taken_free}
+use Rattle.ert_timers.specs.Frees.{UsesFree}
 use Rattle.ert_timers.proofs.Moved.{ends_after, full_for, gains_after, has_slot, none_takes, not_full, spent}
 use Rattle.ert_timers.proofs.Renewed.{gains_no}
 use Rattle.ert_timers.proofs.Starts.{round_taken}
@@ -109,3 +111,39 @@ returns-clause-call c =
 pub returns-clause-rows : goal.returns-clause-rows
 returns-clause-rows c =
     gains_after c.args.self.now c.take_slot.new.self c.restart_in-2.new.self c.restart_in-2.result c.take_slot.ensures.call.loses c.restart_in-2.ensures.rows
+
+pub returns-in_default-clause-full : goal.returns-in_default-clause-full
+returns-in_default-clause-full c = λ is. absurd (c.restart_here.ensures.not_full is)
+
+pub returns-in_default-clause-frees : goal.returns-in_default-clause-frees
+returns-in_default-clause-frees c =
+    subst (λ (p : Part). UsesFree p c.restart_here.new.self c.restart_here.result) c.in_default.ensures.unchanged c.restart_here.ensures.frees
+
+pub returns-then-may_stay-clause-full : goal.returns-then-may_stay-clause-full
+returns-then-may_stay-clause-full c = λ is. absurd (c.restart_in.ensures.not_full is)
+
+pub returns-then-may_stay-clause-frees : goal.returns-then-may_stay-clause-frees
+returns-then-may_stay-clause-frees c =
+    moved_uses c.args.self.now c.pick.new.self c.restart_in.new.self (Some c.in-Some.slot) c.in-Some.slot c.restart_in.result refl
+    (λ j was. taken_free c.args.self.now c.pick.new.self c.in-Some.slot j c.in-Some.ensures.picked was) c.restart_in.ensures.frees c.restart_in.ensures.back
+
+pub returns-then-arms-ge-MOST_TIMERS-clause-full : goal.returns-then-arms-ge-MOST_TIMERS-clause-full
+returns-then-arms-ge-MOST_TIMERS-clause-full c = λ is. inl (omega (arith, c.arms.ensures, c.if-arms-ge-MOST_TIMERS.true))
+
+pub returns-then-arms-ge-MOST_TIMERS-clause-frees : goal.returns-then-arms-ge-MOST_TIMERS-clause-frees
+returns-then-arms-ge-MOST_TIMERS-clause-frees c = keeps_uses c.args.self.now c.args.self.now _ (λ k was. was)
+
+pub returns-in_default-take_slot-clause-full : goal.returns-in_default-take_slot-clause-full
+returns-in_default-take_slot-clause-full c = λ is. inr (found_none _ _ _ _ _ _ _ _ c.in_default-take_slot.is c.take_slot.ensures.call)
+
+pub returns-in_default-take_slot-clause-frees : goal.returns-in_default-take_slot-clause-frees
+returns-in_default-take_slot-clause-frees c =
+    none_uses c.args.self.now c.take_slot.new.self c.take_slot.result _ c.in_default-take_slot.is c.take_slot.ensures.call.frees
+
+pub returns-clause-full : goal.returns-clause-full
+returns-clause-full c = λ is. absurd (c.restart_in-2.ensures.not_full is)
+
+pub returns-clause-frees : goal.returns-clause-frees
+returns-clause-frees c =
+    moved_uses c.args.self.now c.take_slot.new.self c.restart_in-2.new.self c.take_slot.result c.in-Some-take_slot.slot c.restart_in-2.result
+    c.in-Some-take_slot.is c.take_slot.ensures.call.frees c.restart_in-2.ensures.frees c.restart_in-2.ensures.back

@@ -1,6 +1,8 @@
 use Rattle.std.proofs.Common.{refl, ap, ◌∙◌}
+use Rattle.std.specs.FinSet as sets
 use Rattle.ert_defs.specs.Timers.{timer_at}
 use Rattle.ert_table.specs.Desks.{settings_of, view_of}
+use Rattle.ert_timers.proofs.Freed.{keeps_uses}
 use Rattle.ert_timers.proofs.Orphaned.{still_caller}
 use Rattle.ert_timers.proofs.Renewed.{cancel_calm, gains_renewed, gone_renewed, is_ready, may_renew, missed_at, missed_then, not_read, peek_calm, renew_hit, renew_missed, renewed, stays_can, told_deadline}
 use Rattle.ert_timers.specs.Parts.{Part}
@@ -144,3 +146,13 @@ returns-clause-gone c =
     c.renew-named.new.self c.args.timer c.args.start.now c.in-Some.read c.after-next.result c.renew-named.result c.renew.result ready c.requires.stays
     c.if-not-renew.false c.renew.ensures.step c.renew-named.ensures.kept c.renew-named.ensures.timer in
     gone_renewed c.renew-named.new.self c.end.new.self c.args.timer c.end.ensures.call.loses twice.gone
+
+pub returns-clause-frees : goal.returns-clause-frees
+returns-clause-frees c =
+    keeps_uses c.args.self.now c.end.new.self _ (λ k was. c.end.ensures.call.frees k (ap (λ (p : Part). sets.contains p.free k) c.renew-named.ensures.kept ∙ was))
+
+pub returns-in_default-clause-frees : goal.returns-in_default-clause-frees
+returns-in_default-clause-frees c = keeps_uses c.args.self.now c.args.self.now _ (λ k was. was)
+
+pub returns-then-not-renew-clause-frees : goal.returns-then-not-renew-clause-frees
+returns-then-not-renew-clause-frees c = keeps_uses c.args.self.now c.args.self.now _ (λ k was. was)

@@ -1,8 +1,11 @@
-use Rattle.std.proofs.Common.{refl, ap, ◌∙◌}
+use Rattle.std.proofs.Common.{refl, sym, ap, ◌∙◌}
+use Rattle.std.specs.FinSet as sets
 use Rattle.ert_defs.specs.States.{state}
 use Rattle.ert_table.specs.Desks.{settings_of, view_of}
 use Rattle.ert_timers.proofs.Moved.{cancel_missed, freed_again, gains_moved, gone_armed, is_cancelled, slot_cancelled, slot_read}
+use Rattle.ert_timers.proofs.Freed.{freed_keeps, freed_there}
 use Rattle.ert_timers.proofs.Orphaned.{still_caller}
+use Rattle.ert_timers.proofs.Passing.{same_last}
 use Rattle.ert_timers.proofs.Renewed.{cancel_calm, gone_renewed, is_read, missed_at, missed_then, not_read, peek_calm, renewed}
 use Rattle.ert_timers.specs.Parts.{Part}
 use Rattle.ert_timers.proofs.part.WheelPart.restart_in.Goals as goal
@@ -168,3 +171,25 @@ returns-clause-gone c =
     gone_renewed c.arm-named.new.self c.end.new.self c.args.timer c.end.ensures.call.loses
     (gone_armed c.args.self.now c.let_go_of.new.self c.arm-named.new.self c.args.timer c.args.slot c.args.start.now c.args.next c.requires.found.free done.held
     c.let_go_of.ensures.gone c.let_go_of.ensures.number c.arm-named.ensures.call.part)
+
+pub returns-in_default-clause-frees : goal.returns-in_default-clause-frees
+returns-in_default-clause-frees c = freed_keeps c.args.self.now c.free_slot.new.self c.args.slot c.free_slot.ensures
+
+pub returns-in_default-clause-back : goal.returns-in_default-clause-back
+returns-in_default-clause-back c = freed_there c.args.self.now c.free_slot.new.self c.args.slot c.free_slot.ensures
+
+pub returns-then-not-cancel_word-clause-frees : goal.returns-then-not-cancel_word-clause-frees
+returns-then-not-cancel_word-clause-frees c =
+    freed_keeps c.args.self.now c.free_slot-then-not-cancel_word.new.self c.args.slot c.free_slot-then-not-cancel_word.ensures
+
+pub returns-then-not-cancel_word-clause-back : goal.returns-then-not-cancel_word-clause-back
+returns-then-not-cancel_word-clause-back c =
+    freed_there c.args.self.now c.free_slot-then-not-cancel_word.new.self c.args.slot c.free_slot-then-not-cancel_word.ensures
+
+pub returns-clause-frees : goal.returns-clause-frees
+returns-clause-frees c = λ k was.
+    c.end.ensures.call.frees k (ap (λ (p : Part). sets.contains p.free k) c.arm-named.ensures.call.part ∙ c.let_go_of.ensures.frees k was)
+
+pub returns-clause-back : goal.returns-clause-back
+returns-clause-back c =
+    c.arm-named.ensures.call.named ∙ sym (same_last c.arm-named.new.self c.end.new.self c.args.slot c.end.ensures.call.loses)

@@ -1,10 +1,11 @@
-use Rattle.std.proofs.Common.{inl, refl, ap, ◌∙◌, arith}
+use Rattle.std.proofs.Common.{inl, inr, refl, ap, ◌∙◌, arith}
 use Rattle.ert_table.specs.Desks.{settings_of, view_of}
 use Rattle.ert_timers.specs.Changes.{next_use}
 use Rattle.ert_timers.specs.Looking.{now_in}
 use Rattle.ert_timers.specs.Parts.{Part, slot_at}
 use Rattle.ert_timers.proofs.Orphaned.{still_caller}
 use Rattle.ert_timers.proofs.Starts.{bad_arg, ahead_stands, now_is, use_ahead, is_at_end, is_full, is_started, gains_none, gains_started}
+use Rattle.ert_timers.proofs.Freed.{found_none, keeps_uses, none_uses, started_uses}
 use Rattle.ert_timers.proofs.Passing.{loses_none}
 use Rattle.ert_timers.proofs.part.WheelPart.start.Goals as goal
 
@@ -130,3 +131,25 @@ returns-then-arms-ge-MOST_TIMERS-clause-stands c =
 
 pub next_use-next-requires-clause-used : goal.next_use-next-requires-clause-used
 next_use-next-requires-clause-used c = inl c.in-Some-take_slot.ensures.call.finds.away
+
+pub returns-in_default-clause-frees : goal.returns-in_default-clause-frees
+returns-in_default-clause-frees c = keeps_uses c.args.self.now c.args.self.now _ (λ k was. was)
+
+pub returns-then-arms-ge-MOST_TIMERS-clause-full : goal.returns-then-arms-ge-MOST_TIMERS-clause-full
+returns-then-arms-ge-MOST_TIMERS-clause-full c = λ is. inl (omega (arith, c.arms.ensures, c.if-arms-ge-MOST_TIMERS.true))
+
+pub returns-then-arms-ge-MOST_TIMERS-clause-frees : goal.returns-then-arms-ge-MOST_TIMERS-clause-frees
+returns-then-arms-ge-MOST_TIMERS-clause-frees c = keeps_uses c.args.self.now c.args.self.now _ (λ k was. was)
+
+pub returns-in_default-take_slot-clause-full : goal.returns-in_default-take_slot-clause-full
+returns-in_default-take_slot-clause-full c = λ is. inr (found_none _ _ _ _ _ _ _ _ c.in_default-take_slot.is c.take_slot.ensures.call)
+
+pub returns-in_default-take_slot-clause-frees : goal.returns-in_default-take_slot-clause-frees
+returns-in_default-take_slot-clause-frees c =
+    none_uses c.args.self.now c.take_slot.new.self c.take_slot.result _ c.in_default-take_slot.is c.take_slot.ensures.call.frees
+
+pub returns-clause-frees : goal.returns-clause-frees
+returns-clause-frees c =
+    started_uses (settings_of c.args.desk.now) c.args.by c.args.self.now c.take_slot.new.self c.arm-timer.new.self c.end.new.self c.take_slot.result
+    c.in-Some-take_slot.slot c.next_use-next.result c.args.start.now c.arm-timer.result (view_of c.take_slot.new.pass) (view_of c.arm-timer.new.pass)
+    (view_of c.end.new.pass) c.in-Some-take_slot.is c.take_slot.ensures.call.frees c.arm-timer.ensures.call c.end.ensures.call

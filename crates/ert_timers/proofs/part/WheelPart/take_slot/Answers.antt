@@ -36,5 +36,6 @@ returns-clause-call c =
     subst (λ n. TakesSlot g v c.args.by n c.args.self.now c.pick-2.new.self c.pick-2.result w) down
     (takes_then g v c.args.by c.rounded_down.result c.args.self.now c.pick.new.self c.look_around.new.self
     c.pick-2.new.self c.pick-2.result w c.requires.stands (down ∙ c.requires.now) c.in_default.ensures.unchanged
+    (λ slot. ap (λ (p : Part). sets.contains p.free slot) c.in_default.ensures.unchanged ∙ c.in_default.ensures.none slot)
     c.look_around.ensures.call c.pick-2.ensures.none c.pick-2.ensures.unchanged
     c.pick-2.ensures.held c.pick-2.ensures.picked c.pick-2.ensures.usable)

@@ -42,7 +42,7 @@ returns-then-left-eq0-clause-call c =
 pub returns-then-left-eq0-clause-left : goal.returns-then-left-eq0-clause-left
 returns-then-left-eq0-clause-left c =
     subst (λ (p : Part). HasDue p c.args.to) (sym c.first_row_due.ensures.part)
-    (has_due (come_to c.loop-row.self c.first_row_due.new.self.passed) c.args.to (row_told c.loop-row.self.keys c.in-Some.row) c.in-Some.ensures.row)
+    (has_due (come_to c.loop-row.self c.first_row_due.new.self.passed) c.args.to (row_told c.loop-row.self.keys c.in-Row.row) c.in-Row.ensures.first)
 
 pub expire-requires-clause-stands : goal.expire-requires-clause-stands
 expire-requires-clause-stands c =
@@ -54,8 +54,8 @@ expire-requires-clause-first c =
     let looked =
     looked_come_to (settings_of c.args.desk.now) (view_of c.loop-row.pass).front c.loop-row.self c.first_row_due.new.self c.args.to c.first_row_due.new.self.passed
     c.first_row_due.ensures.part c.loop-row.invariant.looked in
-    first_next (settings_of c.args.desk.now) (view_of c.loop-row.pass).front c.first_row_due.new.self c.args.to (row_told c.first_row_due.new.self.keys c.in-Some.row) looked.stands looked.told
-    (subst (λ (p : Part). IsFirstRowDue p.keys c.args.to (row_told p.keys c.in-Some.row)) (sym c.first_row_due.ensures.part) c.in-Some.ensures.row)
+    first_next (settings_of c.args.desk.now) (view_of c.loop-row.pass).front c.first_row_due.new.self c.args.to (row_told c.first_row_due.new.self.keys c.in-Row.row) looked.stands looked.told
+    (subst (λ (p : Part). IsFirstRowDue p.keys c.args.to (row_told p.keys c.in-Row.row)) (sym c.first_row_due.ensures.part) c.in-Row.ensures.first)
 
 pub loop-row-preserved : goal.loop-row-preserved
 loop-row-preserved c =
@@ -65,9 +65,9 @@ loop-row-preserved c =
     let w = view_of c.expire.new.pass in
     let q = c.first_row_due.new.self in
     let part : q ≡ come_to c.loop-row.self q.passed = c.first_row_due.ensures.part in
-    let row = row_told q.keys c.in-Some.row in
+    let row = row_told q.keys c.in-Row.row in
     let first : IsFirstRowDue q.keys c.args.to row =
-    subst (λ (p : Part). IsFirstRowDue p.keys c.args.to (row_told p.keys c.in-Some.row)) (sym part) c.in-Some.ensures.row in
+    subst (λ (p : Part). IsFirstRowDue p.keys c.args.to (row_told p.keys c.in-Row.row)) (sym part) c.in-Row.ensures.first in
     let looked = looked_come_to g u.front c.loop-row.self q c.args.to q.passed part c.loop-row.invariant.looked in
     let holds : HoldsSched u q.number = subst (λ (p : Part). HoldsSched u p.number) (sym part) c.loop-row.invariant.holds in
     let one = c.expire.ensures.call in
@@ -96,8 +96,21 @@ loop-row-preserved c =
       );
     }
 
-pub returns-clause-call : goal.returns-clause-call
-returns-clause-call c =
+pub returns-in-Nothing-clause-call : goal.returns-in-Nothing-clause-call
+returns-in-Nothing-clause-call c =
+    let g = settings_of c.args.desk.now in
+    let v = view_of c.args.pass.now in
+    let u = view_of c.loop-row.pass in
+    record {
+      count = c.args.most - c.loop-row.left;
+      tried = omega arith;
+      done = tried_come_to g v c.args.self.now c.loop-row.self c.first_row_due.new.self c.args.to (c.args.most - c.loop-row.left) c.args.expired.now c.loop-row.expired u
+          c.first_row_due.ensures.part c.first_row_due.ensures.time c.loop-row.invariant.call;
+      looked = looked_come_to g u.front c.loop-row.self c.first_row_due.new.self c.args.to c.first_row_due.new.self.passed c.first_row_due.ensures.part c.loop-row.invariant.looked;
+    }
+
+pub returns-in-Moving-clause-call : goal.returns-in-Moving-clause-call
+returns-in-Moving-clause-call c =
     let g = settings_of c.args.desk.now in
     let v = view_of c.args.pass.now in
     let u = view_of c.loop-row.pass in

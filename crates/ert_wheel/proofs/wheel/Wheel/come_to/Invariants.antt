@@ -1,19 +1,19 @@
-use Rattle.std.proofs.Common.{◌≡◌, ◌-◌, ℕ, ◌≤◌, max}
-use Rattle.ert_wheel.specs.NextDue.{IsNextDue}
-use Rattle.ert_wheel.specs.Rows.{Held}
+use Rattle.std.proofs.Common.{◌≡◌, ◌<◌, ◌≤◌, ℕ}
 use Rattle.ert_wheel.proofs.wheel.Wheel.come_to.Given as goal
+use Rattle.ert_wheel.specs.Rows.{Held}
 
--- time went on, and this is told of what is due next
-pub record Comes {T : Type 0} (first now : Held T) (to time : ℕ) : Type 0 where
-  pub told : IsNextDue now.keys now.passed time
+-- what stays, and time is before that to which it comes
+pub record Nears {T : Type 0} (first now : Held T) (time level most moves : ℕ) : Type 0 where
   pub keys : now.keys ≡ first.keys
   pub owners : now.owners ≡ first.owners
   pub values : now.values ≡ first.values
   pub passed : first.passed ≤ now.passed
-  pub no_further : now.passed ≤ max first.passed to
+  pub before : now.passed < time
+  pub highest : level ≤ 4
+  pub fewer : moves ≤ most
 
-abbrev pub invariant-loop-self : goal.invariant-loop-self
-invariant-loop-self g l = Comes l.fn.self l.self l.to l.time
+abbrev pub invariant-loop-level : goal.invariant-loop-level
+invariant-loop-level g l = Nears l.fn.self l.self l.time l.level l.fn.moves l.moves
 
-abbrev pub decreases-loop-self : goal.decreases-loop-self
-decreases-loop-self g l = l.to - l.self.passed
+abbrev pub decreases-loop-level : goal.decreases-loop-level
+decreases-loop-level g l = l.level

@@ -1,4 +1,4 @@
-use Rattle.std.proofs.Common.{◌<◌, ℕ, ap, subst, sym, ◌∙◌, arith}
+use Rattle.std.proofs.Common.{◌<◌, ap, sym, ◌∙◌, arith}
 use Rattle.ert_wheel.proofs.Tellers.{told_row}
 use Rattle.ert_wheel.proofs.Writes.{passed_of}
 use Rattle.ert_wheel.proofs.wheel.Wheel.is_told.Goals as goal

@@ -1,6 +1,4 @@
-use Rattle.std.proofs.Common.{◌+◌, ◌∙◌, ap, refl, subst, sym, List, Option, arith}
-use Rattle.ert_wheel.proofs.Empties.{told_again}
-use Rattle.ert_wheel.proofs.MovesOn.{moved_on}
+use Rattle.std.proofs.Common.{◌+◌, ap, refl, subst, sym, List, Option, arith}
 use Rattle.ert_wheel.proofs.Writes.{sees, alike_after, is_held, is_kept, may_move, moved}
 use Rattle.ert_wheel.proofs.Writes.{keys_of, owners_of, passed_of}
 use Rattle.ert_wheel.proofs.wheel.Wheel.pass.Goals as goal
@@ -8,8 +6,8 @@ use Rattle.ert_wheel.specs.Falling.{MayMoveOn}
 use Rattle.ert_wheel.specs.Wheels.{AreLevelChains}
 use Rattle.ert_wheel.specs.declared.row.Key.{Key}
 
-pub move_on-requires-clause-may : goal.move_on-requires-clause-may
-move_on-requires-clause-may g c =
+pub move_on-self-inside-requires-clause-may : goal.move_on-self-inside-requires-clause-may
+move_on-self-inside-requires-clause-may g c =
     let chains = c.self.inside.buckets in
     subst (λ (keys : List (Option Key)). MayMoveOn chains keys c.self.inside.next_time c.max-next_time.result)
     (sym (ap keys_of c.self.view_is))
@@ -17,41 +15,26 @@ move_on-requires-clause-may g c =
     (omega (arith, c.max-next_time.ensures)) (omega (arith, c.max-next_time.ensures, c.min-after.ensures))
     (omega (arith, c.max-next_time.ensures, c.min-after.ensures, c.self.invariant.rows.wheel.time)))
 
-pub move_on-requires-clause-kept : goal.move_on-requires-clause-kept
-move_on-requires-clause-kept g c = c.self.invariant.alike.records
-
-pub fall_ahead-self-inside-requires-clause-may : goal.fall_ahead-self-inside-requires-clause-may
-fall_ahead-self-inside-requires-clause-may g c =
-    let chains = c.self.inside.buckets in
-    moved_on chains c.move_on.new.chains c.self.inside.kept.keys c.self.inside.next_time c.max-next_time.result
-    (subst (λ (keys : List (Option Key)). MayMoveOn chains keys c.self.inside.next_time c.max-next_time.result)
-    (sym (ap keys_of c.self.view_is))
-    (may_move c.args.to (sees c.self.invariant.rows c.self.view_is).wheel c.requires
-    (omega (arith, c.max-next_time.ensures)) (omega (arith, c.max-next_time.ensures, c.min-after.ensures))
-    (omega (arith, c.max-next_time.ensures, c.min-after.ensures, c.self.invariant.rows.wheel.time))))
-    c.move_on.ensures.slots c.move_on.ensures.homes c.move_on.ensures.moved
-
-pub fall_ahead-self-inside-requires-clause-kept : goal.fall_ahead-self-inside-requires-clause-kept
-fall_ahead-self-inside-requires-clause-kept g c = c.self.invariant.alike.records ∙ sym c.move_on.ensures.written
+pub move_on-self-inside-requires-clause-kept : goal.move_on-self-inside-requires-clause-kept
+move_on-self-inside-requires-clause-kept g c = c.self.invariant.alike.records
 
 pub invariant_of-self : goal.invariant_of-self
 invariant_of-self g c = record {
-  alike = alike_after c.self.invariant.alike refl refl (c.fall_ahead-self-inside.ensures.slots ∙ c.move_on.ensures.slots)
-      (c.fall_ahead-self-inside.ensures.written ∙ c.move_on.ensures.written) refl refl;
+  alike = alike_after c.self.invariant.alike refl refl c.move_on-self-inside.ensures.slots c.move_on-self-inside.ensures.written refl refl;
   rows = is_kept (moved c.args.to (c.min-after.result + 1) (sees c.self.invariant.rows c.self.view_is) c.requires (omega (arith, c.min-after.ensures)) c.max-self-inside.ensures
       (omega (arith, c.max-next_time.ensures, c.min-after.ensures, c.self.invariant.rows.wheel.time))
-      (c.fall_ahead-self-inside.ensures.slots ∙ c.move_on.ensures.slots) (c.fall_ahead-self-inside.ensures.homes ∙ c.move_on.ensures.homes)
-      (subst (λ (keys : List (Option Key)). AreLevelChains c.max-next_time.result 1 c.fall_ahead-self-inside.new.chains keys) (ap keys_of c.self.view_is)
-      (told_again c.self.inside.buckets c.move_on.new.chains c.self.inside.kept.keys c.move_on.ensures.slots c.move_on.ensures.moved c.fall_ahead-self-inside.ensures.moved)));
+      c.move_on-self-inside.ensures.slots c.move_on-self-inside.ensures.homes
+      (subst (λ (keys : List (Option Key)). AreLevelChains c.max-next_time.result 1 c.move_on-self-inside.new.chains keys) (ap keys_of c.self.view_is)
+      c.move_on-self-inside.ensures.moved));
 }
 
 pub returns-clause-keys : goal.returns-clause-keys
 returns-clause-keys g c =
     is_held (moved c.args.to (c.min-after.result + 1) (sees c.self.invariant.rows c.self.view_is) c.requires (omega (arith, c.min-after.ensures)) c.max-self-inside.ensures
     (omega (arith, c.max-next_time.ensures, c.min-after.ensures, c.self.invariant.rows.wheel.time))
-    (c.fall_ahead-self-inside.ensures.slots ∙ c.move_on.ensures.slots) (c.fall_ahead-self-inside.ensures.homes ∙ c.move_on.ensures.homes)
-    (subst (λ (keys : List (Option Key)). AreLevelChains c.max-next_time.result 1 c.fall_ahead-self-inside.new.chains keys) (ap keys_of c.self.view_is)
-    (told_again c.self.inside.buckets c.move_on.new.chains c.self.inside.kept.keys c.move_on.ensures.slots c.move_on.ensures.moved c.fall_ahead-self-inside.ensures.moved)))
+    c.move_on-self-inside.ensures.slots c.move_on-self-inside.ensures.homes
+    (subst (λ (keys : List (Option Key)). AreLevelChains c.max-next_time.result 1 c.move_on-self-inside.new.chains keys) (ap keys_of c.self.view_is)
+    c.move_on-self-inside.ensures.moved))
 
 pub returns-clause-owners : goal.returns-clause-owners
 returns-clause-owners g c = ap owners_of c.self.view_is

@@ -37,7 +37,7 @@ overflow_cast-result c =
 pub invariant_of-self-2 : goal.invariant_of-self-2
 invariant_of-self-2 c =
     let all =
-    (does_at c.deref.ensures (some_ok c.args.self.now c.self.inside c.deref.result.now c.advance_some.new.pass c.args.sched c.args.most c.in_ok-to.to c.len.result c.len-before.result c.in_ok-to.due c.index_mut.result.now
+    (does_at c.deref.ensures (some_ok c.args.self.now c.self.inside c.deref.result.now c.advance_some.new.pass c.args.sched c.args.most c.in_ok-to.to c.len.result c.len-before.result c.in_ok-to.left c.index_mut.result.now
     c.advance_some.new.self c.index_mut-part.result.now (record { wheel = c.index_mut-part.result.now.wheel; hand = c.index_mut-part.result.now.hand; expired = c.advance_some.new.expired })
     (has_at c.deref.ensures c.self.view_is c.self.invariant.sound) c.advance_some.ensures.belongs c.requires c.index_mut.ensures.value c.index_mut-part.ensures.value c.advance_some.ensures.number
     c.advance_some.ensures.stands c.advance_some.ensures.loses c.in_ok-to.ensures.call refl refl c.len.ensures c.len-before.ensures)) in
@@ -45,7 +45,7 @@ invariant_of-self-2 c =
 
 pub returns-clause-call : goal.returns-clause-call
 returns-clause-call c =
-    (does_at c.deref.ensures (some_ok c.args.self.now c.self.inside c.deref.result.now c.advance_some.new.pass c.args.sched c.args.most c.in_ok-to.to c.len.result c.len-before.result c.in_ok-to.due c.index_mut.result.now
+    (does_at c.deref.ensures (some_ok c.args.self.now c.self.inside c.deref.result.now c.advance_some.new.pass c.args.sched c.args.most c.in_ok-to.to c.len.result c.len-before.result c.in_ok-to.left c.index_mut.result.now
     c.advance_some.new.self c.index_mut-part.result.now (record { wheel = c.index_mut-part.result.now.wheel; hand = c.index_mut-part.result.now.hand; expired = c.advance_some.new.expired })
     (has_at c.deref.ensures c.self.view_is c.self.invariant.sound) c.advance_some.ensures.belongs c.requires c.index_mut.ensures.value c.index_mut-part.ensures.value c.advance_some.ensures.number
     c.advance_some.ensures.stands c.advance_some.ensures.loses c.in_ok-to.ensures.call refl refl c.len.ensures c.len-before.ensures)).goes
@@ -53,7 +53,7 @@ returns-clause-call c =
 pub returns-clause-stays : goal.returns-clause-stays
 returns-clause-stays c =
     let done =
-    (does_at c.deref.ensures (some_ok c.args.self.now c.self.inside c.deref.result.now c.advance_some.new.pass c.args.sched c.args.most c.in_ok-to.to c.len.result c.len-before.result c.in_ok-to.due c.index_mut.result.now
+    (does_at c.deref.ensures (some_ok c.args.self.now c.self.inside c.deref.result.now c.advance_some.new.pass c.args.sched c.args.most c.in_ok-to.to c.len.result c.len-before.result c.in_ok-to.left c.index_mut.result.now
     c.advance_some.new.self c.index_mut-part.result.now (record { wheel = c.index_mut-part.result.now.wheel; hand = c.index_mut-part.result.now.hand; expired = c.advance_some.new.expired })
     (has_at c.deref.ensures c.self.view_is c.self.invariant.sound) c.advance_some.ensures.belongs c.requires c.index_mut.ensures.value c.index_mut-part.ensures.value c.advance_some.ensures.number
     c.advance_some.ensures.stands c.advance_some.ensures.loses c.in_ok-to.ensures.call refl refl c.len.ensures c.len-before.ensures)) in
@@ -74,10 +74,10 @@ returns-in_err-to-clause-stays c =
 
 pub returns-clause-left : goal.returns-clause-left
 returns-clause-left c =
-    replaced_left c.self.inside c.deref.result.now c.args.sched c.in_ok-to.to c.in_ok-to.due c.advance_some.new.self
+    replaced_left c.self.inside c.deref.result.now c.args.sched c.in_ok-to.to c.in_ok-to.left c.advance_some.new.self
     (has_at c.deref.ensures c.self.view_is c.self.invariant.sound) c.requires c.in_ok-to.ensures.left
 
 pub returns-clause-fewer : goal.returns-clause-fewer
 returns-clause-fewer c =
-    replaced_loses c.args.self.now c.self.inside c.deref.result.now c.args.sched c.args.most c.in_ok-to.due c.index_mut.result.now c.advance_some.new.self
+    replaced_loses c.args.self.now c.self.inside c.deref.result.now c.args.sched c.args.most c.in_ok-to.left c.index_mut.result.now c.advance_some.new.self
     (has_at c.deref.ensures c.self.view_is c.self.invariant.sound) c.requires c.index_mut.ensures.value c.in_ok-to.ensures.fewer

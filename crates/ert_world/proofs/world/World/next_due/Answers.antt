@@ -1,40 +1,48 @@
-use Rattle.std.proofs.Common.{List, refl, sym, ap, subst, ◌∙◌}
+use Rattle.std.proofs.Common.{refl, subst}
 use Rattle.std.specs.Arc.{arc_value}
-use Rattle.ert_timers.specs.Parts.{Part}
-use Rattle.ert_world.proofs.Calls.{has_at}
-use Rattle.ert_world.proofs.Ending.{same_set}
-use Rattle.ert_world.proofs.NextDue.{none_armed_in, nearest_in, held_in}
-use Rattle.ert_world.specs.Parts.{parts_of}
-use Rattle.ert_world.specs.Worlds.{seen, AreSound}
+use Rattle.ert_defs.specs.States.{state}
+use Rattle.ert_table.specs.Desks.{settings_of, front_of}
+use Rattle.ert_table.specs.declared.desk.Desk.{Desk}
+use Rattle.ert_timers.specs.Parts.{PartStands as WheelStands}
+use Rattle.ert_timers.specs.Sleeping.{IsFoundNext}
+use Rattle.ert_world.proofs.Alone.{stays_by}
+use Rattle.ert_world.proofs.Calls.{has_at, schedulers_at}
+use Rattle.ert_world.proofs.Listed.{kept_by}
+use Rattle.ert_world.proofs.NextDue.{asked, held_new, armed_new, nearest_new, found_new, time_new}
+use Rattle.ert_world.proofs.WheelCalls.{lost_rows}
 use Rattle.ert_world.proofs.world.World.next_due.Goals as goal
 
 pub invariant_of-self : goal.invariant_of-self
-invariant_of-self c = record {
-  sound =
-      subst (λ (ws : List Part). AreSound (arc_value c.self.inside.desk) c.self.inside.pass c.self.inside.next
-      (parts_of c.self.inside.keeper ws c.self.inside.inboxes.items c.self.inside.mails.items c.self.inside.scheds.items))
-      (sym (same_set c.self.inside.wheels.items c.args.sched c.index_mut.result.now c.next_due.new.self c.index_mut.ensures.value c.next_due.ensures.part))
-      c.self.invariant.sound;
-  listed = c.self.invariant.listed;
-}
+invariant_of-self c =
+    let all =
+    (asked c.args.self.now c.self.inside c.deref.result.now _ c.next_due.new.pass c.args.sched c.index_mut.result.now c.next_due.new.self c.deref.ensures c.self.view_is
+    c.self.invariant.sound c.next_due.ensures.belongs c.requires c.index_mut.ensures.value c.next_due.ensures.number c.next_due.ensures.stands c.next_due.ensures.loses
+    c.next_due.ensures.call) in
+    kept_by c.self.inside c.self.inside.list c.self.view_is all.fit all.goes.grows c.self.invariant.listed
 
-pub returns-clause-same : goal.returns-clause-same
-returns-clause-same c =
-    ap (λ (ws : List Part). seen (arc_value c.self.inside.desk) c.self.inside.pass c.self.inside.next c.self.inside.keeper ws)
-    (same_set c.self.inside.wheels.items c.args.sched c.index_mut.result.now c.next_due.new.self c.index_mut.ensures.value c.next_due.ensures.part)
-    ∙ c.self.view_is
-
-pub returns-clause-held : goal.returns-clause-held
-returns-clause-held c =
-    held_in c.args.self.now c.self.inside _ c.args.sched c.index_mut.result.now c.next_due.result
-    (has_at refl c.self.view_is c.self.invariant.sound) c.requires c.index_mut.ensures.value c.next_due.ensures.held
-
-pub returns-clause-armed : goal.returns-clause-armed
-returns-clause-armed c =
-    none_armed_in c.args.self.now c.self.inside _ c.args.sched c.index_mut.result.now c.next_due.result
-    (has_at refl c.self.view_is c.self.invariant.sound) c.requires c.index_mut.ensures.value c.next_due.ensures.armed
-
-pub returns-clause-nearest : goal.returns-clause-nearest
-returns-clause-nearest c =
-    nearest_in c.args.self.now c.self.inside _ c.args.sched c.index_mut.result.now c.next_due.result
-    (has_at refl c.self.view_is c.self.invariant.sound) c.requires c.index_mut.ensures.value c.next_due.ensures.nearest
+pub returns : goal.returns
+returns c =
+    let old = c.index_mut.result.now in
+    let new = c.next_due.new.self in
+    let q = c.next_due.new.pass in
+    let e = arc_value c.self.inside.desk in
+    let same = c.deref.ensures in
+    let has = has_at refl c.self.view_is c.self.invariant.sound in
+    let low = c.requires in
+    let lent = c.index_mut.ensures.value in
+    let all =
+    (asked c.args.self.now c.self.inside c.deref.result.now _ q c.args.sched old new same c.self.view_is c.self.invariant.sound c.next_due.ensures.belongs
+    low lent c.next_due.ensures.number c.next_due.ensures.stands c.next_due.ensures.loses c.next_due.ensures.call) in
+    let s = state (settings_of e) (front_of q) in
+    let stands = subst (λ (x : Desk). WheelStands (settings_of x) (front_of q) new) same c.next_due.ensures.stands in
+    record {
+      call = all.goes;
+      stays = stays_by all.goes (lost_rows c.args.self.now c.self.inside e c.args.sched old new has low lent c.next_due.ensures.loses) all.forgets;
+      held = held_new has low lent new c.next_due.result c.next_due.ensures.held;
+      armed = armed_new has low lent new s c.next_due.result c.next_due.ensures.number (c.next_due.ensures.armed (settings_of e) (front_of q) stands);
+      nearest = λ alone. nearest_new has low lent new s c.next_due.result c.next_due.ensures.number
+          (λ x. all.fit.tidy alone c.args.sched x (schedulers_at has c.args.sched low)) (c.next_due.ensures.nearest (settings_of e) (front_of q) stands);
+      found = found_new has low lent new s c.next_due.result
+          (subst (λ (x : Desk). IsFoundNext (state (settings_of x) (front_of q)) old new c.next_due.result) same c.next_due.ensures.found);
+      time = time_new has low lent new c.next_due.ensures.time;
+    }

@@ -1,11 +1,17 @@
-use Rattle.std.proofs.Common.{subst}
+use Rattle.std.proofs.Common.{◌≡◌, ◌<◌, ap, slice_index_or, subst, ◌∙◌}
 use Rattle.std.specs.Arc.{arc_value}
+use Rattle.std.specs.Prelude.{slice_set}
+use Rattle.ert_defs.specs.declared.settings.Settings.{Settings}
 use Rattle.ert_effects.specs.RestartCalls.{Restarts}
 use Rattle.ert_table.specs.Calls.{IsMade}
 use Rattle.ert_table.specs.Desks.{settings_of, view_of}
 use Rattle.ert_world.proofs.Calls.{has_at}
 use Rattle.ert_world.proofs.Listed.{kept_by}
+use Rattle.ert_timers.specs.Frees.{IsUsedUp, UsesFree}
 use Rattle.ert_world.proofs.Renewing.{IsRestarted, restarted_at}
+use Rattle.ert_world.proofs.Replaced.{replaced_by}
+use Rattle.ert_world.specs.Restarts.{wheel_for}
+use Rattle.ert_world.specs.Worlds.{Seen}
 use Rattle.ert_world.proofs.Values.{refused_value}
 use Rattle.ert_world.proofs.world.World.restart.Goals as goal
 
@@ -34,3 +40,26 @@ returns-clause-time c = λ is.
 
 pub returns-clause-forgotten : goal.returns-clause-forgotten
 returns-clause-forgotten c = (done c).gone
+
+at : (c : goal.After-self-1) → c.wheel_for-wheel.result ≡ wheel_for c.args.self.now.settings c.args.timer
+at c =
+    c.wheel_for-wheel.ensures.wheel
+    ∙ ap (λ g. wheel_for g c.args.timer)
+    (c.settings.ensures ∙ (ap settings_of c.deref.ensures ∙ ap (λ (w : Seen). w.settings) c.self.view_is))
+
+low : (c : goal.After-self-1) → c.wheel_for-wheel.result < c.args.self.now.settings.schedulers
+low c =
+    subst (λ (g : Settings). c.wheel_for-wheel.result < g.schedulers)
+    (c.settings.ensures ∙ (ap settings_of c.deref.ensures ∙ ap (λ (w : Seen). w.settings) c.self.view_is)) c.wheel_for-wheel.ensures.low
+
+pub returns-clause-full : goal.returns-clause-full
+returns-clause-full c = λ is d.
+    subst (λ n. IsUsedUp (slice_index_or c.args.self.now.wheels n d) (slice_index_or (slice_set c.self.inside.wheels.items c.wheel_for-wheel.result c.restart.new.self) n d)) (at c)
+    (replaced_by IsUsedUp c.args.self.now c.self.inside c.deref-2.result.now c.wheel_for-wheel.result c.index_mut.result.now c.restart.new.self
+    (has_at c.deref-2.ensures c.self.view_is c.self.invariant.sound) (low c) c.index_mut.ensures.value (c.restart.ensures.full is) d)
+
+pub returns-clause-frees : goal.returns-clause-frees
+returns-clause-frees c = λ d.
+    subst (λ n. UsesFree (slice_index_or c.args.self.now.wheels n d) (slice_index_or (slice_set c.self.inside.wheels.items c.wheel_for-wheel.result c.restart.new.self) n d) c.restart.result) (at c)
+    (replaced_by (λ p q. UsesFree p q c.restart.result) c.args.self.now c.self.inside c.deref-2.result.now c.wheel_for-wheel.result c.index_mut.result.now
+    c.restart.new.self (has_at c.deref-2.ensures c.self.view_is c.self.invariant.sound) (low c) c.index_mut.ensures.value c.restart.ensures.frees d)

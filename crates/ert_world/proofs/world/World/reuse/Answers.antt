@@ -4,7 +4,7 @@ use Rattle.ert_table.specs.Desks.{settings_of}
 use Rattle.ert_timers.specs.Freeing.{IsLetGo}
 use Rattle.ert_timers.specs.Parts.{Part}
 use Rattle.ert_world.proofs.Calls.{has_at}
-use Rattle.ert_world.proofs.Reusing.{freed, loses_reused}
+use Rattle.ert_world.proofs.Reusing.{freed, keeps_reused, kept_reused, loses_reused}
 use Rattle.ert_world.specs.Worlds.{Seen}
 use Rattle.ert_world.proofs.world.World.reuse.Goals as goal
 
@@ -29,3 +29,9 @@ returns-clause-stays c =
     (freed c.args.self.now c.self.inside d c.args.timer.wheel c.index_mut.result.now c.reuse.new.self (has_at refl c.self.view_is c.self.invariant.sound) c.requires.wheel
     c.index_mut.ensures.value c.reuse.ensures.number (c.reuse.ensures.stands (settings_of d) c.self.invariant.sound.fit.belongs.named)
     (loses_reused c.index_mut.result.now c.reuse.new.self c.args.timer.slot c.reuse.ensures.freed)).stays
+
+pub returns-clause-kept : goal.returns-clause-kept
+returns-clause-kept c =
+    kept_reused c.args.self.now c.self.inside (arc_value c.self.inside.desk) c.args.timer.wheel c.index_mut.result.now c.reuse.new.self
+    (has_at refl c.self.view_is c.self.invariant.sound) c.requires.wheel c.index_mut.ensures.value
+    (keeps_reused c.index_mut.result.now c.reuse.new.self c.args.timer.slot c.reuse.ensures.freed)

@@ -3,8 +3,10 @@ use Rattle.ert_effects.specs.TimerCalls.{Starts}
 use Rattle.ert_table.specs.Calls.{IsMade}
 use Rattle.ert_table.specs.Desks.{settings_of, view_of}
 use Rattle.ert_timers.proofs.LawsHold.{starts_only}
+use Rattle.ert_timers.specs.Frees.{IsUsedUp, UsesFree}
 use Rattle.ert_world.proofs.Calls.{has_at}
 use Rattle.ert_world.proofs.Listed.{kept_by}
+use Rattle.ert_world.proofs.Replaced.{replaced_by}
 use Rattle.ert_world.proofs.Started.{forgotten_start}
 use Rattle.ert_world.proofs.Values.{refused_value}
 use Rattle.ert_world.proofs.WheelCalls.{wheel_stepped, starts_calm, started_hold}
@@ -40,3 +42,13 @@ pub returns-clause-forgotten : goal.returns-clause-forgotten
 returns-clause-forgotten c =
     forgotten_start c.args.self.now c.self.inside c.deref.result.now _ c.args.wheel c.args.start.now c.start.result c.index_mut.result.now c.start.new.self
     (has_at c.deref.ensures c.self.view_is c.self.invariant.sound) c.requires.wheel c.index_mut.ensures.value c.start.ensures.rows (returns-clause-call c)
+
+pub returns-clause-full : goal.returns-clause-full
+returns-clause-full c = λ is.
+    replaced_by IsUsedUp c.args.self.now c.self.inside c.deref.result.now c.args.wheel c.index_mut.result.now c.start.new.self
+    (has_at c.deref.ensures c.self.view_is c.self.invariant.sound) c.requires.wheel c.index_mut.ensures.value (c.start.ensures.full is)
+
+pub returns-clause-frees : goal.returns-clause-frees
+returns-clause-frees c =
+    replaced_by (λ p q. UsesFree p q c.start.result) c.args.self.now c.self.inside c.deref.result.now c.args.wheel c.index_mut.result.now c.start.new.self
+    (has_at c.deref.ensures c.self.view_is c.self.invariant.sound) c.requires.wheel c.index_mut.ensures.value c.start.ensures.frees

@@ -1,19 +1,14 @@
-use Rattle.std.proofs.Common.{◌≡◌, ◌||◌, ℕ, Bool, Ok, Err, inl, inr, rules, ap, subst, sym, ◌∙◌}
-use Rattle.ert_defs.specs.declared.settings.Settings.{Settings}
+use Rattle.std.proofs.Common.{◌≡◌, ◌||◌, ℕ, Bool, Ok, Err, inl, rules, ap, subst, sym, ◌∙◌}
+use Rattle.ert_effects.specs.SomeCalls.{is_more}
 use Rattle.ert_effects.specs.Ways.{Way}
 use Rattle.ert_effects.specs.declared.answers.Turned.{Turned}
 use Rattle.ert_world.proofs.Alone.{goes_on}
 use Rattle.ert_world.proofs.Bounding.{delivered_most, turned_some, turn_some_unserved, turn_some_unadvanced, turn_some_undelivered}
-use Rattle.ert_world.proofs.SomeAdvanced.{fewer_through}
-use Rattle.ert_world.specs.Bounded.{IsLeftAt, LosesSomeAt, TurnsSome}
-use Rattle.ert_world.specs.Stepping.{stay, still_passed}
-use Rattle.ert_world.specs.Ways.{beside_seats}
+use Rattle.ert_world.proofs.MoreLeft.{the_way, delivered_rest, done_most, left_at, more_left, waits_left}
+use Rattle.ert_world.specs.Bounded.{IsMoreAt, TurnsSome}
+use Rattle.ert_world.specs.Stepping.{stay}
 use Rattle.ert_world.specs.Worlds.{Goes, Seen}
 use Rattle.ert_world.proofs.world.World.turn_some.Goals as goal
-
--- how a world makes its steps
-abbrev the_way : Settings → ℕ → ℕ → Way
-the_way g next sched = beside_seats g next
 
 pub returns-in_err-served-clause-call : goal.returns-in_err-served-clause-call
 returns-in_err-served-clause-call c =
@@ -43,47 +38,47 @@ returns-in_err-put-clause-call c =
     let a = c.args.self.now in
     let b = c.serve_all.new.steps in
     let d = c.advance_some.new.self in
-    let f = c.deliver_some.new.steps in
+    let f = c.deliver_some.new.self in
     let kept = c.serve_all.ensures.stays in
     let moved = c.advance_some.ensures.stays in
     let e = c.in_err-put.field-0.0 in
     let result : c.from_residual-in_err-put.result ≡ Err e = search rules in
     rw result (goes_on a f (λ (way : Way). TurnsSome a.settings way c.args.sched c.args.most (Err e))
     (turn_some_undelivered (λ (w : Seen). w.settings) (λ (w : Seen). w.history) (λ (w : Seen). w.next) the_way c.args.sched c.args.most a b d f c.in_ok-served.served
-    (c.in_ok-to.to, c.in_ok-to.expired, c.in_ok-to.due) e (kept.settings, kept.next) (moved.settings, moved.next)
+    (c.in_ok-to.to, c.in_ok-to.expired, c.in_ok-to.left) e (kept.settings, kept.next) (moved.settings, moved.next)
     c.in_ok-served.ensures.call c.in_ok-to.ensures.call.grows c.in_err-put.ensures.call)
     c.deliver_some.ensures.legal (stay a d f (stay a b d kept moved) c.deliver_some.ensures.stays))
 
-pub returns-then-due-clause-call : goal.returns-then-due-clause-call
-returns-then-due-clause-call c =
+pub returns-then-is_more-clause-call : goal.returns-then-is_more-clause-call
+returns-then-is_more-clause-call c =
     let a = c.args.self.now in
     let b = c.serve_all.new.steps in
     let d = c.advance_some.new.self in
-    let f = c.deliver_some.new.steps in
+    let f = c.deliver_some.new.self in
     let kept = c.serve_all.ensures.stays in
     let moved = c.advance_some.ensures.stays in
     let t : Turned = record { served = c.in_ok-served.served; to = c.in_ok-to.to; expired = c.in_ok-to.expired; put = c.in_ok-put.put; dropped = c.in_ok-put.dropped } in
     subst (λ (more : Bool). Goes a (λ (way : Way). TurnsSome a.settings way c.args.sched c.args.most (Ok (t, more))) f)
-    (ap (λ (due : Bool). due || c.in_ok-put.waits) c.if-due.true ∙ sym c.if-due.true)
-    (goes_on a f (λ (way : Way). TurnsSome a.settings way c.args.sched c.args.most (Ok (t, (c.in_ok-to.due || c.in_ok-put.waits))))
-    (turned_some (λ (w : Seen). w.settings) (λ (w : Seen). w.history) (λ (w : Seen). w.next) the_way c.args.sched c.args.most a b d f t c.in_ok-to.due c.in_ok-put.waits
+    (ap (λ (more : Bool). more || c.in_ok-put.waits) (sym c.is_more.ensures ∙ c.if-is_more.true) ∙ sym c.if-is_more.true)
+    (goes_on a f (λ (way : Way). TurnsSome a.settings way c.args.sched c.args.most (Ok (t, (is_more c.in_ok-to.left || c.in_ok-put.waits))))
+    (turned_some (λ (w : Seen). w.settings) (λ (w : Seen). w.history) (λ (w : Seen). w.next) the_way c.args.sched c.args.most a b d f t c.in_ok-to.left c.in_ok-put.waits
     (kept.settings, kept.next) (moved.settings, moved.next)
     c.in_ok-served.ensures.call c.in_ok-to.ensures.call.grows c.in_ok-put.ensures.call)
     c.deliver_some.ensures.legal (stay a d f (stay a b d kept moved) c.deliver_some.ensures.stays))
 
-pub returns-else-due-clause-call : goal.returns-else-due-clause-call
-returns-else-due-clause-call c =
+pub returns-else-is_more-clause-call : goal.returns-else-is_more-clause-call
+returns-else-is_more-clause-call c =
     let a = c.args.self.now in
     let b = c.serve_all.new.steps in
     let d = c.advance_some.new.self in
-    let f = c.deliver_some.new.steps in
+    let f = c.deliver_some.new.self in
     let kept = c.serve_all.ensures.stays in
     let moved = c.advance_some.ensures.stays in
     let t : Turned = record { served = c.in_ok-served.served; to = c.in_ok-to.to; expired = c.in_ok-to.expired; put = c.in_ok-put.put; dropped = c.in_ok-put.dropped } in
     subst (λ (more : Bool). Goes a (λ (way : Way). TurnsSome a.settings way c.args.sched c.args.most (Ok (t, more))) f)
-    (ap (λ (due : Bool). due || c.in_ok-put.waits) c.if-due.false)
-    (goes_on a f (λ (way : Way). TurnsSome a.settings way c.args.sched c.args.most (Ok (t, (c.in_ok-to.due || c.in_ok-put.waits))))
-    (turned_some (λ (w : Seen). w.settings) (λ (w : Seen). w.history) (λ (w : Seen). w.next) the_way c.args.sched c.args.most a b d f t c.in_ok-to.due c.in_ok-put.waits
+    (ap (λ (more : Bool). more || c.in_ok-put.waits) (sym c.is_more.ensures ∙ c.if-is_more.false))
+    (goes_on a f (λ (way : Way). TurnsSome a.settings way c.args.sched c.args.most (Ok (t, (is_more c.in_ok-to.left || c.in_ok-put.waits))))
+    (turned_some (λ (w : Seen). w.settings) (λ (w : Seen). w.history) (λ (w : Seen). w.next) the_way c.args.sched c.args.most a b d f t c.in_ok-to.left c.in_ok-put.waits
     (kept.settings, kept.next) (moved.settings, moved.next)
     c.in_ok-served.ensures.call c.in_ok-to.ensures.call.grows c.in_ok-put.ensures.call)
     c.deliver_some.ensures.legal (stay a d f (stay a b d kept moved) c.deliver_some.ensures.stays))
@@ -95,33 +90,47 @@ returns-in_err-to-clause-stays c =
 pub returns-in_err-put-clause-stays : goal.returns-in_err-put-clause-stays
 returns-in_err-put-clause-stays c =
     let d = c.advance_some.new.self in
-    stay c.args.self.now d c.deliver_some.new.steps (stay c.args.self.now c.serve_all.new.steps d c.serve_all.ensures.stays c.advance_some.ensures.stays)
+    stay c.args.self.now d c.deliver_some.new.self (stay c.args.self.now c.serve_all.new.steps d c.serve_all.ensures.stays c.advance_some.ensures.stays)
     c.deliver_some.ensures.stays
 
-pub returns-then-due-clause-stays : goal.returns-then-due-clause-stays
-returns-then-due-clause-stays c =
+pub returns-then-is_more-clause-stays : goal.returns-then-is_more-clause-stays
+returns-then-is_more-clause-stays c =
     let d = c.advance_some.new.self in
-    stay c.args.self.now d c.deliver_some.new.steps (stay c.args.self.now c.serve_all.new.steps d c.serve_all.ensures.stays c.advance_some.ensures.stays)
+    stay c.args.self.now d c.deliver_some.new.self (stay c.args.self.now c.serve_all.new.steps d c.serve_all.ensures.stays c.advance_some.ensures.stays)
     c.deliver_some.ensures.stays
 
-pub returns-else-due-clause-stays : goal.returns-else-due-clause-stays
-returns-else-due-clause-stays c =
+pub returns-else-is_more-clause-stays : goal.returns-else-is_more-clause-stays
+returns-else-is_more-clause-stays c =
     let d = c.advance_some.new.self in
-    stay c.args.self.now d c.deliver_some.new.steps (stay c.args.self.now c.serve_all.new.steps d c.serve_all.ensures.stays c.advance_some.ensures.stays)
+    stay c.args.self.now d c.deliver_some.new.self (stay c.args.self.now c.serve_all.new.steps d c.serve_all.ensures.stays c.advance_some.ensures.stays)
     c.deliver_some.ensures.stays
 
-pub returns-else-due-clause-passed : goal.returns-else-due-clause-passed
-returns-else-due-clause-passed c = λ none.
-    still_passed c.advance_some.new.self c.deliver_some.new.steps c.args.sched c.in_ok-to.to c.deliver_some.ensures.stays
-    (subst (λ (more : Bool). IsLeftAt c.advance_some.new.self c.args.sched c.in_ok-to.to more) c.if-due.false c.in_ok-to.ensures.left)
+pub returns-then-is_more-clause-left : goal.returns-then-is_more-clause-left
+returns-then-is_more-clause-left c =
+    let f = c.deliver_some.new.self in
+    subst (IsMoreAt f c.args.sched c.in_ok-to.to) (sym c.if-is_more.true)
+    (more_left f c.args.sched c.in_ok-to.to c.in_ok-to.left (sym c.is_more.ensures ∙ c.if-is_more.true)
+    (left_at c.advance_some.new.self f c.args.sched c.in_ok-to.to c.in_ok-to.left c.deliver_some.ensures.kept c.in_ok-to.ensures.left))
 
-pub returns-then-due-clause-done : goal.returns-then-due-clause-done
-returns-then-due-clause-done c = λ more.
-    inr (fewer_through c.args.self.now c.serve_all.new.steps c.advance_some.new.self c.deliver_some.new.steps c.args.sched c.args.most c.serve_all.ensures.stays.rows
-    (subst (λ (due : Bool). LosesSomeAt c.serve_all.new.steps c.advance_some.new.self c.args.sched due c.args.most) c.if-due.true c.in_ok-to.ensures.fewer)
-    c.deliver_some.ensures.stays.rows)
+pub returns-else-is_more-clause-left : goal.returns-else-is_more-clause-left
+returns-else-is_more-clause-left c =
+    let d = c.advance_some.new.self in
+    let f = c.deliver_some.new.self in
+    let answer : ℕ × ℕ × Bool = (c.in_ok-put.put, c.in_ok-put.dropped, c.in_ok-put.waits) in
+    waits_left f c.args.sched c.in_ok-to.to c.args.most _ c.in_ok-to.left c.in_ok-put.waits (sym c.is_more.ensures ∙ c.if-is_more.false)
+    (left_at d f c.args.sched c.in_ok-to.to c.in_ok-to.left c.deliver_some.ensures.kept c.in_ok-to.ensures.left)
+    (delivered_rest d f c.args.sched c.args.most answer c.in_ok-put.ensures.call c.deliver_some.ensures.stays.settings)
 
-pub returns-else-due-clause-done : goal.returns-else-due-clause-done
-returns-else-due-clause-done c = λ more.
+pub returns-then-is_more-clause-done : goal.returns-then-is_more-clause-done
+returns-then-is_more-clause-done c = λ more.
+    let d = c.advance_some.new.self in
+    let f = c.deliver_some.new.self in
+    let t : Turned = record { served = c.in_ok-served.served; to = c.in_ok-to.to; expired = c.in_ok-to.expired; put = c.in_ok-put.put; dropped = c.in_ok-put.dropped } in
+    done_most c.args.self.now c.serve_all.new.steps d f c.args.sched c.args.most t c.in_ok-to.left (sym c.is_more.ensures ∙ c.if-is_more.true)
+    c.serve_all.ensures.stays.rows c.in_ok-to.ensures.fewer c.deliver_some.ensures.stays.rows
+    (left_at d f c.args.sched c.in_ok-to.to c.in_ok-to.left c.deliver_some.ensures.kept c.in_ok-to.ensures.left)
+
+pub returns-else-is_more-clause-done : goal.returns-else-is_more-clause-done
+returns-else-is_more-clause-done c = λ more.
     inl (delivered_most c.advance_some.new.self.settings (the_way c.advance_some.new.self.settings c.advance_some.new.self.next c.args.sched) c.args.sched c.args.most
     (c.in_ok-put.put, c.in_ok-put.dropped, c.in_ok-put.waits) c.advance_some.new.self.history c.in_ok-put.ensures.call.piece c.in_ok-put.ensures.call.made more)

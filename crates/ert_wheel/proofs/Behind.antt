@@ -1,0 +1,150 @@
+-- Rows that are left in the window before which time stands.
+
+use Rattle.std.proofs.Common.{◌≡◌, ◌≢◌, ℕ, suc, ◌+◌, ◌-◌, ◌*◌, ◌/◌, ◌^◌, ◌<◌, ◌≤◌, max, Bool, true, false, List, Option, Some, None, IfSome, get_or, sym, subst, ◌∙◌, ap, inl, inr, refl, arith}
+use Rattle.std.proofs.Math.Nat.{pow-succ', suc-mul, mul-le-mul_right, div-mul-le_self, div-lt_iff_lt-mul, lt-div-mul-add}
+use Rattle.std.proofs.lemmas.Bool.{cases_lt}
+use Rattle.std.proofs.lemmas.Nat.{div_below}
+use Rattle.std.specs.Bool.{OnTrue}
+use Rattle.std.specs.Option.{is_some}
+use Rattle.ert_wheel.proofs.Empties.{IsEmptying, may_empty_ahead, starts, turn}
+use Rattle.ert_wheel.proofs.Standing.{not_late}
+use Rattle.ert_wheel.proofs.Times.{later, some_wide}
+use Rattle.ert_wheel.proofs.Writes.{Sees}
+use Rattle.ert_wheel.specs.Falling.{HasRowIn, MayFall}
+use Rattle.ert_wheel.specs.FirstDue.{HasToMove}
+use Rattle.ert_wheel.specs.Levels.{bucket_of_window, MayStand}
+use Rattle.ert_wheel.specs.Rings.{Rings, Place, AreChains, Finds}
+use Rattle.ert_wheel.specs.NextDue.{NoneBefore}
+use Rattle.ert_wheel.specs.Rows.{key_in}
+use Rattle.ert_wheel.specs.Wheels.{no_key, held_keys, AreLevelChains}
+use Rattle.ert_wheel.specs.declared.row.Key.{Key}
+
+-- the newest row of the window after that of the next time is due in it
+row_left : (next level slot : ℕ) (chains : Rings) (stored : List Key) → 1 ≤ level → MayFall next 1 chains (held_keys chains stored)
+    → ((places : ℕ → Option Place) → AreChains chains places
+    → Finds chains places (bucket_of_window level (next / 512 ^ level + 1)) (2 ^ 64) (Some slot))
+    → HasRowIn (held_keys chains stored) level (next / 512 ^ level + 1)
+row_left next level slot chains stored some may finds =
+    let s : IsEmptying next 1 level (next / 512 ^ level + 1) chains (held_keys chains stored) (Some slot) = starts may.are finds in
+    let t = turn chains stored no_key (may_empty_ahead next level (next / 512 ^ level + 1) some refl) may.slots s refl in
+    let key : Key = get_or stored slot no_key in
+    let d : ℕ = max key.deadline next in
+    let fits : MayStand next 1 level d =
+    subst (λ (l : ℕ). MayStand next 1 l d) t.may.stands (t.may.levelled.fit slot key t.may.has) in
+    let e : d ≡ key.deadline = not_late next level key.deadline some fits in
+    record {
+      slot = slot;
+      key = key;
+      has = t.may.has;
+      within = omega (arith, ap (λ t. t / 512 ^ level) e, t.may.near, fits.ahead some some);
+    }
+
+-- whether there is one
+pub rows_left : (next level window bucket : ℕ) (chains : Rings) (stored : List Key) (found : Option ℕ) (told : Bool) → told ≡ is_some found
+    → 1 ≤ level → MayFall next 1 chains (held_keys chains stored) → window ≡ next / 512 ^ level + 1 → bucket ≡ bucket_of_window level window
+    → ((places : ℕ → Option Place) → AreChains chains places → Finds chains places bucket (2 ^ 64) found)
+    → OnTrue told (HasRowIn (held_keys chains stored) level (next / 512 ^ level + 1))
+rows_left next level window bucket chains stored None told is some may at there finds =
+    subst (λ (b : Bool). OnTrue b (HasRowIn (held_keys chains stored) level (next / 512 ^ level + 1))) (sym is) tt
+rows_left next level window bucket chains stored (Some slot) told is some may at there finds =
+    let e : bucket ≡ bucket_of_window level (next / 512 ^ level + 1) = there ∙ ap (bucket_of_window level) at in
+    subst (λ (b : Bool). OnTrue b (HasRowIn (held_keys chains stored) level (next / 512 ^ level + 1))) (sym is)
+    (row_left next level slot chains stored some may
+    (subst (λ (b : ℕ). (places : ℕ → Option Place) → AreChains chains places → Finds chains places b (2 ^ 64) (Some slot)) e finds))
+
+-- a later time is in a later window of a level: where that begins
+pub record BeginsAfter (next time level : ℕ) : Type 0 where
+  pub wide : 512 ≤ time / 512 ^ level * 512 ^ level
+  pub after : next < time / 512 ^ level * 512 ^ level
+  pub by : time / 512 ^ level * 512 ^ level ≤ time
+  pub last : (time / 512 ^ level * 512 ^ level - 1) / 512 ^ level + 1 ≡ time / 512 ^ level
+
+-- the windows of a level above the lowest are no smaller than those of the next
+at_least_512 : (level : ℕ) → 1 ≤ level → 512 ≤ 512 ^ level
+at_least_512 level some =
+    let l : ℕ = level - 1 in
+    let p : ◌≡◌ {A = ℕ} (512 ^ suc l) (512 * 512 ^ l) = pow-succ' 512 l in
+    let e : suc l ≡ level = omega (arith, some) in
+    omega (arith, p, some_wide l, ap (λ n. 512 ^ n) e)
+
+-- the last time before a window is in the window before it
+last_before : (window m : ℕ) → 1 ≤ window → 0 < m → (window * m - 1) / m + 1 ≡ window
+last_before window m some wide =
+    let e : window ≡ suc (window - 1) = omega (arith, some) in
+    let wider : window * m ≡ (window - 1) * m + m = ap (λ w. w * m) e ∙ suc-mul (window - 1) m in
+    let low : (window * m - 1) / m < window = div_below (window * m - 1) m window wide (omega (arith, wider, wide)) in
+    elim (cases_lt ((window * m - 1) / m) (window - 1)) [
+      | inl less ↦ absurd (omega (arith, (div-lt_iff_lt-mul {k = m} {x = window * m - 1} {y = window - 1} wide).0 less, wider, wide))
+      | inr more ↦ omega (arith, low, more)
+    ]
+
+pub begins_after : (next time level : ℕ) → 1 ≤ level → next < time → time / 512 ^ level ≢ next / 512 ^ level → BeginsAfter next time level
+begins_after next time level some less apart =
+    let m : ℕ = 512 ^ level in
+    let wide : 0 < m = some_wide level in
+    let later_window : next / m < time / m = omega (arith, later level next time (omega (arith, less)), apart) in
+    record {
+      wide = omega (arith, at_least_512 level some, mul-le-mul_right m (let one : 1 ≤ time / m = omega (arith, later_window) in one));
+      after = (div-lt_iff_lt-mul {k = m} {x = next} {y = time / m} wide).0 later_window;
+      by = div-mul-le_self time m;
+      last = last_before (time / m) m (omega (arith, later_window)) wide;
+    }
+
+-- where rows are left, time stands before the begin of their window
+behind : (keys : List (Option Key)) (next time level passed : ℕ) → 1 ≤ level → level ≤ 4 → BeginsAfter next time level
+    → passed ≡ time / 512 ^ level * 512 ^ level - 1 → HasRowIn keys level (passed / 512 ^ level + 1) → HasToMove keys passed (time - 1)
+behind keys next time level passed some most b stands row =
+    let m : ℕ = 512 ^ level in
+    let there : row.key.deadline / m ≡ time / m = row.within ∙ ap (λ t. t / m + 1) stands ∙ b.last in
+    record {
+      on = omega (arith, stands, b.by, b.wide);
+      begins = record {
+        time = time / m * m;
+        by = omega (arith, b.by, b.wide);
+        begins = record {
+          later = omega (arith, stands, b.wide);
+          level = level;
+          above = some;
+          highest = most;
+          window = time / m;
+          begin = refl;
+          slot = row.slot;
+          key = row.key;
+          has = row.has;
+          within = omega (arith, lt-div-mul-add {a = row.key.deadline} (some_wide level), ap (λ w. w * m) there);
+        };
+      };
+    }
+
+pub left_behind : (keys : List (Option Key)) (next time level passed : ℕ) (left : Bool) → 1 ≤ level → level ≤ 4 → BeginsAfter next time level
+    → passed ≡ time / 512 ^ level * 512 ^ level - 1 → OnTrue left (HasRowIn keys level (passed / 512 ^ level + 1))
+    → OnTrue left (HasToMove keys passed (time - 1))
+left_behind keys next time level passed false some most b stands row = tt
+left_behind keys next time level passed true some most b stands row = behind keys next time level passed some most b stands row
+
+-- none is due by a time before that of which that is known
+if_some : (key : Option Key) (to : ℕ) → ((k : Key) → key ≡ Some k → to < k.deadline) → IfSome key (λ k. to < k.deadline)
+if_some None to later = tt
+if_some (Some k) to later = later k refl
+
+pub none_by : (keys : List (Option Key)) (time to : ℕ) → NoneBefore keys time → to < time
+    → (slot : ℕ) → IfSome (key_in keys slot) (λ k. to < k.deadline)
+none_by keys time to none less slot = if_some (key_in keys slot) to (λ k has. omega (arith, less, none slot k has))
+
+-- the wheel after rows fell, where time stands
+pub fell : {next count floor : ℕ} {stored : List Key} {seen : List (Option Key)} {chains new : Rings}
+    → Sees next count floor stored seen chains → new.slots ≡ chains.slots → new.homes ≡ chains.homes
+    → AreLevelChains next 1 new seen → Sees next count floor stored seen new
+fell s slots homes are = record {
+  are_stored = s.are_stored;
+  above = s.above;
+  wheel = record {
+    slots = s.wheel.slots ∙ sym slots;
+    few = s.wheel.few;
+    homes = homes ∙ s.wheel.homes;
+    time = s.wheel.time;
+    counts = s.wheel.counts;
+    low = s.wheel.low;
+    are = are;
+  };
+}

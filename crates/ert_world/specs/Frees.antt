@@ -1,0 +1,15 @@
+-- What a start leaves of the slots that the wheels of a world hold free.
+
+use Rattle.std.specs.Prelude.{ℕ, Result, slice_index_or}
+use Rattle.ert_defs.specs.declared.timer.TimerRef.{TimerRef}
+use Rattle.ert_timers.specs.Frees.{IsUsedUp, UsesFree}
+use Rattle.ert_timers.specs.Parts.{Part}
+use Rattle.ert_world.specs.Worlds.{Seen}
+
+-- there is a reason to refuse a timer on a wheel: it has had 2^53 timers before, or it holds no slot free afterwards
+abbrev pub IsUsedUpAt : Seen → Seen → ℕ → Type 0
+IsUsedUpAt old new i = (d : Part) → IsUsedUp (slice_index_or old.wheels i d) (slice_index_or new.wheels i d)
+
+-- each slot that a wheel held free is so still, but that of the timer that was started
+abbrev pub UsesFreeAt : {E : Type 0} → Seen → Seen → ℕ → Result TimerRef E → Type 0
+UsesFreeAt old new i answer = (d : Part) → UsesFree (slice_index_or old.wheels i d) (slice_index_or new.wheels i d) answer
