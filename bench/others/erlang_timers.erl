@@ -1,20 +1,22 @@
-%% Timers of the Erlang runtime system, by the operations of bench/timers.c.
+%% Timers of the Erlang runtime system, by the operations of bench/compare.c.
 %%
 %% A start is erlang:start_timer/3 with the process itself as destination, and a cancel erlang:cancel_timer/1, as
 %% in ertime. The runtime has one scheduler (+S 1:1), so that all is done by one thread and no process moves from
 %% one scheduler to another. A start asks the operating system for the time, and makes a reference on the heap of
 %% the process. The heap is collected before each pass, and collections in a pass are in its time.
 %%
-%%     monotonic_time   erlang:monotonic_time/0, which asks the operating system
 %%     start_cancel     a timer is started and cancelled
 %%     start            after all timers of earlier passes were cancelled
 %%     cancel           in the order that all programs have
+%%     restart          a timer is cancelled and one started, since the runtime has no call for it
+%%     packet           the same for the idle timeout and for the request's
 %%     expire_at_once   all are due in one millisecond, of absolute time. The process yields until it has come,
 %%                      and receives each message: the time is that from the deadline to the last receive. The
 %%                      heap has room for the messages, so that no collection falls into the time.
 %%
 %% Deadlines are in real time: of the spread ones a few pass before their timer is cancelled, which then answers
-%% false. expire_spread isn't here: a program can't set the runtime's clock.
+%% false. expire_spread isn't here, since a program can't set the runtime's clock, and idle_pass isn't, since the loop is
+%% the runtime's own.
 %%
 %% The command line, and what is printed, are those that measure.h tells.
 -module(erlang_timers).
@@ -22,6 +24,8 @@
 
 -define(SPREAD, 60000).
 -define(TIMEOUT, 5000).
+-define(IDLE_TIMEOUT, 60000).
+-define(REQUEST_TIMEOUT, 30000).
 -define(MOST_PASSES, 15).
 -define(FEW_PASSES, 3).
 -define(LONG_PASS, 2000000000).
@@ -60,10 +64,11 @@ run(Operation, What, Timers, Passes) when Passes > 0, Passes =< ?MOST_PASSES ->
     Made = length(Taken),
     io:format("~.2f ~.2f ~b~n", [lists:nth(Made div 2 + 1, Taken) / Each, hd(Taken) / Each, Made]).
 
-operation("monotonic_time", What, _) -> {fun monotonic_time/1, What#measurement.calls};
 operation("start_cancel", What, _) -> {fun start_cancel/1, What#measurement.calls};
 operation("start", _, Timers) -> {fun start/1, Timers};
 operation("cancel", _, Timers) -> {fun cancel/1, Timers};
+operation("restart", What, _) -> {fun restart/1, What#measurement.calls};
+operation("packet", What, _) -> {fun packet/1, What#measurement.calls};
 operation("expire_at_once", _, Timers) -> {fun expire_at_once/1, Timers}.
 
 %% Makes passes; how long each took, in nanoseconds.
@@ -73,17 +78,6 @@ passes(Pass, What, Passes, Taken) ->
     Time = Pass(What),
     Fewer = if Time > ?LONG_PASS -> min(Passes, ?FEW_PASSES); true -> Passes end,
     passes(Pass, What, Fewer, [Time | Taken]).
-
-monotonic_time(#measurement{calls = Calls}) ->
-    garbage_collect(),
-    Begun = now_ns(),
-    Sum = read_times(Calls, Begun, 0),
-    Taken = now_ns() - Begun,
-    true = Sum > 0,
-    Taken.
-
-read_times(0, _, Sum) -> Sum;
-read_times(Calls, Base, Sum) -> read_times(Calls - 1, Base, Sum + erlang:monotonic_time() - Base).
 
 start_cancel(#measurement{calls = Calls, waits = Waits}) ->
     garbage_collect(),
@@ -131,6 +125,42 @@ cancel_all([Timer | Timers], Late) ->
         false -> cancel_all(Timers, Late + 1);
         _ -> cancel_all(Timers, Late)
     end.
+
+restart(What) ->
+    in_rounds(What, fun() -> start_idle() end, fun(Timer) -> cancelled(Timer), start_idle() end, fun(Timer) -> [Timer] end).
+
+packet(What) ->
+    Connect = fun() -> {start_idle(), start_request()} end,
+    Packet = fun({Idle, Request}) -> cancelled(Idle), New = start_idle(), cancelled(Request), {New, start_request()} end,
+    in_rounds(What, Connect, Packet, fun({Idle, Request}) -> [Idle, Request] end).
+
+start_idle() -> erlang:start_timer(?IDLE_TIMEOUT, self(), 7).
+
+start_request() -> erlang:start_timer(?REQUEST_TIMEOUT, self(), 7).
+
+cancelled(Timer) -> true = is_integer(erlang:cancel_timer(Timer)).
+
+%% Makes a connection for each wait, and calls of all in random order, then of all in another one, and so on: the time
+%% is that of the calls alone.
+in_rounds(#measurement{calls = Calls, waits = Waits, order = Order}, Connect, Call, Timers) ->
+    Connected = [Connect() || _ <- Waits],
+    {Taken, Left} = in_rounds(Calls, Order, Call, Connected, 0),
+    clear(lists:flatmap(Timers, Left)),
+    Taken.
+
+in_rounds(Calls, _, _, Connected, Taken) when Calls =< 0 ->
+    {Taken, Connected};
+in_rounds(Calls, Order, Call, Connected, Taken) ->
+    Places = list_to_tuple(Connected),
+    {Called, Others} = lists:split(min(Calls, tuple_size(Places)), [element(Number + 1, Places) || Number <- Order]),
+    garbage_collect(),
+    Begun = now_ns(),
+    New = call_all(Called, Call, []),
+    Time = now_ns() - Begun,
+    in_rounds(Calls - length(Called), Order, Call, lists:reverse(New, Others), Taken + Time).
+
+call_all([], _, New) -> New;
+call_all([Connected | Others], Call, New) -> call_all(Others, Call, [Call(Connected) | New]).
 
 expire_at_once(What = #measurement{waits = Waits}) ->
     Count = length(Waits),

@@ -1,20 +1,23 @@
-// Timers of Go's package time, by the operations of bench/timers.c.
+// Timers of Go's package time, by the operations of bench/compare.c.
 //
 // A start is time.NewTimer, which makes a timer and its channel, and a cancel Timer.Stop. Both are calls of one
 // goroutine, with GOMAXPROCS at 1, so that the collections of memory by the runtime, and all else that it does
 // for timers, are in the time. A start asks the operating system for the time. A stopped timer may stay in the
 // runtime's heap until a later call or the scheduler takes it out.
 //
-//	monotonic_time   time.Since of one instant, which asks the operating system
 //	start_cancel     a timer is made and stopped
 //	start            after a collection, with all timers of earlier passes stopped
 //	cancel           in the order that all programs have
+//	restart          Timer.Reset. The heap gets to know later, where the old deadline is due.
+//	packet           Timer.Reset of the idle timeout; the request's is stopped, and one made anew. The goroutine yields
+//	                 once in 100 packets, so that the scheduler takes out those that were stopped.
 //	expire_at_once   all are due at one instant, a tenth of a microsecond or so apart. When it has passed, the
 //	                 goroutine receives from each channel, which lets the scheduler fire the timers: the receive
 //	                 is what stands for delivery and the message that is taken.
 //
 // Deadlines are in real time: of the spread ones a few pass before their timer is stopped, and their Stop says so.
-// expire_spread isn't here: a program can't set the runtime's clock.
+// expire_spread isn't here, since a program can't set the runtime's clock, and idle_pass isn't, since the loop is the
+// runtime's own.
 //
 // The command line, and what is printed, are those that measure.h tells.
 package main
@@ -29,19 +32,24 @@ import (
 )
 
 const (
-	spread     = 60000
-	timeout    = 5 * time.Second
-	mostPasses = 15
-	fewPasses  = 3
-	longPass   = 2 * time.Second
-	mostTries  = 100
+	spread         = 60000
+	timeout        = 5 * time.Second
+	idleTimeout    = time.Minute
+	requestTimeout = 30 * time.Second
+	packets        = 100
+	mostPasses     = 15
+	fewPasses      = 3
+	longPass       = 2 * time.Second
+	mostTries      = 100
 )
 
-// measurement is what is measured: how many calls a pass makes, the waits of the timers, and the order of cancels.
+// measurement is what is measured: how many calls a pass makes, the waits of the timers, the order of cancels, and the
+// timer of each call.
 type measurement struct {
-	calls int
-	waits []uint32
-	order []uint32
+	calls  int
+	waits  []uint32
+	order  []uint32
+	rounds []uint32
 }
 
 // operation makes one pass, and gives how long it took.
@@ -89,6 +97,25 @@ func randomOrder(count int) []uint32 {
 	return order
 }
 
+// roundsOf gives the timers of so many calls: each timer once in this order, then each once in another one, and so on.
+func roundsOf(order []uint32, calls int) []uint32 {
+	rounds := append(make([]uint32, 0, calls+len(order)), order...)
+	for len(rounds) < calls && len(order) > 0 {
+		last := rounds[len(rounds)-len(order):]
+		for _, place := range order {
+			rounds = append(rounds, last[place])
+		}
+	}
+	return rounds[:min(calls, len(rounds))]
+}
+
+func min(a, b int) int {
+	if a < b {
+		return a
+	}
+	return b
+}
+
 func digest(numbers []uint32) uint32 {
 	sum := uint32(0)
 	for _, number := range numbers {
@@ -115,18 +142,6 @@ func forget(timers []*time.Timer) {
 	}
 	runtime.Gosched()
 	runtime.GC()
-}
-
-func passMonotonicTime(what *measurement) time.Duration {
-	base := time.Now()
-	sum := time.Duration(0)
-	begun := time.Now()
-	for i := 0; i < what.calls; i++ {
-		sum += time.Since(base)
-	}
-	taken := time.Since(begun)
-	expect(sum > 0)
-	return taken
 }
 
 func passStartCancel(what *measurement) time.Duration {
@@ -165,6 +180,44 @@ func passCancel(what *measurement) time.Duration {
 	expect(late <= len(timers)/10)
 	forget(timers)
 	return taken
+}
+
+func passRestart(what *measurement) time.Duration {
+	timers := startEach(len(what.waits), idleTimeout)
+	begun := time.Now()
+	for _, i := range what.rounds {
+		expect(timers[i].Reset(idleTimeout))
+	}
+	taken := time.Since(begun)
+	forget(timers)
+	return taken
+}
+
+func passPacket(what *measurement) time.Duration {
+	idle := startEach(len(what.waits), idleTimeout)
+	requests := startEach(len(what.waits), requestTimeout)
+	begun := time.Now()
+	for call, i := range what.rounds {
+		if call%packets == 0 {
+			runtime.Gosched()
+		}
+		expect(idle[i].Reset(idleTimeout))
+		expect(requests[i].Stop())
+		requests[i] = time.NewTimer(requestTimeout)
+	}
+	taken := time.Since(begun)
+	forget(idle)
+	forget(requests)
+	return taken
+}
+
+// startEach starts so many timers of the same wait.
+func startEach(count int, wait time.Duration) []*time.Timer {
+	timers := make([]*time.Timer, count)
+	for i := range timers {
+		timers[i] = time.NewTimer(wait)
+	}
+	return timers
 }
 
 func passExpireAtOnce(what *measurement) time.Duration {
@@ -209,15 +262,11 @@ func resident() int {
 	return pages * os.Getpagesize()
 }
 
-// bytes gives the memory of timers that are outstanding, after a collection.
+// bytes gives the memory of timers that are outstanding and of the program's pointers to them, after a collection.
 func bytes(what *measurement) int {
-	timers := make([]*time.Timer, len(what.waits))
-	touched := &time.Timer{}
-	for i := range timers {
-		timers[i] = touched
-	}
 	runtime.GC()
 	before := resident()
+	timers := make([]*time.Timer, len(what.waits))
 	startAll(what.waits, timers)
 	runtime.GC()
 	taken := resident() - before
@@ -260,12 +309,14 @@ func main() {
 	}
 	runtime.GOMAXPROCS(1)
 	timers, passes := number(os.Args[2]), number(os.Args[4])
-	what := &measurement{number(os.Args[3]), spreadWaits(timers), randomOrder(timers)}
+	calls, order := number(os.Args[3]), randomOrder(timers)
+	what := &measurement{calls, spreadWaits(timers), order, roundsOf(order, calls)}
 	operations := map[string]operation{
-		"monotonic_time": {passMonotonicTime, true},
 		"start_cancel":   {passStartCancel, true},
 		"start":          {passStart, false},
 		"cancel":         {passCancel, false},
+		"restart":        {passRestart, true},
+		"packet":         {passPacket, true},
 		"expire_at_once": {passExpireAtOnce, false},
 	}
 	switch os.Args[1] {

@@ -1,21 +1,25 @@
 /*
- * Timers of libev, by the operations of `bench/timers.c`.
+ * Timers of libev, by the operations of `bench/compare.c`.
  *
  * A timer is an `ev_timer` that the program keeps; a start is `ev_timer_init` with `ev_timer_start`, and a
  * cancel `ev_timer_stop`. Both go by the time that the loop keeps, so neither asks the operating system, as
- * in ertime. They make no atomic step and know no owner.
+ * in ertime. They make no atomic step and know no owner. The clock is one that the program moves.
  *
- *     monotonic_time   `ev_now`: the time that the loop keeps. It is the system's time, for libev gives no other.
  *     start_cancel     one `ev_timer` is started and stopped again
  *     start            in a new loop; the loop's heap grows meanwhile, while the watchers' memory was touched before
  *     cancel           in the order that all programs have
- *     expire_at_once   all are started with one millisecond at one time of the loop. One `ev_run` without a wait
- *                      reads the clock, takes them from the heap and calls them back: a callback that counts
- *                      is what stands for delivery, and nothing is queued or taken.
- *
- * `expire_spread` isn't here: libev reads the clock itself, and a program can't set the loop's time.
+ *     restart          `ev_timer_again`, with `ev_now_update` where a millisecond has passed
+ *     packet           the same for the idle timeout, and `ev_timer_stop`, `ev_timer_set` and `ev_timer_start` for the
+ *                      request's; a pass of the loop where a millisecond has passed
+ *     idle_pass        `ev_run` without a wait: it reads the clock and asks for events, which cost nothing here, and finds
+ *                      no timer due
+ *     expire_at_once   one `ev_run` without a wait takes all from the heap and calls them back: a callback that counts
+ *                      is what stands for delivery, and nothing is queued or taken
+ *     expire_spread    the same in each of 60,000 milliseconds, and once more for what was rounded up
  */
 #define _POSIX_C_SOURCE 200809L
+
+#include "moved_clock.h"
 
 #include "measure.h"
 #include <ev.h>
@@ -40,7 +44,16 @@ static struct ev_loop *open_loop(size_t count)
         watchers = allocate(count + 1, sizeof *watchers);
         memset(watchers, 0, (count + 1) * sizeof *watchers);
     }
+    expired = 0;
     return loop;
+}
+
+/* The nanoseconds since then; the loop is closed. */
+static uint64_t close_since(uint64_t begun, struct ev_loop *loop)
+{
+    uint64_t taken = nanoseconds() - begun;
+    ev_loop_destroy(loop);
+    return taken;
 }
 
 static void start(struct ev_loop *loop, ev_timer *watcher, uint32_t wait)
@@ -49,23 +62,24 @@ static void start(struct ev_loop *loop, ev_timer *watcher, uint32_t wait)
     ev_timer_start(loop, watcher);
 }
 
+/* Starts a timer that `ev_timer_again` restarts. */
+static void start_idle(struct ev_loop *loop, ev_timer *watcher)
+{
+    ev_timer_init(watcher, count_one, 0., IDLE_TIMEOUT * 1e-3);
+    ev_timer_again(loop, watcher);
+}
+
 static void start_all(struct ev_loop *loop, const struct measurement *what)
 {
     for (size_t i = 0; i < what->timers; i++)
         start(loop, &watchers[i], what->waits[i]);
 }
 
-static uint64_t pass_monotonic_time(const struct measurement *what)
+/* What the loop does so much later. */
+static void make_pass(struct ev_loop *loop, int64_t later)
 {
-    struct ev_loop *loop = open_loop(0);
-    ev_tstamp sum = 0;
-    uint64_t begun = nanoseconds();
-    for (size_t i = 0; i < what->calls; i++)
-        sum += ev_now(loop);
-    uint64_t taken = nanoseconds() - begun;
-    expect(sum > 0);
-    ev_loop_destroy(loop);
-    return taken;
+    clock_now += later;
+    ev_run(loop, EVRUN_NOWAIT);
 }
 
 static uint64_t pass_start_cancel(const struct measurement *what)
@@ -78,9 +92,8 @@ static uint64_t pass_start_cancel(const struct measurement *what)
         start(loop, one, TIMEOUT);
         ev_timer_stop(loop, one);
     }
-    uint64_t taken = nanoseconds() - begun;
+    uint64_t taken = close_since(begun, loop);
     expect(!ev_is_active(one));
-    ev_loop_destroy(loop);
     return taken;
 }
 
@@ -89,10 +102,9 @@ static uint64_t pass_start(const struct measurement *what)
     struct ev_loop *loop = open_loop(what->timers);
     uint64_t begun = nanoseconds();
     start_all(loop, what);
-    uint64_t taken = nanoseconds() - begun;
+    uint64_t taken = close_since(begun, loop);
     for (size_t i = 0; i < what->timers; i++)
         expect(ev_is_active(&watchers[i]));
-    ev_loop_destroy(loop);
     return taken;
 }
 
@@ -103,26 +115,82 @@ static uint64_t pass_cancel(const struct measurement *what)
     uint64_t begun = nanoseconds();
     for (size_t i = 0; i < what->timers; i++)
         ev_timer_stop(loop, &watchers[what->order[i]]);
-    uint64_t taken = nanoseconds() - begun;
+    uint64_t taken = close_since(begun, loop);
     for (size_t i = 0; i < what->timers; i++)
         expect(!ev_is_active(&watchers[i]));
-    ev_loop_destroy(loop);
     return taken;
+}
+
+static uint64_t pass_restart(const struct measurement *what)
+{
+    struct ev_loop *loop = open_loop(what->timers);
+    for (size_t i = 0; i < what->timers; i++)
+        start_idle(loop, &watchers[i]);
+    uint64_t begun = nanoseconds();
+    for (size_t i = 0; i < what->calls; i++) {
+        if (i % PACKETS == 0) {
+            clock_now += MILLISECOND;
+            ev_now_update(loop);
+        }
+        ev_timer_again(loop, &watchers[what->rounds[i]]);
+    }
+    return close_since(begun, loop);
+}
+
+/* The watchers of a connection stand beside each other: the idle timeout's, and that of the request's. */
+static uint64_t pass_packet(const struct measurement *what)
+{
+    struct ev_loop *loop = open_loop(2 * what->timers);
+    for (size_t i = 0; i < what->timers; i++) {
+        start_idle(loop, &watchers[2 * i]);
+        start(loop, &watchers[2 * i + 1], REQUEST_TIMEOUT);
+    }
+    uint64_t begun = nanoseconds();
+    for (size_t i = 0; i < what->calls; i++) {
+        ev_timer *idle = &watchers[2 * (size_t)what->rounds[i]];
+        if (i % PACKETS == 0)
+            make_pass(loop, MILLISECOND);
+        ev_timer_again(loop, idle);
+        ev_timer_stop(loop, idle + 1);
+        ev_timer_set(idle + 1, REQUEST_TIMEOUT * 1e-3, 0.);
+        ev_timer_start(loop, idle + 1);
+    }
+    expect(expired == 0);
+    return close_since(begun, loop);
+}
+
+static uint64_t pass_idle_pass(const struct measurement *what)
+{
+    struct ev_loop *loop = open_loop(what->timers);
+    for (size_t i = 0; i < what->timers; i++)
+        start(loop, &watchers[i], TIMEOUT + what->waits[i]);
+    uint64_t begun = nanoseconds();
+    for (size_t i = 0; i < what->calls; i++)
+        make_pass(loop, MICROSECOND);
+    expect(expired == 0);
+    return close_since(begun, loop);
 }
 
 static uint64_t pass_expire_at_once(const struct measurement *what)
 {
     struct ev_loop *loop = open_loop(what->timers);
-    expired = 0;
     for (size_t i = 0; i < what->timers; i++)
         start(loop, &watchers[i], 1);
-    sleep_milliseconds(3);
     uint64_t begun = nanoseconds();
-    ev_run(loop, EVRUN_NOWAIT);
-    uint64_t taken = nanoseconds() - begun;
+    make_pass(loop, 2 * MILLISECOND);
     expect(expired == what->timers);
-    ev_loop_destroy(loop);
-    return taken;
+    return close_since(begun, loop);
+}
+
+static uint64_t pass_expire_spread(const struct measurement *what)
+{
+    struct ev_loop *loop = open_loop(what->timers);
+    start_all(loop, what);
+    uint64_t begun = nanoseconds();
+    for (size_t i = 0; i <= SPREAD; i++)
+        make_pass(loop, MILLISECOND);
+    expect(expired == what->timers);
+    return close_since(begun, loop);
 }
 
 static uint64_t bytes(const struct measurement *what)
@@ -138,9 +206,10 @@ static uint64_t bytes(const struct measurement *what)
 int main(int argc, char **argv)
 {
     static const struct operation operations[] = {
-        {"monotonic_time", pass_monotonic_time, 1}, {"start_cancel", pass_start_cancel, 1},
-        {"start", pass_start, 0},                   {"cancel", pass_cancel, 0},
-        {"expire_at_once", pass_expire_at_once, 0},
+        {"start_cancel", pass_start_cancel, 1},     {"start", pass_start, 0},
+        {"cancel", pass_cancel, 0},                 {"restart", pass_restart, 1},
+        {"packet", pass_packet, 1},                 {"idle_pass", pass_idle_pass, 1},
+        {"expire_at_once", pass_expire_at_once, 0}, {"expire_spread", pass_expire_spread, 0},
     };
     char version[32];
     snprintf(version, sizeof version, "%d.%d", ev_version_major(), ev_version_minor());

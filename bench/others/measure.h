@@ -1,6 +1,6 @@
 /*
- * What bench/timers.c and the C programs of this directory share: the waits and the order that every program makes from
- * the same seeds, the passes, and the words of the command line. `bench/compare` calls each program as
+ * What bench/compare.c, bench/timers.c and the C programs of this directory share: the waits and the order that every
+ * program makes from the same seeds, the passes, and the words of the command line. `bench/compare` calls each program as
  *
  *     PROGRAM OPERATION TIMERS CALLS PASSES
  *
@@ -23,18 +23,24 @@
 #define SPREAD 60000
 /* The wait of a timer that is started and cancelled again, in milliseconds. */
 #define TIMEOUT 5000
+/* The timeouts of a server's connection and of its request, in milliseconds, and the packets that come in one. */
+#define IDLE_TIMEOUT 60000
+#define REQUEST_TIMEOUT 30000
+#define PACKETS 100
 /* How many passes are made at most. */
 #define MOST_PASSES 100
 /* How many are made where one takes longer than LONG_PASS nanoseconds. */
 #define FEW_PASSES 3
 #define LONG_PASS UINT64_C(2000000000)
 
-/* What is measured: how many timers, how many calls a pass makes, the waits and the order of cancels. */
+/* What is measured: how many timers, how many calls a pass makes, the waits, the order of cancels, and the timer of each
+ * call. */
 struct measurement {
     size_t timers;
     size_t calls;
     uint32_t *waits;
     uint32_t *order;
+    uint32_t *rounds;
 };
 
 /* An operation: makes one pass, and gives the nanoseconds that it took. */
@@ -95,6 +101,17 @@ static inline uint32_t *random_order(size_t count)
     return order;
 }
 
+/* The timers of so many calls: each timer once in this order, then each once in another one, and so on. */
+static inline uint32_t *rounds_of(const uint32_t *order, size_t count, size_t calls)
+{
+    uint32_t *rounds = allocate(calls, sizeof *rounds);
+    for (size_t i = 0; i < calls && count > 0; i++) {
+        size_t place = i % count;
+        rounds[i] = i < count ? order[place] : rounds[i - place - count + order[place]];
+    }
+    return rounds;
+}
+
 /* A number that tells whether two programs have the same waits, or the same order. */
 static inline uint32_t digest(const uint32_t *numbers, size_t count)
 {
@@ -104,17 +121,16 @@ static inline uint32_t digest(const uint32_t *numbers, size_t count)
     return sum;
 }
 
+/* The machine's clock. A program that moves another one (moved_clock.h) says how this is called in it. */
+#ifndef MACHINE_CLOCK
+#define MACHINE_CLOCK clock_gettime
+#endif
+
 static inline uint64_t nanoseconds(void)
 {
     struct timespec now;
-    expect(clock_gettime(CLOCK_MONOTONIC, &now) == 0);
+    expect(MACHINE_CLOCK(CLOCK_MONOTONIC, &now) == 0);
     return (uint64_t)now.tv_sec * 1000000000 + (uint64_t)now.tv_nsec;
-}
-
-static inline void sleep_milliseconds(long milliseconds)
-{
-    struct timespec wait = {.tv_sec = 0, .tv_nsec = milliseconds * 1000000};
-    expect(nanosleep(&wait, NULL) == 0);
 }
 
 /* The bytes of memory that the process has (Linux, proc(5), the second word of statm). */
@@ -196,9 +212,11 @@ static inline int run(int argc, char **argv, const char *version, const struct o
     struct measurement what = {.timers = strtoul(argv[2], NULL, 10), .calls = strtoul(argv[3], NULL, 10)};
     what.waits = spread_waits(what.timers);
     what.order = random_order(what.timers);
+    what.rounds = rounds_of(what.order, what.timers, what.calls);
     int status = answer(argv[1], &what, strtoul(argv[4], NULL, 10), version, operations, count, bytes);
     free(what.waits);
     free(what.order);
+    free(what.rounds);
     return status;
 }
 

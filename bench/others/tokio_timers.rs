@@ -1,20 +1,25 @@
-//! Timers of tokio, by the operations of `bench/timers.c`.
+//! Timers of tokio, by the operations of `bench/compare.c`.
 //!
 //! A timer is a boxed `Sleep` on a runtime of one thread. A start makes it and polls it once, which enters it
 //! into the runtime's wheel, with a waker that does nothing; a cancel drops it. A start asks the operating system
 //! for the time, and takes the lock of the wheel, as a cancel does. The polls are outside of a task, so that the
 //! runtime's budget of polls isn't in the way.
 //!
-//! - `monotonic_time`: `tokio::time::Instant::now`, which asks the operating system
 //! - `start_cancel`: a sleep is made, polled once and dropped
 //! - `start`: in a new runtime
 //! - `cancel`: in the order that all programs have
+//! - `restart`: `Sleep::reset`, for which the program asks the operating system for the time. The wheel gets it to
+//!   know later, where the old deadline is due.
+//! - `packet`: the same for the idle timeout; the request's is dropped, and one made and polled once. Once in 100
+//!   packets a yield in the runtime drives the wheel.
 //! - `expire_at_once`: all sleep until one instant. When it has passed, a yield in the runtime drives the wheel,
 //!   and then each is polled, is ready, and is dropped: the poll is what stands for delivery and the message that
 //!   is taken.
 //! - `expire_spread`: the same with spread deadlines and the paused clock of tokio's tests, which is moved by a
 //!   millisecond 60,000 times; after each the sleeps that are due are polled and dropped. The feature `by_hand`
 //!   builds this alone: with it each reading of the time takes a lock.
+//!
+//! `idle_pass` isn't here: the loop is the runtime's own.
 //!
 //! The command line, and what is printed, are those that `measure.h` tells.
 #![deny(warnings)]
@@ -34,12 +39,14 @@ const MOST_PASSES: usize = 15;
 const FEW_PASSES: usize = 3;
 const LONG_PASS: Duration = Duration::from_secs(2);
 
-/// What is measured: how many calls a pass makes, the waits of the timers, and the order of cancels.
+/// What is measured: how many calls a pass makes, the waits of the timers, the order of cancels, and the timer of
+/// each call.
+#[cfg_attr(feature = "by_hand", allow(dead_code))]
 struct Measurement {
-    #[cfg_attr(feature = "by_hand", allow(dead_code))]
     calls: usize,
     waits: Vec<u32>,
     order: Vec<u32>,
+    rounds: Vec<u32>,
 }
 
 /// Makes one pass, and gives how long it took.
@@ -83,6 +90,21 @@ fn random_order(count: usize) -> Vec<u32> {
         order.swap(i - 1, random.next() as usize % i);
     }
     order
+}
+
+/// The timers of so many calls: each timer once in this order, then each once in another one, and so on.
+fn rounds_of(order: &[u32], calls: usize) -> Vec<u32> {
+    let mut rounds = order.to_vec();
+    while rounds.len() < calls && !order.is_empty() {
+        let last = rounds.len() - order.len();
+        rounds.extend_from_within(last..);
+        let (before, new) = rounds.split_at_mut(last + order.len());
+        for (timer, place) in new.iter_mut().zip(order) {
+            *timer = before[last + *place as usize];
+        }
+    }
+    rounds.truncate(calls);
+    rounds
 }
 
 fn digest(numbers: &[u32]) -> u32 {
@@ -154,18 +176,11 @@ mod passes {
 
     /// The wait of a timer that is started and cancelled again.
     const TIMEOUT: Duration = Duration::from_secs(5);
-
-    pub(super) fn monotonic_time(what: &Measurement) -> Duration {
-        let base = Instant::now();
-        let mut sum = Duration::ZERO;
-        let begun = std::time::Instant::now();
-        for _ in 0..what.calls {
-            sum += Instant::now() - base;
-        }
-        let taken = begun.elapsed();
-        expect(sum > Duration::ZERO);
-        taken
-    }
+    /// The timeouts of a server's connection and of its request.
+    const IDLE_TIMEOUT: Duration = Duration::from_secs(60);
+    const REQUEST_TIMEOUT: Duration = Duration::from_secs(30);
+    /// How many packets come between two yields.
+    const PACKETS: usize = 100;
 
     pub(super) fn start_cancel(what: &Measurement) -> Duration {
         let rig = Rig::open(false);
@@ -200,6 +215,45 @@ mod passes {
         begun.elapsed()
     }
 
+    pub(super) fn restart(what: &Measurement) -> Duration {
+        let rig = Rig::open(false);
+        let _entered = rig.runtime.enter();
+        let mut timers = start_each(&rig, what, IDLE_TIMEOUT);
+        let begun = std::time::Instant::now();
+        for i in &what.rounds {
+            let until = Instant::now() + IDLE_TIMEOUT;
+            timers[*i as usize].as_mut().reset(until);
+        }
+        begun.elapsed()
+    }
+
+    pub(super) fn packet(what: &Measurement) -> Duration {
+        let rig = Rig::open(false);
+        let _entered = rig.runtime.enter();
+        let mut idle = start_each(&rig, what, IDLE_TIMEOUT);
+        let mut requests: Vec<Option<Timer>> = start_each(&rig, what, REQUEST_TIMEOUT)
+            .into_iter()
+            .map(Some)
+            .collect();
+        let begun = std::time::Instant::now();
+        for (call, i) in what.rounds.iter().enumerate() {
+            if call % PACKETS == 0 {
+                rig.runtime.block_on(tokio::task::yield_now());
+            }
+            let until = Instant::now() + IDLE_TIMEOUT;
+            idle[*i as usize].as_mut().reset(until);
+            drop(requests[*i as usize].take());
+            requests[*i as usize] = Some(rig.start(sleep(REQUEST_TIMEOUT)));
+        }
+        begun.elapsed()
+    }
+
+    /// A timer of the same wait for each of the waits.
+    fn start_each(rig: &Rig, what: &Measurement, wait: Duration) -> Vec<Timer> {
+        let timers = what.waits.iter();
+        timers.map(|_| rig.start(sleep(wait))).collect()
+    }
+
     pub(super) fn expire_at_once(what: &Measurement) -> Duration {
         let rig = Rig::open(false);
         let entered = rig.runtime.enter();
@@ -218,17 +272,14 @@ mod passes {
         begun.elapsed()
     }
 
-    /// The memory of timers that are outstanding. Only the runtime's wheel refers to them.
+    /// The memory of timers that are outstanding, and of the program's pointers to them.
     pub(super) fn bytes(what: &Measurement) -> u64 {
         let before = resident();
         let rig = Rig::open(false);
         let _entered = rig.runtime.enter();
-        for wait in &what.waits {
-            std::mem::forget(rig.start(sleep(milliseconds(*wait))));
-        }
-        let taken = resident() - before;
-        std::mem::forget(rig.runtime);
-        taken
+        let mut timers = Vec::with_capacity(what.waits.len());
+        rig.start_all(what, &mut timers);
+        resident() - before
     }
 
     /// The bytes of memory that the process has (Linux, `proc(5)`, the second word of `statm`).
@@ -268,10 +319,11 @@ mod passes {
 
 #[cfg(not(feature = "by_hand"))]
 const OPERATIONS: &[(&str, Pass, bool)] = &[
-    ("monotonic_time", passes::monotonic_time, true),
     ("start_cancel", passes::start_cancel, true),
     ("start", passes::start, false),
     ("cancel", passes::cancel, false),
+    ("restart", passes::restart, true),
+    ("packet", passes::packet, true),
     ("expire_at_once", passes::expire_at_once, false),
 ];
 
@@ -307,10 +359,12 @@ fn main() {
     };
     let (timers, calls, passes) = (number(timers), number(calls), number(passes));
     let (waits, order) = (spread_waits(timers), random_order(timers));
+    let rounds = rounds_of(&order, calls);
     let what = Measurement {
         calls,
         waits,
         order,
+        rounds,
     };
     match operation.as_str() {
         "order" => println!("{} {}", digest(&what.waits), digest(&what.order)),
