@@ -475,8 +475,8 @@ int32_t ert_world_start(ert_world *world, uint32_t sched, const ert_start *start
  *
  * Writes how many slots can take a timer now to `room`, and to `ready` the earliest time at which one that waits
  * for its deadlines can take a timer again, in milliseconds since the start time, as `to` of a turn: 0 if none
- * waits. If `room` is not 0, the next start on the wheel is not refused. Otherwise one that was refused by ERT_FULL can
- * be made at `ready`, or once a timer of the wheel has been cancelled or delivered.
+ * waits. If `room` is not 0, the next start on the wheel is not refused by ERT_FULL. Otherwise one that was refused so
+ * can be made at `ready`, or once a timer of the wheel has been cancelled or delivered.
  *
  * ERT_RANGE: there is no such scheduler. ERT_CLOSED. It looks at each slot of the wheel once; no memory.
  */
