@@ -1,6 +1,6 @@
 -- What is kept of the slots that are written: by slot the key of its last row, and a value.
 
-use Rattle.std.specs.Prelude.{◌≡◌, ℕ, ◌≤◌, List, map, length}
+use Rattle.std.specs.Prelude.{◌≡◌, ℕ, ◌≤◌, List, length}
 use Rattle.ert_wheel.specs.Rings.{Rings}
 use Rattle.ert_wheel.specs.declared.kept.Record.{Record}
 use Rattle.ert_wheel.specs.declared.row.Key.{Key}
@@ -11,17 +11,9 @@ pub record KeptSlots (T : Type 0) : Type 0 where
   pub values : List T
   pub room : ℕ
 
--- the deadline of a record
-abbrev pub record_deadline : {T : Type 0} → Record T → ℕ
-record_deadline r = r.deadline
-
--- the deadline of a key
-abbrev pub key_deadline : Key → ℕ
-key_deadline key = key.deadline
-
--- the records have the deadlines of the keys
-abbrev pub AreDeadlines : {T : Type 0} → List (Record T) → List Key → Type 0
-AreDeadlines records keys = map record_deadline records ≡ map key_deadline keys
+-- the key of a record
+abbrev pub record_key : {T : Type 0} → Record T → Key
+record_key r = r.key
 
 -- the value of a record
 abbrev pub record_value : {T : Type 0} → Record T → T

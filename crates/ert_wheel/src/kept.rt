@@ -1,41 +1,37 @@
-use crate::keys::Keys;
-use crate::row::Row;
+use crate::row::{Key, Row};
 use ert_defs::NoMemory;
 use std::alloc::Global;
 use std::marker::Model;
 
-/// What is kept of a slot: the deadline of its last row, in milliseconds, and the value beside it.
+/// What is kept of a slot: the key of its last row, and the value beside it.
 #[derive(Clone, Copy)]
 struct Record<T> {
-    deadline: u64,
+    key: Key,
     value: T,
 }
 
-// Beside a value of 24 bytes two records are as long as a line of the caches.
-const _: () = prove!(size_of::<Record<[u64; 3]>>() == 32);
+// Beside a value of 24 bytes.
+const _: () = prove!(size_of::<Record<[u64; 3]>>() == 40);
 
-/// The deadline of each slot's last row, and a value of each slot. No order is stored: it is known to proofs alone.
+/// The key of each slot's last row, and a value of each slot.
 ///
 /// There is room for all slots from the beginning, and the slots below a number are written.
 #[derive(Drop)]
 pub struct Kept<T> {
     records: Vec<Record<T>>,
-    keys: Keys,
 }
 
 impl<T> Model for Kept<T> {
     ghost use Rattle.std.specs.Prelude.{map, vec_capacity};
-    ghost use Rattle.ert_wheel.specs.Kept.{KeptSlots, record_value, AreDeadlines};
+    ghost use Rattle.ert_wheel.specs.Kept.{KeptSlots, record_key, record_value};
 
     ghost Value = { KeptSlots T };
 
     ghost view = { λ k. record {
-      keys = k.keys.by_slot;
+      keys = map record_key k.records.items;
       values = map record_value k.records.items;
       room = vec_capacity k.records;
     } };
-
-    ghost invariant = { λ k. AreDeadlines k.records.items k.keys.by_slot };
 }
 
 impl<T: Copy> Kept<T> {
@@ -51,10 +47,7 @@ impl<T: Copy> Kept<T> {
         ensures room { IfOk result (λ kept. slots ≤ kept.room) }
     {
         let records = Vec::with_capacity(alloc, slots as usize)?;
-        Ok(Kept {
-            records,
-            keys: Keys::new(),
-        })
+        Ok(Kept { records })
     }
 
     /// How many slots are written.
@@ -76,10 +69,15 @@ impl<T: Copy> Kept<T> {
         ensures values { self.new.values ≡ self.old.values ++ replicate (count - length self.old.keys) value }
         ensures room { self.old.room ≤ self.new.room }
     {
-        let none = Record { deadline: 0, value };
+        let none = Record {
+            key: Key {
+                deadline: 0,
+                order: 0,
+            },
+            value,
+        };
         // There is room for them.
         let _ = self.records.resize(count as usize, none);
-        self.keys = self.keys.up_to(&count);
     }
 
     /// The deadline of a slot's last row.
@@ -88,7 +86,16 @@ impl<T: Copy> Kept<T> {
         requires { slot < length self.now.keys }
         ensures { result ≡ (slice_index_or self.now.keys slot no_key).deadline }
     {
-        self.records[slot as usize].deadline
+        self.records[slot as usize].key.deadline
+    }
+
+    /// The order of a slot's last row.
+    #[inline]
+    pub fn order(&self, slot: u32) -> u64
+        requires { slot < length self.now.keys }
+        ensures { result ≡ (slice_index_or self.now.keys slot no_key).order }
+    {
+        self.records[slot as usize].key.order
     }
 
     /// The value of a slot.
@@ -109,9 +116,8 @@ impl<T: Copy> Kept<T> {
         ensures room { self.new.room ≡ self.old.room }
     {
         self.records[row.slot as usize] = Record {
-            deadline: row.deadline,
+            key: row.key(),
             value,
         };
-        self.keys = self.keys.with(&row);
     }
 }

@@ -22,13 +22,9 @@
 //! why a slot belongs to a home is the wheel's or its user's to know, and a contract speaks of every assignment of
 //! places that fits.
 //!
-//! **Records** (`Kept`). A row's deadline stands beside the value that the wheel's user keeps of its slot, in one record. So
-//! a start writes one place for both, and where a row moves to a lower level, what its expiry will read comes into the
-//! caches.
-//!
-//! **Orders** (`Keys`). A row's order is its rank among all rows that were put in. It isn't stored: a chain has its slots in
-//! this order already. Contracts speak of it by the slots' keys, a deadline and an order each, which proofs alone read. A
-//! row that is told has its deadline and its slot (`HeldRow`).
+//! **Records** (`Kept`). A row's key, its deadline and its order, stands beside the value that the wheel's user keeps of its
+//! slot, in one record. So a start writes one place for both, and where a row moves to a lower level, what its expiry will
+//! read comes into the caches. A row's order is its rank among all rows that were put in, as its user counts them.
 //!
 //! **Another row of a slot** (`replace`) takes the place of the one before it. Where the slot is the newest of the bucket
 //! to which the new row belongs, as where a timer is moved on again and again, no link is written.
@@ -56,7 +52,7 @@
 //!
 //! The newest row of a bucket falls first, and it comes to the oldest end of the bucket below. New rows come to the newest end
 //! there. So of the rows of one window those on a higher level are older, and each chain is in order of start
-//! (`AreLevelled`), though no order is stored. A fall costs as much as a start does in the wheel, with two misses of the
+//! (`AreLevelled`). A fall costs as much as a start does in the wheel, with two misses of the
 //! caches where there are many rows.
 //!
 //! **Marks** (`Marks`, `MarkedChains`). A bit for each bucket tells whether it has a slot: a put into an empty one sets
@@ -96,7 +92,7 @@
 //! **Owners.** `own` puts a slot into the chain of an owner as its newest, `disown` takes it out, `is_owned` tells whether
 //! it is in one, and `newest_owned` tells the newest of an owner. This hangs on no row: a slot may have an owner without a row, and a row without an owner.
 //!
-//! **At rest** a slot takes 24 bytes and its value: 8 of deadline and 16 of links; an owner 8 bytes for its head; and a wheel
+//! **At rest** a slot takes 32 bytes and its value: 16 of its key and 16 of links; an owner 8 bytes for its head; and a wheel
 //! 33.5 KiB for the heads of its buckets, and 544 bytes for the marks. All is taken when the wheel is made, and no call
 //! takes memory after that; what is written then are the heads and the marks.
 //!
@@ -109,7 +105,6 @@
 mod chains;
 mod falling;
 mod kept;
-mod keys;
 mod laws;
 mod levels;
 mod links;

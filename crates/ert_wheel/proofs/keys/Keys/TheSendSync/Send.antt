@@ -1,6 +1,0 @@
--- Keys own nothing, so they may go to another thread.
-use denote.Param.Send.{IsSend, owning_send}
-use Rattle.ert_wheel.specs.contracts.keys.Keys.{the_row, the_type}
-
-pub send : IsSend the_row
-send = owning_send the_type tt (λ d. tt) (λ k x w. tt)
