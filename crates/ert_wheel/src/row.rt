@@ -7,7 +7,7 @@ pub const LAST: u64 = NEVER - 1;
 /// How many buckets a wheel has: 1,024 on each of four levels, and 192 on the highest.
 pub const BUCKETS: u32 = 4_288;
 
-/// What a wheel keeps of a slot's last row.
+/// What contracts know of a row.
 #[derive(Clone, Copy, Debug, PartialEq, Eq)]
 pub struct Key {
     /// When the row is due, in milliseconds. At most [`LAST`].
@@ -21,26 +21,10 @@ pub struct Key {
 pub struct Row {
     /// When the row is due, in milliseconds. At most [`LAST`].
     pub deadline: u64,
-    /// Its rank among all rows that were put in: later ones have greater orders. It is stored beside the deadline.
+    /// Its rank among all rows that were put in: later ones have greater orders.
     pub order: u64,
     /// The slot whose row it is.
     pub slot: u32,
-}
-
-impl Row {
-    ghost use Rattle.std.specs.Prelude.{◌≡◌};
-    ghost use Rattle.ert_wheel.specs.Rows.{key_of};
-
-    /// The row without its slot.
-    #[inline(always)]
-    pub(crate) fn key(self) -> Key
-        ensures { result ≡ key_of self }
-    {
-        Key {
-            deadline: self.deadline,
-            order: self.order,
-        }
-    }
 }
 
 /// A row that a wheel holds, as it is told. Rows are compared by deadline, then by rank.
