@@ -22,7 +22,8 @@ use Rattle.ert_laws.specs.Counts.{entries_of, is_arm, is_expire, is_orphan}
 use Rattle.ert_table.specs.Held.{is_held}
 use Rattle.ert_table.specs.declared.view.View.{View}
 use Rattle.ert_timers.specs.Codes.{slot_code, key_code}
-use Rattle.ert_timers.specs.Slots.{Slot}
+use Rattle.ert_timers.specs.Slots.{Slot, slot_of, nothing}
+use Rattle.ert_timers.specs.declared.slot.Stored.{Stored}
 use Rattle.ert_wheel.specs.Rings.{Rings, Place, AreChains, StandsIn}
 use Rattle.ert_wheel.specs.Rows.{Held, key_in}
 use Rattle.ert_wheel.specs.declared.row.Key.{Key}
@@ -71,9 +72,13 @@ unused = record { generation = 0; above = 0; dest = 0; msg = 0; kind = Wrapped }
 abbrev pub slot_at : List Slot → ℕ → Slot
 slot_at slots k = slice_index_or slots k unused
 
--- what is kept of so many slots, by what is kept of those that are written: the others were never used
-unfoldable pub all_slots : List Slot → ℕ → List Slot
-all_slots written n = map (λ k. slot_at written k) (range_with_len 0 n)
+-- what is kept of a slot, by what is stored of those that are written: the others were never used
+abbrev pub slot_in : List Stored → ℕ → Slot
+slot_in written k = slot_of (slice_index_or written k nothing)
+
+-- and of so many
+unfoldable pub all_slots : List Stored → ℕ → List Slot
+all_slots written n = map (λ k. slot_in written k) (range_with_len 0 n)
 
 -- the last timer of a slot
 abbrev pub last_timer : ℕ → List Slot → ℕ → TimerRef
@@ -120,7 +125,7 @@ pub record AreFieldsFit (slots : List Slot) (keys : List (Option Key)) (free : F
   pub chained : AreOwned slots keys owners armed
 
 -- more slots of a wheel are written, so many in all, and nothing was kept of them: so all is seen as it was
-pub record IsWritten (old new : Held Slot) (written : ℕ) : Type 0 where
+pub record IsWritten (old new : Held Stored) (written : ℕ) : Type 0 where
   pub more : old.owners.written ≤ written
   pub keys : new.keys ≡ old.keys
   pub owners : new.owners ≡ record old.owners { written = written }

@@ -1,12 +1,11 @@
 ghost use Rattle.std.specs.Prelude.{◌≡◌, ◌↔◌, ◌<◌, ◌≤◌, ◌-◌, ℕ, IfOk, IsTrue, Option, option_map, replicate};
 ghost use Rattle.ert_timers.specs.Owners.{MayThin, FindsRow};
-ghost use Rattle.ert_timers.specs.Parts.{unused};
 ghost use Rattle.ert_wheel.specs.Rings.{Place, AreChains};
 ghost use Rattle.ert_wheel.specs.Rows.{row_told};
 
 use crate::expired_list::ExpiredList;
-use crate::slot::Slot;
-use ert_defs::{Kind, NoMemory, Settings, TimerRef, TimerRow};
+use crate::slot::Stored;
+use ert_defs::{NoMemory, Settings, TimerRef, TimerRow};
 use ert_wheel::{HeldRow, Wheel};
 use ert_words::FreeSlots;
 use std::alloc::Global;
@@ -38,7 +37,7 @@ pub struct WheelPart {
     next_look: u32,
     /// The timers that are held as armed, and for each process the chain of the slots whose timers go to it. A slot
     /// without such a timer stays in its chain until it is used for another process, or until the chain is swept.
-    wheel: Wheel<Slot>,
+    wheel: Wheel<Stored>,
     /// The slots that are known to be free.
     free: FreeSlots,
     /// How many timers were armed. That is also the order of the next one.
@@ -96,6 +95,7 @@ impl WheelPart {
     ghost use Rattle.ert_defs.specs.Settings.{IsChecked};
     ghost use Rattle.ert_timers.specs.Freeing.{IsInUse};
     ghost use Rattle.ert_timers.specs.Parts.{PartStands, held_row, slot_at};
+    ghost use Rattle.ert_timers.specs.Slots.{slot_of};
     ghost use Rattle.ert_timers.specs.Expiring.{AreDue};
     ghost use Rattle.ert_timers.specs.Changes.{NextOf, gone_on};
     ghost use Rattle.ert_timers.specs.NextDue.{IsNextHeld};
@@ -176,12 +176,12 @@ impl WheelPart {
     }
 
     /// What is kept of a slot, whether it is written or not.
-    fn kept_of(&self, slot: u32) -> Slot
+    fn kept_of(&self, slot: u32) -> Stored
         requires { slot < length self.now.slots }
-        ensures { result ≡ slot_at self.now.slots slot }
+        ensures { slot_of result ≡ slot_at self.now.slots slot }
     {
         if slot as usize >= self.wheel.written() {
-            return never_used();
+            return Stored::unused();
         }
         self.wheel.value(slot)
     }
@@ -283,15 +283,8 @@ pub(crate) fn is_long(now: u64, deadline: u64) -> bool
     deadline.saturating_sub(now) >= LONG_WAIT
 }
 
-/// What is kept of a slot that was never used.
-fn never_used() -> Slot
-    ensures { result ≡ unused }
-{
-    Slot::new(0, 0, 0, 0, Kind::Wrapped)
-}
-
 /// A row of the chain of a process; None where it has none. Slots without a row that are met leave the chain.
-fn find_row(wheel: &mut Wheel<Slot>, process: u32) -> Option<HeldRow>
+fn find_row(wheel: &mut Wheel<Stored>, process: u32) -> Option<HeldRow>
     requires process { process < wheel.old.owners.homes }
     requires may { MayThin wheel.old.owners wheel.old.keys }
     ensures keys { wheel.new.keys ≡ wheel.old.keys }

@@ -29,8 +29,8 @@ mod replacing;
 ///
 ///     let mut wheel = Wheel::new(alloc, 64, 1)?;
 ///     let mut due = Vec::with_capacity(alloc, 64)?;
-///     wheel.write_up_to(4, 0u64);
-///     wheel.insert(Row { deadline: 20, order: 0, slot: 3 }, 7);
+///     wheel.write_up_to(4, unused);
+///     wheel.insert(Row { deadline: 20, order: 0, slot: 3 }, value);       // `value` tells this deadline and this order
 ///     wheel.advance(20, &mut due);        // gives that row, and takes it out
 #[derive(Drop)]
 pub struct Wheel<T: Keyed> {

@@ -1,6 +1,6 @@
 -- Which values have a word, and which numbers are words.
 
-use Rattle.std.specs.Prelude.{◌≡◌, ◌⊎◌, ℕ, ℤ, pos, ◌<◌, ◌≤◌, ◌%◌, ◌+ℤ◌, ◌≤ℤ◌, Bool, Option, Some, IfSome, FitsSigned}
+use Rattle.std.specs.Prelude.{◌≡◌, ◌⊎◌, ℕ, ℤ, pos, ◌<◌, ◌≤◌, ◌/◌, ◌%◌, ◌+ℤ◌, ◌≤ℤ◌, Bool, cond, nat_eq, Option, Some, IfSome, FitsSigned}
 use Rattle.std.specs.Int.{w64}
 use Rattle.ert_defs.specs.Lines.{IsOffset}
 use Rattle.ert_defs.specs.Timers.{use_of}
@@ -48,6 +48,13 @@ pub record IsUsedWord (word : ℕ) : Type 0 where
   pub generation : ℕ
   pub in_range : IsTimer deadline generation
   pub stands : word ≡ timer_word status deadline generation
+
+-- the deadline and the generation in a word that is of an armed timer, or of a slot that was never used: 0 and 0
+abbrev pub deadline_in : ℕ → ℕ
+deadline_in word = word / 8 % 8796093022208
+
+abbrev pub generation_in : ℕ → ℕ
+generation_in word = cond (nat_eq (word % 8) 7) (word / 8) (word / 70368744177664)
 
 -- the word of a slot, used or not
 abbrev pub IsTimerWord : ℕ → Type 0

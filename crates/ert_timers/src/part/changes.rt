@@ -5,11 +5,13 @@ ghost use Rattle.ert_defs.specs.Timers as timers;
 ghost use Rattle.ert_timers.specs.Changes as changes;
 ghost use Rattle.ert_timers.specs.Owners.{MayJoin, Joins};
 ghost use Rattle.ert_timers.specs.Parts.{IsWritten};
+ghost use Rattle.ert_timers.specs.Slots.{slot_of, stored_key};
 ghost use Rattle.ert_wheel.specs.Rings.{Place, AreChains, MayTake, GivesUpPlace, StandsIn};
 ghost use Rattle.ert_words.specs.Free.{free_set, with_short, with_long, TakesLong, TakesNextSlot};
+ghost use Rattle.ert_words.specs.Ranges.{IsTimer};
 
-use super::{Use, WheelPart, is_long, never_used};
-use crate::slot::Slot;
+use super::{Use, WheelPart, is_long};
+use crate::slot::Stored;
 use ert_defs::{FIRST_LATER_GENERATION, Start, TimerRef, USES_OF_ROUND, use_of};
 use ert_wheel::{Row, Wheel};
 use ert_words::FreeSlots;
@@ -17,29 +19,38 @@ use ert_words::FreeSlots;
 /// How many slots are written at once, at the first use of the first of them: 3 KiB.
 const WRITTEN_AT_ONCE: u32 = 64;
 
-impl Slot {
+impl Stored {
     /// Whether it was used less often than a round allows.
     fn has_uses(self) -> bool
-        ensures { result ≡ changes.has_uses self }
+        ensures { result ≡ changes.has_uses (slot_of self) }
     {
         has_uses(self.generation())
     }
 
-    /// What is kept of it with the timer of a start.
+    /// What is stored of it with the timer of a start, which is the next one of this order.
     #[inline]
-    pub(super) fn used(self, start: &Start, next: Use) -> Slot
-        requires deadline { next.deadline ≤ 8796093022207 }
+    pub(super) fn used(self, start: &Start, next: Use, order: u64) -> Stored
+        requires timer { IsTimer next.deadline next.generation }
         requires dest { start.now.dest < 524288 }
-        ensures { result ≡ changes.slot_for next self.above start.now }
+        ensures slot { slot_of result ≡ changes.slot_for next (slot_of self).above start.now }
+        ensures key { stored_key result ≡ record { deadline = next.deadline; order = order } }
     {
         let above = self.above().max(next.deadline + 1);
-        Slot::new(next.generation, above, start.dest, start.msg, start.kind)
+        Stored::new(
+            next.deadline,
+            next.generation,
+            order,
+            above,
+            start.dest,
+            start.msg,
+            start.kind,
+        )
     }
 
     /// Whether it rests at a time in milliseconds after the start time: its round has no use left, and the
     /// deadline of one of its timers hasn't passed.
     fn is_resting(self, now: u64) -> bool
-        ensures { result ≡ changes.is_resting self now }
+        ensures { result ≡ changes.is_resting (slot_of self) now }
     {
         !self.has_uses() && now < self.above()
     }
@@ -52,7 +63,7 @@ impl Slot {
     fn next_use(self, now: u64, deadline: u64) -> Use
         requires now { now ≤ 8796093022207 }
         requires deadline { deadline ≤ 8796093022207 }
-        ensures { result ≡ changes.next_use self.generation now deadline }
+        ensures { result ≡ changes.next_use (slot_of self).generation now deadline }
     {
         Use::after(self.generation(), now, deadline)
     }
@@ -223,7 +234,7 @@ impl WheelPart {
     pub(crate) fn keep(&mut self, slot: u32, start: &Start, next: Use) -> TimerRef
         requires free { MayBecomeFree self.old slot }
         requires dest { start.now.dest < self.old.processes }
-        requires deadline { next.deadline ≤ 8796093022207 }
+        requires timer { IsTimer next.deadline next.generation }
         requires few { self.old.arms < 9007199254740992 }
         ensures kept { self.new ≡ kept self.old slot start.now next }
         ensures timer { result ≡ last_timer self.new.number self.new.slots slot }
@@ -236,7 +247,7 @@ impl WheelPart {
             slot,
         };
         self.arms += 1;
-        self.wheel.insert(row, last.used(start, next));
+        self.wheel.insert(row, last.used(start, next, row.order));
         join(&mut self.wheel, slot, start.dest, stays);
         TimerRef {
             wheel: self.number,
@@ -255,7 +266,7 @@ pub(super) fn has_uses(generation: u64) -> bool
 
 /// Writes what is kept of a slot where that isn't written yet: so it is with one that is taken for the first time.
 #[inline(always)]
-fn write(wheel: &mut Wheel<Slot>, slot: u32)
+fn write(wheel: &mut Wheel<Stored>, slot: u32)
     requires low { slot < length wheel.old.keys }
     requires same { length wheel.old.keys ≡ wheel.old.owners.slots }
     ensures written { slot < wheel.new.owners.written }
@@ -269,7 +280,7 @@ fn write(wheel: &mut Wheel<Slot>, slot: u32)
 /// Writes a slot that isn't written, those below it, and some of those that come next.
 #[cold]
 #[inline(never)]
-fn write_more(wheel: &mut Wheel<Slot>, slot: u32)
+fn write_more(wheel: &mut Wheel<Stored>, slot: u32)
     requires low { slot < length wheel.old.keys }
     requires same { length wheel.old.keys ≡ wheel.old.owners.slots }
     requires high { wheel.old.owners.written ≤ slot }
@@ -277,15 +288,15 @@ fn write_more(wheel: &mut Wheel<Slot>, slot: u32)
     ensures more { IsWritten wheel.old wheel.new wheel.new.owners.written }
 {
     let count = slot.saturating_add(WRITTEN_AT_ONCE).min(wheel.slots());
-    wheel.write_up_to(count, never_used());
+    wheel.write_up_to(count, Stored::unused());
 }
 
 /// Whether a slot stands in the chain of a process, by what is kept of its last timer.
 #[inline]
-fn is_with(wheel: &Wheel<Slot>, slot: u32, last: Slot, process: u32) -> bool
+fn is_with(wheel: &Wheel<Stored>, slot: u32, last: Stored, process: u32) -> bool
     requires { slot < wheel.now.owners.written }
     ensures { (places : ℕ → Option Place) → AreChains wheel.now.owners places
-        → ((place : Place) → places slot ≡ Some place → place.home ≡ last.dest)
+        → ((place : Place) → places slot ≡ Some place → place.home ≡ (slot_of last).dest)
         → result ≡ true → StandsIn places process slot }
 {
     last.dest() == process && wheel.is_owned(slot)
@@ -293,7 +304,7 @@ fn is_with(wheel: &Wheel<Slot>, slot: u32, last: Slot, process: u32) -> bool
 
 /// Puts a slot into the chain of a process, where it doesn't stay in it.
 #[inline]
-pub(super) fn join(wheel: &mut Wheel<Slot>, slot: u32, process: u32, stays: bool)
+pub(super) fn join(wheel: &mut Wheel<Stored>, slot: u32, process: u32, stays: bool)
     requires process { process < wheel.old.owners.homes }
     requires may { MayTake wheel.old.owners slot }
     requires written { slot < wheel.old.owners.written }
@@ -315,7 +326,7 @@ pub(super) fn join(wheel: &mut Wheel<Slot>, slot: u32, process: u32, stays: bool
 
 /// Takes a slot out of its chain, where it is in one. In a slot's first use it isn't, and then nothing is written.
 #[inline]
-fn take_out(wheel: &mut Wheel<Slot>, slot: u32)
+fn take_out(wheel: &mut Wheel<Stored>, slot: u32)
     requires may { MayTake wheel.old.owners slot }
     requires written { slot < wheel.old.owners.written }
     ensures keys { wheel.new.keys ≡ wheel.old.keys }

@@ -11,6 +11,7 @@ impl WheelPart {
     ghost use Rattle.ert_effects.specs.RestartCalls.{NeedsSlot};
     ghost use Rattle.ert_timers.specs.Parts.{last_timer, slot_at};
     ghost use Rattle.ert_timers.specs.Restarting.{CanRenew, MayStay};
+    ghost use Rattle.ert_words.specs.Ranges.{IsTimer};
 
     /// Puts in the timer of a start, in the slot of one that has a row still, whose place the new one takes. Where both
     /// go to the same process no chain of a process is read or written.
@@ -18,7 +19,7 @@ impl WheelPart {
     pub(crate) fn renew(&mut self, slot: u32, start: &Start, next: Use) -> TimerRef
         requires can { CanRenew self.old slot }
         requires dest { start.now.dest < self.old.processes }
-        requires deadline { next.deadline ≤ 8796093022207 }
+        requires timer { IsTimer next.deadline next.generation }
         ensures kept { self.new ≡ kept self.old slot start.now next }
         ensures timer { result ≡ last_timer self.new.number self.new.slots slot }
     {
@@ -29,7 +30,7 @@ impl WheelPart {
             slot,
         };
         self.arms += 1;
-        self.wheel.replace(row, last.used(start, next));
+        self.wheel.replace(row, last.used(start, next, row.order));
         let stays = last.dest() == start.dest;
         join(&mut self.wheel, slot, start.dest, stays);
         TimerRef {

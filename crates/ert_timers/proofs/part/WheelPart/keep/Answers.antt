@@ -3,7 +3,7 @@ use Rattle.ert_timers.specs.Changes.{MayBecomeFree, kept, slot_for}
 use Rattle.ert_timers.specs.Owners.{MayJoin, Joins}
 use Rattle.ert_timers.specs.Parts.{Part, all_slots, slot_at}
 use Rattle.ert_timers.specs.contracts.part.WheelPart.{the_view}
-use Rattle.ert_timers.specs.Slots.{Slot}
+use Rattle.ert_timers.specs.Slots.{Slot, slot_of}
 use Rattle.ert_timers.proofs.AllSlots.{read_at}
 use Rattle.ert_timers.proofs.Fit.{fit_same, may_leave, written_away}
 use Rattle.ert_timers.proofs.Keeping.{orders_if, fit_kept, slots_kept, named_kept}
@@ -67,7 +67,7 @@ slots c =
     let low = subst (λ (q : Part). c.args.slot < length q.slots) (sym c.self.view_is) c.requires.free.low in
     slots_kept p.wheel.values c.join.new.wheel.values p.wheel.owners.slots c.join.new.wheel.owners.slots c.args.slot c.value-last.result c.used.result
     c.args.start.now c.args.next c.value-last.ensures (omega (arith, low, c.self.invariant.owned))
-    (c.join.ensures.slots ∙ ap (λ (r : Rings). r.slots) c.insert.ensures.owners) (c.join.ensures.values ∙ c.insert.ensures.values) c.used.ensures
+    (c.join.ensures.slots ∙ ap (λ (r : Rings). r.slots) c.insert.ensures.owners) (c.join.ensures.values ∙ c.insert.ensures.values) c.used.ensures.slot
 
 pub invariant_of-self : goal.invariant_of-self
 invariant_of-self c =
@@ -77,7 +77,7 @@ invariant_of-self c =
     let free = subst (λ (q : Part). MayBecomeFree q k) (sym c.self.view_is) c.requires.free in
     let dest = subst (λ (q : Part). c.args.start.now.dest < q.processes) (sym c.self.view_is) c.requires.dest in
     let fit = c.self.invariant in
-    let read : slot_at seen.slots k ≡ c.value-last.result =
+    let read : slot_at seen.slots k ≡ slot_of c.value-last.result =
     read_at p.wheel.values p.wheel.owners.slots k c.value-last.result c.value-last.ensures (omega (arith, free.low, fit.owned)) in
     let start = c.args.start.now in
     let same = c.insert.ensures.owners in

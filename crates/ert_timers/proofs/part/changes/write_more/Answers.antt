@@ -27,7 +27,7 @@ returns-clause-more c =
       keys = c.write_up_to.ensures.keys;
       owners = c.write_up_to.ensures.owners ∙ ap (λ n. let r : Rings = record old.owners { written = n } in r) (sym written);
       slots = λ n.
-          ap (λ vs. all_slots vs n) (c.write_up_to.ensures.values ∙ ap (λ u. old.values ++ replicate (c.min-count.result - old.owners.written) u) c.never_used.ensures)
+          ap (λ vs. all_slots vs n) (c.write_up_to.ensures.values ∙ ap (λ u. old.values ++ replicate (c.min-count.result - old.owners.written) u) c.unused.ensures)
           ∙ all_more old.values (c.min-count.result - old.owners.written) n;
       passed = c.write_up_to.ensures.passed;
     }
