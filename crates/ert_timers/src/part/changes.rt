@@ -8,7 +8,7 @@ ghost use Rattle.ert_timers.specs.Parts.{IsWritten};
 ghost use Rattle.ert_wheel.specs.Rings.{Place, AreChains, MayTake, GivesUpPlace, StandsIn};
 ghost use Rattle.ert_words.specs.Free.{free_set, with_short, with_long, TakesLong, TakesNextSlot};
 
-use super::{Use, WheelPart, is_long, never_used};
+use super::{Use, WheelPart, are_short, is_long, never_used};
 use crate::slot::Slot;
 use ert_defs::{FIRST_LATER_GENERATION, Start, TimerRef, USES_OF_ROUND, use_of};
 use ert_wheel::{Row, Wheel};
@@ -107,8 +107,7 @@ impl WheelPart {
         let slot = self.free.pick()?;
         write(&mut self.wheel, slot);
         let above = self.wheel.value(slot).above();
-        // Most waits are short, and one test tells that neither of both is long.
-        if !is_long(now, above.max(deadline)) {
+        if are_short(now, above, deadline) {
             return Some(slot);
         }
         let long = is_long(now, deadline);
@@ -311,6 +310,46 @@ pub(super) fn join(wheel: &mut Wheel<Slot>, slot: u32, process: u32, stays: bool
     }
     take_out(wheel, slot);
     wheel.own(slot, process);
+}
+
+/// The same where it mostly stays.
+#[inline(always)]
+pub(super) fn join_seldom(wheel: &mut Wheel<Slot>, slot: u32, process: u32, stays: bool)
+    requires process { process < wheel.old.owners.homes }
+    requires may { MayTake wheel.old.owners slot }
+    requires written { slot < wheel.old.owners.written }
+    ensures keys { wheel.new.keys ≡ wheel.old.keys }
+    ensures values { wheel.new.values ≡ wheel.old.values }
+    ensures passed { wheel.new.passed ≡ wheel.old.passed }
+    ensures slots { wheel.new.owners.slots ≡ wheel.old.owners.slots }
+    ensures homes { wheel.new.owners.homes ≡ wheel.old.owners.homes }
+    ensures written { wheel.new.owners.written ≡ wheel.old.owners.written }
+    ensures joins { (places : ℕ → Option Place) (bound : ℕ) → AreChains wheel.old.owners places
+        → MayJoin places slot process bound stays → Joins wheel.new.owners places slot process bound }
+{
+    if stays {
+        return;
+    }
+    join_anew(wheel, slot, process);
+}
+
+/// The same where it doesn't stay.
+#[cold]
+#[inline(never)]
+fn join_anew(wheel: &mut Wheel<Slot>, slot: u32, process: u32)
+    requires process { process < wheel.old.owners.homes }
+    requires may { MayTake wheel.old.owners slot }
+    requires written { slot < wheel.old.owners.written }
+    ensures keys { wheel.new.keys ≡ wheel.old.keys }
+    ensures values { wheel.new.values ≡ wheel.old.values }
+    ensures passed { wheel.new.passed ≡ wheel.old.passed }
+    ensures slots { wheel.new.owners.slots ≡ wheel.old.owners.slots }
+    ensures homes { wheel.new.owners.homes ≡ wheel.old.owners.homes }
+    ensures written { wheel.new.owners.written ≡ wheel.old.owners.written }
+    ensures joins { (places : ℕ → Option Place) (bound : ℕ) → AreChains wheel.old.owners places
+        → MayJoin places slot process bound false → Joins wheel.new.owners places slot process bound }
+{
+    join(wheel, slot, process, false);
 }
 
 /// Takes a slot out of its chain, where it is in one. In a slot's first use it isn't, and then nothing is written.
