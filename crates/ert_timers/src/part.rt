@@ -1,4 +1,4 @@
-ghost use Rattle.std.specs.Prelude.{◌≡◌, ◌↔◌, ◌<◌, ◌≤◌, ◌-◌, ℕ, IfOk, IsTrue, Option, option_map, replicate};
+ghost use Rattle.std.specs.Prelude.{◌≡◌, ◌↔◌, ◌<◌, ◌≤◌, ◌-◌, ℕ, IfOk, IsTrue, Option, option_map, replicate, true};
 ghost use Rattle.ert_timers.specs.Owners.{MayThin, FindsRow};
 ghost use Rattle.ert_wheel.specs.Rings.{Place, AreChains};
 ghost use Rattle.ert_wheel.specs.Rows.{row_told};
@@ -281,6 +281,17 @@ pub(crate) fn is_long(now: u64, deadline: u64) -> bool
     ensures { IsTrue result ↔ (4194304 ≤ deadline - now) }
 {
     deadline.saturating_sub(now) >= LONG_WAIT
+}
+
+/// Whether it is certain that neither of two deadlines is a long wait away from a time, all in milliseconds after the start
+/// time. Most waits are short, and then one sum tells it of both.
+#[inline(always)]
+pub(crate) fn are_short(now: u64, first: u64, second: u64) -> bool
+    ensures first { result ≡ true → first - now < 4194304 }
+    ensures second { result ≡ true → second - now < 4194304 }
+{
+    let end = now.wrapping_add(LONG_WAIT);
+    first < end && second < end
 }
 
 /// A row of the chain of a process; None where it has none. Slots without a row that are met leave the chain.

@@ -16,7 +16,7 @@ impl World {
     ghost use Rattle.ert_effects.specs.declared.answers.StartErr.TheVariants.{BadArg, Full, NoMemory};
     ghost use Rattle.ert_defs.specs.declared.entry.Actor.TheVariants.{Caller};
     ghost use Rattle.ert_defs.specs.States.{state};
-    ghost use Rattle.ert_defs.specs.Timers.{is_taken};
+    ghost use Rattle.ert_defs.specs.Timers.{is_taken, timer_at};
     ghost use Rattle.ert_world.specs.Frees.{IsUsedUpAt, UsesFreeAt};
     ghost use Rattle.ert_world.specs.Restarts.{HasNoDeadline};
     ghost use Rattle.ert_world.specs.Stepping.{Stays};
@@ -52,18 +52,23 @@ impl World {
         if timer.generation <= USES_OF_ROUND {
             self.cancel_by_name(timer)
         } else {
-            self.cancel_of_later_round(timer)
+            self.cancel_of_later_round(timer.wheel, timer.slot, timer.generation)
         }
     }
 
-    /// The same for a timer of a later round of its slot.
+    /// The same for a timer of a later round of its slot. Its name comes in parts: so a cancel, which seldom gets here,
+    /// needn't write it to memory.
     #[cold]
     #[inline(never)]
-    fn cancel_of_later_round(&mut self, timer: TimerRef) -> Option<u64>
-        ensures call { Goes self.old (By self.old (λ g. Cancels g (Caller 0) timer result)) self.new }
-        ensures forgotten { OnSome result (HasForgotten self.new timer) }
+    fn cancel_of_later_round(&mut self, wheel: u32, slot: u32, generation: u64) -> Option<u64>
+        ensures call { Goes self.old (By self.old (λ g. Cancels g (Caller 0) (timer_at wheel slot generation) result)) self.new }
+        ensures forgotten { OnSome result (HasForgotten self.new (timer_at wheel slot generation)) }
     {
-        self.cancel_by_name(timer)
+        self.cancel_by_name(TimerRef {
+            wheel,
+            slot,
+            generation,
+        })
     }
 
     /// The same for any timer.

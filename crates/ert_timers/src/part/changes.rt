@@ -10,7 +10,7 @@ ghost use Rattle.ert_wheel.specs.Rings.{Place, AreChains, MayTake, GivesUpPlace,
 ghost use Rattle.ert_words.specs.Free.{free_set, with_short, with_long, TakesLong, TakesNextSlot};
 ghost use Rattle.ert_words.specs.Ranges.{IsTimer};
 
-use super::{Use, WheelPart, is_long};
+use super::{Use, WheelPart, are_short, is_long};
 use crate::slot::Stored;
 use ert_defs::{FIRST_LATER_GENERATION, Start, TimerRef, USES_OF_ROUND, use_of};
 use ert_wheel::{Row, Wheel};
@@ -118,8 +118,7 @@ impl WheelPart {
         let slot = self.free.pick()?;
         write(&mut self.wheel, slot);
         let above = self.wheel.value(slot).above();
-        // Most waits are short, and one test tells that neither of both is long.
-        if !is_long(now, above.max(deadline)) {
+        if are_short(now, above, deadline) {
             return Some(slot);
         }
         let long = is_long(now, deadline);
@@ -322,6 +321,46 @@ pub(super) fn join(wheel: &mut Wheel<Stored>, slot: u32, process: u32, stays: bo
     }
     take_out(wheel, slot);
     wheel.own(slot, process);
+}
+
+/// The same where it mostly stays.
+#[inline(always)]
+pub(super) fn join_seldom(wheel: &mut Wheel<Stored>, slot: u32, process: u32, stays: bool)
+    requires process { process < wheel.old.owners.homes }
+    requires may { MayTake wheel.old.owners slot }
+    requires written { slot < wheel.old.owners.written }
+    ensures keys { wheel.new.keys ≡ wheel.old.keys }
+    ensures values { wheel.new.values ≡ wheel.old.values }
+    ensures passed { wheel.new.passed ≡ wheel.old.passed }
+    ensures slots { wheel.new.owners.slots ≡ wheel.old.owners.slots }
+    ensures homes { wheel.new.owners.homes ≡ wheel.old.owners.homes }
+    ensures written { wheel.new.owners.written ≡ wheel.old.owners.written }
+    ensures joins { (places : ℕ → Option Place) (bound : ℕ) → AreChains wheel.old.owners places
+        → MayJoin places slot process bound stays → Joins wheel.new.owners places slot process bound }
+{
+    if stays {
+        return;
+    }
+    join_anew(wheel, slot, process);
+}
+
+/// The same where it doesn't stay.
+#[cold]
+#[inline(never)]
+fn join_anew(wheel: &mut Wheel<Stored>, slot: u32, process: u32)
+    requires process { process < wheel.old.owners.homes }
+    requires may { MayTake wheel.old.owners slot }
+    requires written { slot < wheel.old.owners.written }
+    ensures keys { wheel.new.keys ≡ wheel.old.keys }
+    ensures values { wheel.new.values ≡ wheel.old.values }
+    ensures passed { wheel.new.passed ≡ wheel.old.passed }
+    ensures slots { wheel.new.owners.slots ≡ wheel.old.owners.slots }
+    ensures homes { wheel.new.owners.homes ≡ wheel.old.owners.homes }
+    ensures written { wheel.new.owners.written ≡ wheel.old.owners.written }
+    ensures joins { (places : ℕ → Option Place) (bound : ℕ) → AreChains wheel.old.owners places
+        → MayJoin places slot process bound false → Joins wheel.new.owners places slot process bound }
+{
+    join(wheel, slot, process, false);
 }
 
 /// Takes a slot out of its chain, where it is in one. In a slot's first use it isn't, and then nothing is written.

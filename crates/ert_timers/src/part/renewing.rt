@@ -1,6 +1,6 @@
 //! A slot that has the row of a timer that was settled, and takes the next one at once.
-use super::changes::{has_uses, join};
-use super::{Use, WheelPart, is_long};
+use super::changes::{has_uses, join_seldom};
+use super::{Use, WheelPart, are_short, is_long};
 use crate::starting::MOST_TIMERS;
 use ert_defs::{Start, TimerRef};
 use ert_wheel::Row;
@@ -32,7 +32,7 @@ impl WheelPart {
         self.arms += 1;
         self.wheel.replace(row, last.used(start, next, row.order));
         let stays = last.dest() == start.dest;
-        join(&mut self.wheel, slot, start.dest, stays);
+        join_seldom(&mut self.wheel, slot, start.dest, stays);
         TimerRef {
             wheel: self.number,
             slot,
@@ -57,7 +57,6 @@ impl WheelPart {
         ensures { IsTrue result ↔ ((4194304 ≤ (slot_at self.now.slots slot).above - now) ↔ (4194304 ≤ deadline - now)) }
     {
         let above = self.kept_of(slot).above();
-        // Most waits are short, and one test tells that neither of both is long.
-        !is_long(now, above.max(deadline)) || is_long(now, above) == is_long(now, deadline)
+        are_short(now, above, deadline) || is_long(now, above) == is_long(now, deadline)
     }
 }

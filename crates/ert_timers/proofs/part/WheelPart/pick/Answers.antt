@@ -23,19 +23,19 @@ write-requires-clause-same c = c.self.invariant.wide ∙ sym c.self.invariant.ow
 pub value-requires : goal.value-requires
 value-requires c = c.write.ensures.written
 
-pub invariant_of-self-then-not-is_long : goal.invariant_of-self-then-not-is_long
-invariant_of-self-then-not-is_long c =
+pub invariant_of-self-then-are_short : goal.invariant_of-self-then-are_short
+invariant_of-self-then-are_short c =
     fit_written c.self.inside.wheel c.write.new.wheel (free_set c.self.inside.free) (free_set c.pick.new.self) c.self.inside.arms c.self.inside.expires c.self.inside.orphans c.in_ok-slot.slot c.write.new.wheel.owners.written
     c.self.invariant c.in_ok-slot.ensures.taken c.write.ensures.more c.write.ensures.written
 
-pub returns-then-not-is_long-clause-picked : goal.returns-then-not-is_long-clause-picked
-returns-then-not-is_long-clause-picked c =
+pub returns-then-are_short-clause-picked : goal.returns-then-are_short-clause-picked
+returns-then-are_short-clause-picked c =
     (seen_written (the_view c.self.inside) c.self.inside.wheel c.write.new.wheel (free_set c.pick.new.self).held c.write.new.wheel.owners.written c.write.ensures.more refl refl refl refl)
     ∙ (pick_taken (the_view c.self.inside) (free_set c.self.inside.free) (free_set c.pick.new.self) (Some c.in_ok-slot.slot) refl c.in_ok-slot.ensures.taken
     ∙ ap (λ (p : Part). picked p c.in_ok-slot.slot) c.self.view_is)
 
-pub returns-then-not-is_long-clause-usable : goal.returns-then-not-is_long-clause-usable
-returns-then-not-is_long-clause-usable c =
+pub returns-then-are_short-clause-usable : goal.returns-then-are_short-clause-usable
+returns-then-are_short-clause-usable c =
     subst (λ (q : Part). MayBecomeFree q c.in_ok-slot.slot)
     (sym (seen_written (the_view c.self.inside) c.self.inside.wheel c.write.new.wheel (free_set c.pick.new.self).held c.write.new.wheel.owners.written c.write.ensures.more refl refl refl refl))
     (pick_usable (the_view c.self.inside) (free_set c.self.inside.free) (free_set c.pick.new.self) c.self.inside.wheel.owners (Some c.in_ok-slot.slot) c.self.invariant refl c.in_ok-slot.ensures.held

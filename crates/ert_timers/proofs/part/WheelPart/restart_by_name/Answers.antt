@@ -5,7 +5,7 @@ use Rattle.ert_table.specs.Desks.{settings_of, view_of}
 use Rattle.ert_timers.proofs.Freed.{keeps_uses}
 use Rattle.ert_timers.proofs.Moved.{ends_after, has_looked, none_takes, not_full, restarts, restarts_none}
 use Rattle.ert_timers.proofs.Starts.{ahead_stands, bad_arg}
-use Rattle.ert_timers.proofs.part.WheelPart.restart.Goals as goal
+use Rattle.ert_timers.proofs.part.WheelPart.restart_by_name.Goals as goal
 
 pub returns-in_default-clause-stands : goal.returns-in_default-clause-stands
 returns-in_default-clause-stands c =
@@ -37,24 +37,24 @@ returns-then-not-has_generation-clause-call c =
     restarts_none (settings_of c.args.desk.now) (view_of c.args.pass.now) (view_of c.look_ahead.new.pass) c.args.by c.args.self.now.number c.args.timer c.args.start.now c.look_ahead.result c.in-Some.ahead
     c.in-Some.is c.look_ahead.ensures.looks (names_no_generation (settings_of c.args.desk.now) c.args.timer (search rules))
 
-pub restart_elsewhere-requires-clause-stands : goal.restart_elsewhere-requires-clause-stands
-restart_elsewhere-requires-clause-stands c =
+pub restart_in_parts-requires-clause-stands : goal.restart_in_parts-requires-clause-stands
+restart_in_parts-requires-clause-stands c =
     ahead_stands (settings_of c.args.desk.now) (view_of c.args.pass.now) c.args.by c.args.start.now c.look_ahead.result (view_of c.look_ahead.new.pass) c.args.self.now c.requires.stands c.requires.holds
     c.look_ahead.ensures.looks
 
-pub restart_elsewhere-requires-clause-in_range : goal.restart_elsewhere-requires-clause-in_range
-restart_elsewhere-requires-clause-in_range c = names_both (settings_of c.args.desk.now) c.args.timer (search rules) (search rules)
+pub restart_in_parts-requires-clause-in_range : goal.restart_in_parts-requires-clause-in_range
+restart_in_parts-requires-clause-in_range c = names_both (settings_of c.args.desk.now) c.args.timer (search rules) (search rules)
 
-pub restart_elsewhere-requires-clause-looked : goal.restart_elsewhere-requires-clause-looked
-restart_elsewhere-requires-clause-looked c =
+pub restart_in_parts-requires-clause-looked : goal.restart_in_parts-requires-clause-looked
+restart_in_parts-requires-clause-looked c =
     has_looked (settings_of c.args.desk.now) (view_of c.args.pass.now) c.args.by c.args.start.now c.look_ahead.result c.in-Some.ahead (view_of c.look_ahead.new.pass) c.args.self.now.number c.in-Some.is
     c.look_ahead.ensures.looks c.requires.holds c.in-Some.ensures.now c.in-Some.ensures.deadline
 
 pub returns-then-not-may_stay-clause-call : goal.returns-then-not-may_stay-clause-call
 returns-then-not-may_stay-clause-call c =
     let named : names_timer (settings_of c.args.desk.now) c.args.timer ≡ true = names_both (settings_of c.args.desk.now) c.args.timer (search rules) (search rules) in
-    restarts (settings_of c.args.desk.now) (view_of c.args.pass.now) (view_of c.look_ahead.new.pass) (view_of c.restart_elsewhere.new.pass) c.args.by c.args.self.now c.args.timer c.args.start.now
-    c.look_ahead.result c.in-Some.ahead c.restart_elsewhere.result c.in-Some.is c.look_ahead.ensures.looks c.requires.holds named c.restart_elsewhere.ensures.call
+    restarts (settings_of c.args.desk.now) (view_of c.args.pass.now) (view_of c.look_ahead.new.pass) (view_of c.restart_in_parts.new.pass) c.args.by c.args.self.now c.args.timer c.args.start.now
+    c.look_ahead.result c.in-Some.ahead c.restart_in_parts.result c.in-Some.is c.look_ahead.ensures.looks c.requires.holds named c.restart_in_parts.ensures.call
 
 pub restart_here-requires-clause-stands : goal.restart_here-requires-clause-stands
 restart_here-requires-clause-stands c =
