@@ -18,19 +18,19 @@ use Rattle.ert_defs.specs.declared.settings.Settings.{Settings}
 use Rattle.ert_table.specs.Acts.{Sitter, SittersMeet}
 use Rattle.ert_table.specs.Held.{is_held}
 use Rattle.ert_table.specs.Rule.{Fits, Holds}
-use Rattle.ert_table.specs.Views.{longer, both, spent}
+use Rattle.ert_table.specs.Views.{Begins, longer, both, spent}
 use Rattle.ert_table.proofs.Holders.{held-append, free_then, free_front}
 use Rattle.ert_table.proofs.OneStep.{Ruled}
 use Rattle.ert_table.specs.declared.view.View.{View}
 use Rattle.ert_table.proofs.Splits.{AreApart}
 
 -- of two beginnings of one list the longer one goes on from the other
-record GoesOn (f f' l l' : List Entry) : Type 0 where
-  more : List Entry
-  grown : f' ≡ f ++ more
-  left : l ≡ more ++ l'
+pub record GoesOn (f f' l l' : List Entry) : Type 0 where
+  pub more : List Entry
+  pub grown : f' ≡ f ++ more
+  pub left : l ≡ more ++ l'
 
-goes_on : (f f' l l' : List Entry) → f ++ l ≡ f' ++ l' → length f ≤ length f' → GoesOn f f' l l'
+pub goes_on : (f f' l l' : List Entry) → f ++ l ≡ f' ++ l' → length f ≤ length f' → GoesOn f f' l l'
 goes_on [] f' l l' same le = record { more = f'; grown = refl; left = same }
 goes_on (e ∷ f) [] l l' same le = absurd (omega arith)
 goes_on (e ∷ f) (d ∷ f') l l' same le =
@@ -93,6 +93,13 @@ both_fit g h v w p q apart =
         apart = apart;
       };
     }
+
+-- each of their fronts begins that of the pass that they became
+pub both_begin : (g : Settings) (h : List Entry) (v w : View) → Fits g h v → Fits g h w
+    → Begins v.front (longer v.front w.front) × Begins w.front (longer v.front w.front)
+both_begin g h v w p q =
+    let m = met_at g h v w p q (nat_le (length w.front) (length v.front)) refl in
+    (record { later = m.on.more; grown = m.on.grown }, record { later = m.other_on.more; grown = m.other_on.grown })
 
 -- a pass with nothing fits
 spent_fits : (g : Settings) (h : List Entry) → Fits g h spent

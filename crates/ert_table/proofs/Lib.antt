@@ -23,3 +23,4 @@ pub mod RenewActs
 pub mod Calls
 pub mod Makings
 pub mod Parts
+pub mod Order

@@ -5,6 +5,7 @@ pub mod Entries
 pub mod Held
 pub mod Laws
 pub mod Openings
+pub mod Order
 pub mod Peeking
 pub mod Places
 pub mod Renewals

@@ -86,7 +86,7 @@ mod view;
 
 pub use carry::{OffsetCarry, Settle, TimeCarry, TimerCarry};
 pub use desk::{Desk, Pass, Words};
-pub use laws::calls_take_place;
+pub use laws::{calls_take_place, steps_stand_in_order};
 pub use places::SlotPlace;
 pub use renew_steps::ArmedWord;
 pub use view::{Met, View};
