@@ -1,7 +1,7 @@
 -- How `run` and `race` end, by what was read and by what then was answered.
 
 use Rattle.std.proofs.Common.{◌≡◌, ℕ, Bool, List, [], ◌++◌, Option, Some, None, inl, inr, refl, sym, ap, subst, ◌∙◌, append-nil, arith}
-use Rattle.std.specs.Prelude.{Result, Ok, Err, IfOk, IfSome, OnErr, IsErrOf}
+use Rattle.std.specs.Prelude.{Result, Ok, Err, IfOk, IfSome, IsSomeAnd, OnErr, IsErrOf}
 use Rattle.ert_io.specs.Faults.{Rose}
 use Rattle.ert_io.proofs.SeveralReads.{handed_none, handed_fewer}
 use Rattle.ert_io.specs.Known.{StreamTold, before, HandsUpTo, IsAtEnd}
@@ -12,11 +12,14 @@ use Rattle.ert_scenario.specs.declared.scenario.ScenarioErr.{ScenarioErr}
 use Rattle.ert_script.specs.declared.output.RunErr.{RunErr}
 use Rattle.ert_script.specs.declared.output.RunErr.TheVariants.{WriteFault as OutputFailed, NoMemory as OutOfMemory}
 use Rattle.ert_program.specs.Endings.{end_of, without_desk}
-use Rattle.ert_program.specs.Inputs.{Doing, IsPossibleInput, HasRead, RanOn, WritesPart, InputEnds}
+use Rattle.ert_program.specs.Inputs.{Writing, IsPossibleInput, WritesAll, WritesSomeOf, ReadsNone, InputEnds}
+use Rattle.ert_program.specs.OnDesks.{HasRead}
+use Rattle.ert_program.specs.RefusedInputs.{RefusesInput, PartRefused, RefusalEnds}
 use Rattle.ert_program.specs.Streams.{Output}
 use Rattle.ert_program.specs.Unread.{EndsUnread}
 use Rattle.ert_program.specs.declared.ending.EndStatus.TheVariants.{NoMemory}
 use Rattle.ert_program.specs.declared.ending.Ended.{Ended}
+use Rattle.ert_program.specs.declared.ending.Refusal.{Refusal}
 
 -- no bytes are a scenario and refused
 abbrev pub NeverBoth : Type 0
@@ -38,73 +41,106 @@ all_taken i j text bytes told takes = sym (subst (λ (k : Option (List ℕ)). If
 takes_none : (told : StreamTold ℕ) → HandsUpTo 16777217 told told
 takes_none told = handed_fewer 16777217 told told [] (omega arith) (handed_none told)
 
--- memory ran out before anything was read or written
-unread_memory : (race : Bool) (i : Input) (o : Output) → EndsUnread race i i o o (without_desk NoMemory)
-unread_memory race i o = record {
-  not_done = λ how. cc;
-  refused = λ how. cc;
-  read_fault = λ how. cc;
-  too_long = λ how. cc;
-  write_fault = λ how. cc;
-  no_memory = λ how. (takes_none i.told, refl);
-  others = (λ how. cc, λ how. cc);
-  no_desk = refl;
-  no_refusal = λ how. refl;
-  complete = λ quiet fine bytes plan left short is. refl;
-}
+-- bytes of which there is a text are a scenario
+abbrev pub IsOfScenario : Bool → Writing → Type 0
+IsOfScenario race part = (bytes text : List ℕ) → part bytes text → (plan : Plan) × IsScenario race bytes plan
+
+-- so there is none of bytes that are refused
+no_text : (race : Bool) (part : Writing) (bytes : List ℕ) (why : ScenarioErr) → IsOfScenario race part → NeverBoth → HasRefusal race bytes why
+    → (text : List ℕ) → part bytes text → ⊥
+no_text race part bytes why of never is text may = let plan = of bytes text may in never race bytes plan.0 why plan.1 is
+
+none_of : (race : Bool) (part : Writing) (i j : Input) (o p : Output) (r : Option Refusal) → IsOfScenario race part → NeverBoth
+    → IsSomeAnd r (RefusesInput race i j o.told p.told) → ReadsNone part i j
+none_of race part i j o p None of never h = absurd h
+none_of race part i j o p (Some r) of never h = record { bytes = r.bytes.items; takes = h.takes; none = no_text race part r.bytes.items r.why of never h.is }
+
+part_none : (race : Bool) (part : Writing) (i j : Input) (o p : Output) → IsOfScenario race part → NeverBoth → PartRefused race i j o.told p.told → ReadsNone part i j
+part_none race part i j o p of never h = record { bytes = h.bytes; takes = h.takes; none = no_text race part h.bytes h.why of never h.is }
 
 -- an end with no scenario is one of both commands
-pub unread_ends : (race : Bool) (does : Doing) (i j : Input) (o p : Output) (e : Ended) → EndsUnread race i j o p e → InputEnds race does i j o p e
-unread_ends race does i j o p e un = record {
+pub unread_ends : (race : Bool) (does part : Writing) (i j : Input) (o p : Output) (e : Ended) → IsOfScenario race part → NeverBoth → EndsUnread race i j o p e
+    → InputEnds does part i j o p e.status
+unread_ends race does part i j o p e of never un = record {
   done = λ how. absurd (un.not_done how);
-  refused = un.refused;
+  refused = λ how. none_of race part i j o p e.refusal of never (un.refused how);
   read_fault = un.read_fault;
   too_long = un.too_long;
-  write_fault = λ how. (let part = un.write_fault how in (part.0, inr part.1));
-  no_memory = λ how. (let none = un.no_memory how in (none.0, inl none.1));
+  write_fault = λ how. (let h = un.write_fault how in (h.0, inr (part_none race part i j o p of never h.1)));
+  no_memory = λ how. (let h = un.no_memory how in (h.0, inl h.1));
   others = un.others;
-  complete = λ quiet fine bytes plan left short is. inr (un.complete quiet fine bytes plan left short is);
+  complete = λ quiet fine bytes text left short may.
+      (let plan = of bytes text may in inr (un.complete quiet fine bytes plan.0 left short plan.1));
+}
+
+-- and says so of the refusal
+pub unread_refusal : (race : Bool) (i j : Input) (o p : Output) (e : Ended) → EndsUnread race i j o p e → RefusalEnds race i j o p e
+unread_refusal race i j o p e un = record {
+  refused = un.refused;
+  write_fault = λ how. inr (un.write_fault how).1;
+  no_memory = λ how. inl (un.no_memory how).1;
 }
 
 -- so is what came of the run of a plan that was read
-pub ran_ends : (race : Bool) (does : Doing) (i j : Input) (o p : Output) (plan : Plan) (ran : Result Returned RunErr) → HasRead race i j plan
-    → IfOk ran (RanOn does plan o.told p.told) → OnErr ran (WritesPart does plan o.told p.told) → (IsErrOf ran OutputFailed → Rose o.faults p.faults)
-    → InputEnds race does i j o p (end_of ran)
-ran_ends race does i j o p plan (Ok r) read ok err cause = record {
-  done = λ how. record { plan = plan; read = read; history = ok.history; text = ok.text; is = ok.is; writes = ok.writes };
+pub ran_ends : (race : Bool) (does part : Writing) (i j : Input) (o p : Output) (plan : Plan) (ran : Result Returned RunErr) → HasRead race i j plan
+    → IfOk ran (λ r. WritesAll does i j o.told p.told) → OnErr ran (WritesSomeOf part i j o.told p.told) → (IsErrOf ran OutputFailed → Rose o.faults p.faults)
+    → InputEnds does part i j o p (end_of ran).status
+ran_ends race does part i j o p plan (Ok r) read ok err cause = record {
+  done = λ how. ok;
   refused = λ how. cc;
   read_fault = λ how. cc;
   too_long = λ how. cc;
   write_fault = λ how. cc;
   no_memory = λ how. cc;
   others = (λ how. cc, λ how. cc);
-  complete = λ quiet fine bytes p left short is. inl refl;
+  complete = λ quiet fine bytes text left short may. inl refl;
 }
-ran_ends race does i j o p plan (Err OutputFailed) read ok err cause = record {
+ran_ends race does part i j o p plan (Err OutputFailed) read ok err cause = record {
   done = λ how. cc;
   refused = λ how. cc;
   read_fault = λ how. cc;
   too_long = λ how. cc;
-  write_fault = λ how. (cause refl, inl (record { plan = plan; read = read; part = err }));
+  write_fault = λ how. (cause refl, inl err);
   no_memory = λ how. cc;
   others = (λ how. cc, λ how. cc);
-  complete = λ quiet fine bytes p left short is. absurd (fine (cause refl));
+  complete = λ quiet fine bytes text left short may. absurd (fine (cause refl));
 }
-ran_ends race does i j o p plan (Err OutOfMemory) read ok err cause = record {
+ran_ends race does part i j o p plan (Err OutOfMemory) read ok err cause = record {
   done = λ how. cc;
   refused = λ how. cc;
   read_fault = λ how. cc;
   too_long = λ how. cc;
   write_fault = λ how. cc;
-  no_memory = λ how. (all, inr (inl (record { plan = plan; read = read; part = err })));
+  no_memory = λ how. (all, inr (inl err));
   others = (λ how. cc, λ how. cc);
-  complete = λ quiet fine bytes p left short is. inr refl;
+  complete = λ quiet fine bytes text left short may. inr refl;
 }
   where
     all : HandsUpTo 16777217 i.told j.told
     all = let short = read.takes.short in handed_fewer 16777217 i.told j.told read.bytes (omega arith) read.takes.reads
 
--- and so is out of memory before the input is read
-pub memory_ends : (race : Bool) (does : Doing) (i : Input) (o : Output) (e : Ended) → e ≡ without_desk NoMemory → InputEnds race does i i o o e
-memory_ends race does i o e is =
-    subst (λ (x : Ended). InputEnds race does i i o o x) (sym is) (unread_ends race does i i o o (without_desk NoMemory) (unread_memory race i o))
+-- and nothing is refused then
+pub ran_refusal : (race : Bool) (i j : Input) (o p : Output) (plan : Plan) (ran : Result Returned RunErr) → HasRead race i j plan → RefusalEnds race i j o p (end_of ran)
+ran_refusal race i j o p plan (Ok r) read = record { refused = λ how. cc; write_fault = λ how. cc; no_memory = λ how. cc }
+ran_refusal race i j o p plan (Err OutputFailed) read = record { refused = λ how. cc; write_fault = λ how. inl (plan, read); no_memory = λ how. cc }
+ran_refusal race i j o p plan (Err OutOfMemory) read = record { refused = λ how. cc; write_fault = λ how. cc; no_memory = λ how. inr (inl (plan, read)) }
+
+-- so is out of memory before the input is read
+pub memory_ends : (does part : Writing) (i : Input) (o : Output) (e : Ended) → e ≡ without_desk NoMemory → InputEnds does part i i o o e.status
+memory_ends does part i o e is =
+    subst (λ (x : Ended). InputEnds does part i i o o x.status) (sym is)
+    (record {
+      done = λ how. cc;
+      refused = λ how. cc;
+      read_fault = λ how. cc;
+      too_long = λ how. cc;
+      write_fault = λ how. cc;
+      no_memory = λ how. (takes_none i.told, inl refl);
+      others = (λ how. cc, λ how. cc);
+      complete = λ quiet fine bytes text left short may. inr refl;
+    })
+
+pub memory_refusal : (race : Bool) (i : Input) (o : Output) (e : Ended) → e ≡ without_desk NoMemory → RefusalEnds race i i o o e
+memory_refusal race i o e is =
+    subst (λ (x : Ended). RefusalEnds race i i o o x) (sym is)
+    (record { refused = λ how. cc; write_fault = λ how. cc; no_memory = λ how. inl refl })

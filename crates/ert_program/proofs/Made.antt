@@ -24,7 +24,7 @@ use Rattle.ert_world.specs.Worlds.{Seen}
 use Rattle.ert_program.proofs.Transcripts.{text_of, is_run, stands_for}
 use Rattle.ert_program.specs.Endings.{end_of}
 use Rattle.ert_program.specs.Generated.{generated}
-use Rattle.ert_program.specs.Inputs.{RanOn}
+use Rattle.ert_program.specs.OnDesks.{RanOn}
 use Rattle.ert_program.specs.Streams.{Output}
 use Rattle.ert_program.specs.Stresses.{summary_of, SummaryOf, StopsSummary, HasRun, StressEnds}
 

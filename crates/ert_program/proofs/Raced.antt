@@ -1,14 +1,17 @@
 -- The race of a plan, as what the command does with the plan.
 
-use Rattle.std.proofs.Common.{◌≡◌, Some, inl, inr}
+use Rattle.std.proofs.Common.{◌≡◌, ℕ, true, List, Some}
 use Rattle.std.specs.Prelude.{Result, Ok, Err, IfOk, OnErr}
-use Rattle.ert_io.specs.Told.{SinkTold}
+use Rattle.ert_io.specs.Reads.{Input}
+use Rattle.ert_io.specs.Told.{SinkTold, TakesFront}
 use Rattle.ert_ops.specs.Races.{Race}
-use Rattle.ert_race.specs.Written.{Returned, RacesOn, StopsRace}
+use Rattle.ert_race.specs.Written.{Returned, MayWrite, RacesOn, StopsRace}
 use Rattle.ert_scenario.specs.Scenarios.{Plan}
 use Rattle.ert_script.specs.declared.output.RunErr.{RunErr}
-use Rattle.ert_program.specs.Inputs.{RanOn, WritesPart}
-use Rattle.ert_program.specs.Races.{RaceOf}
+use Rattle.ert_program.proofs.Ends.{IsOfScenario}
+use Rattle.ert_program.specs.Inputs.{WritesAll, WritesSomeOf}
+use Rattle.ert_program.specs.OnDesks.{HasRead, RanOn}
+use Rattle.ert_program.specs.Races.{OfRace, IsReport, OfPlan, RaceWrites, RaceOf}
 
 -- it was run
 pub raced : (plan : Plan) (race : Race) (old new : SinkTold) (ran : Result Returned RunErr) → plan.race ≡ Some race
@@ -24,13 +27,34 @@ raced plan race old new (Err e) has on = tt
 
 -- the first part of what it may write was written
 pub race_stops : (plan : Plan) (race : Race) (old new : SinkTold) (ran : Result Returned RunErr) → plan.race ≡ Some race
-    → OnErr ran (StopsRace plan.settings plan.ops race old new) → OnErr ran (WritesPart RaceOf plan old new)
+    → OnErr ran (StopsRace plan.settings plan.ops race old new) → OnErr ran ((text : List ℕ) × OfPlan MayWrite plan text × TakesFront old new text)
 race_stops plan race old new (Ok r) has on = tt
-race_stops plan race old new (Err e) has on = record {
-  text = on.text;
-  may = elim on.may [
-    | inl begins ↦ inl begins
-    | inr is ↦ inr (is.0, record { race = race; has = has; is = is.1 })
-  ];
-  writes = on.writes;
+race_stops plan race old new (Err e) has on = (on.text, record { race = race; has = has; is = on.may }, on.writes)
+
+-- the whole report was written
+pub reported : (i j : Input) (plan : Plan) (old new : SinkTold) (ran : Result Returned RunErr) → HasRead true i j plan → IfOk ran (RanOn RaceOf plan old new)
+    → IfOk ran (λ r. WritesAll (RaceWrites IsReport) i j old new)
+reported i j plan old new (Ok r) read ran = record {
+  bytes = read.bytes;
+  takes = read.takes;
+  text = ran.text;
+  is = (plan, read.is, record { race = ran.is.race; has = ran.is.has; is = (ran.history, ran.is.is) });
+  writes = ran.writes;
 }
+reported i j plan old new (Err e) read ran = tt
+
+-- the first part of it was
+pub reported_some : (i j : Input) (plan : Plan) (old new : SinkTold) (ran : Result Returned RunErr) → HasRead true i j plan
+    → OnErr ran ((text : List ℕ) × OfPlan MayWrite plan text × TakesFront old new text) → OnErr ran (WritesSomeOf (RaceWrites MayWrite) i j old new)
+reported_some i j plan old new (Ok r) read part = tt
+reported_some i j plan old new (Err e) read part = record {
+  bytes = read.bytes;
+  takes = read.takes;
+  text = part.0;
+  is = (plan, read.is, part.1);
+  writes = part.2;
+}
+
+-- bytes of which `race` writes a text are a scenario
+pub race_is_of : (may : OfRace) → IsOfScenario true (RaceWrites may)
+race_is_of may bytes text is = (is.0, is.1)

@@ -1,18 +1,26 @@
 -- What a run of all ops wrote, with the end line behind it, and the desk that it left.
 
 use Rattle.std.specs.Arc.{arc_value}
-use Rattle.std.proofs.Common.{inl, inr, ◌≡◌, ℕ, List, [], ◌++◌, length, take, Option, refl, sym, ap, subst, ◌∙◌}
-use Rattle.ert_io.proofs.Takes.{took-took, front_after, fits_after}
+use Rattle.std.proofs.Common.{◌≡◌, ◌≤◌, ◌+◌, ℕ, false, List, [], ◌++◌, length, length-append, take, Option, None, Some, refl, sym, ap, subst, ◌∙◌, arith}
+use Rattle.std.specs.Prelude.{Result, Ok, Err, IfOk, OnErr}
+use Rattle.ert_io.proofs.Takes.{took-took, front_after, front_of, fits_after}
+use Rattle.ert_io.specs.Reads.{Input}
 use Rattle.ert_io.specs.Known.{HasRoomFor}
 use Rattle.ert_io.specs.Told.{SinkTold, took, TakesFront}
 use Rattle.ert_defs.specs.Lines.{Face}
 use Rattle.ert_defs.specs.declared.entry.Entry.{Entry}
 use Rattle.ert_defs.specs.declared.settings.Settings.{Settings}
 use Rattle.ert_laws.specs.KeptLaws.{KeepsLaws}
+use Rattle.ert_ops.specs.Labels.{AreOps}
 use Rattle.ert_ops.specs.declared.op.Op.{Op}
+use Rattle.ert_plain.proofs.Fronts.{first_lines}
+use Rattle.ert_plain.proofs.Runs.{one_text}
+use Rattle.ert_plain.specs.Laws.{IsFront}
+use Rattle.ert_plain.specs.Plain.{plain_text}
 use Rattle.ert_race.proofs.Written.{script_of, beginning_of, has_history}
 use Rattle.ert_race.specs.Written.{Returned}
-use Rattle.ert_scenario.specs.Scenarios.{Plan}
+use Rattle.ert_scenario.specs.Acceptance.{IsRunnable, plan_alone}
+use Rattle.ert_scenario.specs.Scenarios.{Plan, IsScenario}
 use Rattle.ert_script.specs.Scripts.{Runs}
 use Rattle.ert_script.specs.Written.{WritesRun, WritesSome, LinesFit}
 use Rattle.ert_script.specs.declared.output.RunErr.{RunErr}
@@ -23,8 +31,10 @@ use Rattle.ert_transcript.specs.Texts.{end_line}
 use Rattle.ert_transcript.specs.declared.reply.Reply.{Reply}
 use Rattle.ert_world.specs.Openings.{IsOpened}
 use Rattle.ert_world.specs.Worlds.{Seen, StandsFor}
-use Rattle.ert_program.specs.Inputs.{RanOn, WritesPart}
-use Rattle.ert_program.specs.Runs.{RunOf, PlanFits}
+use Rattle.ert_program.proofs.Ends.{IsOfScenario}
+use Rattle.ert_program.specs.Inputs.{WritesAll, WritesSomeOf}
+use Rattle.ert_program.specs.OnDesks.{HasRead, RanOn}
+use Rattle.ert_program.specs.Runs.{RunWrites, RunOf}
 
 -- the world that it came to stands for that history
 pub stands_for : (g : Settings) (start v : Seen) (list : List Op) (rs : List Reply) (after : Labels) → IsOpened g start → (ran : Runs start [] list rs v after)
@@ -69,34 +79,88 @@ ends plan start w after old now new r opened ran written named all laws =
       desk = has_history plan.settings ran.runs.grows.piece w r there.settings there.history named all laws;
     }
 
+-- what a transcript says is what the plain service prints
+plain_is : (plan : Plan) (start w : Seen) (rs : List Reply) (after : Labels) → AreOps plan.ops → length plan.ops ≤ plan.settings.looks → IsOpened plan.settings start
+    → (ran : Runs start [] plan.ops rs w after) → StandsFor w.settings w.history w → text_of plan.ops rs w ≡ plain_text plan.settings plan.ops
+plain_is plan start w rs after are many opened ran stands =
+    one_text plan.settings plan.ops (text_of plan.ops rs w) are many (is_run plan start w rs after opened ran stands).is
+
+-- and so is the first part of it that the lines of some first ops are
+first_is : (plan : Plan) (start v : Seen) (done : ℕ) (rs : List Reply) (after : Labels) → AreOps plan.ops → length plan.ops ≤ plan.settings.looks
+    → IsOpened plan.settings start → Runs start [] (take done plan.ops) rs v after → StandsFor v.settings v.history v
+    → IsFront (lines_of [] (take done plan.ops) rs) (plain_text plan.settings plan.ops)
+first_is plan start v done rs after are many opened ran stands =
+    let begins = beginning_of plan.settings plan.ops start v done rs after opened ran stands in
+    let whole : List ℕ = plain_text plan.settings plan.ops in
+    subst (λ (t : List ℕ). IsFront t whole) (sym begins.reads)
+    (first_lines plan.settings plan.ops begins.done begins.entries begins.replies begins.labels are many begins.legal begins.runs)
+
 -- all ops were run, and the output stopped at the end line
-pub breaks_last : (plan : Plan) (start w : Seen) (after : Labels) (old now new : SinkTold) → IsOpened plan.settings start
-    → WritesRun start [] plan.ops w after old now → TakesFront now new (end_line w.clock.face.time) → WritesPart RunOf plan old new
-breaks_last plan start w after old now new opened ran part = record {
-  text = text_of plan.ops ran.replies w;
-  may = inr (ran.runs.grows.piece, is_run plan start w ran.replies after opened ran.runs ran.stands);
-  writes = front_after old now new (lines_of [] plan.ops ran.replies) (end_line w.clock.face.time) ran.writes part;
-}
+pub breaks_last : (plan : Plan) (start w : Seen) (after : Labels) (old now new : SinkTold) → AreOps plan.ops → length plan.ops ≤ plan.settings.looks
+    → IsOpened plan.settings start → WritesRun start [] plan.ops w after old now → TakesFront now new (end_line w.clock.face.time)
+    → TakesFront old new (plain_text plan.settings plan.ops)
+breaks_last plan start w after old now new are many opened ran part =
+    subst (λ (t : List ℕ). TakesFront old new t) (plain_is plan start w ran.replies after are many opened ran.runs ran.stands)
+    (front_after old now new (lines_of [] plan.ops ran.replies) (end_line w.clock.face.time) ran.writes part)
 
 -- the run stopped after some first ops
-pub breaks : (plan : Plan) (start w : Seen) (after : Labels) (why : RunErr) (old new : SinkTold) → IsOpened plan.settings start
-    → WritesSome start [] plan.ops w after why old new → WritesPart RunOf plan old new
-breaks plan start w after why old new opened some = record {
-  text = lines_of [] (take some.done plan.ops) some.replies;
-  may = inl (beginning_of plan.settings plan.ops start some.reached some.done some.replies after opened some.runs some.stands);
-  writes = some.writes;
-}
+pub breaks : (plan : Plan) (start w : Seen) (after : Labels) (why : RunErr) (old new : SinkTold) → AreOps plan.ops → length plan.ops ≤ plan.settings.looks
+    → IsOpened plan.settings start → WritesSome start [] plan.ops w after why old new → TakesFront old new (plain_text plan.settings plan.ops)
+breaks plan start w after why old new are many opened some =
+    let front = first_is plan start some.reached some.done some.replies after are many opened some.runs some.stands in
+    front_of old new (lines_of [] (take some.done plan.ops) some.replies) front.0 (plain_text plan.settings plan.ops) front.1 some.writes
 
--- where all that may be written fits, so do the lines of some first ops
-pub lines_fit : (plan : Plan) (start : Seen) (room : Option ℕ) → IsOpened plan.settings start → PlanFits plan room → LinesFit start [] plan.ops room
-lines_fit plan start room opened fits = λ done rs v after ran stands.
-    fits (lines_of [] (take done plan.ops) rs) (inl (beginning_of plan.settings plan.ops start v done rs after opened ran stands))
+front_fits : (room : Option ℕ) (text rest whole : List ℕ) → text ++ rest ≡ whole → HasRoomFor room (length whole) → HasRoomFor room (length text)
+front_fits None text rest whole is fits = tt
+front_fits (Some r) text rest whole is fits =
+    let long : length whole ≡ length text + length rest = ap (λ (t : List ℕ). length t) (sym is) ∙ length-append text rest in
+    omega arith
+
+-- where all fits that is to be written, so do the lines of some first ops
+pub lines_fit : (plan : Plan) (start : Seen) (room : Option ℕ) → AreOps plan.ops → length plan.ops ≤ plan.settings.looks → IsOpened plan.settings start
+    → HasRoomFor room (length (plain_text plan.settings plan.ops)) → LinesFit start [] plan.ops room
+lines_fit plan start room are many opened fits = λ done rs v after ran stands.
+    let front = first_is plan start v done rs after are many opened ran stands in
+    front_fits room (lines_of [] (take done plan.ops) rs) front.0 (plain_text plan.settings plan.ops) front.1 fits
 
 -- and the end line after all
-pub end_fits : (plan : Plan) (start w : Seen) (after : Labels) (old now : SinkTold) → IsOpened plan.settings start
-    → WritesRun start [] plan.ops w after old now → PlanFits plan old.room → HasRoomFor now.room (length (end_line w.clock.face.time))
-end_fits plan start w after old now opened ran fits =
+pub end_fits : (plan : Plan) (start w : Seen) (after : Labels) (old now : SinkTold) → AreOps plan.ops → length plan.ops ≤ plan.settings.looks
+    → IsOpened plan.settings start → WritesRun start [] plan.ops w after old now → HasRoomFor old.room (length (plain_text plan.settings plan.ops))
+    → HasRoomFor now.room (length (end_line w.clock.face.time))
+end_fits plan start w after old now are many opened ran fits =
     let last : List ℕ = end_line w.clock.face.time in
     subst (λ (k : SinkTold). HasRoomFor k.room (length last)) (sym ran.writes)
     (fits_after old.room (lines_of [] plan.ops ran.replies) last
-    (fits (text_of plan.ops ran.replies w) (inr (ran.runs.grows.piece, is_run plan start w ran.replies after opened ran.runs ran.stands))))
+    (subst (λ (t : List ℕ). HasRoomFor old.room (length t)) (sym (plain_is plan start w ran.replies after are many opened ran.runs ran.stands)) fits))
+
+-- what `run` may write of a plan that was read
+pub run_writes : (bytes : List ℕ) (plan : Plan) → IsRunnable bytes plan.settings plan.ops → RunWrites bytes (plain_text plan.settings plan.ops)
+run_writes bytes plan is = record { settings = plan.settings; ops = plan.ops; is = is; prints = refl }
+
+-- all of it was written
+pub wrote_all : (i j : Input) (plan : Plan) (old new : SinkTold) (ran : Result Returned RunErr) → AreOps plan.ops → length plan.ops ≤ plan.settings.looks
+    → (read : HasRead false i j plan) → IsRunnable read.bytes plan.settings plan.ops → IfOk ran (RanOn RunOf plan old new) → IfOk ran (λ r. WritesAll RunWrites i j old new)
+wrote_all i j plan old new (Ok r) are many read is ran = record {
+  bytes = read.bytes;
+  takes = read.takes;
+  text = plain_text plan.settings plan.ops;
+  is = run_writes read.bytes plan is;
+  writes = ran.writes ∙ ap (λ (t : List ℕ). took old t) (one_text plan.settings plan.ops ran.text are many ran.is.is);
+}
+wrote_all i j plan old new (Err e) are many read is ran = tt
+
+-- the first part of it was
+pub wrote_some : (i j : Input) (plan : Plan) (old new : SinkTold) (ran : Result Returned RunErr) → (read : HasRead false i j plan)
+    → IsRunnable read.bytes plan.settings plan.ops → OnErr ran (TakesFront old new (plain_text plan.settings plan.ops)) → OnErr ran (WritesSomeOf RunWrites i j old new)
+wrote_some i j plan old new (Ok r) read is part = tt
+wrote_some i j plan old new (Err e) read is part = record {
+  bytes = read.bytes;
+  takes = read.takes;
+  text = plain_text plan.settings plan.ops;
+  is = run_writes read.bytes plan is;
+  writes = part;
+}
+
+-- bytes of which `run` writes a text are a scenario
+pub run_is_of : ((bytes : List ℕ) (g : Settings) (ops : List Op) → IsRunnable bytes g ops → IsScenario false bytes (plan_alone g ops)) → IsOfScenario false RunWrites
+run_is_of back bytes text may = (plan_alone may.settings may.ops, back bytes may.settings may.ops may.is)

@@ -6,8 +6,10 @@ pub mod Generated
 pub mod Inputs
 pub mod Lives
 pub mod Matches
+pub mod OnDesks
 pub mod Races
 pub mod Refusals
+pub mod RefusedInputs
 pub mod Runs
 pub mod Steps
 pub mod Streams

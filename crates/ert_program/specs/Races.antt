@@ -2,25 +2,46 @@
 
 use Rattle.std.specs.Prelude.{◌≡◌, ℕ, true, List, Some}
 use Rattle.ert_defs.specs.declared.entry.Entry.{Entry}
+use Rattle.ert_defs.specs.declared.settings.Settings.{Settings}
 use Rattle.ert_io.specs.Reads.{Input}
 use Rattle.ert_io.specs.Told.{SinkTold}
 use Rattle.ert_ops.specs.Races.{Race}
+use Rattle.ert_ops.specs.declared.op.Op.{Op}
 use Rattle.ert_race.specs.Outcomes.{IsOutcome}
-use Rattle.ert_race.specs.Written.{Returned}
-use Rattle.ert_scenario.specs.Scenarios.{Plan}
-use Rattle.ert_program.specs.Inputs.{DidOn, InputEnds}
+use Rattle.ert_race.specs.Written.{Returned, MayWrite}
+use Rattle.ert_scenario.specs.Scenarios.{Plan, IsScenario}
+use Rattle.ert_program.specs.Inputs.{InputEnds}
+use Rattle.ert_program.specs.OnDesks.{DidOn}
 use Rattle.ert_program.specs.Streams.{Output}
-use Rattle.ert_program.specs.declared.ending.Ended.{Ended}
+use Rattle.ert_program.specs.declared.ending.EndStatus.{EndStatus}
+
+-- a text of a race after these ops
+abbrev pub OfRace : Type 1
+OfRace = Settings → List Op → Race → List ℕ → Type 0
+
+-- a text is the report of an outcome
+abbrev pub IsReport : OfRace
+IsReport g ops race text = (h : List Entry) × IsOutcome g ops race h text
+
+-- a text of the race of a plan
+pub record OfPlan (may : OfRace) (plan : Plan) (text : List ℕ) : Type 0 where
+  pub race : Race
+  pub has : plan.race ≡ Some race
+  pub is : may plan.settings plan.ops race text
+
+-- what `race` may write of bytes: they are a scenario with a race
+abbrev pub RaceWrites : OfRace → List ℕ → List ℕ → Type 0
+RaceWrites may bytes text = (plan : Plan) × IsScenario true bytes plan × OfPlan may plan text
+
+-- `race` came to an end, between two moments of the input and of the output
+abbrev pub RaceEnds : Input → Input → Output → Output → EndStatus → Type 0
+RaceEnds = InputEnds (RaceWrites IsReport) (RaceWrites MayWrite)
 
 -- a history and a text are an outcome of the race of a plan
 pub record RaceOf (plan : Plan) (h : List Entry) (text : List ℕ) : Type 0 where
   pub race : Race
   pub has : plan.race ≡ Some race
   pub is : IsOutcome plan.settings plan.ops race h text
-
--- `race` came to an end, between two moments of the input and of the output
-abbrev pub RaceEnds : Input → Input → Output → Output → Ended → Type 0
-RaceEnds = InputEnds true RaceOf
 
 -- `race` was done, and returned this desk
 abbrev pub RaceOn : Input → Input → SinkTold → SinkTold → Returned → Type 0

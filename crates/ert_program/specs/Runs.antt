@@ -4,40 +4,50 @@ use Rattle.std.specs.Prelude.{◌≡◌, ℕ, false, List, Option, Some, length,
 use Rattle.ert_program.specs.declared.command.Command.{Command}
 use Rattle.ert_program.specs.declared.command.Command.TheVariants.{Run}
 use Rattle.ert_defs.specs.declared.entry.Entry.{Entry}
+use Rattle.ert_defs.specs.declared.settings.Settings.{Settings}
 use Rattle.ert_io.specs.Known.{HasRoomFor}
 use Rattle.ert_io.specs.Reads.{Input}
 use Rattle.ert_io.specs.Told.{SinkTold}
+use Rattle.ert_ops.specs.declared.op.Op.{Op}
+use Rattle.ert_plain.specs.Plain.{plain_text}
 use Rattle.ert_race.specs.Written.{Returned}
-use Rattle.ert_scenario.specs.Scenarios.{Plan, IsScenario, HasRefusal}
-use Rattle.ert_scenario.specs.declared.scenario.ScenarioErr.{ScenarioErr}
+use Rattle.ert_scenario.specs.Acceptance.{IsRunnable}
+use Rattle.ert_scenario.specs.Scenarios.{Plan}
 use Rattle.ert_transcript.specs.Scripts.{IsTranscript}
-use Rattle.ert_program.specs.Inputs.{IsPossibleInput, DidOn, MayWriteOfPlan, InputEnds}
-use Rattle.ert_program.specs.Refusals.{refusal_line}
+use Rattle.ert_program.specs.Inputs.{IsPossibleInput, InputEnds}
+use Rattle.ert_program.specs.OnDesks.{DidOn}
+use Rattle.ert_program.specs.RefusedInputs.{RefusalFits}
 use Rattle.ert_program.specs.Streams.{Output}
-use Rattle.ert_program.specs.declared.ending.Ended.{Ended}
+use Rattle.ert_program.specs.declared.ending.EndStatus.{EndStatus}
+
+-- what `run` writes of bytes: they are a scenario, and the text is what the plain service prints of its ops
+pub record RunWrites (bytes text : List ℕ) : Type 0 where
+  pub settings : Settings
+  pub ops : List Op
+  pub is : IsRunnable bytes settings ops
+  pub prints : text ≡ plain_text settings ops
+
+-- `run` came to an end, between two moments of the input and of the output
+abbrev pub RunEnds : Input → Input → Output → Output → EndStatus → Type 0
+RunEnds = InputEnds RunWrites RunWrites
+
+-- where the output tells its room, what `run` writes of the input fits it
+abbrev pub RunFits : Option (List ℕ) → Option ℕ → Type 0
+RunFits left room = (bytes text : List ℕ) → IsPossibleInput left bytes → RunWrites bytes text → HasRoomFor room (length text)
 
 -- a text is a transcript of a plan, and the history is that of its script run
 pub record RunOf (plan : Plan) (h : List Entry) (text : List ℕ) : Type 0 where
   pub is : IsTranscript plan.settings plan.ops text
   pub history : is.entries ≡ h
 
--- `run` came to an end, between two moments of the input and of the output
-abbrev pub RunEnds : Input → Input → Output → Output → Ended → Type 0
-RunEnds = InputEnds false RunOf
-
 -- `run` was done, and returned this desk
 abbrev pub RunOn : Input → Input → SinkTold → SinkTold → Returned → Type 0
 RunOn = DidOn false RunOf
 
--- where the output tells its room, what `run` may write of a plan fits it: a transcript, or the beginning of one
-abbrev pub PlanFits : Plan → Option ℕ → Type 0
-PlanFits plan room = (text : List ℕ) → MayWriteOfPlan RunOf plan text → HasRoomFor room (length text)
-
--- and so does what it may write of the input
+-- where the output tells its room, all fits that `run` may write
 pub record InputFits (left : Option (List ℕ)) (room : Option ℕ) : Type 0 where
-  pub done : (bytes : List ℕ) (plan : Plan) → IsPossibleInput left bytes → IsScenario false bytes plan → PlanFits plan room
-  pub refused : (bytes : List ℕ) (why : ScenarioErr) → IsPossibleInput left bytes → HasRefusal false bytes why
-      → HasRoomFor room (length (refusal_line why))
+  pub done : RunFits left room
+  pub refused : RefusalFits false left room
 
 -- where the output tells its room, the command is `run`, and all that it may write fits
 pub record AllFits (command : Option Command) (left : Option (List ℕ)) (room : Option ℕ) : Type 0 where

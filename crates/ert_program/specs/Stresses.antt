@@ -11,7 +11,7 @@ use Rattle.ert_scenario.specs.Scenarios.{Plan}
 use Rattle.ert_world.specs.Worlds.{Seen, StandsFor}
 use Rattle.ert_transcript.specs.Counts.{settled_line}
 use Rattle.ert_transcript.specs.Texts.{◌⋅◌, end_line}
-use Rattle.ert_program.specs.Inputs.{RanOn}
+use Rattle.ert_program.specs.OnDesks.{RanOn}
 use Rattle.ert_program.specs.Runs.{RunOf}
 use Rattle.ert_program.specs.Streams.{Output}
 use Rattle.ert_program.specs.declared.ending.Ended.{Ended}

@@ -5,7 +5,7 @@ use Rattle.ert_io.specs.Faults.{Rose}
 use Rattle.ert_io.specs.Known.{HandsUpTo}
 use Rattle.ert_io.specs.Reads.{Input, ReadsMore}
 use Rattle.ert_scenario.specs.Scenarios.{Plan, IsScenario}
-use Rattle.ert_program.specs.Inputs.{RefusesInput, PartRefused}
+use Rattle.ert_program.specs.RefusedInputs.{RefusesInput, PartRefused}
 use Rattle.ert_program.specs.Streams.{Output}
 use Rattle.ert_program.specs.declared.ending.Ended.{Ended}
 use Rattle.ert_program.specs.declared.ending.EndStatus.TheVariants.{Done, Usage, Refused, ReadFault, WriteFault, ClockFault, NoMemory, TooLong}

@@ -8,7 +8,7 @@ ghost use Rattle.ert_program.specs.Runs.{InputFits};
 use crate::ending::{EndStatus, Ended};
 use crate::running::run;
 use ert_io::{SureSink, SureSource};
-use ert_scenario::one_verdict;
+use ert_scenario::{one_verdict, scenarios_are_accepted};
 use std::alloc::Global;
 
 /// As `run`, from memory and into memory that was reserved: where the input is a scenario, its transcript is
@@ -21,5 +21,6 @@ pub fn run_in_memory(alloc: Global, input: &mut SureSource, output: &mut SureSin
         ⊎ (result.status ≡ EndStatus.NoMemory) }
 {
     one_verdict();
+    scenarios_are_accepted();
     run(alloc, input, output)
 }

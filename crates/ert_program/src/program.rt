@@ -1,4 +1,4 @@
-ghost use Rattle.std.specs.Prelude.{◌≡◌, ◌≢◌, ◌≤◌, ◌⊎◌, ℕ, false, Some, None, IsSomeAnd};
+ghost use Rattle.std.specs.Prelude.{◌≡◌, ◌≢◌, ◌≤◌, ◌⊎◌, ℕ, true, false, Some, None, IsSomeAnd};
 ghost use Rattle.ert_program.specs.declared.command.Command.TheVariants.{Run, Race, Live, Stress};
 ghost use Rattle.ert_io.specs.Faults.{Rose};
 ghost use Rattle.ert_io.specs.Reads.{input_of};
@@ -7,6 +7,7 @@ ghost use Rattle.ert_program.specs.Endings.{command_asked, reads_input, reads_cl
 ghost use Rattle.ert_program.specs.Lives.{LiveEnds};
 ghost use Rattle.ert_program.specs.Races.{RaceEnds, RaceOn};
 ghost use Rattle.ert_program.specs.Refusals.{usage_line};
+ghost use Rattle.ert_program.specs.RefusedInputs.{RefusalEnds};
 ghost use Rattle.ert_program.specs.Runs.{AllFits, RunEnds, RunOn};
 ghost use Rattle.ert_program.specs.Streams.{told_by_sink, output_of, clock_stream_of};
 ghost use Rattle.ert_program.specs.Stresses.{StressEnds};
@@ -43,10 +44,10 @@ pub fn ertime<
     requires fits { AllFits (command_asked words.now) (I.left input.old) (O.room output.old) }
     ensures run { command_asked words.now ≡ Some Run
         → RunEnds (input_of I.given I.ended I.left I.faults input.old) (input_of I.given I.ended I.left I.faults input.new)
-        (output_of O.taken O.room O.faults output.old) (output_of O.taken O.room O.faults output.new) result }
+        (output_of O.taken O.room O.faults output.old) (output_of O.taken O.room O.faults output.new) result.status }
     ensures race { command_asked words.now ≡ Some Race
         → RaceEnds (input_of I.given I.ended I.left I.faults input.old) (input_of I.given I.ended I.left I.faults input.new)
-        (output_of O.taken O.room O.faults output.old) (output_of O.taken O.room O.faults output.new) result }
+        (output_of O.taken O.room O.faults output.old) (output_of O.taken O.room O.faults output.new) result.status }
     ensures live { (n : ℕ) → command_asked words.now ≡ Some (Live n)
         → LiveEnds n (clock_stream_of C.given C.left C.faults clock.old) (clock_stream_of C.given C.left C.faults clock.new)
         (output_of O.taken O.room O.faults output.old) (output_of O.taken O.room O.faults output.new) result }
@@ -63,6 +64,14 @@ pub fn ertime<
         → IsSomeAnd result.desk (RaceOn (input_of I.given I.ended I.left I.faults input.old) (input_of I.given I.ended I.left I.faults input.new)
         (told_by_sink O.taken O.room output.old) (told_by_sink O.taken O.room output.new)) }
     ensures no_desk { result.status ≢ EndStatus.Done → result.desk ≡ None }
+
+    // What `run` and `race` leave of input that is no scenario.
+    ensures run_refusals { command_asked words.now ≡ Some Run
+        → RefusalEnds false (input_of I.given I.ended I.left I.faults input.old) (input_of I.given I.ended I.left I.faults input.new)
+        (output_of O.taken O.room O.faults output.old) (output_of O.taken O.room O.faults output.new) result }
+    ensures race_refusals { command_asked words.now ≡ Some Race
+        → RefusalEnds true (input_of I.given I.ended I.left I.faults input.old) (input_of I.given I.ended I.left I.faults input.new)
+        (output_of O.taken O.room O.faults output.old) (output_of O.taken O.room O.faults output.new) result }
     ensures refusal { HasItsRefusal result }
     ensures no_refusal { result.status ≢ EndStatus.Refused → result.refusal ≡ None }
     ensures unrefused { reads_input (command_asked words.now) ≡ false → result.refusal ≡ None }

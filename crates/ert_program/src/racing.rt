@@ -1,14 +1,17 @@
 //! The command `race`.
-ghost use Rattle.std.specs.Prelude.{◌≡◌, ◌≢◌, ◌≤◌, None, true, is_some, option_map, IfSome, IfOk, OnErr, IsErrOf, IsSomeAnd};
+ghost use Rattle.std.specs.Prelude.{◌≡◌, ◌≢◌, ◌≤◌, ℕ, List, None, true, is_some, option_map, IfSome, IfOk, OnErr, IsErrOf, IsSomeAnd};
 ghost use Rattle.ert_defs.specs.Settings.{IsChecked};
 ghost use Rattle.ert_io.specs.Faults.{Rose};
 ghost use Rattle.ert_io.specs.Reads.{input_of};
+ghost use Rattle.ert_io.specs.Told.{TakesFront};
 ghost use Rattle.ert_ops.specs.Races.{IsRace, race_of};
 ghost use Rattle.ert_ops.specs.Ranges.{AreOpsInRange};
+ghost use Rattle.ert_race.specs.Written.{MayWrite};
 ghost use Rattle.ert_scenario.specs.Scenarios.{plan_of};
 ghost use Rattle.ert_program.specs.Endings.{HasItsRefusal};
-ghost use Rattle.ert_program.specs.Inputs.{RanOn, WritesPart};
-ghost use Rattle.ert_program.specs.Races.{RaceOf, RaceOn, RaceEnds};
+ghost use Rattle.ert_program.specs.OnDesks.{RanOn};
+ghost use Rattle.ert_program.specs.Races.{OfPlan, RaceOf, RaceOn, RaceEnds};
+ghost use Rattle.ert_program.specs.RefusedInputs.{RefusalEnds};
 ghost use Rattle.ert_program.specs.Streams.{told_by_sink, output_of};
 
 use crate::ending::{EndStatus, Ended};
@@ -34,6 +37,8 @@ pub fn race<R: Threads + Wait + Sync, G: Gate + Sync, I: Source, O: Sink>(
 ) -> Ended
     requires room { O.room output.old ≡ None }
     ensures ends { RaceEnds (input_of I.given I.ended I.left I.faults input.old) (input_of I.given I.ended I.left I.faults input.new)
+        (output_of O.taken O.room O.faults output.old) (output_of O.taken O.room O.faults output.new) result.status }
+    ensures refusals { RefusalEnds true (input_of I.given I.ended I.left I.faults input.old) (input_of I.given I.ended I.left I.faults input.new)
         (output_of O.taken O.room O.faults output.old) (output_of O.taken O.room O.faults output.new) result }
     ensures desk { result.status ≡ EndStatus.Done
         → IsSomeAnd result.desk (RaceOn (input_of I.given I.ended I.left I.faults input.old) (input_of I.given I.ended I.left I.faults input.new)
@@ -67,7 +72,8 @@ fn race_scenario<R: Threads + Wait + Sync, G: Gate + Sync, O: Sink>(
     requires wanted { is_some scenario.now.race ≡ true }
     requires race { IfSome (option_map race_of scenario.now.race) (λ r. IsRace scenario.now.settings scenario.now.ops.items r) }
     ensures ok { IfOk result (λ r. RanOn RaceOf (plan_of scenario.now) (told_by_sink O.taken O.room output.old) (told_by_sink O.taken O.room output.new) r) }
-    ensures err { OnErr result (WritesPart RaceOf (plan_of scenario.now) (told_by_sink O.taken O.room output.old) (told_by_sink O.taken O.room output.new)) }
+    ensures err { OnErr result ((text : List ℕ) × OfPlan MayWrite (plan_of scenario.now) text
+        × TakesFront (told_by_sink O.taken O.room output.old) (told_by_sink O.taken O.room output.new) text) }
     ensures later { O.faults output.old ≤ O.faults output.new }
     ensures cause { IsErrOf result RunErr.WriteFault → Rose (O.faults output.old) (O.faults output.new) }
 {

@@ -1,12 +1,10 @@
 //! The first part of `run` and of `race`: a scenario is read, or the input is refused.
-ghost use Rattle.std.specs.Prelude.{◌≡◌, ◌≤◌, ℕ, List, length, IfOk, IfErr, OnOk};
-ghost use Rattle.ert_io.specs.Known.{HasRoomFor};
+ghost use Rattle.std.specs.Prelude.{◌≡◌, ◌≤◌, IfOk, IfErr, OnOk};
 ghost use Rattle.ert_io.specs.Reads.{input_of};
-ghost use Rattle.ert_scenario.specs.Scenarios.{HasRefusal, plan_of};
-ghost use Rattle.ert_scenario.specs.declared.scenario.ScenarioErr.{ScenarioErr as Why};
+ghost use Rattle.ert_scenario.specs.Scenarios.{plan_of};
 ghost use Rattle.ert_program.specs.Endings.{HasItsRefusal};
-ghost use Rattle.ert_program.specs.Inputs.{IsPossibleInput, HasRead};
-ghost use Rattle.ert_program.specs.Refusals.{refusal_line};
+ghost use Rattle.ert_program.specs.OnDesks.{HasRead};
+ghost use Rattle.ert_program.specs.RefusedInputs.{RefusalFits};
 ghost use Rattle.ert_program.specs.Streams.{output_of};
 ghost use Rattle.ert_program.specs.Unread.{EndsUnread};
 
@@ -24,8 +22,7 @@ pub(crate) fn read_input<I: Source, O: Sink>(
     input: &mut I,
     output: &mut O,
 ) -> Result<Scenario, Ended>
-    requires fits { (bytes : List ℕ) (why : Why) → IsPossibleInput (I.left input.old) bytes → HasRefusal race bytes why
-        → HasRoomFor (O.room output.old) (length (refusal_line why)) }
+    requires fits { RefusalFits race (I.left input.old) (O.room output.old) }
     ensures ok { IfOk result (λ s. HasRead race (input_of I.given I.ended I.left I.faults input.old) (input_of I.given I.ended I.left I.faults input.new) (plan_of s)) }
     ensures unwritten { OnOk result (output.new ≡ output.old) }
     ensures err { IfErr result (λ e. EndsUnread race (input_of I.given I.ended I.left I.faults input.old) (input_of I.given I.ended I.left I.faults input.new)

@@ -1,33 +1,41 @@
 //! The command `run`.
-ghost use Rattle.std.specs.Prelude.{◌≡◌, ◌≢◌, ◌≤◌, None, length, IfOk, OnOk, OnErr, IsErrOf, IsSomeAnd};
+ghost use Rattle.std.specs.Prelude.{◌≡◌, ◌≢◌, ◌≤◌, false, None, length, IfOk, OnOk, OnErr, IsErrOf, IsSomeAnd};
 ghost use Rattle.ert_defs.specs.Settings.{IsChecked};
 ghost use Rattle.ert_io.specs.Faults.{Rose};
 ghost use Rattle.ert_io.specs.Known.{HasRoomFor};
 ghost use Rattle.ert_io.specs.Reads.{input_of};
 ghost use Rattle.ert_io.specs.Told.{took, TakesFront};
+ghost use Rattle.ert_ops.specs.Labels.{AreOps};
 ghost use Rattle.ert_ops.specs.Ranges.{AreOpsInRange};
+ghost use Rattle.ert_plain.specs.Plain.{plain_text};
 ghost use Rattle.ert_scenario.specs.Scenarios.{plan_of};
 ghost use Rattle.ert_transcript.specs.Texts.{end_line};
 ghost use Rattle.ert_program.specs.Endings.{HasItsRefusal};
-ghost use Rattle.ert_program.specs.Inputs.{RanOn, WritesPart};
-ghost use Rattle.ert_program.specs.Runs.{RunOf, RunOn, RunEnds, InputFits, PlanFits};
+ghost use Rattle.ert_program.specs.OnDesks.{RanOn};
+ghost use Rattle.ert_program.specs.RefusedInputs.{RefusalEnds, RefusalFits};
+ghost use Rattle.ert_program.specs.Runs.{RunOf, RunOn, RunEnds, RunFits};
 ghost use Rattle.ert_program.specs.Streams.{told_by_sink, output_of};
 
 use crate::ending::{EndStatus, Ended};
 use crate::reading::read_input;
 use ert_io::{Sink, Source};
-use ert_scenario::{Scenario, one_verdict, scenarios_are_valid};
+use ert_scenario::{Scenario, one_verdict, scenarios_are_accepted, scenarios_are_valid};
 use ert_script::{LabelMap, RunErr, run_ops, write_end, write_page};
 use ert_table::{Desk, Pass};
 use ert_world::World;
 use std::alloc::Global;
 use std::sync::Arc;
 
-/// Reads a scenario to the end of the input, runs it on a new world, and writes its transcript. At Done it
-/// returns the world's desk. Input that is no scenario is refused by a line.
+/// Reads a scenario to the end of the input, runs it on a new world, and writes its transcript: what the plain service
+/// prints of its ops. At Done it returns the world's desk. Input that is no scenario is refused by a line.
+///
+/// An output that tells its room has room for the transcript, or for the line of the refusal.
 pub fn run<I: Source, O: Sink>(alloc: Global, input: &mut I, output: &mut O) -> Ended
-    requires fits { InputFits (I.left input.old) (O.room output.old) }
+    requires fits { RunFits (I.left input.old) (O.room output.old) }
+    requires refusal_fits { RefusalFits false (I.left input.old) (O.room output.old) }
     ensures ends { RunEnds (input_of I.given I.ended I.left I.faults input.old) (input_of I.given I.ended I.left I.faults input.new)
+        (output_of O.taken O.room O.faults output.old) (output_of O.taken O.room O.faults output.new) result.status }
+    ensures refusals { RefusalEnds false (input_of I.given I.ended I.left I.faults input.old) (input_of I.given I.ended I.left I.faults input.new)
         (output_of O.taken O.room O.faults output.old) (output_of O.taken O.room O.faults output.new) result }
     ensures desk { result.status ≡ EndStatus.Done
         → IsSomeAnd result.desk (RunOn (input_of I.given I.ended I.left I.faults input.old) (input_of I.given I.ended I.left I.faults input.new)
@@ -40,6 +48,7 @@ pub fn run<I: Source, O: Sink>(alloc: Global, input: &mut I, output: &mut O) -> 
 {
     one_verdict();
     scenarios_are_valid();
+    scenarios_are_accepted();
     match read_input(alloc, false, input, output) {
         Ok(scenario) => Ended::of_run(run_scenario(alloc, &scenario, output)),
         Err(ended) => ended,
@@ -53,11 +62,14 @@ fn run_scenario<O: Sink>(
     scenario: &Scenario,
     output: &mut O,
 ) -> Result<(Arc<Desk>, Pass), RunErr>
-    requires fits { PlanFits (plan_of scenario.now) (O.room output.old) }
+    requires fits { HasRoomFor (O.room output.old) (length (plain_text scenario.now.settings scenario.now.ops.items)) }
     requires checked { IsChecked scenario.now.settings }
     requires ranges { AreOpsInRange scenario.now.settings scenario.now.ops.items }
+    requires labels { AreOps scenario.now.ops.items }
+    requires looks { length scenario.now.ops.items ≤ scenario.now.settings.looks }
     ensures ok { IfOk result (λ r. RanOn RunOf (plan_of scenario.now) (told_by_sink O.taken O.room output.old) (told_by_sink O.taken O.room output.new) r) }
-    ensures err { OnErr result (WritesPart RunOf (plan_of scenario.now) (told_by_sink O.taken O.room output.old) (told_by_sink O.taken O.room output.new)) }
+    ensures err { OnErr result (TakesFront (told_by_sink O.taken O.room output.old) (told_by_sink O.taken O.room output.new)
+        (plain_text scenario.now.settings scenario.now.ops.items)) }
     ensures later { O.faults output.old ≤ O.faults output.new }
     ensures cause { IsErrOf result RunErr.WriteFault → Rose (O.faults output.old) (O.faults output.new) }
 {

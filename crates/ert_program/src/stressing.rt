@@ -2,7 +2,7 @@
 ghost use Rattle.std.specs.Prelude.{◌≡◌, ◌≤◌, ◌++◌, None, IfOk, OnOk, IsErrOf, string_bytes};
 ghost use Rattle.ert_defs.specs.States.{state};
 ghost use Rattle.ert_program.specs.Generated.{generated};
-ghost use Rattle.ert_program.specs.Inputs.{RanOn};
+ghost use Rattle.ert_program.specs.OnDesks.{RanOn};
 ghost use Rattle.ert_io.specs.Faults.{Rose};
 ghost use Rattle.ert_laws.specs.Counts.{counts_of};
 ghost use Rattle.ert_program.specs.Streams.{told_by_sink};

@@ -1,3 +1,4 @@
+pub mod Acceptance
 pub mod Cuts
 pub mod Doers
 pub mod Fields

@@ -9,6 +9,7 @@ ghost use Rattle.ert_ops.specs.Races.{IsRace};
 ghost use Rattle.ert_ops.specs.Ranges.{IsOpInRange, AreOpsInRange};
 ghost use Rattle.serde_json.specs.Data.{Data};
 ghost use Rattle.ert_ops.specs.declared.op.Op.{Op as AnOp};
+ghost use Rattle.ert_scenario.specs.Acceptance.{IsRunnable, plan_alone};
 ghost use Rattle.ert_scenario.specs.Doers.{IsKeepersOp, AreCallersAlone};
 ghost use Rattle.ert_scenario.specs.Kinds.{FoundOrFault};
 ghost use Rattle.ert_scenario.specs.Migration.{IsOfFormat, migrated};
@@ -60,6 +61,17 @@ pub fn scenarios_are_valid()
         → IsScenario race bytes plan → IfSome plan.race (λ r. AreCallersAlone r.callers) }
     ensures one_caller { (bytes : List ℕ) (plan : Plan)
         → IsScenario false bytes plan → plan.settings.callers ≡ 1 }
+{}
+
+/// Which bytes are a scenario without a race, and which, apart from how faults are told: the fields give the settings, and
+/// the list the ops.
+pub fn scenarios_are_accepted()
+    ensures accepted { (bytes : List ℕ) (plan : Plan)
+        → IsScenario false bytes plan → IsRunnable bytes plan.settings plan.ops }
+    ensures scenario { (bytes : List ℕ) (g : Settings) (ops : List AnOp)
+        → IsRunnable bytes g ops → IsScenario false bytes (plan_alone g ops) }
+    ensures alone { (bytes : List ℕ) (plan : Plan)
+        → IsScenario false bytes plan → plan ≡ plan_alone plan.settings plan.ops }
 {}
 
 /// The places are the least ones, read off by index: a shape fault counts before a range fault wherever it

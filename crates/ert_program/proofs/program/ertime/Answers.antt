@@ -1,12 +1,13 @@
 use Rattle.std.proofs.Common.{rules, ◌≡◌, ℕ, true, false, Some, ap, subst, sym, ◌∙◌, map, string_bytes}
 use Rattle.ert_program.specs.declared.command.Command.TheVariants.{Live, Stress}
-use Rattle.ert_program.proofs.Ends.{memory_ends}
+use Rattle.ert_program.proofs.Ends.{memory_ends, memory_refusal}
+use Rattle.ert_race.specs.Written.{MayWrite}
 use Rattle.ert_program.proofs.Made.{stress_ends}
 use Rattle.ert_program.proofs.Ranges.{of_command, found_is, same_live, same_stress}
 use Rattle.ert_program.specs.Endings.{command_asked}
 use Rattle.ert_program.specs.Lives.{LiveEnds}
-use Rattle.ert_program.specs.Races.{RaceOf}
-use Rattle.ert_program.specs.Runs.{RunOf}
+use Rattle.ert_program.specs.Races.{IsReport, RaceWrites}
+use Rattle.ert_program.specs.Runs.{RunWrites}
 use Rattle.ert_program.specs.Stresses.{StressEnds}
 use Rattle.ert_program.specs.Streams.{Output, output_of, clock_stream_of}
 use Rattle.ert_program.specs.declared.ending.Ended.{Ended}
@@ -54,7 +55,13 @@ returns-in-Some-Stress-clause-stress g c = λ seed n e.
     (λ how. ap (λ k. output_of g.O.Sink.taken g.O.Sink.room g.O.Sink.faults k) (c.stress.ensures.no_memory how)))))
 
 pub returns-in_default-clause-run : goal.returns-in_default-clause-run
-returns-in_default-clause-run g c = λ is. memory_ends false RunOf _ _ _ c.without_desk.ensures
+returns-in_default-clause-run g c = λ is. memory_ends RunWrites RunWrites _ _ _ c.without_desk.ensures
 
 pub returns-in_default-clause-race : goal.returns-in_default-clause-race
-returns-in_default-clause-race g c = λ is. memory_ends true RaceOf _ _ _ c.without_desk.ensures
+returns-in_default-clause-race g c = λ is. memory_ends (RaceWrites IsReport) (RaceWrites MayWrite) _ _ _ c.without_desk.ensures
+
+pub returns-in_default-clause-run_refusals : goal.returns-in_default-clause-run_refusals
+returns-in_default-clause-run_refusals g c = λ is. memory_refusal false _ _ _ c.without_desk.ensures
+
+pub returns-in_default-clause-race_refusals : goal.returns-in_default-clause-race_refusals
+returns-in_default-clause-race_refusals g c = λ is. memory_refusal true _ _ _ c.without_desk.ensures
