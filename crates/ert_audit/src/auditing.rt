@@ -41,6 +41,8 @@ pub fn audit<R: AllocGlobal, I: Source, O: Sink>(rt: &R, input: &mut I, output: 
     ensures stops { (result.status ≡ AuditStatus.WriteFault) ⊎ (result.status ≡ AuditStatus.NoMemory)
         → (output.new ≡ output.old) ⊎ StopsInLine (input_of I.given I.ended I.left I.faults input.old) (input_of I.given I.ended I.left I.faults input.new)
         (O.taken output.old) (O.taken output.new) }
+    ensures takes_up_to { (result.status ≡ AuditStatus.WriteFault) ⊎ (result.status ≡ AuditStatus.NoMemory)
+        → HandsUpTo 16777217 (stream_told (I.given input.old) (I.left input.old)) (stream_told (I.given input.new) (I.left input.new)) }
 
     // Where nothing fails, only running out of memory keeps a text from its verdict.
     ensures complete { (Rose (I.faults input.old) (I.faults input.new) → ⊥) → (Rose (O.faults output.old) (O.faults output.new) → ⊥)

@@ -1,13 +1,13 @@
 -- How a call through the handle of a hub or of a shard is shown.
 
-use Rattle.std.proofs.Common.{◌≡◌, ℕ, ◌<◌, ◌≤◌, ◌⊎◌, ◌+◌, ◌-◌, ◌↔◌, ℤ, Bool, true, IsTrue, Option, Some, None, Ok, inl, inr, refl, ap, ◌∙◌, subst, sym, false, arith}
+use Rattle.std.proofs.Common.{◌≡◌, ℕ, ◌<◌, ◌≤◌, ◌+◌, ◌-◌, ◌↔◌, ℤ, Bool, true, IsTrue, Option, Some, None, Ok, inl, inr, refl, ap, ◌∙◌, subst, sym, false, arith}
 use Rattle.ert_c.specs.HubCalls.{OpensHub}
 use Rattle.ert_c.specs.Opened.{ReadsSettings}
 use Rattle.ert_c.specs.Places.{is_there}
-use Rattle.ert_c.specs.ShardCalls.{HasShard, HasBack, IsRefused, CutsShard, OpensShard, IfHome}
+use Rattle.ert_c.specs.ShardCalls.{GivesOrRefuses, CutsShard, OpensShard, IfHome}
 use Rattle.ert_c.specs.Through.{Through}
 use Rattle.ert_c.specs.declared.opening.ErtSettings.{ErtSettings}
-use Rattle.ert_c.specs.declared.status.TheConstants.{OK, NO_MEMORY, NO_SHARD}
+use Rattle.ert_c.specs.declared.status.TheConstants.{OK, NO_MEMORY}
 use Rattle.ert_defs.specs.declared.settings.Settings.{Settings}
 use Rattle.ert_shard.specs.Hubs.{Rest, IsFresh, GivesShard, TakesBack, IsLastOut}
 use Rattle.ert_shard.specs.Shards.{Share, IsHome, Owned}
@@ -91,8 +91,7 @@ none_there (Some s) h = cc
 
 -- a hub cuts a shard, where it has as much left
 pub cuts_some : (processes : ℕ) (old : Rest) (status : ℤ) (hub : Option Rest) (shard : Option Owned) → 0 < old.left → processes ≤ old.first
-    → HasShard processes old status hub shard ⊎ IsRefused NO_SHARD old status hub shard ⊎ IsRefused NO_MEMORY old status hub shard
-    ⊎ HasBack old status hub shard
+    → GivesOrRefuses processes old status hub shard
     → CutsShard processes old status hub shard
 cuts_some processes old status hub shard some few made = record {
   below = λ _. record { below = λ h. absurd (omega (arith, few, h)); above = λ _. made };

@@ -1,6 +1,6 @@
 -- What C is told of a shard.
 
-use Rattle.std.specs.Prelude.{◌≡◌, ◌≢◌, ◌⊎◌, ℕ, ◌+◌, ◌<◌, ◌≤◌, ℤ, Bool, true, false, length, count_by, Option, Some, None, Result, Err, IfOk, OnSome, ⊤}
+use Rattle.std.specs.Prelude.{◌≡◌, ◌≢◌, ◌⊎◌, ℕ, ◌+◌, ◌<◌, ◌≤◌, ℤ, Bool, true, length, count_by, Option, Some, None, Result, Err, IfOk, OnSome, ⊤}
 use Rattle.std.specs.Option.{is_some}
 use Rattle.ert_effects.specs.Chains.{AdvancesWheel, Delivers}
 use Rattle.ert_effects.specs.ClockCalls.{TellsTime, TellsOffset, TellsSystemTime}
@@ -32,7 +32,7 @@ use Rattle.ert_defs.specs.declared.memory.NoMemory.{NoMemory as OutOfMemory}
 use Rattle.ert_defs.specs.declared.settings.OffsetState.{OffsetState}
 use Rattle.ert_defs.specs.declared.timer.Start.{Start}
 use Rattle.ert_defs.specs.declared.timer.TimerRef.{TimerRef}
-use Rattle.ert_shard.specs.Hubs.{Rest, GivesShard}
+use Rattle.ert_shard.specs.Hubs.{Rest, GivesShard, IsAtHome}
 use Rattle.ert_shard.specs.Renewing.{LetsGo}
 use Rattle.ert_shard.specs.Shards.{Share, IsHome, Owned, ShardGoes, ShardSteps, ShardBy, ShardHasForgotten}
 use Rattle.ert_shard.specs.Sleeping.{ShardDropsSettled}
@@ -64,12 +64,17 @@ pub record HasBack (old : Rest) (status : ℤ) (hub : Option Rest) (shard : Opti
 abbrev pub IsRefused : ℤ → Rest → ℤ → Option Rest → Option Owned → Type 0
 IsRefused why old status hub shard = (status ≡ why) × (hub ≡ Some old) × (shard ≡ None)
 
+-- a hub that has as much left gives it, or the timers of its wheels aren't known to be for the right processes, or they are
+-- and there is no memory
+abbrev pub GivesOrRefuses : ℕ → Rest → ℤ → Option Rest → Option Owned → Type 0
+GivesOrRefuses processes old status hub shard = HasShard processes old status hub shard
+    ⊎ ((IsAtHome old processes → ⊥) × IsRefused NO_SHARD old status hub shard)
+    ⊎ (IsAtHome old processes × IsRefused NO_MEMORY old status hub shard) ⊎ HasBack old status hub shard
+
 -- a hub gives the last scheduler and so many processes to a shard, if there are as many; else it is as it was
 abbrev pub CutsShard : ℕ → Rest → ℤ → Option Rest → Option Owned → Type 0
 CutsShard processes old status hub shard = IfBelow 0 old.left
-    (IfBelow old.first processes (IsRefused RANGE old status hub shard)
-    (HasShard processes old status hub shard ⊎ IsRefused NO_SHARD old status hub shard
-    ⊎ IsRefused NO_MEMORY old status hub shard ⊎ HasBack old status hub shard))
+    (IfBelow old.first processes (IsRefused RANGE old status hub shard) (GivesOrRefuses processes old status hub shard))
     (IsRefused NO_SHARD old status hub shard)
 
 -- a shard is opened, or nothing has changed: neither what stands behind the one handle nor behind the other
