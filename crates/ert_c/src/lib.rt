@@ -32,6 +32,11 @@
 //! What C owes (pointers to values, one call at a time on a handle, no copy of an open handle) nothing checks;
 //! `docs/EMBEDDING.md` lists it. It stands on `ert_world`, `ert_shard` and what they name, and on the allocator.
 //!
+//! After a refusal what was passed to be written is as it was. Close leaves the handle closed, and code that forgets a
+//! service is refused by the type check. Room in a mailbox or a list of expired timers isn't seen of a service: that it
+//! is there after `OK`, or was given back, is a clause of the mailbox (`ert_mail`) and of the list (`ert_timers`), and
+//! not of the exported calls.
+//!
 //! **Choices.**
 //!
 //! - **A shard doesn't come back to its hub in C.** To join two passes it has to be proved that they are of one desk.

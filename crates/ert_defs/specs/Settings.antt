@@ -29,13 +29,14 @@ pub record HasCounts (g : Settings) : Type 0 where
   pub callers_low : 1 ≤ g.callers
   pub callers_high : g.callers ≤ MOST_CALLERS
 
--- settings that a service can be opened with
+-- settings that a service can be opened with (profile)
 pub record IsChecked (g : Settings) : Type 0 where
   pub start : IsStart g.start
   pub first : IsValid g.first
   pub counts : HasCounts g
 
--- what a check of settings answers: each fault exactly where it stands and none before it does
+-- what a check of settings answers (profile): each fault exactly where it stands and none before it does:
+-- first the start time, then the first reading, then the counts
 abbrev pub Checks : Settings → Result (Unit {0}) SettingsFault → Type 0
 Checks g (Ok _) = IsChecked g
 Checks g (Err Start) = IsStart g.start → ⊥

@@ -14,6 +14,9 @@
 //! and `SureSink` never fail; `SureSink` alone tells its room. `read_all` reads to the end of a source within
 //! a limit, and `write_all` writes all of some bytes: each tells exactly what was moved.
 //!
+//! `StdSource`, `StdSink` and `HostClock` have the same clauses over the machine, by their logs, whose functions do
+//! nothing at run time; they are proved by hand, step by step. What the machine answers is trusted.
+//!
 //! **Choices.**
 //!
 //! - **Streams tell what they have moved, and what is to come only where it is known.** A source of the machine can't

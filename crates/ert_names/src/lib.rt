@@ -17,6 +17,9 @@
 //! and the bytes of its name, for each start. A turn looks at the messages of the registrar alone. To take
 //! named mail goes over what waits for all processes.
 //!
+//! So a named timer's message is handed over once at most: each life has one message at most, what was put into the
+//! registrar's mailbox was taken once or stands there, and each message that was taken is posted once or lost.
+//!
 //! **Choices.**
 //!
 //! - **Messages for names go to process 0, the registrar**, as wrapped timers whose message is the place of a row,

@@ -36,7 +36,7 @@
 //! - **Why input was refused is told on standard error**, by reading the input once more; standard output and statuses
 //!   are for scripts.
 //! - **The explanation of a refusal isn't part of `ertime`.** It returns the bytes with their refusal, and `main` hands
-//!   them to `explain`. So who believes what `run` writes reads no definition of a message, and the message has a
+//!   them to `explain`. So a reader of what `run` writes needs no definition of a message, and the message has a
 //!   contract of its own.
 //! - **The desk has clauses of its own**, beside those of the text: the same plan, history and text, told once more of
 //!   what is returned. Who reads the text alone reads no pass.

@@ -16,6 +16,9 @@
 //!
 //! It stands on `ert_locks` and `ert_world`, on the parts' crates, `ert_calls`, `ert_table` and `ert_effects`.
 //!
+//! Nothing is claimed of progress, of fairness, or of order between threads that never met: a call may wait for a lock
+//! for ever.
+//!
 //! **Choices.**
 //!
 //! - **A service is opened from the parts of a world**, because a world's value does not tell which desk it has.

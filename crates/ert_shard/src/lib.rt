@@ -63,6 +63,10 @@
 //! It stands on `ert_defs`, `ert_clock`, `ert_effects`, `ert_table`, `ert_calls`, `ert_wheel`, `ert_timers`, `ert_mail`
 //! and `ert_world`, and its proofs on the laws of `ert_laws`.
 //!
+//! Nothing is claimed of the time that a call takes, nor of a start for a process of another shard and of a request to
+//! another shard's scheduler, for which a shard has no call. A start asks that the destination is a process of the
+//! shard, and so a delivery always finds its mailbox there. No call takes a lock, waits or is tried again.
+//!
 //! **Choices.**
 //!
 //! - **Shards come back from a vector of the program** (`join_all`), and the hub keeps none aside: its parts stay in

@@ -105,6 +105,9 @@
 //! of the list of the slots' keys and of the first time that wasn't passed, which leaves values and owners as they are; no
 //! clause of a wheel shows a bucket.
 //!
+//! No clause says which levels and buckets there are, how many a call looks at, or how many rows fall to a lower level,
+//! ahead of time or within the bound of `first_due`.
+//!
 //! **Choices.**
 //!
 //! - **A wheel is seen as one place for each slot**: to insert and to remove is to set one place.
