@@ -53,8 +53,8 @@ first_offset g = g.first.sys -ℤ g.start
 abbrev pub first_base : Settings → Base
 first_base g = record { time = g.start; mono = g.first.mono; sys = g.first.sys; rate = pos 0 }
 
--- the end time (`erlang` module reference, `system_info(end_time)`): valid readings never reach it, and no
--- legal history does
+-- the end time, the start time plus 8796093022207000000 (`erlang` module reference, `system_info(end_time)`):
+-- valid readings never reach it, and no legal history does
 abbrev pub end_time : Settings → ℤ
 end_time g = g.start +ℤ pos 8796093022207000000
 
@@ -92,9 +92,10 @@ is_base Plain due = due
 is_base Force due = true
 is_base Finalize due = true
 
--- the rate that follows a check, where OS system time is so far above system time (ERTS User's Guide, "Time
--- Correction"; the two strengths are the profile's): one percent past 100 ms, 500 parts per million past
--- 1 ms, in either direction
+-- the rate that follows a check with a final offset, where OS system time is so far above system time (ERTS
+-- User's Guide, "Time Correction"; the two strengths are the profile's): 10000 if that is above 100,000,000;
+-- 500 if it is above 1,000,000; 0 from there to -1,000,000; -500 below that, and -10000 below -100,000,000. In
+-- the other states 0
 abbrev pub rate_of : OffsetState → ℤ → ℤ
 rate_of Final error =
     cond (int_lt (pos 100000000) error) (pos 10000)

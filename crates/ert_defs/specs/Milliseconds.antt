@@ -32,8 +32,9 @@ deadline_at (pos n) = cond (nat_le n 8796093022207) (Some n) None
 deadline_at (negsuc n) = None
 
 -- the deadline of a timer that is started at a time (`erlang` module reference, `start_timer`; the rounding
--- and the limits are the profile's): so many milliseconds after that time rounded up, or at a time of the
--- clock. None where the start is refused, since it is negative or out of the limits
+-- and the limits are the profile's): that time rounded up plus so many milliseconds, or a time of the clock
+-- less the start time. None where the start is refused: the milliseconds are negative, or the deadline isn't
+-- from 0 to 8796093022207
 abbrev pub deadline_when : Settings → When → ℤ → Option ℕ
 deadline_when g (After (pos n)) x = deadline_at (up g x +ℤ pos n)
 deadline_when g (After (negsuc n)) x = None

@@ -15,7 +15,9 @@ pub record IsStart (start : ℤ) : Type 0 where
   pub low : negsuc 288230376151711743 ≤ℤ start
   pub high : start ≤ℤ pos 288230376151711744
 
--- the counts are within their limits (profile)
+-- the counts are within their limits (profile): 1 to 1,024 schedulers, 1 to 524,288 processes, schedulers
+-- times processes at most 67,108,864, 1 to 16,777,216 slots for each scheduler and at most 67,108,864 in all,
+-- 1 to 1,025 callers, and at least 1 look
 pub record HasCounts (g : Settings) : Type 0 where
   pub schedulers_low : 1 ≤ g.schedulers
   pub schedulers_high : g.schedulers ≤ MOST_SCHEDULERS
