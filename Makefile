@@ -290,7 +290,7 @@ hex: $(addprefix $(B)/,$(ARCHIVES)) $(B)/THIRD-PARTY
 	  HEAP=$(B)/aarch64/heap.o $(filter $(B)/aarch64/%,$(TO_HEX))
 	$(PYTHON) packaging/hex $(B)/hex $(B)/THIRD-PARTY $(TO_HEX)
 
-# All documents, the pages and the references as a site, with the page to play with time where it is built or its proved
+# All documents, the contracts and definitions of each crate, the pages and the references as a site, with the page to play with time where it is built or its proved
 # crate is there. Nothing is proved for it. The search needs a server: `python3 -m http.server -d build/site` is one.
 IN_SITE = $(or $(wildcard $(PLAYGROUND)),$(and $(HAS_PLAYGROUND),$(wildcard crates/ert_text/out/libert_text.a)))
 html: pages $(if $(IN_SITE),$(PLAYGROUND))

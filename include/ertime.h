@@ -186,10 +186,11 @@ typedef struct {
                             and processes is at most 67,108,864 */
     uint32_t slots;      /* timer slots of each wheel, 1 to 16,777,216; at most 67,108,864 in all */
     uint32_t callers;    /* 1 to 1,025: caller 0 makes the calls through ert_world, and each other one can get a seat */
-    uint32_t looks;      /* 1 or more: how many slots a start looks at that knows of none that is free; 64 is enough for
-                            most programs. It looks from where the last such look stopped, at some 2 ns each, and is
-                            refused (ERT_FULL) unless it finds a slot that another thread's cancel has freed, or whose
-                            wait has ended. Slots that the wheel's own thread has freed are always known */
+    uint32_t looks;      /* 1 or more: how many slots a start searches when no slot is known to be free; 64 is enough for
+                            most programs. The search goes on where the last one stopped, takes some 2 ns a slot, and
+                            finds slots that another thread's cancel has freed, or whose wait has ended; without one
+                            the start is refused (ERT_FULL). Slots that the wheel's own thread has freed are always
+                            known */
     int64_t start;       /* monotonic time at the opening: a multiple of 1,000,000 from -2^58 to 2^58 */
     ert_reading first;   /* the reading that the clock opens with */
 } ert_settings;
@@ -462,9 +463,9 @@ int32_t ert_world_time_offset(ert_world *world, ert_offset *offset);
  * Writes the timer's name to `timer`. ERT_RANGE: there is no scheduler `sched` or no process `dest`.
  * ERT_BAD_TIME: `when` is negative, or the deadline outside 0 to 8,796,093,022,207 milliseconds after the
  * start time. ERT_FULL: no slot of the wheel is available. A slot that was used 262,143 times is unavailable until
- * the deadlines of these timers have passed; ert_world_ready tells when. (Or the wheel has had 2^53 timers.) On a wheel
- * of more slots than `looks` of the settings it means that none is available of as many as that: another one may be, but
- * only if a seat has cancelled its timer, or the deadlines have just passed for which it waited. The next starts look at
+ * the deadlines of these timers have passed; ert_world_ready tells when. (Or the wheel has had 2^53 timers.) If the wheel
+ * has more slots than settings.looks, only that many were searched: another slot may be available, but only one whose
+ * timer a seat has cancelled, or for which the deadlines that it waited for have just passed. The next starts look at
  * the others. ERT_CLOSED. No memory. Constant work if a slot is known to be free; otherwise `looks` slots of the wheel
  * are looked at, or all if there are fewer, at some 2 ns each.
  */
@@ -626,7 +627,7 @@ int32_t ert_world_next_mail(ert_world *world, uint32_t *process);
 /*
  * Makes room in the mailbox of a process for `count` messages more than it has.
  *
- * Until as many were put there, ert_world_deliver and ert_world_serve need no memory for it. A mailbox has no room at
+ * Until `count` messages were put there, ert_world_deliver and ert_world_serve need no memory for it. A mailbox has no room at
  * first, gets more when a message is put that finds none, and keeps it when messages are taken. So a program that must get
  * its messages in time makes the room ahead, for the most that can wait at once.
  *
@@ -779,7 +780,7 @@ int32_t ert_world_drop_settled(ert_world *world, uint32_t sched, uint64_t *dropp
 /*
  * Makes room in the list of expired timers of a scheduler for `count` more than wait in it.
  *
- * Until as many were due, ert_world_advance needs no memory; a timer that a seat cancelled counts when it would have been
+ * Until `count` timers were due, ert_world_advance needs no memory; a timer that a seat cancelled counts when it would have been
  * due. The list has no room at first, gets more when timers expire that find none, and keeps it when ert_world_deliver takes
  * them out. So a program that must get its messages in time makes the room ahead, for the most that can be due at once and
  * wait: if none waits yet, room for `slots` of the settings is enough for good. With room in the mailboxes
@@ -1092,8 +1093,8 @@ int32_t ert_shard_time_offset(ert_shard *shard, ert_offset *offset);
  *
  * Writes the timer's name to `timer`. ERT_RANGE: the process `dest` is not of the shard. ERT_BAD_TIME: `when` is negative,
  * or the deadline outside 0 to 8,796,093,022,207 milliseconds after the start time. ERT_FULL: no slot of the wheel is
- * available, of as many as `looks` of the settings if there are more (the next starts look at the others): one whose
- * timer another shard has cancelled is found so. ERT_CLOSED. No memory. Constant work if a slot is known to be free;
+ * available; if the wheel has more slots than settings.looks, none of that many that were searched (the next starts search
+ * the others). A search finds the slots whose timers other shards have cancelled. ERT_CLOSED. No memory. Constant work if a slot is known to be free;
  * otherwise `looks` slots of the wheel are looked at, or all if there are fewer.
  */
 int32_t ert_shard_start(ert_shard *shard, const ert_start *start, ert_timer *timer);
@@ -1213,7 +1214,7 @@ int32_t ert_shard_next_mail(ert_shard *shard, uint32_t *process);
 
 /*
  * Makes room in the mailbox of a process of the shard for `count` messages more than it has, as ert_world_reserve_mail
- * does: until as many were put there, ert_shard_deliver and ert_shard_serve need no memory for it.
+ * does: until `count` were put there, ert_shard_deliver and ert_shard_serve need no memory for it.
  *
  * ERT_NO_MEMORY: there is not as much memory; the mailbox has the room that it had. ERT_RANGE: the process is not of the
  * shard. ERT_CLOSED. Work as of ert_world_reserve_mail.
@@ -1334,7 +1335,7 @@ int32_t ert_shard_drop_settled(ert_shard *shard, uint64_t *dropped);
 
 /*
  * Makes room in the list of expired timers of the shard for `count` more than wait in it, as ert_world_reserve_expired does:
- * until as many were due, ert_shard_advance needs no memory. If none waits yet, room for `slots` of the settings is enough
+ * until `count` were due, ert_shard_advance needs no memory. If none waits yet, room for `slots` of the settings is enough
  * for good.
  *
  * ERT_NO_MEMORY: there is not as much memory; the list has the room that it had. ERT_CLOSED. Work as of

@@ -3,8 +3,8 @@
 
     tools/oracle/interpreter.py < scenario.json
 
-It is written from docs/MODEL.md and docs/FORMATS.md alone, and shares nothing with the program. The scenario has to be a
-valid one: refusals aren't told. With --history it prints the history that the run makes, as `ertaudit` reads it.
+It is written from the model in words (docs/MODEL.md, and what the site tells with it of each call) and docs/FORMATS.md alone,
+and shares nothing with the program. The scenario has to be a valid one: refusals aren't told. With --history it prints the history that the run makes, as `ertaudit` reads it.
 """
 from __future__ import annotations
 

@@ -3,8 +3,8 @@
 
     tools/oracle/judge.py < history.txt
 
-It is written from docs/MODEL.md and docs/FORMATS.md alone, and shares nothing with the programs: where both answer the
-same, neither has a fault that the other hasn't.
+It is written from the model in words (docs/MODEL.md) and docs/FORMATS.md alone, and shares nothing with the programs: where
+both answer the same, neither has a fault that the other hasn't.
 """
 from __future__ import annotations
 

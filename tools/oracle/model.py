@@ -1,4 +1,4 @@
-"""Settings, the clock, and the uses of a slot (docs/MODEL.md, "Readings and settings", "The clock", "Timers")."""
+"""Settings, the clock, and the uses of a slot (docs/MODEL.md, "The clock", "Timers")."""
 from __future__ import annotations
 
 from typing import Any, NamedTuple

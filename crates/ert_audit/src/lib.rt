@@ -9,6 +9,16 @@
 //! service itself it has only the clock's rules on plain numbers.
 //!
 //! The crate `ert_audit_cli` hands it the standard streams of the machine.
+//!
+//! **Choices.**
+//!
+//! - **A text is read whole before it is judged**, since a misspelling further on counts first.
+//! - **The auditor reads no words of its command line.**
+//! - **What `ertaudit` does is a library, `ert_audit`**, and `ert_audit_cli` a `main` over it, as `ert_cli` is over
+//!   `ert_program`, so that other crates can stand on it.
+//! - **What an audit says and why are two functions.** `audit` gives back the text with the status, and `explain` reads
+//!   that text again: so a reader of the verdict needs no definition of a message, and a text is read twice only if it
+//!   is refused or illegal.
 #![tactic(auto)]
 
 mod auditing;

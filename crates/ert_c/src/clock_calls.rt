@@ -56,7 +56,7 @@ fn moved_as(moved: Moved) -> ErtMoved
     }
 }
 
-/// Tells C the answer of a tick.
+/// Returns the answer of a tick.
 pub(crate) fn tell_moved(answer: Result<Moved, ClockErr>, moved: &mut ErtMoved) -> i32
     ensures { IsMoved answer moved.old result moved.new }
 {
@@ -70,7 +70,7 @@ pub(crate) fn tell_moved(answer: Result<Moved, ClockErr>, moved: &mut ErtMoved) 
     }
 }
 
-/// Tells C the answer of a finalization.
+/// Returns the answer of a finalization.
 pub(crate) fn tell_finalized(
     answer: Result<(OffsetState, Moved), ClockErr>,
     before: &mut u32,

@@ -31,6 +31,27 @@
 //!
 //! What C owes (pointers to values, one call at a time on a handle, no copy of an open handle) nothing checks;
 //! `docs/EMBEDDING.md` lists it. It stands on `ert_world`, `ert_shard` and what they name, and on the allocator.
+//!
+//! After a refusal what was passed to be written is as it was. Close leaves the handle closed, and code that forgets a
+//! service is refused by the type check. Room in a mailbox or a list of expired timers isn't seen of a service: that it
+//! is there after `OK`, or was given back, is a clause of the mailbox (`ert_mail`) and of the list (`ert_timers`), and
+//! not of the exported calls.
+//!
+//! **Choices.**
+//!
+//! - **A shard doesn't come back to its hub in C.** To join two passes it has to be proved that they are of one desk.
+//!   Nothing that is computed proves that: pointers into two blocks may not be compared, a counted reference tells no
+//!   identity, and a number that the hub and its shards keep proves it only if no other service ever had it, which no
+//!   clause can say of a library without state of its own.
+//! - **The name of a timer has 16 bytes**, since its generation has 64 bits; so the version is 1 and the soname
+//!   `libertime.so.1`.
+//! - **The place of a box is written once for boxes of any type**, since a type parameter may not stand in what C sees.
+//! - **The right to free a block is named by the heap's own contract** in `std`, since no crate of this repository may
+//!   use the C library.
+//! - **A seat that finds no memory gives its caller back.**
+//! - **`ert_settings_init` and the texts are inline functions of the header**: an exported function can return no
+//!   pointer, and what a program compiles in has the texts of the header that it knows. The version at run time is a
+//!   number for the same reason (`ert_version`).
 #![tactic(auto)]
 
 mod clock_calls;

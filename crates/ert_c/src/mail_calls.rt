@@ -116,7 +116,7 @@ fn mail_as(mail: Mail) -> ErtMail
     }
 }
 
-/// Tells C the first message.
+/// Returns the first message.
 pub(crate) fn tell_taken(answer: Taken, mail: &mut ErtMail) -> i32
     ensures { IsTakeTold answer mail.old result mail.new }
 {
@@ -130,7 +130,7 @@ pub(crate) fn tell_taken(answer: Taken, mail: &mut ErtMail) -> i32
     }
 }
 
-/// Tells C whether a call was done that answers nothing more.
+/// Returns whether a call was done that answers nothing more.
 pub(crate) fn tell_done(answer: Result<(), NoMemory>) -> i32
     ensures { IsToldDone answer result }
 {
@@ -140,7 +140,7 @@ pub(crate) fn tell_done(answer: Result<(), NoMemory>) -> i32
     }
 }
 
-/// Tells C the number of a monitor.
+/// Returns the number of a monitor.
 pub(crate) fn tell_monitored(answer: Result<u32, MonitorErr>, monitor: &mut u32) -> i32
     ensures { IsMonitorTold answer monitor.old result monitor.new }
 {
@@ -154,14 +154,14 @@ pub(crate) fn tell_monitored(answer: Result<u32, MonitorErr>, monitor: &mut u32)
     }
 }
 
-/// Tells C whether a monitor stood.
+/// Returns whether a monitor stood.
 pub(crate) fn tell_demonitored(answer: bool) -> i32
     ensures { IsDemonitored answer result }
 {
     if answer { OK } else { NO_MONITOR }
 }
 
-/// Tells C a process with mail.
+/// Returns a process with mail.
 pub(crate) fn tell_next(answer: Result<Option<u32>, NoMemory>, process: &mut u32) -> i32
     ensures { IsNextTold answer process.old result process.new }
 {
@@ -219,7 +219,7 @@ pub(crate) fn take_shard_places(
     (taken, TakeEnd::Most)
 }
 
-/// Tells C how a take of several messages ended.
+/// Returns how a take of several messages ended.
 pub(crate) fn tell_end(ended: TakeEnd) -> i32
     ensures { result ≡ end_as ended }
 {

@@ -33,7 +33,7 @@ pub extern "C" fn ert_shard_serve(shard: &mut ErtShard, served: &mut u32) -> i32
     tell_serve(answer, served)
 }
 
-/// Tells C whether a request of a shard was served.
+/// Returns whether a request of a shard was served.
 fn tell_serve(answer: Result<bool, ServeErr>, served: &mut u32) -> i32
     ensures { IsServeTold answer served.old result served.new }
 {

@@ -79,7 +79,7 @@ pub extern "C" fn ert_shard_shrink_expired(shard: &mut ErtShard) -> i32
     tell_done(answer)
 }
 
-/// Tells C what a turn of a shard did.
+/// Returns what a turn of a shard did.
 fn tell_turn(answer: Result<Turn, NoMemory>, turned: &mut ErtTurned) -> i32
     ensures { IsTurnTold answer turned.old result turned.new }
 {

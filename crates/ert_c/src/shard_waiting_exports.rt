@@ -68,7 +68,7 @@ pub extern "C" fn ert_shard_turn_some(
     tell_turn_some(answer, turned)
 }
 
-/// Tells C what a turn of a shard with a bound did.
+/// Returns what a turn of a shard with a bound did.
 fn tell_turn_some(answer: Result<(Turn, bool), NoMemory>, turned: &mut ErtTurnedSome) -> i32
     ensures { IsTurnSomeTold answer turned.old result turned.new }
 {

@@ -80,7 +80,7 @@ impl ErtStart {
     }
 }
 
-/// Tells C the answer of a start.
+/// Returns the answer of a start.
 pub(crate) fn tell_started(answer: Result<TimerRef, StartErr>, timer: &mut ErtTimer) -> i32
     ensures { IsStartTold answer timer.old result timer.new }
 {
@@ -95,7 +95,7 @@ pub(crate) fn tell_started(answer: Result<TimerRef, StartErr>, timer: &mut ErtTi
     }
 }
 
-/// Tells C how much room a wheel has.
+/// Returns how much room a wheel has.
 pub(crate) fn tell_room(answer: Room, room: &mut u32, ready: &mut u64) -> i32
     ensures { IsRoomTold answer result room.new ready.new }
 {
@@ -107,7 +107,7 @@ pub(crate) fn tell_room(answer: Room, room: &mut u32, ready: &mut u64) -> i32
     OK
 }
 
-/// Tells C how much was left of a timer.
+/// Returns how much was left of a timer.
 pub(crate) fn tell_left(answer: Option<u64>, left: &mut u64) -> i32
     ensures { IsLeftTold answer left.old result left.new }
 {
@@ -120,7 +120,7 @@ pub(crate) fn tell_left(answer: Option<u64>, left: &mut u64) -> i32
     }
 }
 
-/// Tells C yes or no.
+/// Returns yes or no.
 pub(crate) fn tell_flag(answer: bool, flag: &mut u32) -> i32
     ensures { IsFlag answer result flag.new }
 {

@@ -38,7 +38,7 @@ pub struct ErtTurned {
     pub dropped: u32,
 }
 
-/// Tells C what a call gave, or that there was no memory for it.
+/// Returns what a call gave, or that there was no memory for it.
 pub(crate) fn tell<T: Copy>(answer: Result<T, NoMemory>, place: &mut T) -> i32
     ensures { IsGiven (λ given. given) answer place.old result place.new }
 {
@@ -51,14 +51,14 @@ pub(crate) fn tell<T: Copy>(answer: Result<T, NoMemory>, place: &mut T) -> i32
     }
 }
 
-/// Tells C whether a request was served.
+/// Returns whether a request was served.
 pub(crate) fn tell_served(answer: Result<bool, NoMemory>, served: &mut u32) -> i32
     ensures { IsServed answer served.old result served.new }
 {
     tell(answer.map(|one| u32::from(one)), served)
 }
 
-/// Tells C how far a wheel was advanced.
+/// Returns how far a wheel was advanced.
 pub(crate) fn tell_advanced(answer: Result<(u64, u32), NoMemory>, advanced: &mut ErtAdvanced) -> i32
     ensures { IsAdvanceTold answer advanced.old result advanced.new }
 {
@@ -68,7 +68,7 @@ pub(crate) fn tell_advanced(answer: Result<(u64, u32), NoMemory>, advanced: &mut
     )
 }
 
-/// Tells C what was handed over.
+/// Returns what was handed over.
 pub(crate) fn tell_delivered(
     answer: Result<(u32, u32), NoMemory>,
     delivered: &mut ErtDelivered,
@@ -81,7 +81,7 @@ pub(crate) fn tell_delivered(
     )
 }
 
-/// Tells C what a turn did.
+/// Returns what a turn did.
 pub(crate) fn tell_turned(answer: Result<Turned, NoMemory>, turned: &mut ErtTurned) -> i32
     ensures { IsTurned answer turned.old result turned.new }
 {
@@ -100,7 +100,7 @@ fn turned_as(done: Turned) -> ErtTurned
     }
 }
 
-/// Tells C how early a timer may be due.
+/// Returns how early a timer may be due.
 pub(crate) fn tell_due(answer: Option<u64>, due: &mut u64) -> i32
     ensures { IsDueTold answer due.old result due.new }
 {

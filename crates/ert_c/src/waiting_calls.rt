@@ -23,7 +23,7 @@ pub struct ErtTurnedSome {
     pub more: u32,
 }
 
-/// Tells C the answer of a restart.
+/// Returns the answer of a restart.
 pub(crate) fn tell_restarted(answer: Result<TimerRef, RestartErr>, timer: &mut ErtTimer) -> i32
     ensures { IsRestarted answer timer.old result timer.new }
 {
@@ -38,7 +38,7 @@ pub(crate) fn tell_restarted(answer: Result<TimerRef, RestartErr>, timer: &mut E
     }
 }
 
-/// Tells C a number.
+/// Returns a number.
 pub(crate) fn tell_count(answer: u64, count: &mut u64) -> i32
     ensures { IsCount answer result count.new }
 {
@@ -46,7 +46,7 @@ pub(crate) fn tell_count(answer: u64, count: &mut u64) -> i32
     OK
 }
 
-/// Tells C what a turn with a bound did.
+/// Returns what a turn with a bound did.
 pub(crate) fn tell_turned_some(
     answer: Result<(Turned, bool), NoMemory>,
     turned: &mut ErtTurnedSome,

@@ -30,6 +30,15 @@
 //! clauses `stands` say it of histories: a clock that stood for a legal history stands, after a call, for
 //! that history with the call's entries last, a Tick and then the Shift that it made due. All numbers
 //! fit 64 bits, or 128 where they are multiplied: that is proved from bounds which each clock keeps.
+//!
+//! **Choices.**
+//!
+//! - **The rate is computed also without correction**, where it changes nothing.
+//! - **The history finds the last check by looking back**; the code keeps three numbers.
+//! - **The clock computes in 128 bits**, since three numbers of 64 bits may differ by more; a refused offset is told
+//!   with 128.
+//! - **A product is divided in 64 bits if they suffice**, and not at all if it is 0: a division of 128 bits took a
+//!   quarter of a tick.
 #![tactic(auto)]
 
 mod clock;

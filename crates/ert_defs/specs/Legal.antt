@@ -113,7 +113,7 @@ pub record IsFirst (expired : List Row) (timer : TimerRef) : Type 0 where
   pub first : first_of expired ≡ Some row
   pub named : row.timer ≡ timer
 
--- a generation that a timer may have: of a first round, or of a later one
+-- a generation that a timer may have (profile): of a first round, or of a later one
 abbrev pub is_generation : ℕ → Bool
 is_generation n = (nat_le 1 n && nat_le n 262143) || (nat_le 8796093022208 n && nat_lt n 2305843009213693952)
 

@@ -38,57 +38,64 @@ pub record Face : Type 0 where
 abbrev pub Due : Type 0
 Due = ℤ × OffsetState
 
--- the state of the offset at the opening
+-- the state of the offset at the opening (ERTS User's Guide, "Time Warp Modes"): final in no time warp mode,
+-- preliminary in single, volatile in multi
 abbrev pub first_state : Mode → OffsetState
 first_state No = Final
 first_state Single = Preliminary
 first_state Multi = Volatile
 
--- the offset at the opening
+-- the offset at the opening (ERTS User's Guide, "Time Warp Modes"): system time is that of the first reading
 abbrev pub first_offset : Settings → ℤ
 first_offset g = g.first.sys -ℤ g.start
 
--- the first reading counts as a check at the start time
+-- the first reading counts as a check at the start time, with rate 0 (profile)
 abbrev pub first_base : Settings → Base
 first_base g = record { time = g.start; mono = g.first.mono; sys = g.first.sys; rate = pos 0 }
 
--- the end time, which valid readings never reach
+-- the end time, the start time plus 8796093022207000000 (`erlang` module reference, `system_info(end_time)`):
+-- valid readings never reach it, and no legal history does
 abbrev pub end_time : Settings → ℤ
 end_time g = g.start +ℤ pos 8796093022207000000
 
--- the time on a line at an OS monotonic time
+-- the time on a line at an OS monotonic time (ERTS User's Guide, "Time Correction"; the rounding is the
+-- profile's): that of the base, and what OS monotonic time grew by since, and the share of this that the rate
+-- gives, in parts per million, rounded down
 abbrev pub line_time : Base → ℤ → ℤ
 line_time b o = (b.time +ℤ (o -ℤ b.mono)) +ℤ int_div_euclid ((o -ℤ b.mono) *ℤ b.rate) (pos 1000000)
 
--- the OS monotonic time of a tick: a reading below that of the last tick counts as that
+-- the OS monotonic time of a tick (profile), the greatest so far: a reading below that of the last tick counts
+-- as that
 abbrev pub mono_after : Face → Reading → ℤ
 mono_after f r = int_max f.mono r.mono
 
--- the time after a tick: with correction the time on the line; without it, OS system time less the
--- offset, and never below the time before
+-- the time after a tick (ERTS User's Guide, "Time Correction" and "No Time Warp Mode"): with correction the
+-- time on the line; without it, OS system time less the offset, and never below the time before
 abbrev pub time_after : Settings → Face → Reading → ℤ
 time_after g f r = cond g.correction (line_time f.base (mono_after f r)) (int_max f.time (r.sys -ℤ f.offset))
 
--- whether a check is due: 60 seconds after the last one in OS monotonic time with correction, and
--- without it 60 seconds of OS system time away from it
+-- whether a check is due (profile): 60 seconds after the last check or finalization in OS monotonic time with
+-- correction, and without it 60 seconds of OS system time away from it, in either direction
 abbrev pub is_due : Settings → Base → ℤ → ℤ → Bool
 is_due g b o sys = cond g.correction (int_le (pos 60000000000) (o -ℤ b.mono)) (nat_le 60000000000 (unsigned_abs (sys -ℤ b.sys)))
 
--- whether a tick is a check
+-- whether a tick is a check (profile): it is forced, or it is plain and a check is due. A finalization never
+-- is one
 abbrev pub is_check : Act → Bool → Bool
 is_check Plain due = due
 is_check Force due = true
 is_check Finalize due = false
 
--- whether a tick is the base of a new line: where it is a check or finalizes the offset
+-- whether a tick is the base of a new line (profile): where it is a check or finalizes the offset
 abbrev pub is_base : Act → Bool → Bool
 is_base Plain due = due
 is_base Force due = true
 is_base Finalize due = true
 
--- the rate that follows a check, where OS system time is so far above system time (ERTS User's Guide, "Time
--- Correction"; the two strengths are the profile's): one percent past 100 ms, 500 parts per million past
--- 1 ms, in either direction
+-- the rate that follows a check with a final offset, where OS system time is so far above system time (ERTS
+-- User's Guide, "Time Correction"; the two strengths are the profile's): 10000 if that is above 100,000,000;
+-- 500 if it is above 1,000,000; 0 from there to -1,000,000; -500 below that, and -10000 below -100,000,000. In
+-- the other states 0
 abbrev pub rate_of : OffsetState → ℤ → ℤ
 rate_of Final error =
     cond (int_lt (pos 100000000) error) (pos 10000)
@@ -98,25 +105,28 @@ rate_of Final error =
 rate_of Preliminary error = pos 0
 rate_of Volatile error = pos 0
 
--- the rate that follows a base
+-- the rate that follows a base (profile): that of a check, and 0 after a finalization
 abbrev pub rate_after : Act → OffsetState → ℤ → ℤ
 rate_after Finalize state error = pos 0
 rate_after Plain state error = rate_of state error
 rate_after Force state error = rate_of state error
 
--- the base that a tick makes, at this time and OS monotonic time and with the offset before any shift
+-- the base that a tick makes (profile), at this time and OS monotonic time and with the offset before any
+-- shift
 abbrev pub base_from : Reading → Act → ℤ → ℤ → ℤ → OffsetState → Base
 base_from r act o now offset state =
     record { time = now; mono = o; sys = r.sys; rate = rate_after act state (r.sys -ℤ (now +ℤ offset)) }
 
--- the shift that is due after a tick to OS system time less time: in multi time warp mode after a check
--- that finds the offset more than a millisecond away
+-- the shift that is due after a tick to OS system time less time (ERTS User's Guide, "Multi-Time Warp Mode";
+-- the millisecond is the profile's): in multi time warp mode after a check that finds the offset more than a
+-- millisecond away
 abbrev pub shift_of : OffsetState → Bool → ℤ → ℤ → Option Due
 shift_of Volatile check x offset = cond (check && nat_lt 1000000 (unsigned_abs (x -ℤ offset))) (Some (x, Volatile)) None
 shift_of Preliminary check x offset = None
 shift_of Final check x offset = None
 
--- a finalization makes a shift due, even to the same offset
+-- a finalization makes a shift due, to the state final, even if the offset stays (ERTS User's Guide, "Single
+-- Time Warp Mode")
 abbrev pub due_from : Act → Bool → OffsetState → ℤ → ℤ → Option Due
 due_from Finalize due state x offset = Some (x, Final)
 due_from Plain due state x offset = shift_of state due x offset
@@ -145,7 +155,7 @@ abbrev pub shifted : Face → Option Due → Face
 shifted f None = f
 shifted f (Some d) = record { time = f.time; offset = d.0; state = d.1; base = f.base; mono = f.mono }
 
--- the shift keeps the offset within its limits
+-- the shift keeps the offset within its limits (profile): otherwise the tick isn't legal
 abbrev pub IsInRange : Option Due → Type 0
 IsInRange None = Unit {0}
 IsInRange (Some d) = IsOffset d.0

@@ -3,7 +3,7 @@
 use Rattle.std.specs.Prelude.{pos, negsuc, ◌≤ℤ◌, ◌<ℤ◌}
 use Rattle.ert_defs.specs.declared.settings.Reading.{Reading}
 
--- a valid reading (profile): 0 to below 2^62, and between -2^61 and 2^61
+-- a valid reading (profile): `mono` is from 0 to below 2^62, and `sys` between -2^61 and 2^61
 pub record IsValid (r : Reading) : Type 0 where
   pub mono_low : pos 0 ≤ℤ r.mono
   pub mono_high : r.mono <ℤ pos 4611686018427387904

@@ -15,7 +15,9 @@ pub record IsStart (start : ℤ) : Type 0 where
   pub low : negsuc 288230376151711743 ≤ℤ start
   pub high : start ≤ℤ pos 288230376151711744
 
--- the counts are within their limits (profile)
+-- the counts are within their limits (profile): 1 to 1,024 schedulers, 1 to 524,288 processes, schedulers
+-- times processes at most 67,108,864, 1 to 16,777,216 slots for each scheduler and at most 67,108,864 in all,
+-- 1 to 1,025 callers, and at least 1 look
 pub record HasCounts (g : Settings) : Type 0 where
   pub schedulers_low : 1 ≤ g.schedulers
   pub schedulers_high : g.schedulers ≤ MOST_SCHEDULERS
@@ -29,13 +31,14 @@ pub record HasCounts (g : Settings) : Type 0 where
   pub callers_low : 1 ≤ g.callers
   pub callers_high : g.callers ≤ MOST_CALLERS
 
--- settings that a service can be opened with
+-- settings that a service can be opened with (profile)
 pub record IsChecked (g : Settings) : Type 0 where
   pub start : IsStart g.start
   pub first : IsValid g.first
   pub counts : HasCounts g
 
--- what a check of settings answers: each fault exactly where it stands and none before it does
+-- what a check of settings answers (profile): each fault exactly where it stands and none before it does:
+-- first the start time, then the first reading, then the counts
 abbrev pub Checks : Settings → Result (Unit {0}) SettingsFault → Type 0
 Checks g (Ok _) = IsChecked g
 Checks g (Err Start) = IsStart g.start → ⊥

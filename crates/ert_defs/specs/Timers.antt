@@ -20,41 +20,45 @@ Row = TimerRow
 abbrev pub same_timer : TimerRef → TimerRef → Bool
 same_timer r t = nat_eq r.wheel t.wheel && nat_eq r.slot t.slot && nat_eq r.generation t.generation
 
--- how many-th use of its slot's round a generation is. Those of the first round are 1 to 262143; one of a
--- later round is that number times 2^43, plus the deadline of its timer
+-- which use of its slot's round a generation is, counted from 1 (profile). Those of the first round are 1 to
+-- 262143; one of a later round is that number times 2^43, plus the deadline of its timer
 abbrev pub use_of : ℕ → ℕ
 use_of generation = cond (nat_lt generation 8796093022208) generation (generation / 8796093022208)
 
--- the uses of a slot: the generation of its last timer, 0 where there is none; the milliseconds after the
--- start time from which on its round may have timers, 0 in the first; and one above the greatest deadline of
--- its timers, 0 where there are none
+-- the uses of a slot (profile): the generation of its last timer, 0 where there is none; the milliseconds
+-- after the start time from which on its round may have timers, 0 in the first; and one above the greatest
+-- deadline of its timers, 0 where there are none
 pub record Uses : Type 0 where
   pub last : ℕ
   pub since : ℕ
   pub above : ℕ
 
--- after the 262143rd use of a round the slot rests until the deadlines of all its timers have passed, and
--- then the next round begins
+-- after the 262143rd use of a round the slot rests until the deadlines of all its timers have passed, whatever
+-- became of these timers, and then the next round begins (profile)
 abbrev pub turned : Uses → Uses
 turned u = cond (nat_lt (use_of u.last) 262143) u (record { last = 0; since = u.above; above = u.above })
 
--- the deadline of a timer in a round: in a later one a deadline that has passed counts as the time of the look
+-- the deadline of a timer in a round (profile): in a later one a deadline that has passed counts as the time
+-- of the look. The timer is due at once, as it would be anyway
 abbrev pub deadline_in : ℕ → ℕ → ℕ → ℕ
 deadline_in zero now wanted = wanted
 deadline_in (suc since) now wanted = max now wanted
 
--- the generation of so many-th use in a round
+-- the generation of a use in a round, by the number of the use (profile). Each deadline of a later round is
+-- above all of the rounds before, so no generation names two timers of a slot
 abbrev pub generation_in : ℕ → ℕ → ℕ → ℕ
 generation_in zero count deadline = count
 generation_in (suc since) count deadline = 8796093022208 * count + deadline
 
 -- a slot doesn't rest, and this is the generation of its next timer, started at a look for a deadline
+-- (profile)
 pub record IsNextUse (u : Uses) (now wanted generation : ℕ) : Type 0 where
   pub rested : (turned u).since ≤ now
   pub within : deadline_in (turned u).since now wanted ≤ 8796093022207
   pub counts : generation ≡ generation_in (turned u).since (use_of (turned u).last + 1) (deadline_in (turned u).since now wanted)
 
--- the deadline of a timer that was started for one: a generation of a later round tells it
+-- the deadline of a timer that was started for one (profile): in the first round that one, and in a later one
+-- that of its generation
 abbrev pub deadline_told : ℕ → ℕ → ℕ
 deadline_told generation wanted = cond (nat_lt generation 8796093022208) wanted (generation % 8796093022208)
 

@@ -84,7 +84,9 @@ later_word g s j =
     (word_of_wheel g s (j / wheel_width g) (j % wheel_width g))
     (word_of_process g s (j - wheels_width g))
 
--- the word at an index: the time at 8, the offset at 16, the wheels and the processes from 24 on; 0 in a gap
+-- the word at an index: the time at 8, the offset at 16, the wheels and the processes from 24 on; 0 in a gap. Gaps
+-- of seven words between these groups, and of eight at either end, keep each from the cache lines of the others
+-- and of what the heap puts beside the table
 abbrev pub word_of : Settings → State → ℕ → ℕ
 word_of g s i =
     cond (nat_eq i 8) (time_word s.clock.now g.start)

@@ -38,7 +38,8 @@ pub record CannotServe (g : Settings) (way : Way) (w : ℕ) (e : NoMemory) (h m 
   pub request : Request
   pub steps : Then (HoldsRequest g way w (Some request)) (way (MailOf request.reply_to ∷ []) (Answers g w request (Err e))) h m
 
--- `serve`: false where the hand was empty and nothing was picked
+-- `serve`: where the hand is empty `pick`, and where there is a request then `answer`, with the mailbox that
+-- it names. False where the hand was empty and nothing was picked
 abbrev pub Serves : Settings → Way → ℕ → Result Bool NoMemory → Growth
 Serves g way w (Ok true) h m = HasServed g way w h m
 Serves g way w (Ok false) h m = HoldsRequest g way w None h m
@@ -106,7 +107,8 @@ pub record CannotDeliver (g : Settings) (way : Way) (w : ℕ) (e : NoMemory) (h 
   pub hows : List Handed
   pub runs : Then (HandsMany g way w hows) (Hands g way w (Err e)) h m
 
--- `deliver`, of all expired timers of a scheduler
+-- `deliver`, of all expired timers of a scheduler: the first of them, again and again, until there is none.
+-- The answer: how many were put, and how many thrown away
 abbrev pub Delivers : Settings → Way → ℕ → Result (ℕ × ℕ) NoMemory → Growth
 Delivers g way w (Ok answer) h m = HasDelivered g way w answer h m
 Delivers g way w (Err e) h m = CannotDeliver g way w e h m
@@ -124,7 +126,8 @@ CannotTurn g way w e h m =
     ⊎ ((served : ℕ) × (advanced : ℕ × ℕ)
     × Then (ServesAll g way w (Ok served)) (Then (AdvancesWheel g way w (Ok advanced)) (Delivers g way w (Err e))) h m)
 
--- `turn`
+-- `turn`: `serve` until it answers false, 64 times at most; `advance`; `deliver`. Out of memory: some of their
+-- steps in this order, and then that of the one for which there was none; what was done stays
 abbrev pub Turns : Settings → Way → ℕ → Result Turned NoMemory → Growth
 Turns g way w (Ok t) h m = HasTurned g way w t h m
 Turns g way w (Err e) h m = CannotTurn g way w e h m
@@ -140,7 +143,8 @@ SweepsWheels g way by process w zero h m = m ≡ []
 SweepsWheels g way by process w (suc n) h m =
     Then (SweepsWheel g way by process w) (SweepsWheels g way by process (suc w) n) h m
 
--- `exit`, by a caller: the process exits, and where it hadn't before, every wheel is swept
+-- `exit`, by a caller: the process exits (`mark_exit`), and where it hadn't before, every wheel is swept, by
+-- number; after each sweep no timer of that wheel for the process is armed
 abbrev pub Exits : Settings → Way → ℕ → ℕ → Bool → Growth
 Exits g way by process true h m =
     Then (way [] (MarksExit g (Caller by) process true)) (SweepsWheels g way by process 0 g.schedulers) h m

@@ -49,7 +49,9 @@ abbrev pub ActsOnReading : Settings → ℕ → Reading → Act → Result Moved
 ActsOnReading g by r act (Ok m) s es = MovesClock g by r act m s es
 ActsOnReading g by r act (Err e) s es = RefusesTick g r act e s es
 
--- `tick`, for a caller, forced or not
+-- `tick`, for a caller, forced or not. Entries: Tick with the act Plain, or Force if forced, and Shift if one
+-- is due; the answer is the time of the Tick and the offset of the Shift. No entry: the reading isn't valid,
+-- or the shift that would be due has the offset that is answered, which is outside its limits
 abbrev pub Ticks : Settings → ℕ → Reading → Bool → Result Moved ClockErr → State → List Entry → Type 0
 Ticks g by r force answer s es = ActsOnReading g by r (act_of force) answer s es
 
@@ -67,7 +69,9 @@ FinalizesFrom Preliminary g by r m s es = MovesClock g by r Finalize m s es
 FinalizesFrom Final g by r m s es = OffsetStays by r Final m s es
 FinalizesFrom Volatile g by r m s es = OffsetStays by r Volatile m s es
 
--- `finalize`, for a caller: the answer has the state before it
+-- `finalize`, for a caller: the answer has the state before it. Entries: if the offset was preliminary, Tick
+-- with the act Finalize and then Shift, and time and offset are answered as for `tick`; if it wasn't, Off by
+-- Keeper, and the unchanged time is answered and no offset. No entry: refused as `tick`
 abbrev pub Finalizes : Settings → ℕ → Reading → Result (OffsetState × Moved) ClockErr → State → List Entry → Type 0
 Finalizes g by r (Ok p) s es = (p.0 ≡ s.clock.state) × FinalizesFrom p.0 g by r p.1 s es
 Finalizes g by r (Err e) s es = RefusesTick g r Finalize e s es
@@ -76,11 +80,11 @@ Finalizes g by r (Err e) s es = RefusesTick g r Finalize e s es
 abbrev pub TellsTime : Settings → Actor → ℤ → State → List Entry → Type 0
 TellsTime g by answer s es = es ≡ look_entry by answer ∷ []
 
--- `time_offset`: the offset and its state are the answer
+-- `time_offset`: Off, whose offset and state are the answer
 abbrev pub TellsOffset : Settings → Actor → ℤ × OffsetState → State → List Entry → Type 0
 TellsOffset g by answer s es = es ≡ off_entry by answer.0 answer.1 ∷ []
 
--- `system_time`: a look, and then the offset; the answer is the sum
+-- `system_time`: a look, and then the offset; the answer is the sum of the one's time and the other's offset
 pub record TellsSystemTime (g : Settings) (by : Actor) (answer : ℤ) (s : State) (es : List Entry) : Type 0 where
   pub now : ℤ
   pub offset : ℤ

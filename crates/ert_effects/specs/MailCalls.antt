@@ -23,12 +23,14 @@ abbrev pub handed_entries : ℕ → Row → Handed → List Entry
 handed_entries w expired Put = mark_entry (Sched w) expired.dest false false ∷ (deliver_entry w expired.dest expired.timer ∷ [])
 handed_entries w expired Dropped = mark_entry (Sched w) expired.dest false true ∷ (drop_entry w expired.timer ∷ [])
 
--- `deliver` of one expired timer, by a scheduler
+-- `deliver` of one expired timer, by a scheduler with the mailbox: Mark of its destination, which exits
+-- nobody; then Deliver, or Drop where it had exited. The answer: put, or thrown away
 abbrev pub HandsOver : Settings → ℕ → Row → Result Handed OutOfMemory → State → List Entry → Type 0
 HandsOver g w expired (Ok how) s es = es ≡ handed_entries w expired how
 HandsOver g w expired (Err e) s es = es ≡ []
 
--- `take`, by a caller: it is seen whether the process had exited, and else the first message is taken
+-- `take`, by a caller with the mailbox: Mark, by which it is seen whether the process had exited, and else
+-- Take of the first message
 abbrev pub Takes : Settings → ℕ → ℕ → Taken → State → List Entry → Type 0
 Takes g by process Exited s es = es ≡ mark_entry (Caller by) process false true ∷ []
 Takes g by process Empty s es = es ≡ mark_entry (Caller by) process false false ∷ (take_entry by process None ∷ [])
@@ -47,13 +49,14 @@ pub record AreMonitorsFull (by : ℕ) (m : MailState) (es : List Entry) : Type 0
   pub full : (64 ≤ length m.monitors) ⊎ (4294967295 < m.next)
   pub entries : es ≡ off_entry (Caller by) offset offset_state ∷ []
 
--- `monitor`, by a caller
+-- `monitor`, by a caller with the mailbox: Watch, and its number is answered, at most 4294967295; or, where 64
+-- monitors of the process stand or that number was given, Off, and no more can be made
 abbrev pub Monitors : Settings → ℕ → ℕ → Result ℕ MonitorErr → State → List Entry → Type 0
 Monitors g by process (Ok number) s es = IsMonitored by process number es
 Monitors g by process (Err Full) s es = AreMonitorsFull by (s.mails process) es
 Monitors g by process (Err NoMemory) s es = es ≡ []
 
--- `demonitor`, by a caller: the answer is whether the monitor stood
+-- `demonitor`, by a caller with the mailbox: Unwatch; the answer is whether the monitor stood
 abbrev pub Demonitors : Settings → ℕ → ℕ → ℕ → Bool → State → List Entry → Type 0
 Demonitors g by process monitor answer s es = es ≡ unwatch_entry by process monitor answer ∷ []
 
@@ -63,7 +66,7 @@ pub record HasTold (by process : ℕ) (m : MailState) (put : ℕ) (es : List Ent
   pub put_is : put ≡ length (changes_of offset m.monitors)
   pub entries : es ≡ tell_entry by process offset ∷ []
 
--- `notify`, by a caller
+-- `notify`, by a caller with the mailbox: Tell; the answer is the number of messages put
 abbrev pub Notifies : Settings → ℕ → ℕ → Result ℕ OutOfMemory → State → List Entry → Type 0
 Notifies g by process (Ok put) s es = HasTold by process (s.mails process) put es
 Notifies g by process (Err e) s es = es ≡ []

@@ -15,12 +15,12 @@ use Rattle.ert_defs.specs.declared.settings.Settings.{Settings}
 use Rattle.ert_defs.specs.declared.timer.TimerRef.{TimerRef}
 use Rattle.ert_effects.specs.TimerCalls.{Reads, Cancels}
 
--- `ask`, by a caller, in an inbox
+-- `ask`, by a caller, in an inbox: that of the reference's wheel, or the first where there is no such wheel
 abbrev pub Asks : Settings → ℕ → ℕ → Request → Result (Unit {0}) NoMemory → State → List Entry → Type 0
 Asks g by w request (Ok _) s es = es ≡ ask_entry by w request ∷ []
 Asks g by w request (Err e) s es = es ≡ []
 
--- `pick`, by a scheduler
+-- `pick`, by a scheduler with its inbox: Pick; the answer is the request, or none
 abbrev pub Picks : Settings → ℕ → Option Request → State → List Entry → Type 0
 Picks g w got s es = es ≡ pick_entry w got ∷ []
 
@@ -35,7 +35,8 @@ pub record HasAnswered (g : Settings) (w : ℕ) (request : Request) (left : Opti
   pub done : DoesAsked request.kind g w request.timer left s steps
   pub entries : es ≡ steps ++ answer_entry w request.reply_to left ∷ []
 
--- `answer`, by a scheduler
+-- `answer`, by a scheduler with the mailbox: the entries of `cancel_timer` or `read_timer` for the request's
+-- timer, then Answer; the answer is what was left
 abbrev pub Answers : Settings → ℕ → Request → Result (Option ℕ) NoMemory → State → List Entry → Type 0
 Answers g w request (Ok left) s es = HasAnswered g w request left s es
 Answers g w request (Err e) s es = es ≡ []

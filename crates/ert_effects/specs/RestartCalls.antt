@@ -63,7 +63,11 @@ pub record HasRestarted (g : Settings) (by wheel : ℕ) (timer : TimerRef) (star
   pub full : IsFullFor g by wheel timer (natural (down g now)) answer s probes
   pub entries : es ≡ look_entry (Caller by) now ∷ (probes ++ end)
 
--- `restart`, with the new timer on a wheel (as `uv_timer_again` of libuv)
+-- `restart`, with the new timer on a wheel (as `uv_timer_again` of libuv): Look; where the start has a
+-- deadline by it and the reference is in range, any number of Probes, and Peek; where the timer is armed and
+-- there is a slot, Cancel, and where that hit Arm, Mark, and what follows from it as in `start`. The answer:
+-- the timer that was started; that the start has no deadline; that the timer was not armed; or that the wheel
+-- is full, and then the timer is armed as before
 abbrev pub Restarts : Settings → ℕ → ℕ → TimerRef → Start → Result TimerRef RestartErr → State → List Entry → Type 0
 Restarts g by wheel timer start (Err BadArg) s es = IsBadArg g by start es
 Restarts g by wheel timer start answer s es = HasRestarted g by wheel timer start answer s es

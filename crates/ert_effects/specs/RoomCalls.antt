@@ -42,7 +42,9 @@ ShowsRoom by wheel now s slot (suc n) before room es =
 abbrev pub room_with : ℕ → Room → Room
 room_with timers seen = if nat_lt timers 9007199254740992 then seen else no_room
 
--- a look, and then each slot was looked at
+-- `room`, by a caller with the wheel: a look, and then each slot was looked at in order. The answer: how many
+-- were found not taken and don't rest at that look, and the least time at which one that rests and isn't taken
+-- rests no longer. Where the wheel has had 2^53 timers, none and no time
 pub record TellsRoom (g : Settings) (by wheel : ℕ) (room : Room) (s : State) (es : List Entry) : Type 0 where
   pub now : ℤ
   pub probes : List Entry

@@ -25,7 +25,8 @@ AreSettledButLast [] = Unit {0}
 AreSettledButLast (p ∷ []) = Unit {0}
 AreSettledButLast (p ∷ (q ∷ probes)) = (p.found ≢ Some Armed) × AreSettledButLast (q ∷ probes)
 
--- `next_due`, of a scheduler: it probes slots of its wheel, 1,024 at most, until one is of a timer that is armed
+-- `next_due`, of a scheduler: it probes slots of its wheel, 1,024 at most, until one is of a timer that is
+-- armed; each but the last found its timer settled
 pub record ProbesForNext (g : Settings) (w : ℕ) (s : State) (es : List Entry) : Type 0 where
   pub probes : List Probed
   pub few : length probes ≤ 1024

@@ -46,11 +46,13 @@ pub record HasAdvancedSome (g : Settings) (w most : ℕ) (answer : ℕ × ℕ ×
   pub tried : AreTried answer.2 most (length tries)
   pub entries : es ≡ look_entry (Sched w) now ∷ (expiry_entries w tries ++ end_entries w answer.0 answer.2)
 
--- `advance_some`, of a scheduler's wheel; when out of memory it does no more than an advance does
+-- `advance_some`, of a scheduler's wheel: as `advance`, but so many Expires and Probes at most. Where it
+-- answers that more are due it makes just so many, and no Advanced, which there isn't either where rows of the
+-- wheel have to move first. When out of memory it does no more than an advance does
 abbrev pub AdvancesSome : Settings → ℕ → ℕ → Result (ℕ × ℕ × Left) NoMemory → State → List Entry → Type 0
 AdvancesSome g w most (Ok answer) s es = HasAdvancedSome g w most answer s es
 AdvancesSome g w most (Err e) s es = Advances g w (Err e) s es
 
--- `advance_some`, of a scheduler
+-- `advance_some`, of a scheduler, as a locked step with the wheel
 abbrev pub AdvancesWheelSome : Settings → Way → ℕ → ℕ → Result (ℕ × ℕ × Left) NoMemory → Growth
 AdvancesWheelSome g way w most answer = way (Wheel w ∷ []) (AdvancesSome g w most answer)

@@ -133,7 +133,11 @@ pub record HasProbed (by wheel : ℕ) (es : List Entry) : Type 0 where
   pub are_probes : AreProbes (Caller by) wheel probes
   pub entries : es ≡ look_entry (Caller by) now ∷ probes
 
--- `start`, of a timer of a wheel
+-- `start`, of a timer of a wheel, by a caller with the wheel. The timer is answered: Look, any number of
+-- Probes, Arm, Mark, and what follows from that (`IsStarted`). Refused for its time: Look, by which the start
+-- has no deadline. The wheel is full, for a start that has a deadline: Look, and a Probe of each slot of a
+-- round (`Round`), each taken or resting, or Look alone where the wheel has had 2^53 timers. Out of memory:
+-- nothing, or Look and some Probes
 abbrev pub Starts : Settings → ℕ → ℕ → Start → Result TimerRef StartErr → State → List Entry → Type 0
 Starts g by wheel start (Ok timer) s es = IsStarted g by wheel start timer s es
 Starts g by wheel start (Err BadArg) s es = IsBadArg g by start es

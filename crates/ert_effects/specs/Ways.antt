@@ -12,11 +12,14 @@ use Rattle.ert_defs.specs.declared.settings.Settings.{Settings}
 abbrev pub Step : Type 1
 Step = State → List Entry → Type 0
 
--- what piece may come after a history
+-- what piece may come after a history. A call of several locked steps is stated once, over a way, so that one
+-- text serves one thread and many
 abbrev pub Growth : Type 1
 Growth = List Entry → List Entry → Type 0
 
--- how a step comes about that is made with these parts held
+-- how a step comes about that is made with these parts held (a locked step): how its entries lie in the piece
+-- by which the history grows. In a service each takes a lock, and others may step before it and at the same
+-- time; in a world nobody does
 abbrev pub Way : Type 1
 Way = List Actor → Step → Growth
 

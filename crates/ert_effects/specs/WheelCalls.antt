@@ -80,7 +80,9 @@ pub record HasAdvanced (w : ℕ) (answer : ℕ × ℕ) (s : State) (es : List En
   pub once : AreOnce tries
   pub entries : es ≡ look_entry (Sched w) now ∷ (expiry_entries w tries ++ advanced_entry w answer.0 ∷ [])
 
--- `advance`, of a scheduler's wheel
+-- `advance`, of a scheduler's wheel: Look; for timers that are due by the milliseconds of the Advanced, each
+-- once at most, an Expire, or a Probe of its slot that found it settled; Advanced. The answer: the
+-- milliseconds of the Advanced and the number of Expires. Out of memory: nothing, or Look
 abbrev pub Advances : Settings → ℕ → Result (ℕ × ℕ) NoMemory → State → List Entry → Type 0
 Advances g w (Ok answer) s es = HasAdvanced w answer s es
 Advances g w (Err e) s es = (es ≡ []) ⊎ ((now : ℤ) × (es ≡ look_entry (Sched w) now ∷ []))
@@ -109,7 +111,8 @@ abbrev pub AllMaySweep : List Row → ℕ → List Try → Type 0
 AllMaySweep rows process [] = Unit {0}
 AllMaySweep rows process (t ∷ tries) = MaySweep rows process t.timer t.missed × AllMaySweep rows process tries
 
--- the steps of `sweep`, by a caller over a wheel: none of its timers for the process is tried twice
+-- the steps of `sweep`, by a caller over a wheel: for timers that go to the process by their rows, none of
+-- them twice, an Orphan, or a Probe that found the slot not armed
 pub record Sweeps (g : Settings) (by w process : ℕ) (s : State) (es : List Entry) : Type 0 where
   pub tries : List Try
   pub may : AllMaySweep (s.rows w) process tries
@@ -125,10 +128,11 @@ AreSwept status process (r ∷ rows) = (r.dest ≡ process → status r.timer �
 abbrev pub IsSwept : State → ℕ → ℕ → Type 0
 IsSwept s w process = AreSwept s.status process (s.rows w)
 
--- `is_process_alive`: it is seen whether the process had exited, and the answer is that it had not
+-- `is_process_alive`: Mark, which exits nobody: it is seen whether the process had exited, and the answer is
+-- that it had not
 abbrev pub TellsAlive : Settings → Actor → ℕ → Bool → State → List Entry → Type 0
 TellsAlive g by process answer s es = es ≡ mark_entry by process false (not answer) ∷ []
 
--- `mark_exit`: the process exits, and the answer is that it had not before
+-- `mark_exit`: Mark, which exits the process, and the answer is that it had not exited before
 abbrev pub MarksExit : Settings → Actor → ℕ → Bool → State → List Entry → Type 0
 MarksExit g by process answer s es = es ≡ mark_entry by process true (not answer) ∷ []

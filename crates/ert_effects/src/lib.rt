@@ -27,6 +27,20 @@
 //!
 //! It stands on `ert_defs`, and on `ert_clock` for what a tick answers. The answers that the parts of the
 //! service give are types of this crate.
+//!
+//! **Choices.**
+//!
+//! - **What each call may record is stated once**, as a relation by cases on the answer (`ert_effects`); no function,
+//!   since a start may take any free slot.
+//! - **A call of several locks is a chain of locked steps** over a way, so one text serves one thread and many.
+//! - **The number of a monitor in an answer is at most 4294967295**, so that a monitor and the refusal for want of
+//!   numbers exclude each other.
+//! - **A cancel without the exchange answers none.** The relation says so itself.
+//! - **A sweep cancels only timers whose row names the process that exits**, so an exit can't cancel another process's
+//!   timer.
+//! - **A sweep leaves no armed timer of its wheel for the process**, since the wheel is held.
+//! - **What a call leaves settled is a clause if the caller can say it, and otherwise a law** for all later histories,
+//!   with the call's clause as its premise.
 #![tactic(auto)]
 
 mod answers;

@@ -37,8 +37,8 @@ pub struct Explanation {
     pub cause: Cause,
     /// Where that stands in the bytes.
     pub position: Position,
-    /// How many bytes there are of the text of the value or the name that is wrong, from there on: of an array or an
-    /// object that which opens it; 0 where none is to be shown.
+    /// The length in bytes of the text there, which is the value or the name that is wrong: of an array or an object
+    /// its opening bracket or brace; 0 where none is to be shown.
     pub length: usize,
     /// The nearest known name, where a name is unknown and one is near.
     pub near: Option<Near>,

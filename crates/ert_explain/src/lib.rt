@@ -13,6 +13,13 @@
 //! scanner over its pieces (`scanner`, `locate`), of which no clause speaks: a value has no places. So the piece that it
 //! found is read by itself and compared with the value, and shown only if they are the same (`own_text`). The scanner
 //! also finds where a text stops being JSON.
+//!
+//! **Choices.**
+//!
+//! - **What a refusal shows of the input is read again and compared.** A value of JSON has no places, so no clause
+//!   could say that the scanner found the right bytes. Now they are read by themselves, and shown only if they are the
+//!   refused value; of an array or an object the bracket or brace is enough, since no more than its kind is shown. A
+//!   definition of JSON with places was the other way: it would pin the position too, and be a second grammar to read.
 #![tactic(auto)]
 
 mod cause;

@@ -81,7 +81,8 @@ pub record ReadsLast (i : Interval) (armed : Bool) (old new : Seen) : Type 0 whe
   pub armed_is : armed ≡ is_some left
   pub call : Goes old (By old (λ g. Reads g (Caller 0) i.last left)) new
 
--- an interval goes on: its last timer is read, and then what that says is done
+-- an interval goes on: its last timer is read; if that isn't armed and there is a next deadline, the
+-- destination is looked at; and if that lives, the next timer is started
 pub record GoesOn (answer : Result Bool NoMemory) (old : Seen) (i : Interval) (new : Seen) (j : Interval) : Type 0 where
   pub read : Seen
   pub armed : Bool

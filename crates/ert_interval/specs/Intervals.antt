@@ -90,7 +90,9 @@ IsGoing (Some Dropped) exited = Unit {0}
 abbrev pub CannotGoOn : State → Interval → Type 0
 CannotGoOn s i = (s.exited i.dest ≡ true) ⊎ (8796093022207 < i.deadline + i.period)
 
--- what is so of an interval in each state
+-- what is so of an interval in each state. Running: the last timer is armed, has expired, or was cancelled for
+-- the exit of its process. Waiting: the same, but not armed. Stopped: not armed. Ended: not armed, and the
+-- process has exited or the next deadline is above the greatest
 abbrev pub IsInState : State → Interval → IntervalState → Type 0
 IsInState s i Running = IsGoing (s.status i.last) (s.exited i.dest)
 IsInState s i Waiting = IsGoing (s.status i.last) (s.exited i.dest) × (s.status i.last ≢ Some Armed)
@@ -115,7 +117,8 @@ pub record IsIntervalOf (g : Settings) (h : List Entry) (i : Interval) : Type 0 
 abbrev pub HasNoRequests : State → Type 0
 HasNoRequests s = (w : ℕ) → (s.inboxes w ≡ []) × ((s.scheds w).hand ≡ None)
 
--- the intervals of a world that gave out no seat
+-- the intervals of a world that gave out no seat: its history is legal, no request waits, and each interval
+-- has its timers and is in its state
 pub record AreIntervalsKept (w : Seen) (is : List Interval) : Type 0 where
   pub lone : w.next ≡ 1
   pub legal : Legal w.settings w.history

@@ -24,7 +24,8 @@ HasStopped w e old is new js =
     (Goes old (λ way. Turns old.settings way w (Err e)) new × (js ≡ is))
     ⊎ (((turned : Turned) × TurnsTo w turned (Err e) old is new js) × PassesSome w new is js)
 
--- `turn`
+-- `turn`: the world's turn, and then one step of each interval of the wheel that is Running or Waiting. At the
+-- end it is Running with an armed timer, Waiting if the wheel is full, or Ended
 abbrev pub TurnsIntervals : ℕ → Result IntervalTurn NoMemory → Seen → List Interval → Seen → List Interval → Type 0
 TurnsIntervals w (Ok t) old is new js = TurnsTo w t.turned (Ok t.armed) old is new js × PassesAll w new is js t.armed
 TurnsIntervals w (Err e) old is new js = HasStopped w e old is new js

@@ -34,6 +34,22 @@
 //!
 //! **Cost.** A turn reads the last timer of each Running or Waiting interval of its wheel, in order of
 //! number, and passes over the others.
+//!
+//! Of two intervals that are due with one free slot the lower number gets it. After memory ran out, the intervals
+//! before have made their steps, and the one in hand has started nothing.
+//!
+//! An interval differs from `timer:send_interval` of the standard library in three ways: its deadlines are those that
+//! were asked for (one that has passed may count as the time of the turn), not the time at which a process comes round
+//! to it; a firing is a timer, with a reference that can be read; and a late turn sends one message of each interval,
+//! so a burst after a pause is spread over turns.
+//!
+//! **Choices.**
+//!
+//! - **A turn looks at the last timer of each open interval of its wheel**, in order of number, since the world does
+//!   not tell which timers expired.
+//! - **That intervals are kept (`AreIntervalsKept`) is a condition and a promise of each call**, so that who reads the
+//!   contracts sees what is kept.
+//! - **What the intervals of a turn do is a chain of their own calls**: a body that starts a stray timer is refused.
 #![tactic(auto)]
 
 mod going;

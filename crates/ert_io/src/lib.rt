@@ -13,6 +13,22 @@
 //! and `MemSource`, `MemSink` and `MemClock` over memory, with failures that a test chooses. `SureSource`
 //! and `SureSink` never fail; `SureSink` alone tells its room. `read_all` reads to the end of a source within
 //! a limit, and `write_all` writes all of some bytes: each tells exactly what was moved.
+//!
+//! `StdSource`, `StdSink` and `HostClock` have the same clauses over the machine, by their logs, whose functions do
+//! nothing at run time; they are proved by hand, step by step. What the machine answers is trusted.
+//!
+//! **Choices.**
+//!
+//! - **Streams tell what they have moved, and what is to come only where it is known.** A source of the machine can't
+//!   tell what it has left, but what its reads gave it can, by a log that takes no memory (`Log`): so the clauses of
+//!   the programs hold of the process's own streams, and no argument about generic code is needed. What a sink took is
+//!   told by every sink, and is no option any more.
+//! - **Room is told as a number beside the bytes that a sink took** (`SinkTold`), and a call has the condition that all
+//!   that it may write fits.
+//! - **The constructors of sources take no allocator** if they are handed their vectors.
+//! - **An interrupted read or write counts as a failure** at the adapters over the standard streams.
+//! - **A host clock whose first monotonic reading failed fails at every reading.** A time before 1970 is a failure.
+//! - **After a failed read at most the limit was taken**, so a body that reads on past a fault is refused.
 #![tactic(auto)]
 
 mod calls;

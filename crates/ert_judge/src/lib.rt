@@ -11,6 +11,14 @@
 //! `specs/`, in the words of the model; `laws` says that a reason that holds excludes the entry, and `texts` writes
 //! it for a person.
 //! It stands on `ert_defs` and `ert_state`.
+//!
+//! **Choices.**
+//!
+//! - **The auditor shares one piece of code with the service: the clock's rules on plain numbers** (`ert_clock::Face`).
+//!   Two copies were proved against the same definitions, so the second protected nothing.
+//! - **Of several broken conditions the first is told, in one order**, and each reason has in its definition that none
+//!   before it holds. A rank beside the reasons would have needed a proof over all of them for each. Of the armed
+//!   timers the first by deadline and arming is told, since it is the one that comes next.
 #![tactic(auto)]
 
 mod clocks;

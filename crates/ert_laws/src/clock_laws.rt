@@ -23,8 +23,8 @@ pub fn clock_is_permitted()
     ensures { LawOfPermission }
 {}
 
-/// In a legal history the time is never before the start time and never comes to the end time, and its
-/// sum with the offset, as it is or comes to be, fits 64 bits.
+/// In a legal history the time is never before the start time and never comes to the end time (`erlang` module
+/// reference, `system_info(end_time)`), and its sum with the offset, as it is or comes to be, fits 64 bits.
 pub fn times_stay_in_range()
     ensures start { LawOfStart }
     ensures end { LawOfEnd }

@@ -5,6 +5,17 @@
 //! It stands on `ert_defs` alone. Its functions do nothing: each has laws as its contract, so that they are
 //! proved wherever this crate is. They stand apart from the model so that a change of a law proves nothing anew
 //! but the law and what cites it; what the proofs of the service rest on stands in `ert_defs`.
+//!
+//! **Choices.**
+//!
+//! - **Most laws are apart from the model** (`ert_laws`), so that a change of a law proves none of the service anew.
+//! - **A life is read off the entries**, and a message has its timer beside it, since that of a bare timer does not
+//!   name it.
+//! - **The counts of timers by status are among the laws**, below the services and the transcript, since both cite
+//!   them.
+//! - **What is so of every legal history is one record** (`KeepsLaws`), which needs only that the settings were
+//!   checked. It is a law of `ert_laws`; `into_desk`, `Service::close` and the program promise it, so that their reader
+//!   need not go from `Legal` to the laws by himself.
 #![tactic(auto)]
 
 mod all_laws;

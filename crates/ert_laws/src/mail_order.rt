@@ -7,8 +7,9 @@ pub fn mailboxes_keep_order()
     ensures { LawOfMailboxes }
 {}
 
-/// A scheduler hands its timers over in order of expiry. So the messages of its timers stand in each mailbox,
-/// and are taken, in that order: those of its delivered timers for that process, each once, and no others.
+/// A scheduler hands its timers over in order of expiry (`erlang` module reference, `start_timer` and `send_after`).
+/// So the messages of its timers stand in each mailbox, and are taken, in that order: those of its delivered timers for
+/// that process, each once, and no others.
 pub fn timer_messages_come_in_order()
     ensures turns { LawOfExpiryOrder }
     ensures order { LawOfOrder }

@@ -17,6 +17,11 @@
 //!
 //! It stands on `ert_defs`, `ert_clock`, `ert_effects`, `ert_table`, `ert_calls`, on the parts' crates and on
 //! `ert_world` for a scheduler's part.
+//!
+//! **Choices.**
+//!
+//! - **A call of a service borrows its seat**: it takes the pass out, joins it to the locked one, steps, and splits it
+//!   off again.
 #![tactic(auto)]
 
 mod allowed;

@@ -15,7 +15,7 @@ pub record Waiting : Type 0 where
   pub wheel : ℕ
   pub requests : List Request
 
--- an inbox stands for a history
+-- an inbox stands for a history: its scheduler is in range, and its requests are those that wait for it
 pub record InboxStands (g : Settings) (h : List Entry) (q : Waiting) : Type 0 where
   pub in_range : q.wheel < g.schedulers
   pub requests : q.requests ≡ (state g h).inboxes q.wheel

@@ -37,7 +37,8 @@ mailbox_seen process queue monitors next delivered room = record {
   room = room;
 }
 
--- a mailbox stands for a history
+-- a mailbox stands for a history: its process is in range; its messages, its monitors, the offsets that these were
+-- told and the next number are those of its process; and it has counted the Deliver entries of its process
 pub record MailboxStands (g : Settings) (h : List Entry) (m : Mailbox) : Type 0 where
   pub in_range : m.process < g.processes
   pub held : m.held ≡ (state g h).mails m.process

@@ -34,6 +34,18 @@
 //! need. Messages and requests stand in rings: to put or to take one moves no other.
 //!
 //! It stands on `ert_defs`, `ert_laws`, `ert_effects`, `ert_table` and `ert_calls`.
+//!
+//! **Choices.**
+//!
+//! - **A mailbox is seen with the room that it has**, and a refusal changes nothing else; out of memory comes only if
+//!   there was no room.
+//! - **A mailbox gives memory back when the program asks** (`shrink`), and not by itself when messages are taken: the
+//!   next burst would take it again, and might find none. `shrink` moves the messages within their block, and lets the
+//!   allocator make that smaller; if it can't, the call says so (`NoMemory`), so that after OK nothing is left over,
+//!   and a body that does nothing is refused.
+//! - **The part of a process tells what its scheduler has** after `deliver`, `answer` and `pick`.
+//! - **An answer takes its room also if none is wanted**, so the call has one way through.
+//! - **The count of delivered messages is proved to fit 64 bits.**
 #![tactic(auto)]
 
 mod handing;

@@ -52,7 +52,8 @@ GoesAloneOnClock old call new =
 abbrev pub SeesAlive : Registered → ℕ → Bool → Registered → Type 0
 SeesAlive old process alive new = GoesAlone old (By old.world (λ g. TellsAlive g (Caller 0) process alive)) new
 
--- a text that may be a name: 1 to 255 bytes, and not `undefined`
+-- a text that may be a name (`erlang` module reference, `register`; that bytes are counted, and not
+-- characters, is the profile's): 1 to 255 bytes, and not `undefined`
 pub record IsValidName (name : List ℕ) : Type 0 where
   pub some : 1 ≤ length name
   pub few : length name ≤ 255
@@ -79,7 +80,9 @@ abbrev pub IsBadName : Registered → List ℕ → ℕ → Registered → Type 0
 IsBadName old name process new =
     ((AreFree old.names name process → ⊥) × (new ≡ old)) ⊎ (AreFree old.names name process × SeesAlive old process false new)
 
--- `register`: out of memory comes only where the name could have been given
+-- `register` (`erlang` module reference, `register`). Ok: the process was seen to live, and the name is in the
+-- map. BadArg: name and process may not be put together and nothing changed, or the process was seen to have
+-- exited. Out of memory comes only where the name could have been given
 abbrev pub Registers : Registered → List ℕ → ℕ → Result (Unit {0}) NameErr → Registered → Type 0
 Registers old name process (Ok _) new = HasRegistered old name process new
 Registers old name process (Err BadArg) new = IsBadName old name process new
@@ -112,7 +115,8 @@ pub record HasStartedForName (old : Registered) (row : RowSeen) (call : Way → 
   pub rows : new.rows ≡ old.rows ++ row ∷ []
   pub mail : new.mail ≡ old.mail
 
--- `start_named`: a refusal leaves no row, and running out of memory changes nothing
+-- `start_named` (profile): the world starts a wrapped timer for process 0 whose message is the place of the
+-- new row, the last. A refusal leaves no row, and running out of memory changes nothing
 abbrev pub StartsNamed : Registered → ℕ → When → RowSeen → Result TimerRef StartErr → Registered → Type 0
 StartsNamed old wheel when row (Ok timer) new = HasStartedForName old row (StartsAt old wheel when (Ok timer)) new
 StartsNamed old wheel when row (Err starts.NoMemory) new = new ≡ old
@@ -184,7 +188,9 @@ pub record HasTurnedInPart (old : Registered) (sched : ℕ) (new : Registered) :
   pub hands : HandsMessagesOver old messages
       (λ way. Then (Turns old.world.settings way sched (Ok turned)) (TakesMany old.world.settings messages way)) new
 
--- `turn`
+-- `turn` (`erlang` module reference, `start_timer`: a registered name is looked up when the message is sent):
+-- the world's turn; then one take of the registrar after the other, each message posted by the map as it is,
+-- until the mailbox is empty
 abbrev pub TurnsNamed : Registered → ℕ → Result NamedTurn OutOfMemory → Registered → Type 0
 TurnsNamed old sched (Ok t) new = HasTurnedAndHanded old sched t new
 TurnsNamed old sched (Err e) new =

@@ -31,7 +31,8 @@ SparesNamed g f (Orphan timer) = (row : Row) × (row_of ((state g f).rows timer.
 SparesNamed g f (Drop timer) = (first : IsFirst ((state g f).scheds timer.wheel).expired timer) × (first.row.dest ≢ 0)
 SparesNamed g f _ = Unit {0}
 
--- a world that gave out no seat, in which so many timers were started for a name
+-- a world that gave out no seat, in which so many timers were started for a name: the registrar lives, its
+-- rows and messages are those of named timers, and no Orphan and no Drop is of a timer for it
 pub record IsPromised (n : ℕ) (w : Seen) : Type 0 where
   -- legal, and it keeps the laws: so each timer's message is put once at most, and what was put into a mailbox is, in
   -- order, what was taken from it and then what stands in it

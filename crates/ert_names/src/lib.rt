@@ -16,6 +16,19 @@
 //! are, in std's ordered maps; a name stands in memory twice. A row stays for the life of the world: some 40 bytes
 //! and the bytes of its name, for each start. A turn looks at the messages of the registrar alone. To take
 //! named mail goes over what waits for all processes.
+//!
+//! So a named timer's message is handed over once at most: each life has one message at most, what was put into the
+//! registrar's mailbox was taken once or stands there, and each message that was taken is posted once or lost.
+//!
+//! **Choices.**
+//!
+//! - **Messages for names go to process 0, the registrar**, as wrapped timers whose message is the place of a row,
+//!   which stays for the life of the world.
+//! - **The names of processes are in two ordered maps**, by name and by process, since an exit takes the name of a
+//!   process.
+//! - **Named mail is one list with its processes**, so that room can be made before a message is taken; taking goes
+//!   over all that waits.
+//! - **`register` and `take_named` record a look at the process**: whether it has exited is a fact of the history.
 #![tactic(auto)]
 
 mod named;

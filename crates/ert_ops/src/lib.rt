@@ -7,6 +7,11 @@
 //!
 //! An op of conversion names two units of time (`erlang` module reference, `convert_time_unit`): `convert` gives the
 //! exact floor of the converted time, and an answer of its own exactly where that doesn't fit 64 bits.
+//!
+//! **Choices.**
+//!
+//! - **A conversion is the floor of the quotient** of a product of 127 bits. Native is the nanosecond.
+//! - **`Op` is in a crate of its own, `ert_ops`**, since the reader and the transcript speak of the same ops.
 #![tactic(auto)]
 
 mod conversion;

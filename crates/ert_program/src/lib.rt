@@ -18,6 +18,28 @@
 //! keeps (`generated_scenarios_are_valid`).
 //!
 //! The crate `ert_cli` hands it the command line and the standard streams of the machine.
+//!
+//! **Choices.**
+//!
+//! - **The program returns its desk instead of its words**, since closing a desk takes memory.
+//! - **`run` says that its text is a transcript, and not which.** The plain service as a function stood in the
+//!   contract, 280 lines of definitions that nobody had to believe, since every script run has that text by law. Now
+//!   the contract names a script run, as that of `race` names an outcome, and the law stands in `ert_plain`, beside
+//!   everything. After a failed write the text is the first part of a transcript or of the lines of some first ops:
+//!   that those ops have a transcript at all isn't claimed there.
+//! - **The program's contract has one record a command.**
+//! - **`live` writes its lines at the end**, all at once; they are below 64 KiB.
+//! - **`clap` is told no help flag and no help subcommand**; `command_of` takes an allocator, since `clap` allocates.
+//! - **A command line with a word that is not UTF-8** is read as one without words.
+//! - **What `ertime` does is a library, `ert_program`**, and `ert_cli` a `main` over it, so that its tests need not
+//!   prove it twice.
+//! - **Why input was refused is told on standard error**, by reading the input once more; standard output and statuses
+//!   are for scripts.
+//! - **The explanation of a refusal isn't part of `ertime`.** It returns the bytes with their refusal, and `main` hands
+//!   them to `explain`. So a reader of what `run` writes needs no definition of a message, and the message has a
+//!   contract of its own.
+//! - **The desk has clauses of its own**, beside those of the text: the same plan, history and text, told once more of
+//!   what is returned. Who reads the text alone reads no pass.
 #![tactic(auto)]
 
 mod command;

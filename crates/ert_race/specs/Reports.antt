@@ -42,6 +42,8 @@ lists_text labels k (d ∷ dids) = heading k ⋅ lines_by labels d.replies ⋅ l
 abbrev pub behind : Labels → List Did → Counts → ℤ → List ℕ
 behind labels dids counts now = lists_text (all_labels labels dids) 0 dids ⋅ settled_line counts ⋅ end_line now
 
--- the report
+-- the report: the lines of the ops; `keeper` and the lines of the clock's list; `caller K` and the lines of
+-- each caller's list; the counts of all timers by status, and the time. Messages are printed with the labels
+-- of all lists
 abbrev pub report : List Op → List Reply → Labels → List Did → Counts → ℤ → List ℕ
 report ops replies labels dids counts now = lines_of [] ops replies ⋅ behind labels dids counts now

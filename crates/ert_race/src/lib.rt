@@ -19,6 +19,15 @@
 //! workers share, and its own, for which it keeps another. It knows none of another list.
 //!
 //! It stands on `ert_service` and `ert_locks` for the threads, and on `ert_script` for the ops and the text.
+//!
+//! **Choices.**
+//!
+//! - **The outcome of a race is stated on positions** (`MakesInStretch`), since a call without entries has a place too.
+//! - **A list of ops of a race keeps an index of its own labels** beside the shared one, so nothing is copied.
+//! - **The turns of a scheduler in a race print nothing**, so no vector of their answers is kept.
+//! - **The workers of callers and of schedulers are two `map_vec`**, each over seats of one type.
+//! - **A race's report is gathered whole before it is written**: the replies are held until all threads have returned
+//!   anyway.
 #![tactic(auto)]
 
 mod contested;

@@ -23,6 +23,34 @@
 //!
 //! All bytes have one answer, and `read_scenario` gives it, unless memory runs out. A fault is told with
 //! the least place that has it. `migrate` makes a value of format 1 one of format 2 that is the same scenario.
+//!
+//! **Choices.**
+//!
+//! - **A refusal names the least place**: not JSON, then a shape fault, a range fault, a limit, so the answer depends
+//!   on the bytes alone.
+//! - **A place is a 32-bit number**; a count that would not fit is answered by out of memory.
+//! - **`-0` and numbers beyond 64 bits are no integers**, since the JSON reader gives floats for them.
+//! - **A value that a later equal key overrides is not checked**, but has to be JSON.
+//! - **A count, label, process, scheduler or monitor that does not fit 32 bits is a range fault**; an integer that does
+//!   not fit 64 bits a shape fault.
+//! - **Fields that would refuse settings are range faults at place 0**, whichever came first.
+//! - **The labels that starts have taken are a flag for each of the 1,000,000 labels**, so an op is tested in constant
+//!   time.
+//! - **A scenario of format 1 is read by the rows of format 1** and not migrated first; a law says that its migrated
+//!   value is the same scenario.
+//! - **`migrate` leaves as it is a value that is no object**, and each field that should be a list and is not.
+//! - **What a scenario's bytes mean is said by `serde_json`**, and the quick way reads them by `json`, over whose
+//!   grammar that meaning is defined.
+//! - **The fields of a race are in one object**, and who calls `read_scenario` says whether it wants a race.
+//! - **The settings of a scenario are tested for one caller**, so too many lists are a limit.
+//! - **The walk over the ops of all lists keeps one list of ops**; the lists of the race are cut out of it at the end.
+//! - **What may stand in which list is a choice of groups of rows** (`Doer`, `groups_of`): a `tick` in a caller's list
+//!   is unknown there.
+//! - **Two ways of reading a scenario.** Reading by way of a JSON value is slow, but its grammar is what the statement
+//!   on bytes rests on. The quick way reads tokens by the crate `json`; its contract is only what it gives, so it may
+//!   give up anywhere; the way over the value of `serde_json` has the whole contract. Both use the same functions for
+//!   an op's arguments, the fields, ranges and labels. The price: An op is added in one place, but what is unusual
+//!   costs a second reading.
 #![tactic(auto)]
 
 mod cutting;

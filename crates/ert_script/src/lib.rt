@@ -16,6 +16,14 @@
 //!
 //! Where memory runs out, a world has done some first ops, and of the next what it makes before it takes memory
 //! (`specs/Doing`, `BreaksOff`): for most ops nothing.
+//!
+//! **Choices.**
+//!
+//! - **Labels are the scripts' own.** A world and a service do not bind them.
+//! - **After a failed write the first part of some first ops' lines is written**, or of the transcript.
+//! - **Labels are found by two ordered maps**; the first label that was bound to a timer is printed.
+//! - **One dispatcher does the ops of scripts and of races**, over a trait of the calls that a caller makes (`Doer`).
+//! - **The line of the counts is written in `ert_script`**, since the crate of the lines lies below the world.
 #![tactic(auto)]
 
 mod clock_line;

@@ -15,6 +15,18 @@
 //! go and tries again. Nothing is claimed of progress: a call may wait for a lock for ever.
 //!
 //! It stands on `ert_locks` and `ert_world`, on the parts' crates, `ert_calls`, `ert_table` and `ert_effects`.
+//!
+//! Nothing is claimed of progress, of fairness, or of order between threads that never met: a call may wait for a lock
+//! for ever.
+//!
+//! **Choices.**
+//!
+//! - **A service is opened from the parts of a world**, because a world's value does not tell which desk it has.
+//! - **The calls of a service are methods of one struct** (`Session`: the service, what waits for its locks, the seat),
+//!   those without a lock too, so no program handles a pass. It has its seat by value, since a contract over a borrowed
+//!   seat has to say for each call that the borrow is still the same. A scripted caller is a struct around it
+//!   (`SessionDoer`), since an impl of another crate's trait has to name a type of its own crate.
+//! - **The memory for closing a service is taken when it is opened**; the parts are put in order by their numbers.
 #![tactic(auto)]
 
 mod clock_calls;

@@ -1,4 +1,5 @@
--- What a shard's scheduler has, its turns, and the exit of one of its processes.
+-- What a shard's scheduler has, its turns, and the exit of one of its processes: of one wheel, and with requests that
+-- may be for another shard's process. The laws of `ert_effects` on exits and turns don't speak of these relations.
 
 use Rattle.std.specs.Option.{is_some}
 use Rattle.std.specs.Prelude.{◌≡◌, ◌≢◌, ℕ, ◌+◌, ◌≤◌, ◌⊎◌, Bool, true, false, ◌||◌, List, [], count_by, Result, Ok, Err}

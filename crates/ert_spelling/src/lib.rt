@@ -4,6 +4,11 @@
 //! at which line other bytes are misspelled, by the words of each part (`specs/Parts`, `specs/Entries`).
 //! The code reads each line from the left, a function for each part, and takes no memory but for the list
 //! of entries. `docs/FORMATS.md` tells the spelling in words.
+//!
+//! **Choices.**
+//!
+//! - **A written history is read word by word where it stands**, so memory is needed for the entries alone.
+//! - **Settings that no service can be opened with are misspelled at line 1.**
 #![tactic(auto)]
 
 mod actors;

@@ -10,6 +10,11 @@
 //! deadline and then of arming. So an entry takes time that grows with the logarithm of what stands, but for
 //! the at most 64 monitors of a process. It stands on `ert_defs`, on the clock of `ert_clock` and on
 //! the monitors of `ert_defs`.
+//!
+//! **Choices.**
+//!
+//! - **The auditor keeps timers in order of arming, and an ordered set of the armed ones**; ordered maps, since a text
+//!   could be written to slow down a hash map with a fixed seed.
 #![tactic(auto)]
 
 mod clock;

@@ -67,7 +67,7 @@ pub extern "C" fn ert_judge(
     tell(&answer, output, errors, told)
 }
 
-/// Tells C an answer.
+/// Returns an answer, with its texts.
 fn tell(answer: &Answer, output: &mut [u8], errors: &mut [u8], told: &mut ErtTold) -> u32
     ensures status { result ≡ text_code answer.now.status }
     ensures texts { TellsBoth answer.now.output.items answer.now.errors.items told.new output.old output.new errors.old errors.new }

@@ -4,6 +4,9 @@
 //! two texts of the answer are, and copies what fits of them into the buffers of the caller. An export takes slices and
 //! references alone: no handle, no pointer that is followed, nothing that lasts from one call to the next. So no proof
 //! here is about memory, and each contract says of the very bytes what `specs/Texts` names.
+//!
+//! No exported function asks anything of its caller (there is no `requires`), and none follows a pointer but those of
+//! the slices that it is passed.
 #![tactic(auto)]
 
 mod copying;

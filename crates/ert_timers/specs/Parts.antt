@@ -150,7 +150,11 @@ pub record HoldsRows (s : State) (w : ℕ) (slots : List Slot) (keys : List (Opt
 abbrev pub HaveRested : State → Part → ℕ → Type 0
 HaveRested s p now = (k : ℕ) → set.contains p.free k ≡ true → (turned (uses_at s p.number k)).since ≤ now
 
--- a part fits a state
+-- a part fits a state. Each row that is held is of the last timer of its slot, with its deadline and its place among
+-- the timers of the wheel; it may have been cancelled meanwhile, but hasn't expired. Each armed timer of the wheel
+-- is held. The last generation of each slot and what is above its deadlines are those of the state. Each slot that is
+-- held free is not taken, and doesn't rest at the time of the state. The order is known to proofs alone: what stands
+-- in memory is the order of the buckets' chains
 pub record FitsState (g : Settings) (s : State) (p : Part) : Type 0 where
   pub number : p.number < g.schedulers
   pub processes : p.processes ≡ g.processes
@@ -169,7 +173,9 @@ pub record IsCounted (h : List Entry) (p : Part) : Type 0 where
   pub expires : p.expires ≡ entries_of is_expire p.number h
   pub orphans : p.orphans ≡ entries_of is_orphan p.number h
 
--- a part stands for a history
+-- a part stands for a history: it fits the state after it, and has counted its entries. It depends on the
+-- entries with this wheel, and else on what no entry takes back: so it stands for each longer legal history with
+-- no more entries of the wheel (`parts_stand_on`)
 pub record PartStands (g : Settings) (h : List Entry) (p : Part) : Type 0 where
   pub checked : IsChecked g
   pub legal : Legal g h

@@ -39,6 +39,8 @@ impl WheelPart {
         ensures stands { PartStands (settings_of desk.now) (front_of pass.new) self.new }
         ensures call { IsAdvancedSome (settings_of desk.now) (view_of pass.old) self.old self.new most result expired.old expired.new (view_of pass.new) }
         ensures left { IfOk result (λ answer. IsLeft self.new answer.0 answer.1) }
+        // So a body that returns that more are due is refused where it tries fewer timers, and where it tries timers
+        // that were settled long ago and leaves their rows.
         ensures fewer { IfOk result (λ answer. LosesSome answer.1 most self.old self.new) }
         ensures loses { LosesRows self.old self.new }
     {

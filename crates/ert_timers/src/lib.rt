@@ -76,6 +76,23 @@
 //! `forget` of the cancelled timer mends it. With a pass that holds every actor `drop_settled` makes any part tidy.
 //!
 //! It stands on `ert_defs`, `ert_effects`, `ert_words`, `ert_wheel`, `ert_table` and `ert_calls`.
+//!
+//! **Choices.**
+//!
+//! - **An advance collects what is due, where an advance with a bound takes one after the other.** With the second way
+//!   for both, an advance would need no list of due rows, but it would have to take memory for as many expired timers
+//!   as the wheel holds, or break off in the midst of the due ones.
+//! - **A part that stands is said to stand on by one law**, for each longer history with no more entries of its actor.
+//! - **A timer's order in the wheel is its place among the wheel's timers**, so the next order is the count of armed
+//!   timers.
+//! - **The timers of a process are in a chain of their own**, so that an exit costs in proportion to them. The slot of
+//!   an expired timer stays in it until it is used again or the chain is swept, since taking it out at once was a cache
+//!   miss.
+//! - **A held timer that is not armed was cancelled** (`HoldsRows`, `live`), so its slot is free at once. A world frees
+//!   the slot of an expired timer when it has delivered its message (`reuse`); a service would need the wheel's lock
+//!   for that, so there a start finds it.
+//! - **A resting slot is not held free**, and nothing wakes it: a start that knows of no free slot finds it.
+//! - **The due rows of an advance are in a vector that the part keeps**, with room for a row of each slot.
 #![tactic(auto)]
 
 mod advancing;

@@ -33,7 +33,7 @@ pub struct Use {
 pub struct WheelPart {
     /// The number of the scheduler and of its wheel.
     number: u32,
-    /// From which slot on a start looks that knows of none that is free.
+    /// Where the next search for a free slot begins.
     next_look: u32,
     /// The timers that are held as armed, and for each process the chain of the slots whose timers go to it. A slot
     /// without such a timer stays in its chain until it is used for another process, or until the chain is swept.
@@ -161,7 +161,7 @@ impl WheelPart {
         self.wheel.slots()
     }
 
-    /// From which slot on a start looks that knows of none that is free; one past the last means the first.
+    /// Where the next search for a free slot begins; one past the last slot means the first.
     pub(crate) fn next_look(&self) -> u32
         ensures { result ≤ length self.now.slots }
     {

@@ -49,6 +49,7 @@ impl WheelPart {
         ensures armed { (g : Settings) (h : List Entry) → PartStands g h self.new → NoneArmedBefore (state g h) self.new.number result }
         ensures nearest { (g : Settings) (h : List Entry) → PartStands g h self.new → IsTidy (state g h) self.new
             → IsNearest (state g h) self.new.number self.new.passed result }
+        // So a body that drops no row, or gives up after fewer, is refused.
         ensures found { IsFoundNext (state_of desk.now pass.new) self.old self.new result }
         ensures loses { LosesRows self.old self.new }
         ensures time { self.new.passed ≡ self.old.passed }

@@ -63,7 +63,11 @@ Converts time from to reply m = ⊥
 abbrev pub AsksFor : Settings → Way → ℕ → Request → List Entry → List Entry → Type 0
 AsksFor g way n request h m = way (Inbox (inbox_for g request) ∷ []) (Asks g n (inbox_for g request) request (Ok tt)) h m
 
--- what an op allows with its reply: the piece that comes after a history, with these labels
+-- what an op allows with its reply: the piece that comes after a history, with these labels. `tick` and
+-- `check` are ticks; `start` and `send_after` start a wrapped and a bare timer; `cancel_async` and
+-- `read_async` put a request, for the reference that the label stands for, into the inbox of its wheel, and
+-- into the first if there is no such wheel; `cancel_quiet` is a cancel whose answer isn't printed; `info`
+-- reads the offset and prints the settings; `convert` makes no entry. Out of memory is no reply
 abbrev pub Calls : Settings → Way → ℕ → Labels → Op → Reply → List Entry → List Entry → Type 0
 Calls g way n ls (ops.Tick mono sys) (Tick now shift) h m =
     way (Keeper ∷ []) (Ticks g n (reading_of mono sys) false (Ok (record { now = now; shift = shift }))) h m

@@ -8,7 +8,8 @@ use Rattle.ert_defs.specs.declared.timer.TimerRef.{TimerRef}
 abbrev pub Labels : Type 0
 Labels = List (ℕ × TimerRef)
 
--- the reference that a label stands for: where it isn't bound, one that never named a timer
+-- the reference that a label stands for: where it isn't bound, that of wheel 0, the label as slot, and
+-- generation 0, which never named a timer
 abbrev pub ref_of : Labels → ℕ → TimerRef
 ref_of [] l = timer_at 0 l 0
 ref_of (p ∷ ps) l = cond (nat_eq p.0 l) p.1 (ref_of ps l)

@@ -36,6 +36,18 @@
 //! number, so the answers of all passes are different (`plain_numbers_differ`), in no order between passes.
 //!
 //! It stands on `ert_defs`, for `NoMemory`, and the kit's `atomic_table`.
+//!
+//! **Choices.**
+//!
+//! - **Unique integers have a table of their own**, since no rule of the clock or the timers speaks of them.
+//! - **A pass of unique integers counts its draws at run time**, so that Spent needs no look at the word.
+//! - **A draw that would be spent makes no step**, and a plain answer none either.
+//! - **The lists of draws are compared by counting**: each number from 1 to `n` stands in them once.
+//! - **`meet` is a note, not a step**: the right to draw stays where it was.
+//! - **That plain numbers differ is a law on any passes with different numbers.**
+//! - **Opening unique integers takes an allocator**, and closing none.
+//! - **A timestamp of a negative system time is none**, since the reference's type has three non-negative numbers.
+//! - **A monotonic number is at most 2^40 times the number of passes**, so it never wraps.
 #![tactic(auto)]
 
 mod laws;

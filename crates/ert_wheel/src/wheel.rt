@@ -36,8 +36,8 @@ mod replacing;
 pub struct Wheel<T: Keyed> {
     // The next time: the first that wasn't passed.
     next_time: u64,
-    // No row has an earlier deadline. It is the next time, or later where it was told as when the next row is due, unless a
-    // row was put in late.
+    // A lower bound of all deadlines: the next time, or the last answer of `next_due` where that is later and no row was
+    // put in late since.
     floor: u64,
     // The slot whose row told the floor; any other where none did. Whoever reads it looks whether it does.
     teller: u32,

@@ -60,7 +60,8 @@ CannotTurnSome g way w most e h m =
     ⊎ ((served : ℕ) × (advanced : ℕ × ℕ × Left)
     × Then (ServesAll g way w (Ok served)) (Then (AdvancesWheelSome g way w most (Ok advanced)) (DeliversSome g way w most (Err e))) h m)
 
--- `turn_some`: what it did, and whether there are more
+-- `turn_some`: as `turn`, with `advance_some` for `advance`, and `deliver` of so many expired timers at most;
+-- what it did, and whether there are more
 abbrev pub TurnsSome : Settings → Way → ℕ → ℕ → Result (Turned × Bool) NoMemory → Growth
 TurnsSome g way w most (Ok answer) h m = HasTurnedSome g way w most answer.0 answer.1 h m
 TurnsSome g way w most (Err e) h m = CannotTurnSome g way w most e h m

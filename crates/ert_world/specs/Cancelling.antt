@@ -52,7 +52,8 @@ abbrev pub numbered : ℕ → List ℕ → List (ℕ × ℕ)
 numbered w [] = []
 numbered w (n ∷ ns) = (w, n) ∷ numbered (suc w) ns
 
--- `cancel_all`: so many timers of a process are cancelled, of each wheel some
+-- `cancel_all`: wheel by wheel, by number, timers that have a row for the process are cancelled, none of them
+-- twice; after those of a wheel none of it for the process is armed. The answer is how many of the cancels hit
 pub record CancelsAll (g : Settings) (way : Way) (process count : ℕ) (h m : List Entry) : Type 0 where
   pub counts : List ℕ
   pub wheels : length counts ≡ g.schedulers

@@ -31,7 +31,8 @@ pub record FindsMail (old : Seen) (answer : Option ℕ) (new : Seen) : Type 0 wh
 abbrev pub TakesMails : Settings → Way → ℕ → List Mail → Growth
 TakesMails g way process mails h m = Many (λ mail. way [] (Takes g 0 process (Took mail))) mails h m
 
--- `take_some`: so many messages are taken, or fewer, and then the mailbox was empty or the process had exited
+-- `take_some`: so many messages are taken, or fewer, and then the mailbox was empty or the process had exited:
+-- one more `take` finds that
 abbrev pub TakesSome : Settings → Way → ℕ → ℕ → List Mail → TakeEnd → Growth
 TakesSome g way process most mails Most h m = (length mails ≡ most) × TakesMails g way process mails h m
 TakesSome g way process most mails FoundEmpty h m =

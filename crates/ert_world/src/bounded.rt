@@ -77,6 +77,8 @@ impl World {
         ensures call { Goes self.old (λ way. TurnsSome self.old.settings way sched most result) self.new }
         ensures left { IfOk result (λ answer. IsMoreAt self.new sched answer.0.to answer.1) }
         ensures done { IfOk result (λ answer. answer.1 ≡ true → HasDoneMost self.old self.new sched most answer.0) }
+        // No row comes in a turn. So turns with a bound of 1 or more get on, but for those that only move rows, which
+        // no clause counts.
         ensures stays { Stays self.old self.new }
     {
         let served = serve_all(self, sched)?;

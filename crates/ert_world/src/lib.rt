@@ -78,6 +78,42 @@
 //!
 //! It stands on `ert_defs`, `ert_clock`, `ert_effects`, `ert_table`, `ert_calls`, `ert_timers`
 //! and `ert_mail`, and its proofs on the laws of `ert_laws`.
+//!
+//! **Choices.**
+//!
+//! - **A world's calls are made by caller 0**, so that each op has the same entries whatever the number of callers.
+//! - **A wheel that no seat shares holds armed timers alone**, and that is part of what a world is: no call says it.
+//!   Who puts parts together looks once at each timer that is held (`World::from_parts`, `WheelPart::drop_settled`), by
+//!   loads that are no entries, since the pass that holds every actor knows the whole history. A turn that looked at
+//!   every slot for that, with an entry for each look, was a second relation of every advance and turn.
+//! - **`counts` adds up counters that the parts keep** and scans no timer; its laws add and never subtract.
+//! - **A world is seen as settings, a history, a clock, the next caller to get a seat, and its wheels.** A call's
+//!   clause says that the history goes on by a piece that the call may make with its answer.
+//! - **The calls of several steps are chains over two traits of single steps** (`SchedSteps`, `CallerSteps`), which a
+//!   world and a session with a service have.
+//! - **A cancel of a world forgets the row at once**, so the slot is free for the next start.
+//! - **`next_mail` looks whether the process that it tells has exited**, as `take` does, and records the look. An exit
+//!   that a seat's caller made could come at any time, so what the world knows by itself doesn't decide it. A process
+//!   that is found exited leaves the list: each is met once, so the work stays constant, amortized.
+//! - **The room of mailboxes and of lists of expired timers isn't seen of a world** (`reserve_mail`, `shrink_mail`,
+//!   `reserve_expired`, `shrink_expired`): what is seen is as it was. Otherwise each call that takes or puts a message
+//!   or a timer would have to say what it does to it. That room is made and given back is a clause of the mailbox and
+//!   of the list, and of the world a test with each allocation refused.
+//! - **How many slots rest is told by a look at each** (`ready`). A slot's rest ends when its deadlines have passed,
+//!   without a call: a count in constant time would need a second order of the slots, by the ends of their rests.
+//! - **No call tells how many messages wait in all mailboxes.** A sum kept in constant time is a counter that each
+//!   take, delivery, answer and `notify` writes; nothing bounds the sum of the lengths of 524,288 mailboxes by 64 bits,
+//!   so it would be one of 128 bits with a bound on each mailbox beside it. A turn tells how many messages it put, and
+//!   a loop knows how many it took.
+//! - **A turn that finds nothing is one function.** Most turns of a loop find no request and no due timer. Such a turn
+//!   with its tick went through five calls, each of which saved the registers that only its rare work needs: 345
+//!   instructions, 34.7 ns. By hints on inlining the path of a turn that finds nothing is part of the exported call.
+//!   What answers a request, collects due rows, lets them expire, moves rows to lower levels and checks the clock are
+//!   functions apart. The tick is part of the exported call too, once in that of a world and once in that of a hub.
+//!   Both are 270 instructions. No code and no proof is other than before. The price: An advance that finds due rows
+//!   makes two calls more. Deliveries stay in the turn: a call for each made an idle turn 0.3 ns shorter and a delivery
+//!   28 instructions longer. A body of the clock's check apart, or a turn that first asks whether there is a request,
+//!   would save less than a nanosecond.
 #![tactic(auto)]
 
 mod bounded;

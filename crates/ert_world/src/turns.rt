@@ -62,6 +62,7 @@ impl World {
     pub fn advance(&mut self, sched: u32) -> Result<(u64, u32), NoMemory>
         requires { sched < self.old.settings.schedulers }
         ensures call { Goes self.old (λ way. AdvancesWheel self.old.settings way sched result) self.new }
+        // So what `next_due` answers then is later (`next_due_goes_on`), and an event loop gets on.
         ensures passed { IfOk result (λ answer. HasPassedAt self.new sched answer.0) }
         ensures stays { Stays self.old self.new }
     {
