@@ -5,7 +5,7 @@ use Rattle.std.proofs.Math.ListN.{get_or-eq_default}
 use Rattle.std.proofs.lemmas.Bool.{cases_eq}
 use Rattle.std.proofs.lemmas.List.{get_or-replicate, length-replicate, length-set}
 use Rattle.std.proofs.lemmas.List.FromFn.{fill_by_all, get_or-map-range_with_len, length-map-range_with_len}
-use Rattle.std.proofs.lemmas.Option.{get_or_from_slice_get}
+use Rattle.std.proofs.lemmas.Option.{get_or_from_slice_get, slice_get_within}
 use Rattle.std.specs.List.{range_with_len}
 use Rattle.ert_timers.specs.Parts.{all_slots, slot_at, slot_in, unused}
 use Rattle.ert_timers.specs.Slots.{slot_of, nothing}
@@ -55,7 +55,7 @@ all_set values n k stored low =
         ]
 
 -- more are written, as never used
-padded : (values : List Stored) (m j : ℕ) → slot_in (values ++ replicate m nothing) j ≡ slot_in values j
+pub padded : (values : List Stored) (m j : ℕ) → get_or (values ++ replicate m nothing) j nothing ≡ get_or values j nothing
 padded [] zero j = refl
 padded [] (suc m) zero = refl
 padded [] (suc m) (suc j) = padded [] m j
@@ -64,4 +64,21 @@ padded (x ∷ xs) m (suc j) = padded xs m j
 
 pub all_more : (values : List Stored) (m n : ℕ) → all_slots (values ++ replicate m nothing) n ≡ all_slots values n
 unfolding all_slots
-all_more values m n = λ i. map (λ k. padded values m k i) (range_with_len 0 n)
+all_more values m n = λ i. map (λ k. slot_of (padded values m k i)) (range_with_len 0 n)
+
+-- what is stored of a slot changes, but not what is kept of it
+changed_at : (values : List Stored) (k : ℕ) (stored new : Stored) → slice_get values k ≡ Some stored → slot_of new ≡ slot_of stored
+    → (j : ℕ) → slot_in (set values k new) j ≡ slot_in values j
+changed_at values k stored new is same j =
+    elim (cases_eq j k) [
+      | inl e ↦
+          ap (slot_in (set values k new)) e
+          ∙ (ap slot_of (get_or-set_same values k new nothing (slice_get_within values k stored is))
+          ∙ (same ∙ (sym (ap slot_of (get_or_from_slice_get values k stored nothing is)) ∙ sym (ap (slot_in values) e))))
+      | inr ne ↦ ap slot_of (get_or-set_other values k j new nothing ne)
+    ]
+
+pub all_changed : (values : List Stored) (k : ℕ) (stored new : Stored) → slice_get values k ≡ Some stored → slot_of new ≡ slot_of stored
+    → (n : ℕ) → all_slots (set values k new) n ≡ all_slots values n
+unfolding all_slots
+all_changed values k stored new is same n = λ i. map (λ j. changed_at values k stored new is same j i) (range_with_len 0 n)

@@ -225,6 +225,7 @@ written_twice old mid new n m one two = record {
   keys = two.keys ∙ one.keys;
   owners = two.owners ∙ ap (λ (r : Rings). let q : Rings = record r { written = m } in q) one.owners;
   slots = λ k. two.slots k ∙ one.slots k;
+  joined = λ joined. two.joined (one.joined joined);
   passed = two.passed ∙ one.passed;
 }
 

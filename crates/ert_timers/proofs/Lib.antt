@@ -1,5 +1,6 @@
 pub mod AllSlots
 pub mod Rounding
+pub mod Joined
 pub mod Later
 pub mod Rows
 pub mod StayArmed

@@ -1,6 +1,6 @@
 -- The timers of one scheduler: what its part keeps, and when the part stands for a history.
 
-use Rattle.std.specs.Prelude.{◌≡◌, ℕ, ◌+◌, ◌<◌, ◌≤◌, true, false, List, map, length, count_by, slice_index_or, Option, Some, None, refl}
+use Rattle.std.specs.Prelude.{◌≡◌, ◌≢◌, ℕ, ◌+◌, ◌<◌, ◌≤◌, true, false, List, map, length, count_by, slice_index_or, Option, Some, None, refl}
 use Rattle.std.specs.Coded.{Coded, code_by, coded×, coded_ℕ, coded_list, coded_option}
 use Rattle.std.specs.FinSet as set
 use Rattle.std.specs.List.{range_with_len, slice_get}
@@ -22,8 +22,9 @@ use Rattle.ert_laws.specs.Counts.{entries_of, is_arm, is_expire, is_orphan}
 use Rattle.ert_table.specs.Held.{is_held}
 use Rattle.ert_table.specs.declared.view.View.{View}
 use Rattle.ert_timers.specs.Codes.{slot_code, key_code}
-use Rattle.ert_timers.specs.Slots.{Slot, slot_of, nothing}
+use Rattle.ert_timers.specs.Slots.{Slot, slot_of, is_joined, nothing}
 use Rattle.ert_timers.specs.declared.slot.Stored.{Stored}
+use Rattle.ert_wheel.specs.Links.{next_at}
 use Rattle.ert_wheel.specs.Rings.{Rings, Place, AreChains, StandsIn}
 use Rattle.ert_wheel.specs.Rows.{Held, key_in}
 use Rattle.ert_wheel.specs.declared.row.Key.{Key}
@@ -124,12 +125,23 @@ pub record AreFieldsFit (slots : List Slot) (keys : List (Option Key)) (free : F
   pub dests : (k : ℕ) (key : Key) → key_in keys k ≡ Some key → (slot_at slots k).dest < owners.homes
   pub chained : AreOwned slots keys owners armed
 
+-- a slot stands in a chain where that is noted
+abbrev pub AreJoined : List Stored → Rings → Type 0
+AreJoined values owners = (k : ℕ) (stored : Stored) → k < owners.slots → slice_get values k ≡ Some stored → is_joined stored ≡ true
+    → next_at owners.links k ≢ k
+
+-- and with what is stored of the slots
+pub record AreStoredFit (values : List Stored) (keys : List (Option Key)) (free : FreeSet) (owners : Rings) (armed expired orphaned : ℕ) : Type 0 where
+  pub fit : AreFieldsFit (all_slots values owners.slots) keys free owners armed expired orphaned
+  pub joined : AreJoined values owners
+
 -- more slots of a wheel are written, so many in all, and nothing was kept of them: so all is seen as it was
 pub record IsWritten (old new : Held Stored) (written : ℕ) : Type 0 where
   pub more : old.owners.written ≤ written
   pub keys : new.keys ≡ old.keys
   pub owners : new.owners ≡ record old.owners { written = written }
   pub slots : (n : ℕ) → all_slots new.values n ≡ all_slots old.values n
+  pub joined : AreJoined old.values old.owners → AreJoined new.values new.owners
   pub passed : new.passed ≡ old.passed
 
 -- a timer whose row is held has this status: it is armed, or was cancelled by one who told the part nothing

@@ -42,8 +42,12 @@ slot_of s = unpacked (generation_in s.word) s.msg s.rest
 
 -- the key of its last row
 abbrev pub stored_key : Stored → Key
-stored_key s = record { deadline = deadline_in s.word; order = s.order }
+stored_key s = record { deadline = deadline_in s.word; order = s.rank / 2 }
+
+-- whether it is noted that the slot stands in the chain of its process
+abbrev pub is_joined : Stored → Bool
+is_joined s = nat_eq (s.rank % 2) 1
 
 -- what is stored of a slot that was never used
 abbrev pub nothing : Stored
-nothing = record { word = 0; order = 0; msg = 0; rest = 0 }
+nothing = record { word = 0; rank = 0; msg = 0; rest = 0 }

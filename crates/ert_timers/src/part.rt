@@ -1,8 +1,10 @@
 ghost use Rattle.std.specs.Prelude.{◌≡◌, ◌↔◌, ◌<◌, ◌≤◌, ◌-◌, ℕ, IfOk, IsTrue, Option, option_map, replicate, true};
 ghost use Rattle.ert_timers.specs.Owners.{MayThin, FindsRow};
+ghost use Rattle.ert_timers.specs.Parts.{AreJoined, all_slots};
 ghost use Rattle.ert_wheel.specs.Rings.{Place, AreChains};
 ghost use Rattle.ert_wheel.specs.Rows.{row_told};
 
+use self::changes::part_from;
 use crate::expired_list::ExpiredList;
 use crate::slot::Stored;
 use ert_defs::{NoMemory, Settings, TimerRef, TimerRow};
@@ -67,7 +69,7 @@ pub struct Tally {
 }
 
 impl Model for WheelPart {
-    ghost use Rattle.ert_timers.specs.Parts.{Part, part_code, all_slots, AreFieldsFit};
+    ghost use Rattle.ert_timers.specs.Parts.{Part, part_code, all_slots, AreStoredFit};
     ghost use Rattle.ert_words.specs.Free.{free_set};
 
     ghost Value = { Part };
@@ -86,7 +88,7 @@ impl Model for WheelPart {
       passed = p.wheel.passed;
     } };
 
-    ghost invariant = { λ p. AreFieldsFit (all_slots p.wheel.values p.wheel.owners.slots) p.wheel.keys (free_set p.free) p.wheel.owners p.arms p.expires p.orphans };
+    ghost invariant = { λ p. AreStoredFit p.wheel.values p.wheel.keys (free_set p.free) p.wheel.owners p.arms p.expires p.orphans };
 }
 
 impl WheelPart {
@@ -299,7 +301,8 @@ fn find_row(wheel: &mut Wheel<Stored>, process: u32) -> Option<HeldRow>
     requires process { process < wheel.old.owners.homes }
     requires may { MayThin wheel.old.owners wheel.old.keys }
     ensures keys { wheel.new.keys ≡ wheel.old.keys }
-    ensures values { wheel.new.values ≡ wheel.old.values }
+    ensures stored { (n : ℕ) → all_slots wheel.new.values n ≡ all_slots wheel.old.values n }
+    ensures joined { AreJoined wheel.old.values wheel.old.owners → AreJoined wheel.new.values wheel.new.owners }
     ensures slots { wheel.new.owners.slots ≡ wheel.old.owners.slots }
     ensures homes { wheel.new.owners.homes ≡ wheel.old.owners.homes }
     ensures written { wheel.new.owners.written ≡ wheel.old.owners.written }
@@ -311,7 +314,7 @@ fn find_row(wheel: &mut Wheel<Stored>, process: u32) -> Option<HeldRow>
         if let Some(row) = wheel.row(slot) {
             return Some(row);
         }
-        wheel.disown(slot);
+        part_from(wheel, slot);
     }
     None
 }

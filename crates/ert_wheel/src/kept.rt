@@ -21,7 +21,7 @@ impl<T: Keyed> Model for Kept<T> {
 }
 
 impl<T: Keyed> Kept<T> {
-    ghost use Rattle.std.specs.Prelude.{◌≡◌, ◌-◌, ◌<◌, ◌≤◌, [], ◌++◌, IfOk, Some, length, replicate, slice_index_or, slice_set};
+    ghost use Rattle.std.specs.Prelude.{◌≡◌, ◌-◌, ◌<◌, ◌≤◌, [], ◌++◌, IfOk, IfSome, Some, length, replicate, slice_index_or, slice_set};
     ghost use Rattle.std.specs.List.{slice_get};
     ghost use Rattle.ert_wheel.specs.Wheels.{no_key};
 
@@ -83,6 +83,18 @@ impl<T: Keyed> Kept<T> {
         ensures { slice_get self.now.values slot ≡ Some result }
     {
         self.values[slot as usize]
+    }
+
+    /// Gives a slot another value, with the same key in it.
+    #[inline]
+    pub fn change(&mut self, slot: u32, value: T)
+        requires low { slot < length self.old.keys }
+        requires same { IfSome (slice_get self.old.values slot) (λ old. T.key value ≡ T.key old) }
+        ensures keys { self.new.keys ≡ self.old.keys }
+        ensures values { self.new.values ≡ slice_set self.old.values slot value }
+        ensures room { self.new.room ≡ self.old.room }
+    {
+        self.values[slot as usize] = value;
     }
 
     /// Gives a slot another value, with another key in it.

@@ -175,6 +175,19 @@ impl<T: Keyed> Wheel<T> {
         self.kept.value(slot)
     }
 
+    /// Gives a slot another value, with the same key in it.
+    #[inline]
+    pub fn change(&mut self, slot: u32, value: T)
+        requires written { slot < self.old.owners.written }
+        requires same { IfSome (slice_get self.old.values slot) (λ old. T.key value ≡ T.key old) }
+        ensures keys { self.new.keys ≡ self.old.keys }
+        ensures owners { self.new.owners ≡ self.old.owners }
+        ensures values { self.new.values ≡ slice_set self.old.values slot value }
+        ensures passed { self.new.passed ≡ self.old.passed }
+    {
+        self.kept.change(slot, value);
+    }
+
     /// Puts a row in, with a value of its slot that has the row's key in it. The slot has no row, and the order is above that of
     /// every row that is held.
     ///
