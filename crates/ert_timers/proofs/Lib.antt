@@ -27,6 +27,8 @@ pub mod Takings
 pub mod Dropped
 pub mod Probed
 pub mod Starts
+mod OpenSlots
+mod Searched
 pub mod Roomed
 pub mod Swept
 pub mod Settled

@@ -33,7 +33,8 @@ use Rattle.ert_defs.specs.declared.settings.TheConstants.{MOST_SLOTS, MOST_PROCE
 
 -- the part of one scheduler's timers: its number, the number of processes, by slot what is kept of the last
 -- timer, by slot the key of the row that is held as armed, the slots that are held free, how many timers were
--- armed, expired and were cancelled for an exit, and the first time that its wheel hasn't passed, in milliseconds
+-- armed, expired and were cancelled for an exit, the first time that its wheel hasn't passed, in milliseconds, and the
+-- slot at which the next looks for a free one begin
 pub record Part : Type 0 where
   pub number : ℕ
   pub processes : ℕ
@@ -44,14 +45,15 @@ pub record Part : Type 0 where
   pub expires : ℕ
   pub orphans : ℕ
   pub passed : ℕ
+  pub next_look : ℕ
 
 -- a part is stored as a tuple of its fields
 abbrev pub part_code : Coded Part
 part_code =
-    code_by (ℕ × (ℕ × (List Slot × (List (Option Key) × (set.FinSet nat_cmp × (ℕ × (ℕ × (ℕ × ℕ))))))))
+    code_by (ℕ × (ℕ × (List Slot × (List (Option Key) × (set.FinSet nat_cmp × (ℕ × (ℕ × (ℕ × (ℕ × ℕ)))))))))
     (coded× coded_ℕ (coded× coded_ℕ (coded× (coded_list slot_code) (coded× (coded_list (coded_option key_code))
-    (coded× (set.code coded_ℕ) (coded× coded_ℕ (coded× coded_ℕ (coded× coded_ℕ coded_ℕ))))))))
-    (λ p. (p.number, (p.processes, (p.slots, (p.keys, (p.free, (p.arms, (p.expires, (p.orphans, p.passed)))))))))
+    (coded× (set.code coded_ℕ) (coded× coded_ℕ (coded× coded_ℕ (coded× coded_ℕ (coded× coded_ℕ coded_ℕ)))))))))
+    (λ p. (p.number, (p.processes, (p.slots, (p.keys, (p.free, (p.arms, (p.expires, (p.orphans, (p.passed, p.next_look))))))))))
     (λ t. record {
       number = t.0;
       processes = t.1.0;
@@ -61,7 +63,8 @@ part_code =
       arms = t.1.1.1.1.1.0;
       expires = t.1.1.1.1.1.1.0;
       orphans = t.1.1.1.1.1.1.1.0;
-      passed = t.1.1.1.1.1.1.1.1;
+      passed = t.1.1.1.1.1.1.1.1.0;
+      next_look = t.1.1.1.1.1.1.1.1.1;
     })
     (λ _. refl)
 

@@ -86,6 +86,7 @@ impl Model for WheelPart {
       expires = p.expires;
       orphans = p.orphans;
       passed = p.wheel.passed;
+      next_look = p.next_look;
     } };
 
     ghost invariant = { λ p. AreStoredFit p.wheel.values p.wheel.keys (free_set p.free) p.wheel.owners p.arms p.expires p.orphans };
@@ -93,7 +94,7 @@ impl Model for WheelPart {
 
 impl WheelPart {
     ghost use Rattle.std.specs.Option.{is_some};
-    ghost use Rattle.std.specs.Prelude.{◌≡◌, ◌<◌, ◌≤◌, IfOk, IfSome, ℕ, length, count_by, [], option_map};
+    ghost use Rattle.std.specs.Prelude.{◌≡◌, ◌<◌, ◌≤◌, IfOk, IfSome, ℕ, length, count_by, min, [], option_map};
     ghost use Rattle.ert_defs.specs.Settings.{IsChecked};
     ghost use Rattle.ert_timers.specs.Freeing.{IsInUse};
     ghost use Rattle.ert_timers.specs.Parts.{PartStands, held_row, slot_at};
@@ -165,14 +166,14 @@ impl WheelPart {
 
     /// From which slot on a start looks that knows of none that is free; one past the last means the first.
     pub(crate) fn next_look(&self) -> u32
-        ensures { result ≤ length self.now.slots }
+        ensures { result ≡ min self.now.next_look (length self.now.slots) }
     {
         self.next_look.min(self.slot_count())
     }
 
     /// Keeps from which slot on the next such start looks.
     pub(crate) fn set_next_look(&mut self, slot: u32)
-        ensures { self.new ≡ self.old }
+        ensures { self.new ≡ record self.old { next_look = slot } }
     {
         self.next_look = slot;
     }
