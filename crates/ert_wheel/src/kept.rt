@@ -85,23 +85,12 @@ impl<T: Keyed> Kept<T> {
         self.values[slot as usize]
     }
 
-    /// Gives a slot another value, with the same key in it.
-    #[inline]
-    pub fn change(&mut self, slot: u32, value: T)
-        requires low { slot < length self.old.keys }
-        requires same { IfSome (slice_get self.old.values slot) (λ old. T.key value ≡ T.key old) }
-        ensures keys { self.new.keys ≡ self.old.keys }
-        ensures values { self.new.values ≡ slice_set self.old.values slot value }
-        ensures room { self.new.room ≡ self.old.room }
-    {
-        self.values[slot as usize] = value;
-    }
-
-    /// Gives a slot another value, with another key in it.
+    /// Gives a slot another value, with another key in it or the same.
     #[inline]
     pub fn set(&mut self, slot: u32, value: T)
         requires { slot < length self.old.keys }
         ensures keys { self.new.keys ≡ slice_set self.old.keys slot (T.key value) }
+        ensures same { IfSome (slice_get self.old.values slot) (λ old. T.key value ≡ T.key old) → self.new.keys ≡ self.old.keys }
         ensures values { self.new.values ≡ slice_set self.old.values slot value }
         ensures room { self.new.room ≡ self.old.room }
     {

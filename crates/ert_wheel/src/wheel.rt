@@ -29,8 +29,8 @@ mod replacing;
 ///
 ///     let mut wheel = Wheel::new(alloc, 64, 1)?;
 ///     let mut due = Vec::with_capacity(alloc, 64)?;
-///     wheel.write_up_to(4, unused);
-///     wheel.insert(Row { deadline: 20, order: 0, slot: 3 }, value);       // `value` tells this deadline and this order
+///     wheel.write_up_to(4, Key { deadline: 0, order: 0 });
+///     wheel.insert(Row { deadline: 20, order: 0, slot: 3 }, Key { deadline: 20, order: 0 });
 ///     wheel.advance(20, &mut due);        // gives that row, and takes it out
 #[derive(Drop)]
 pub struct Wheel<T: Keyed> {
@@ -185,7 +185,7 @@ impl<T: Keyed> Wheel<T> {
         ensures values { self.new.values ≡ slice_set self.old.values slot value }
         ensures passed { self.new.passed ≡ self.old.passed }
     {
-        self.kept.change(slot, value);
+        self.kept.set(slot, value);
     }
 
     /// Puts a row in, with a value of its slot that has the row's key in it. The slot has no row, and the order is above that of
