@@ -22,7 +22,7 @@ use Rattle.ert_laws.specs.Counts.{entries_of, is_arm, is_expire, is_orphan}
 use Rattle.ert_table.specs.Held.{is_held}
 use Rattle.ert_table.specs.declared.view.View.{View}
 use Rattle.ert_timers.specs.Codes.{slot_code, key_code}
-use Rattle.ert_timers.specs.Slots.{Slot, slot_of, is_joined, nothing}
+use Rattle.ert_timers.specs.Slots.{Slot, stored_slot, is_joined, nothing}
 use Rattle.ert_timers.specs.declared.slot.Stored.{Stored}
 use Rattle.ert_wheel.specs.Links.{next_at}
 use Rattle.ert_wheel.specs.Rings.{Rings, Place, AreChains, StandsIn}
@@ -77,12 +77,12 @@ abbrev pub slot_at : List Slot → ℕ → Slot
 slot_at slots k = slice_index_or slots k unused
 
 -- what is kept of a slot, by what is stored of those that are written: the others were never used
-abbrev pub slot_in : List Stored → ℕ → Slot
-slot_in written k = slot_of (slice_index_or written k nothing)
+abbrev pub written_slot : List Stored → ℕ → Slot
+written_slot written k = stored_slot (slice_index_or written k nothing)
 
 -- and of so many
 unfoldable pub all_slots : List Stored → ℕ → List Slot
-all_slots written n = map (λ k. slot_in written k) (range_with_len 0 n)
+all_slots written n = map (λ k. written_slot written k) (range_with_len 0 n)
 
 -- the last timer of a slot
 abbrev pub last_timer : ℕ → List Slot → ℕ → TimerRef

@@ -98,7 +98,7 @@ impl WheelPart {
     ghost use Rattle.ert_defs.specs.Settings.{IsChecked};
     ghost use Rattle.ert_timers.specs.Freeing.{IsInUse};
     ghost use Rattle.ert_timers.specs.Parts.{PartStands, held_row, slot_at};
-    ghost use Rattle.ert_timers.specs.Slots.{slot_of};
+    ghost use Rattle.ert_timers.specs.Slots.{stored_slot};
     ghost use Rattle.ert_timers.specs.Expiring.{AreDue};
     ghost use Rattle.ert_timers.specs.Changes.{NextOf, gone_on};
     ghost use Rattle.ert_timers.specs.NextDue.{IsNextHeld};
@@ -181,7 +181,7 @@ impl WheelPart {
     /// What is kept of a slot, whether it is written or not.
     fn kept_of(&self, slot: u32) -> Stored
         requires { slot < length self.now.slots }
-        ensures { slot_of result ≡ slot_at self.now.slots slot }
+        ensures { stored_slot result ≡ slot_at self.now.slots slot }
     {
         if slot as usize >= self.wheel.written() {
             return Stored::unused();

@@ -5,7 +5,7 @@ ghost use Rattle.ert_defs.specs.Timers as timers;
 ghost use Rattle.ert_timers.specs.Changes as changes;
 ghost use Rattle.ert_timers.specs.Owners.{MayJoin, Joins};
 ghost use Rattle.ert_timers.specs.Parts.{AreJoined, IsWritten, all_slots};
-ghost use Rattle.ert_timers.specs.Slots.{slot_of, stored_key};
+ghost use Rattle.ert_timers.specs.Slots.{stored_slot, stored_key};
 ghost use Rattle.ert_wheel.specs.Rings.{Place, AreChains, MayTake, GivesUpPlace};
 ghost use Rattle.ert_words.specs.Free.{free_set, with_short, with_long, TakesLong, TakesNextSlot};
 ghost use Rattle.ert_words.specs.Ranges.{IsTimer};
@@ -22,7 +22,7 @@ const WRITTEN_AT_ONCE: u32 = 64;
 impl Stored {
     /// Whether it was used less often than a round allows.
     fn has_uses(self) -> bool
-        ensures { result ≡ changes.has_uses (slot_of self) }
+        ensures { result ≡ changes.has_uses (stored_slot self) }
     {
         has_uses(self.generation())
     }
@@ -33,7 +33,7 @@ impl Stored {
         requires timer { IsTimer next.deadline next.generation }
         requires order { order ≤ 9007199254740992 }
         requires dest { start.now.dest < 524288 }
-        ensures slot { slot_of result ≡ changes.slot_for next (slot_of self).above start.now }
+        ensures slot { stored_slot result ≡ changes.slot_for next (stored_slot self).above start.now }
         ensures key { stored_key result ≡ record { deadline = next.deadline; order = order } }
     {
         let above = self.above().max(next.deadline + 1);
@@ -51,7 +51,7 @@ impl Stored {
     /// Whether it rests at a time in milliseconds after the start time: its round has no use left, and the
     /// deadline of one of its timers hasn't passed.
     fn is_resting(self, now: u64) -> bool
-        ensures { result ≡ changes.is_resting (slot_of self) now }
+        ensures { result ≡ changes.is_resting (stored_slot self) now }
     {
         !self.has_uses() && now < self.above()
     }
@@ -64,7 +64,7 @@ impl Stored {
     fn next_use(self, now: u64, deadline: u64) -> Use
         requires now { now ≤ 8796093022207 }
         requires deadline { deadline ≤ 8796093022207 }
-        ensures { result ≡ changes.next_use (slot_of self).generation now deadline }
+        ensures { result ≡ changes.next_use (stored_slot self).generation now deadline }
     {
         Use::after(self.generation(), now, deadline)
     }

@@ -5,7 +5,7 @@ use Rattle.ert_timers.specs.Changes.{MayBecomeFree, kept, slot_for}
 use Rattle.ert_timers.specs.Owners.{MayJoin, Joins}
 use Rattle.ert_timers.specs.Parts.{Part, all_slots, slot_at}
 use Rattle.ert_timers.specs.contracts.part.WheelPart.{the_view}
-use Rattle.ert_timers.specs.Slots.{Slot, slot_of}
+use Rattle.ert_timers.specs.Slots.{Slot, stored_slot}
 use Rattle.ert_timers.proofs.AllSlots.{read_at}
 use Rattle.ert_timers.proofs.Fit.{fit_same, may_leave, written_away}
 use Rattle.ert_timers.proofs.Keeping.{orders_if, fit_kept, slots_kept, named_kept}
@@ -72,7 +72,7 @@ invariant_of-self c =
     let free = subst (λ (q : Part). MayBecomeFree q k) (sym c.self.view_is) c.requires.free in
     let dest = subst (λ (q : Part). c.args.start.now.dest < q.processes) (sym c.self.view_is) c.requires.dest in
     let fit = c.self.invariant.fit in
-    let read : slot_at seen.slots k ≡ slot_of c.value-last.result =
+    let read : slot_at seen.slots k ≡ stored_slot c.value-last.result =
     read_at p.wheel.values p.wheel.owners.slots k c.value-last.result c.value-last.ensures (omega (arith, free.low, fit.owned)) in
     let start = c.args.start.now in
     let same = c.insert.ensures.owners in
@@ -83,7 +83,7 @@ invariant_of-self c =
       fits = omega (arith, fit.few_arms);
       orders = fit.chained.orders;
       stands = λ stays.
-          stands_noted p.wheel.owners fit.chained.places k (slot_of c.value-last.result).dest start.dest fit.chained.are (omega (arith, free.low, fit.owned))
+          stands_noted p.wheel.owners fit.chained.places k (stored_slot c.value-last.result).dest start.dest fit.chained.are (omega (arith, free.low, fit.owned))
           (c.self.invariant.joined k c.value-last.result (omega (arith, free.low, fit.owned)) c.value-last.ensures (c.is_with-stays.ensures.joined stays))
           (λ place is. fit.chained.lasts k place is ∙ ap (λ (s : Slot). s.dest) read) (c.is_with-stays.ensures.dest stays);
     }) in

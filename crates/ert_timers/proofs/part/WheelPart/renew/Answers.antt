@@ -5,7 +5,7 @@ use Rattle.ert_timers.specs.Owners.{MayJoin, Joins}
 use Rattle.ert_timers.specs.Parts.{Part, all_slots, slot_at}
 use Rattle.ert_timers.specs.Restarting.{CanRenew}
 use Rattle.ert_timers.specs.contracts.part.WheelPart.{the_view}
-use Rattle.ert_timers.specs.Slots.{Slot, slot_of}
+use Rattle.ert_timers.specs.Slots.{Slot, stored_slot}
 use Rattle.ert_timers.proofs.AllSlots.{read_at}
 use Rattle.ert_timers.proofs.Fit.{fit_dropped, fit_same, may_leave, same_places, some_key, written_away}
 use Rattle.ert_timers.proofs.Keeping.{orders_if, fit_kept, slots_kept, named_kept}
@@ -73,7 +73,7 @@ invariant_of-self c =
     let can = subst (λ (q : Part). CanRenew q k) (sym c.self.view_is) c.requires.can in
     let dest = subst (λ (q : Part). c.args.start.now.dest < q.processes) (sym c.self.view_is) c.requires.dest in
     let fit = c.self.invariant.fit in
-    let read : slot_at seen.slots k ≡ slot_of c.value-last.result =
+    let read : slot_at seen.slots k ≡ stored_slot c.value-last.result =
     read_at p.wheel.values p.wheel.owners.slots k c.value-last.result c.value-last.ensures (omega (arith, can.low, fit.owned)) in
     let start = c.args.start.now in
     let same = c.replace.ensures.owners in
