@@ -58,7 +58,7 @@ impl Shard {
     ghost use Rattle.ert_timers.specs.Frees.{IsUsedUp, UsesFree};
     ghost use Rattle.ert_timers.specs.Searching.{IsOpen};
     ghost use Rattle.ert_defs.specs.declared.entry.Actor.TheVariants.{Caller};
-    ghost use Rattle.ert_shard.specs.Shards.{ShardGoes, ShardSteps, ShardBy, IsHome, ShardHasForgotten};
+    ghost use Rattle.ert_shard.specs.Shards.{ShardGoes, ShardSteps, ShardBy, IsHome, ShardHasForgotten, ShardStayForgotten};
 
     /// The number of its scheduler, and of its wheel.
     pub fn number(&self) -> u32
@@ -126,6 +126,7 @@ impl Shard {
         ensures full { result ≡ Err Full → IsUsedUp self.old.wheel self.new.wheel }
         ensures ready { IsOpen self.old.settings (state self.old.settings self.old.history) self.old.wheel → result ≢ Err Full }
         ensures frees { UsesFree self.old.wheel self.new.wheel result }
+        ensures forgotten { ShardStayForgotten self.old self.new }
     {
         self.wheel
             .start(&self.desk, &mut self.pass, self.number + 1, start)
