@@ -12,7 +12,7 @@ use Rattle.ert_defs.specs.declared.timer.Start.{Start}
 use Rattle.ert_timers.specs.Changes.{MayBecomeFree, LostRow, NextOf, picked, slot_for, kept}
 use Rattle.ert_timers.specs.Owners.{Joins, Thinned, FindsRow}
 use Rattle.ert_timers.specs.Parts.{AreFieldsFit, AreOwned, IsWritten, Part, all_slots, last_timer, slot_at, unused}
-use Rattle.ert_timers.specs.Slots.{Slot, slot_of}
+use Rattle.ert_timers.specs.Slots.{Slot, stored_slot}
 use Rattle.ert_timers.specs.declared.slot.Stored.{Stored}
 use Rattle.ert_timers.specs.declared.part.Use.{Use}
 use mir.Val.{bool_byte}
@@ -151,7 +151,7 @@ fit_kept p free owners new k start next fit same can few dest slots homes writte
 
 -- what is kept of the slots with that timer, as it is stored
 pub slots_kept : (values new : List Stored) (n m k : ℕ) (last used : Stored) (start : Start) (next : Use) → slice_get values k ≡ Some last → k < n → m ≡ n
-    → new ≡ set values k used → slot_of used ≡ slot_for next (slot_of last).above start
+    → new ≡ set values k used → stored_slot used ≡ slot_for next (stored_slot last).above start
     → all_slots new m ≡ set (all_slots values n) k (slot_for next (slot_at (all_slots values n) k).above start)
 slots_kept values new n m k last used start next is low wide more with =
     (λ i. all_slots (more i) (wide i))
@@ -225,6 +225,7 @@ written_twice old mid new n m one two = record {
   keys = two.keys ∙ one.keys;
   owners = two.owners ∙ ap (λ (r : Rings). let q : Rings = record r { written = m } in q) one.owners;
   slots = λ k. two.slots k ∙ one.slots k;
+  joined = λ joined. two.joined (one.joined joined);
   passed = two.passed ∙ one.passed;
 }
 

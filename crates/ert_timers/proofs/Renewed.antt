@@ -25,7 +25,7 @@ use Rattle.ert_effects.specs.declared.answers.RestartErr.TheVariants.{NotArmed}
 use Rattle.ert_laws.proofs.Since.{rounds_begun}
 use Rattle.ert_table.specs.Calls.{AppendsAll, IsMade}
 use Rattle.ert_table.specs.Renewals.{IsWordOf, MayRenew, PeeksWord, renewal}
-use Rattle.ert_table.specs.Settlings.{HasRow, word_deadline}
+use Rattle.ert_table.specs.Settlings.{HasRow}
 use Rattle.ert_table.specs.Takes.{Appends, TakesPlace}
 use Rattle.ert_table.specs.declared.renew_steps.ArmedWord.{ArmedWord}
 use Rattle.ert_table.specs.declared.view.View.{View}
@@ -60,6 +60,7 @@ use Rattle.ert_timers.specs.declared.looking.Ahead.{Ahead}
 use Rattle.ert_timers.specs.declared.part.Use.{Use}
 use Rattle.ert_wheel.specs.Rows.{key_in}
 use Rattle.ert_wheel.specs.declared.row.Key.{Key}
+use Rattle.ert_words.specs.Ranges.{word_deadline}
 
 -- a peek, by a caller
 pub peek_calm : (g : Settings) (v : View) (by : ℕ) (timer : TimerRef) (found : Option ℕ) (u : View) (p : Part) → PartStands g v.front p

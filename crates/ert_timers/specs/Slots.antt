@@ -5,7 +5,7 @@ use Rattle.ert_defs.specs.declared.timer.Kind.{Kind}
 use Rattle.ert_defs.specs.declared.timer.Kind.TheVariants.{Wrapped, Bare}
 use Rattle.ert_timers.specs.declared.slot.Stored.{Stored}
 use Rattle.ert_wheel.specs.declared.row.Key.{Key}
-use Rattle.ert_words.specs.Ranges.{deadline_in, generation_in}
+use Rattle.ert_words.specs.Ranges.{word_deadline, word_generation}
 
 -- what is kept of a slot: the generation of its last timer, one above the greatest deadline of all its timers, and
 -- destination, message and kind of the last
@@ -37,13 +37,17 @@ unpacked generation msg rest = record {
 }
 
 -- what is stored of a slot
-abbrev pub slot_of : Stored → Slot
-slot_of s = unpacked (generation_in s.word) s.msg s.rest
+abbrev pub stored_slot : Stored → Slot
+stored_slot s = unpacked (word_generation s.word) s.msg s.rest
 
 -- the key of its last row
 abbrev pub stored_key : Stored → Key
-stored_key s = record { deadline = deadline_in s.word; order = s.order }
+stored_key s = record { deadline = word_deadline s.word; order = s.rank / 2 }
+
+-- whether it is noted that the slot stands in the chain of its process
+abbrev pub is_joined : Stored → Bool
+is_joined s = nat_eq (s.rank % 2) 1
 
 -- what is stored of a slot that was never used
 abbrev pub nothing : Stored
-nothing = record { word = 0; order = 0; msg = 0; rest = 0 }
+nothing = record { word = 0; rank = 0; msg = 0; rest = 0 }

@@ -1,4 +1,6 @@
 //! A timer that is given a new deadline in another slot than its own.
+ghost use Rattle.std.specs.Prelude.{◌≡◌};
+ghost use Rattle.ert_timers.specs.Restarting.{answer_of};
 
 use crate::looking::Ahead;
 use crate::part::{Use, WheelPart};
@@ -26,10 +28,10 @@ impl WheelPart {
     ghost use Rattle.ert_timers.specs.declared.part.Use.{Use as Coming};
     ghost use Rattle.ert_defs.specs.States.{State};
     ghost use Rattle.ert_defs.specs.declared.timer.Status.TheVariants.{Armed};
-    ghost use Rattle.ert_timers.specs.Restarting.{HasLooked, HasSlotFor, EndsAfter, HasLetGo};
+    ghost use Rattle.ert_timers.specs.Restarting.{HasLooked, HasSlotFor, EndsAfter, HasLetGo, answer_of};
 
     /// Gives a timer a new deadline in another slot, or refuses for want of one, after the caller's look. All comes in
-    /// parts: so a restart, which seldom gets here, needn't write it to memory.
+    /// parts, and goes in two: so a restart, which seldom gets here, needn't write or read it in memory.
     #[cold]
     #[inline(never)]
     pub(crate) fn restart_in_parts(
@@ -48,7 +50,8 @@ impl WheelPart {
         up: u64,
         deadline: u64,
         place: SlotPlace,
-    ) -> Result<TimerRef, RestartErr>
+        named: &mut TimerRef,
+    ) -> Option<RestartErr>
         requires belongs { Belongs desk.now pass.old }
         requires holds { HoldsCaller (settings_of desk.now) (view_of pass.old) by self.old.number }
         requires stands { PartStands (settings_of desk.now) (front_of pass.old) self.old }
@@ -59,11 +62,11 @@ impl WheelPart {
         ensures belongs { Belongs desk.now pass.new }
         ensures number { self.new.number ≡ self.old.number }
         ensures stands { PartStands (settings_of desk.now) (front_of pass.new) self.new }
-        ensures call { IsMade (settings_of desk.now) (view_of pass.old) (EndsAfter (settings_of desk.now) by self.old.number (timer_at wheel slot generation) (record { when = when; dest = dest; msg = msg; kind = kind }) (now_in (record { passed = passed; up = up; deadline = deadline })) result) (view_of pass.new) }
-        ensures full { result ≡ Err Full → IsUsedUp self.old self.new }
-        ensures frees { UsesFree self.old self.new result }
-        ensures rows { GainsOne self.old self.new result }
-        ensures gone { HasLetGo (timer_at wheel slot generation) result self.new }
+        ensures call { IsMade (settings_of desk.now) (view_of pass.old) (EndsAfter (settings_of desk.now) by self.old.number (timer_at wheel slot generation) (record { when = when; dest = dest; msg = msg; kind = kind }) (now_in (record { passed = passed; up = up; deadline = deadline })) (answer_of result named.new)) (view_of pass.new) }
+        ensures full { answer_of result named.new ≡ Err Full → IsUsedUp self.old self.new }
+        ensures frees { UsesFree self.old self.new (answer_of result named.new) }
+        ensures rows { GainsOne self.old self.new (answer_of result named.new) }
+        ensures gone { HasLetGo (timer_at wheel slot generation) (answer_of result named.new) self.new }
     {
         let timer = TimerRef {
             wheel,
@@ -81,7 +84,8 @@ impl WheelPart {
             up,
             deadline,
         };
-        self.restart_elsewhere(desk, pass, by, timer, start, ahead, place)
+        let answer = self.restart_elsewhere(desk, pass, by, timer, start, ahead, place);
+        told(answer, named)
     }
 
     /// The same with all in one.
@@ -220,5 +224,30 @@ impl WheelPart {
             Some(_) => RestartErr::Full,
             None => RestartErr::NotArmed,
         }
+    }
+}
+
+/// An answer in two parts: the name is put into its place, and why there is none is told.
+#[inline(always)]
+pub(crate) fn told(answer: Result<TimerRef, RestartErr>, named: &mut TimerRef) -> Option<RestartErr>
+    ensures { answer_of result named.new ≡ answer }
+{
+    match answer {
+        Ok(next) => {
+            *named = next;
+            None
+        }
+        Err(refused) => Some(refused),
+    }
+}
+
+/// The answer of two parts.
+#[inline(always)]
+pub(crate) fn answer_of(refused: Option<RestartErr>, named: TimerRef) -> Result<TimerRef, RestartErr>
+    ensures { result ≡ answer_of refused named }
+{
+    match refused {
+        Some(refused) => Err(refused),
+        None => Ok(named),
     }
 }

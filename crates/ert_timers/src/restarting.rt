@@ -1,6 +1,7 @@
 //! A timer that is given a new deadline.
 
 use crate::looking::{Ahead, look_ahead};
+use crate::moving::{answer_of, told};
 use crate::part::{Use, WheelPart};
 use ert_defs::{Actor, Kind, Start, TimerRef, USES_OF_ROUND, When};
 use ert_effects::RestartErr;
@@ -18,7 +19,7 @@ impl WheelPart {
     ghost use Rattle.ert_timers.specs.Parts.{HoldsCaller, PartStands};
     ghost use Rattle.ert_timers.specs.Frees.{IsUsedUp, UsesFree};
     ghost use Rattle.ert_timers.specs.Passed.{GainsOne};
-    ghost use Rattle.ert_timers.specs.Restarting.{MayStay, HasLooked, HasLetGo};
+    ghost use Rattle.ert_timers.specs.Restarting.{MayStay, HasLooked, HasLetGo, answer_of};
 
     /// Gives an armed timer, of whatever wheel, a new deadline for a caller (as `uv_timer_again` of libuv), by the time that
     /// the call itself looks up: it is cancelled, and another is started on this wheel.
@@ -53,7 +54,8 @@ impl WheelPart {
         if timer.generation <= USES_OF_ROUND {
             return self.restart_by_name(desk, pass, by, timer, start);
         }
-        self.restart_of_later_round(
+        let mut named = timer;
+        let refused = self.restart_of_later_round(
             desk,
             pass,
             by,
@@ -64,11 +66,13 @@ impl WheelPart {
             start.dest,
             start.msg,
             start.kind,
-        )
+            &mut named,
+        );
+        answer_of(refused, named)
     }
 
-    /// The same for a timer of a later round of its slot. Name and start come in parts: so a restart, which seldom gets
-    /// here, needn't write them to memory.
+    /// The same for a timer of a later round of its slot. Name and start come in parts, and the answer goes in
+    /// two: so a restart, which seldom gets here, needn't write or read them in memory.
     #[cold]
     #[inline(never)]
     fn restart_of_later_round(
@@ -83,7 +87,8 @@ impl WheelPart {
         dest: u32,
         msg: u64,
         kind: Kind,
-    ) -> Result<TimerRef, RestartErr>
+        named: &mut TimerRef,
+    ) -> Option<RestartErr>
         requires belongs { Belongs desk.now pass.old }
         requires holds { HoldsCaller (settings_of desk.now) (view_of pass.old) by self.old.number }
         requires stands { PartStands (settings_of desk.now) (front_of pass.old) self.old }
@@ -91,11 +96,11 @@ impl WheelPart {
         ensures belongs { Belongs desk.now pass.new }
         ensures number { self.new.number ≡ self.old.number }
         ensures stands { PartStands (settings_of desk.now) (front_of pass.new) self.new }
-        ensures call { IsMade (settings_of desk.now) (view_of pass.old) (Restarts (settings_of desk.now) by self.old.number (timer_at wheel slot generation) (record { when = when; dest = dest; msg = msg; kind = kind }) result) (view_of pass.new) }
-        ensures full { result ≡ Err Full → IsUsedUp self.old self.new }
-        ensures frees { UsesFree self.old self.new result }
-        ensures rows { GainsOne self.old self.new result }
-        ensures gone { HasLetGo (timer_at wheel slot generation) result self.new }
+        ensures call { IsMade (settings_of desk.now) (view_of pass.old) (Restarts (settings_of desk.now) by self.old.number (timer_at wheel slot generation) (record { when = when; dest = dest; msg = msg; kind = kind }) (answer_of result named.new)) (view_of pass.new) }
+        ensures full { answer_of result named.new ≡ Err Full → IsUsedUp self.old self.new }
+        ensures frees { UsesFree self.old self.new (answer_of result named.new) }
+        ensures rows { GainsOne self.old self.new (answer_of result named.new) }
+        ensures gone { HasLetGo (timer_at wheel slot generation) (answer_of result named.new) self.new }
     {
         let timer = TimerRef {
             wheel,
@@ -108,7 +113,8 @@ impl WheelPart {
             msg,
             kind,
         };
-        self.restart_by_name(desk, pass, by, timer, &start)
+        let answer = self.restart_by_name(desk, pass, by, timer, &start);
+        told(answer, named)
     }
 
     /// The same for any timer.
@@ -146,7 +152,8 @@ impl WheelPart {
             return Err(RestartErr::NotArmed);
         }
         if !self.may_stay(timer) || !self.suits(timer.slot, ahead.up, ahead.deadline) {
-            return self.restart_in_parts(
+            let mut named = timer;
+            let refused = self.restart_in_parts(
                 desk,
                 pass,
                 by,
@@ -161,7 +168,9 @@ impl WheelPart {
                 ahead.up,
                 ahead.deadline,
                 place,
+                &mut named,
             );
+            return answer_of(refused, named);
         }
         self.restart_here(desk, pass, by, timer, start, ahead, place)
     }

@@ -1,11 +1,11 @@
 //! What is stored of a slot, in four words.
-ghost use Rattle.std.specs.Prelude.{◌≡◌, ◌<◌, cond};
-ghost use Rattle.ert_timers.specs.Slots.{is_bare, nothing, slot_of, stored_key};
+ghost use Rattle.std.specs.Prelude.{◌≡◌, ◌<◌, ◌≤◌, cond, true, false};
+ghost use Rattle.ert_timers.specs.Slots.{is_bare, is_joined, nothing, stored_slot, stored_key};
 ghost use Rattle.ert_words.specs.Ranges.{IsTimer};
 
 use ert_defs::Kind;
 use ert_wheel::Keyed;
-use ert_words::{armed_word, deadline_in, generation_in};
+use ert_words::{armed_word, word_deadline, word_generation};
 
 /// The place of the destination in `rest`: the kind is below it.
 const DEST: u64 = 1 << 1;
@@ -22,8 +22,9 @@ const ABOVE: u64 = 1 << 20;
 pub struct Stored {
     /// The word of the timer while it was armed; 0 where the slot was never used.
     word: u64,
-    /// How many timers of the wheel were armed before it.
-    order: u64,
+    /// Twice the order, how many timers of the wheel were armed before it, and one more where the slot stands in the chain of
+    /// its process. A slot that stands there may have no such note; one that doesn't has none.
+    rank: u64,
     msg: u64,
     /// The kind, the destination, which is below 2^19, and one above the greatest deadline, which is below 2^44.
     rest: u64,
@@ -37,18 +38,19 @@ impl Keyed for Stored {
 
     #[inline(always)]
     fn deadline(self) -> u64 {
-        deadline_in(self.word)
+        word_deadline(self.word)
     }
 
     #[inline(always)]
     fn order(self) -> u64 {
-        self.order
+        self.rank / 2
     }
 }
 
 impl Stored {
     /// A slot whose last timer has this deadline, generation, order, destination, message and kind. One above the greatest
-    /// deadline of its timers is `above`. Deadlines are in milliseconds after the start time.
+    /// deadline of its timers is `above`. Deadlines are in milliseconds after the start time. It is noted as standing in the chain
+    /// of its process.
     #[inline(always)]
     pub(crate) fn new(
         deadline: u64,
@@ -60,14 +62,16 @@ impl Stored {
         kind: Kind,
     ) -> Stored
         requires timer { IsTimer deadline generation }
+        requires order { order ≤ 9007199254740992 }
         requires above { above < 17592186044416 }
         requires dest { dest < 524288 }
-        ensures slot { slot_of result ≡ record { generation = generation; above = above; dest = dest; msg = msg; kind = kind } }
+        ensures slot { stored_slot result ≡ record { generation = generation; above = above; dest = dest; msg = msg; kind = kind } }
         ensures key { stored_key result ≡ record { deadline = deadline; order = order } }
+        ensures joined { is_joined result ≡ true }
     {
         Stored {
             word: armed_word(deadline, generation),
-            order,
+            rank: order * 2 + 1,
             msg,
             rest: number_of(kind) + DEST * u64::from(dest) + ABOVE * above,
         }
@@ -79,25 +83,48 @@ impl Stored {
     {
         Stored {
             word: 0,
-            order: 0,
+            rank: 0,
             msg: 0,
             rest: 0,
         }
     }
 
+    /// The same, without the note that it stands in the chain of its process.
+    pub(crate) fn apart(self) -> Stored
+        ensures slot { stored_slot result ≡ stored_slot self }
+        ensures key { stored_key result ≡ stored_key self }
+        ensures apart { is_joined result ≡ false }
+    {
+        Stored {
+            word: self.word,
+            rank: self.rank / 2 * 2,
+            msg: self.msg,
+            rest: self.rest,
+        }
+    }
+
+    /// Whether it is noted that it stands in the chain of a process.
+    #[inline]
+    pub(crate) fn is_with(self, process: u32) -> bool
+        ensures joined { result ≡ true → is_joined self ≡ true }
+        ensures dest { result ≡ true → (stored_slot self).dest ≡ process }
+    {
+        self.rank % 2 == 1 && self.dest() == process
+    }
+
     /// The generation of its last timer; 0 where it was never used.
     #[inline]
     pub(crate) fn generation(self) -> u64
-        ensures { result ≡ (slot_of self).generation }
+        ensures { result ≡ (stored_slot self).generation }
     {
-        generation_in(self.word)
+        word_generation(self.word)
     }
 
     /// One above the greatest deadline of all its timers, in milliseconds after the start time, so at most 2^43;
     /// 0 where it was never used.
     #[inline]
     pub(crate) fn above(self) -> u64
-        ensures above { result ≡ (slot_of self).above }
+        ensures above { result ≡ (stored_slot self).above }
         ensures in_range { result < 17592186044416 }
     {
         self.rest / ABOVE
@@ -106,7 +133,7 @@ impl Stored {
     /// The destination of its last timer.
     #[inline]
     pub(crate) fn dest(self) -> u32
-        ensures { result ≡ (slot_of self).dest }
+        ensures { result ≡ (stored_slot self).dest }
     {
         (self.rest % ABOVE / DEST) as u32
     }
@@ -114,7 +141,7 @@ impl Stored {
     /// The message of its last timer.
     #[inline]
     pub(crate) fn msg(self) -> u64
-        ensures { result ≡ (slot_of self).msg }
+        ensures { result ≡ (stored_slot self).msg }
     {
         self.msg
     }
@@ -122,7 +149,7 @@ impl Stored {
     /// The kind of its last timer.
     #[inline]
     pub(crate) fn kind(self) -> Kind
-        ensures { result ≡ (slot_of self).kind }
+        ensures { result ≡ (stored_slot self).kind }
     {
         if self.rest % DEST == 1 {
             Kind::Bare

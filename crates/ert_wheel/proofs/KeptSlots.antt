@@ -1,8 +1,8 @@
 -- Keys and values by slot, as they are stored: each value has a key in it.
 
-use Rattle.std.proofs.Common.{◌≡◌, ◌∙◌, sym, ap, ℕ, zero, suc, ◌-◌, ◌<◌, ◌≤◌, List, ◌∷◌, ◌++◌, Some, map, length, get_or, set, replicate, slice_get, refl, if◌then◌else◌, true, Bool, take, take_all}
-use Rattle.std.proofs.lemmas.Option.{slice_get_read}
-use Rattle.std.proofs.lemmas.List.{get_or-map, map-append, map-set, length-map}
+use Rattle.std.proofs.Common.{◌≡◌, ◌∙◌, sym, ap, subst, IfSome, ℕ, zero, suc, ◌-◌, ◌<◌, ◌≤◌, List, ◌∷◌, ◌++◌, Some, map, length, get_or, set, replicate, slice_get, refl, if◌then◌else◌, true, Bool, take, take_all}
+use Rattle.std.proofs.lemmas.Option.{slice_get_read, slice_get-get_or}
+use Rattle.std.proofs.lemmas.List.{get_or-map, map-append, map-set, length-map, set-get_or}
 use Rattle.ert_wheel.specs.Kept.{KeptSlots}
 use Rattle.ert_wheel.specs.Wheels.{no_key}
 use Rattle.ert_wheel.specs.declared.row.Key.{Key}
@@ -37,6 +37,15 @@ kept_set_key {T} key vs cap k i v is = map-set key vs i v ∙ ap (λ (k : KeptSl
 pub kept_set_value : {T : Type 0} (key : T → Key) (vs : List T) (cap : ℕ) (k : KeptSlots T) (i : ℕ) (v : T) → kept_as key vs cap ≡ k
     → set vs i v ≡ set k.values i v
 kept_set_value {T} key vs cap k i v is = ap (λ (k : KeptSlots T). set k.values i v) is
+
+-- the keys stay where the value has the same
+pub kept_same_keys : {T : Type 0} (key : T → Key) (vs : List T) (cap : ℕ) (k : KeptSlots T) (i : ℕ) (v : T) → kept_as key vs cap ≡ k
+    → i < length vs → IfSome (slice_get k.values i) (λ old. key v ≡ key old) → set k.keys i (key v) ≡ k.keys
+kept_same_keys {T} key vs cap k i v is low same =
+    let at : slice_get k.values i ≡ Some (get_or vs i v) = ap (λ (k : KeptSlots T). slice_get k.values i) (sym is) ∙ slice_get-get_or vs i v low in
+    let equal : key v ≡ key (get_or vs i v) = subst (λ o. IfSome o (λ old. key v ≡ key old)) at same in
+    let read : get_or (map key vs) i no_key ≡ get_or k.keys i no_key = ap (λ (k : KeptSlots T). get_or k.keys i no_key) is in
+    ap (λ x. set k.keys i x) (equal ∙ (sym (get_or-map key vs i v no_key low) ∙ read)) ∙ set-get_or k.keys i no_key
 
 -- a list that was filled up
 pub filled : {T : Type 0} (vs vs' : List T) (i n : ℕ) (u : T) (ok : Bool) → ok ≡ true → n ≡ length vs → length vs ≤ i

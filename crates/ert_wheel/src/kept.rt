@@ -21,7 +21,7 @@ impl<T: Keyed> Model for Kept<T> {
 }
 
 impl<T: Keyed> Kept<T> {
-    ghost use Rattle.std.specs.Prelude.{◌≡◌, ◌-◌, ◌<◌, ◌≤◌, [], ◌++◌, IfOk, Some, length, replicate, slice_index_or, slice_set};
+    ghost use Rattle.std.specs.Prelude.{◌≡◌, ◌-◌, ◌<◌, ◌≤◌, [], ◌++◌, IfOk, IfSome, Some, length, replicate, slice_index_or, slice_set};
     ghost use Rattle.std.specs.List.{slice_get};
     ghost use Rattle.ert_wheel.specs.Wheels.{no_key};
 
@@ -85,11 +85,12 @@ impl<T: Keyed> Kept<T> {
         self.values[slot as usize]
     }
 
-    /// Gives a slot another value, with another key in it.
+    /// Gives a slot another value, with another key in it or the same.
     #[inline]
     pub fn set(&mut self, slot: u32, value: T)
         requires { slot < length self.old.keys }
         ensures keys { self.new.keys ≡ slice_set self.old.keys slot (T.key value) }
+        ensures same { IfSome (slice_get self.old.values slot) (λ old. T.key value ≡ T.key old) → self.new.keys ≡ self.old.keys }
         ensures values { self.new.values ≡ slice_set self.old.values slot value }
         ensures room { self.new.room ≡ self.old.room }
     {

@@ -1,3 +1,5 @@
+use crate::keyed::Keyed;
+
 /// No row has this deadline, or a later one.
 pub const NEVER: u64 = 192 << 36;
 
@@ -7,13 +9,26 @@ pub const LAST: u64 = NEVER - 1;
 /// How many buckets a wheel has: 1,024 on each of four levels, and 192 on the highest.
 pub const BUCKETS: u32 = 4_288;
 
-/// What contracts know of a row.
+/// The deadline and the order of a row.
 #[derive(Clone, Copy, Debug, PartialEq, Eq)]
 pub struct Key {
     /// When the row is due, in milliseconds. At most [`LAST`].
     pub deadline: u64,
     /// Its rank among all rows that were put in: later ones have greater orders.
     pub order: u64,
+}
+
+/// A wheel may keep no more of a slot than the key.
+impl Keyed for Key {
+    ghost key = { λ key. key };
+
+    fn deadline(self) -> u64 {
+        self.deadline
+    }
+
+    fn order(self) -> u64 {
+        self.order
+    }
 }
 
 /// A row that is put into a wheel.

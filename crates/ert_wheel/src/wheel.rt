@@ -29,8 +29,8 @@ mod replacing;
 ///
 ///     let mut wheel = Wheel::new(alloc, 64, 1)?;
 ///     let mut due = Vec::with_capacity(alloc, 64)?;
-///     wheel.write_up_to(4, unused);
-///     wheel.insert(Row { deadline: 20, order: 0, slot: 3 }, value);       // `value` tells this deadline and this order
+///     wheel.write_up_to(4, Key { deadline: 0, order: 0 });
+///     wheel.insert(Row { deadline: 20, order: 0, slot: 3 }, Key { deadline: 20, order: 0 });
 ///     wheel.advance(20, &mut due);        // gives that row, and takes it out
 #[derive(Drop)]
 pub struct Wheel<T: Keyed> {
@@ -173,6 +173,19 @@ impl<T: Keyed> Wheel<T> {
         ensures { slice_get self.now.values slot ≡ Some result }
     {
         self.kept.value(slot)
+    }
+
+    /// Gives a slot another value, with the same key in it.
+    #[inline]
+    pub fn change(&mut self, slot: u32, value: T)
+        requires written { slot < self.old.owners.written }
+        requires same { IfSome (slice_get self.old.values slot) (λ old. T.key value ≡ T.key old) }
+        ensures keys { self.new.keys ≡ self.old.keys }
+        ensures owners { self.new.owners ≡ self.old.owners }
+        ensures values { self.new.values ≡ slice_set self.old.values slot value }
+        ensures passed { self.new.passed ≡ self.old.passed }
+    {
+        self.kept.set(slot, value);
     }
 
     /// Puts a row in, with a value of its slot that has the row's key in it. The slot has no row, and the order is above that of

@@ -1,6 +1,6 @@
 -- The word of an armed timer, compared as a whole.
 
-use Rattle.std.proofs.Common.{◌≡◌, ℕ, ◌<◌, ◌≤◌, ◌+◌, ◌-◌, ◌*◌, ◌/◌, ◌%◌, Bool, true, false, cond, nat_eq, ◌&&◌, nat_lt, nat_le, Some, None, inl, inr, ◌⊎◌, refl, sym, ap, ◌∙◌, arith}
+use Rattle.std.proofs.Common.{◌≡◌, ℕ, ◌<◌, ◌≤◌, ◌+◌, ◌-◌, ◌*◌, ◌/◌, ◌%◌, Bool, true, false, ◌&&◌, nat_lt, nat_le, Some, None, inl, inr, ◌⊎◌, refl, sym, ap, ◌∙◌, arith}
 use Rattle.std.proofs.lemmas.Bool.{leb-true, ltb-true, or_cases, and_parts}
 use Rattle.std.proofs.lemmas.Bool.Decides.{nat_tests}
 use Rattle.ert_defs.specs.Legal.{is_generation}
@@ -8,7 +8,7 @@ use Rattle.ert_defs.specs.Timers.{use_of}
 use Rattle.ert_defs.specs.Words.{status_code, timer_word}
 use Rattle.ert_defs.specs.declared.timer.Status.{Status}
 use Rattle.ert_defs.specs.declared.timer.Status.TheVariants.{Armed}
-use Rattle.ert_words.specs.Ranges.{IsTimer, TellsArmed, deadline_in, generation_in}
+use Rattle.ert_words.specs.Ranges.{IsTimer, TellsArmed}
 
 pub use_low : (n : ℕ) → n < 8796093022208 → use_of n ≡ n
 use_low n low = grind (arith, nat_tests)
@@ -78,27 +78,6 @@ later_word d n late tells =
 -- a generation above those of the first round is of a later one
 pub is_later : (d n : ℕ) → IsTimer d n → 262143 < n → 8796093022208 ≤ n
 is_later d n timer more = elim (order_of n) [ inl low ↦ absurd (omega (arith, timer.generation_first low, more)) | inr late ↦ late ]
-
--- the word of an armed timer tells its deadline and its generation
-first_parts : (word d n : ℕ) → n ≤ 262143 → d ≤ 8796093022207 → word ≡ (1 + 8 * d) + 70368744177664 * n
-    → (word / 8 % 8796093022208 ≡ d) × ((word % 8 ≡ 1) × (word / 70368744177664 ≡ n))
-first_parts word d n few low is = (omega (arith, is), (omega (arith, is), omega (arith, is)))
-
-later_parts : (word d n : ℕ) → n % 8796093022208 ≡ d → word ≡ 8 * n + 7 → (word / 8 % 8796093022208 ≡ d) × ((word % 8 ≡ 7) × (word / 8 ≡ n))
-later_parts word d n tells is =
-    let part : word / 8 ≡ n = omega (arith, is) in
-    (ap (λ m. m % 8796093022208) part ∙ tells, (omega (arith, is), part))
-
-pub told_back : (d n : ℕ) → IsTimer d n → (deadline_in (timer_word Armed d n) ≡ d) × (generation_in (timer_word Armed d n) ≡ n)
-told_back d n timer =
-    elim (order_of n) [
-      | inl low ↦
-          let parts = first_parts (timer_word Armed d n) d n (timer.generation_first low) timer.deadline_high (first_word d n (timer.generation_first low)) in
-          (parts.0, ap (λ m. cond (nat_eq m 7) (timer_word Armed d n / 8) (timer_word Armed d n / 70368744177664)) parts.1.0 ∙ parts.1.1)
-      | inr late ↦
-          let parts = later_parts (timer_word Armed d n) d n (timer.generation_tells late) (later_word d n late (timer.generation_tells late)) in
-          (parts.0, ap (λ m. cond (nat_eq m 7) (timer_word Armed d n / 8) (timer_word Armed d n / 70368744177664)) parts.1.0 ∙ parts.1.1)
-    ]
 
 -- what is left of a word without the status and the use of a timer
 abbrev pub rest_of : ℕ → ℕ → ℕ

@@ -49,12 +49,13 @@ pub record IsUsedWord (word : ℕ) : Type 0 where
   pub in_range : IsTimer deadline generation
   pub stands : word ≡ timer_word status deadline generation
 
--- the deadline and the generation in a word that is of an armed timer, or of a slot that was never used: 0 and 0
-abbrev pub deadline_in : ℕ → ℕ
-deadline_in word = word / 8 % 8796093022208
+-- the deadline in the word of a timer, and 0 in that of a slot that was never used
+abbrev pub word_deadline : ℕ → ℕ
+word_deadline word = (word / 8) % 8796093022208
 
-abbrev pub generation_in : ℕ → ℕ
-generation_in word = cond (nat_eq (word % 8) 7) (word / 8) (word / 70368744177664)
+-- what the word shows of the generation (`shown_generation`), and 0 in that of a slot that was never used
+abbrev pub word_generation : ℕ → ℕ
+word_generation word = cond (nat_eq (word % 8) 7) (word / 8) (word / 70368744177664)
 
 -- the word of a slot, used or not
 abbrev pub IsTimerWord : ℕ → Type 0

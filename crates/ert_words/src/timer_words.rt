@@ -113,16 +113,16 @@ fn deadline_of_later(word: u64, generation: u64) -> Option<u64>
 
 /// The deadline in the word of an armed timer, in milliseconds after the start; 0 in that of a slot that was never used.
 #[inline(always)]
-pub fn deadline_in(word: u64) -> u64
-    ensures { result ≡ ranges.deadline_in word }
+pub fn word_deadline(word: u64) -> u64
+    ensures { result ≡ ranges.word_deadline word }
 {
     word / DEADLINE % (GENERATION / DEADLINE)
 }
 
 /// The generation in the word of an armed timer; 0 in that of a slot that was never used.
 #[inline(always)]
-pub fn generation_in(word: u64) -> u64
-    ensures { result ≡ ranges.generation_in word }
+pub fn word_generation(word: u64) -> u64
+    ensures { result ≡ ranges.word_generation word }
 {
     if word % DEADLINE == ARMED_LATER {
         word / DEADLINE

@@ -4,9 +4,9 @@ ghost use Rattle.std.specs.Prelude.{◌≡◌, ◌≤◌, ◌<◌, ℕ, Option, 
 ghost use Rattle.ert_defs.specs.Timers as timers;
 ghost use Rattle.ert_timers.specs.Changes as changes;
 ghost use Rattle.ert_timers.specs.Owners.{MayJoin, Joins};
-ghost use Rattle.ert_timers.specs.Parts.{IsWritten};
-ghost use Rattle.ert_timers.specs.Slots.{slot_of, stored_key};
-ghost use Rattle.ert_wheel.specs.Rings.{Place, AreChains, MayTake, GivesUpPlace, StandsIn};
+ghost use Rattle.ert_timers.specs.Parts.{AreJoined, IsWritten, all_slots};
+ghost use Rattle.ert_timers.specs.Slots.{stored_slot, stored_key};
+ghost use Rattle.ert_wheel.specs.Rings.{Place, AreChains, MayTake, GivesUpPlace};
 ghost use Rattle.ert_words.specs.Free.{free_set, with_short, with_long, TakesLong, TakesNextSlot};
 ghost use Rattle.ert_words.specs.Ranges.{IsTimer};
 
@@ -22,7 +22,7 @@ const WRITTEN_AT_ONCE: u32 = 64;
 impl Stored {
     /// Whether it was used less often than a round allows.
     fn has_uses(self) -> bool
-        ensures { result ≡ changes.has_uses (slot_of self) }
+        ensures { result ≡ changes.has_uses (stored_slot self) }
     {
         has_uses(self.generation())
     }
@@ -31,8 +31,9 @@ impl Stored {
     #[inline]
     pub(super) fn used(self, start: &Start, next: Use, order: u64) -> Stored
         requires timer { IsTimer next.deadline next.generation }
+        requires order { order ≤ 9007199254740992 }
         requires dest { start.now.dest < 524288 }
-        ensures slot { slot_of result ≡ changes.slot_for next (slot_of self).above start.now }
+        ensures slot { stored_slot result ≡ changes.slot_for next (stored_slot self).above start.now }
         ensures key { stored_key result ≡ record { deadline = next.deadline; order = order } }
     {
         let above = self.above().max(next.deadline + 1);
@@ -50,7 +51,7 @@ impl Stored {
     /// Whether it rests at a time in milliseconds after the start time: its round has no use left, and the
     /// deadline of one of its timers hasn't passed.
     fn is_resting(self, now: u64) -> bool
-        ensures { result ≡ changes.is_resting (slot_of self) now }
+        ensures { result ≡ changes.is_resting (stored_slot self) now }
     {
         !self.has_uses() && now < self.above()
     }
@@ -63,7 +64,7 @@ impl Stored {
     fn next_use(self, now: u64, deadline: u64) -> Use
         requires now { now ≤ 8796093022207 }
         requires deadline { deadline ≤ 8796093022207 }
-        ensures { result ≡ changes.next_use (slot_of self).generation now deadline }
+        ensures { result ≡ changes.next_use (stored_slot self).generation now deadline }
     {
         Use::after(self.generation(), now, deadline)
     }
@@ -200,7 +201,7 @@ impl WheelPart {
         requires away { set.contains self.old.free slot ≡ false }
         ensures { self.new ≡ self.old }
     {
-        self.wheel.disown(slot);
+        part_from(&mut self.wheel, slot);
     }
 
     /// Drops the row of a timer that has been settled but hasn't expired, counts whether it was cancelled
@@ -239,7 +240,7 @@ impl WheelPart {
         ensures timer { result ≡ last_timer self.new.number self.new.slots slot }
     {
         let last = self.wheel.value(slot);
-        let stays = is_with(&self.wheel, slot, last, start.dest);
+        let stays = last.is_with(start.dest);
         let row = Row {
             deadline: next.deadline,
             order: self.arms,
@@ -288,17 +289,6 @@ fn write_more(wheel: &mut Wheel<Stored>, slot: u32)
 {
     let count = slot.saturating_add(WRITTEN_AT_ONCE).min(wheel.slots());
     wheel.write_up_to(count, Stored::unused());
-}
-
-/// Whether a slot stands in the chain of a process, by what is kept of its last timer.
-#[inline]
-fn is_with(wheel: &Wheel<Stored>, slot: u32, last: Stored, process: u32) -> bool
-    requires { slot < wheel.now.owners.written }
-    ensures { (places : ℕ → Option Place) → AreChains wheel.now.owners places
-        → ((place : Place) → places slot ≡ Some place → place.home ≡ (slot_of last).dest)
-        → result ≡ true → StandsIn places process slot }
-{
-    last.dest() == process && wheel.is_owned(slot)
 }
 
 /// Puts a slot into the chain of a process, where it doesn't stay in it.
@@ -361,6 +351,24 @@ fn join_anew(wheel: &mut Wheel<Stored>, slot: u32, process: u32)
         → MayJoin places slot process bound false → Joins wheel.new.owners places slot process bound }
 {
     join(wheel, slot, process, false);
+}
+
+/// Takes a slot out of the chain of its process, where it is in one, with the note that it stands there.
+pub(super) fn part_from(wheel: &mut Wheel<Stored>, slot: u32)
+    requires may { MayTake wheel.old.owners slot }
+    requires written { slot < wheel.old.owners.written }
+    ensures keys { wheel.new.keys ≡ wheel.old.keys }
+    ensures stored { (n : ℕ) → all_slots wheel.new.values n ≡ all_slots wheel.old.values n }
+    ensures passed { wheel.new.passed ≡ wheel.old.passed }
+    ensures slots { wheel.new.owners.slots ≡ wheel.old.owners.slots }
+    ensures homes { wheel.new.owners.homes ≡ wheel.old.owners.homes }
+    ensures written { wheel.new.owners.written ≡ wheel.old.owners.written }
+    ensures parted { GivesUpPlace wheel.old.owners wheel.new.owners slot }
+    ensures joined { AreJoined wheel.old.values wheel.old.owners → AreJoined wheel.new.values wheel.new.owners }
+{
+    let stored = wheel.value(slot);
+    wheel.change(slot, stored.apart());
+    wheel.disown(slot);
 }
 
 /// Takes a slot out of its chain, where it is in one. In a slot's first use it isn't, and then nothing is written.

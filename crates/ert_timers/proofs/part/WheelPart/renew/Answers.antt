@@ -1,10 +1,11 @@
 use Rattle.std.proofs.Common.{◌≡◌, ◌+◌, ◌<◌, nat_eq, length, refl, sym, ap, subst, ◌∙◌, set, arith, eqb-true}
+use Rattle.ert_timers.proofs.Joined.{joined_kept}
 use Rattle.ert_timers.specs.Changes.{dropped, kept, slot_for}
 use Rattle.ert_timers.specs.Owners.{MayJoin, Joins}
 use Rattle.ert_timers.specs.Parts.{Part, all_slots, slot_at}
 use Rattle.ert_timers.specs.Restarting.{CanRenew}
 use Rattle.ert_timers.specs.contracts.part.WheelPart.{the_view}
-use Rattle.ert_timers.specs.Slots.{Slot, slot_of}
+use Rattle.ert_timers.specs.Slots.{Slot, stored_slot}
 use Rattle.ert_timers.proofs.AllSlots.{read_at}
 use Rattle.ert_timers.proofs.Fit.{fit_dropped, fit_same, may_leave, same_places, some_key, written_away}
 use Rattle.ert_timers.proofs.Keeping.{orders_if, fit_kept, slots_kept, named_kept}
@@ -15,24 +16,24 @@ use Rattle.ert_timers.proofs.part.WheelPart.renew.Goals.{After-join_seldom}
 use Rattle.ert_wheel.specs.Rings.{Rings, AreChains, MayTake, StandsIn}
 
 pub overflow_add-self : goal.overflow_add-self
-overflow_add-self c = omega (arith, c.self.invariant.few_arms)
+overflow_add-self c = omega (arith, c.self.invariant.fit.few_arms)
 
 pub value-last-requires : goal.value-last-requires
 value-last-requires c =
     let p = c.self.inside in
     let can = subst (λ (q : Part). CanRenew q c.args.slot) (sym c.self.view_is) c.requires.can in
-    written_away (all_slots p.wheel.values p.wheel.owners.slots) p.wheel.keys (free_set p.free) p.wheel.owners p.arms p.expires p.orphans c.args.slot c.self.invariant
+    written_away (all_slots p.wheel.values p.wheel.owners.slots) p.wheel.keys (free_set p.free) p.wheel.owners p.arms p.expires p.orphans c.args.slot c.self.invariant.fit
     can.low can.away
 
 pub replace-requires-clause-slot : goal.replace-requires-clause-slot
 replace-requires-clause-slot c =
     let p = c.self.inside in
     let can = subst (λ (q : Part). CanRenew q c.args.slot) (sym c.self.view_is) c.requires.can in
-    written_away (all_slots p.wheel.values p.wheel.owners.slots) p.wheel.keys (free_set p.free) p.wheel.owners p.arms p.expires p.orphans c.args.slot c.self.invariant
+    written_away (all_slots p.wheel.values p.wheel.owners.slots) p.wheel.keys (free_set p.free) p.wheel.owners p.arms p.expires p.orphans c.args.slot c.self.invariant.fit
     can.low can.away
 
 pub replace-requires-clause-newest : goal.replace-requires-clause-newest
-replace-requires-clause-newest c = orders_if c.self.inside.wheel.keys c.self.inside.arms c.self.invariant.orders
+replace-requires-clause-newest c = orders_if c.self.inside.wheel.keys c.self.inside.arms c.self.invariant.fit.orders
 
 pub join_seldom-requires-clause-process : goal.join_seldom-requires-clause-process
 join_seldom-requires-clause-process c =
@@ -43,7 +44,7 @@ pub join_seldom-requires-clause-may : goal.join_seldom-requires-clause-may
 join_seldom-requires-clause-may c =
     let p = c.self.inside in
     subst (λ (r : Rings). MayTake r c.args.slot) (sym c.replace.ensures.owners)
-    (may_leave (all_slots p.wheel.values p.wheel.owners.slots) p.wheel.keys (free_set p.free) p.wheel.owners p.arms p.expires p.orphans c.args.slot c.self.invariant
+    (may_leave (all_slots p.wheel.values p.wheel.owners.slots) p.wheel.keys (free_set p.free) p.wheel.owners p.arms p.expires p.orphans c.args.slot c.self.invariant.fit
     (subst (λ (q : Part). c.args.slot < length q.slots) (sym c.self.view_is) c.requires.can.low))
 
 pub join_seldom-requires-clause-written : goal.join_seldom-requires-clause-written
@@ -51,7 +52,7 @@ join_seldom-requires-clause-written c =
     let p = c.self.inside in
     let can = subst (λ (q : Part). CanRenew q c.args.slot) (sym c.self.view_is) c.requires.can in
     subst (λ (r : Rings). c.args.slot < r.written) (sym c.replace.ensures.owners)
-    (written_away (all_slots p.wheel.values p.wheel.owners.slots) p.wheel.keys (free_set p.free) p.wheel.owners p.arms p.expires p.orphans c.args.slot c.self.invariant
+    (written_away (all_slots p.wheel.values p.wheel.owners.slots) p.wheel.keys (free_set p.free) p.wheel.owners p.arms p.expires p.orphans c.args.slot c.self.invariant.fit
     can.low can.away)
 
 -- what is kept of the slots with the timer
@@ -61,7 +62,7 @@ slots c =
     let p = c.self.inside in
     let low = subst (λ (q : Part). c.args.slot < length q.slots) (sym c.self.view_is) c.requires.can.low in
     slots_kept p.wheel.values c.join_seldom.new.wheel.values p.wheel.owners.slots c.join_seldom.new.wheel.owners.slots c.args.slot c.value-last.result c.used.result
-    c.args.start.now c.args.next c.value-last.ensures (omega (arith, low, c.self.invariant.owned))
+    c.args.start.now c.args.next c.value-last.ensures (omega (arith, low, c.self.invariant.fit.owned))
     (c.join_seldom.ensures.slots ∙ ap (λ (r : Rings). r.slots) c.replace.ensures.owners) (c.join_seldom.ensures.values ∙ c.replace.ensures.values) c.used.ensures.slot
 
 pub invariant_of-self : goal.invariant_of-self
@@ -71,8 +72,8 @@ invariant_of-self c =
     let k = c.args.slot in
     let can = subst (λ (q : Part). CanRenew q k) (sym c.self.view_is) c.requires.can in
     let dest = subst (λ (q : Part). c.args.start.now.dest < q.processes) (sym c.self.view_is) c.requires.dest in
-    let fit = c.self.invariant in
-    let read : slot_at seen.slots k ≡ slot_of c.value-last.result =
+    let fit = c.self.invariant.fit in
+    let read : slot_at seen.slots k ≡ stored_slot c.value-last.result =
     read_at p.wheel.values p.wheel.owners.slots k c.value-last.result c.value-last.ensures (omega (arith, can.low, fit.owned)) in
     let start = c.args.start.now in
     let same = c.replace.ensures.owners in
@@ -88,13 +89,18 @@ invariant_of-self c =
       stands = λ stays.
           subst (λ n. StandsIn fit.chained.places n k) (ap (λ (s : Slot). s.dest) read ∙ (sym c.dest.ensures ∙ eqb-true _ _ stays)) (fit.chained.held k has.0 has.1);
     }) in
-    fit_same (slots c) ((c.join_seldom.ensures.keys ∙ c.replace.ensures.keys) ∙ sym (set_twice p.wheel.keys k _ _)) refl
-    (fit_kept (dropped seen k) (free_set p.free) p.wheel.owners new.owners k start c.args.next less refl (free_again seen k can)
-    can.few dest
-    (c.join_seldom.ensures.slots ∙ ap (λ (r : Rings). r.slots) same) (c.join_seldom.ensures.homes ∙ ap (λ (r : Rings). r.homes) same)
-    (c.join_seldom.ensures.written ∙ ap (λ (r : Rings). r.written) same)
-    (subst (λ places. Joins new.owners places k start.dest p.arms)
-    (same_places seen.slots p.wheel.keys (free_set p.free) p.wheel.owners p.arms p.expires p.orphans k has.0 fit has.1) joins))
+    record {
+      fit =
+          fit_same (slots c) ((c.join_seldom.ensures.keys ∙ c.replace.ensures.keys) ∙ sym (set_twice p.wheel.keys k _ _)) refl
+          (fit_kept (dropped seen k) (free_set p.free) p.wheel.owners new.owners k start c.args.next less refl (free_again seen k can)
+          can.few dest
+          (c.join_seldom.ensures.slots ∙ ap (λ (r : Rings). r.slots) same) (c.join_seldom.ensures.homes ∙ ap (λ (r : Rings). r.homes) same)
+          (c.join_seldom.ensures.written ∙ ap (λ (r : Rings). r.written) same)
+          (subst (λ places. Joins new.owners places k start.dest p.arms)
+          (same_places seen.slots p.wheel.keys (free_set p.free) p.wheel.owners p.arms p.expires p.orphans k has.0 fit has.1) joins));
+      joined = joined_kept p.wheel.values new.values p.wheel.owners new.owners fit.chained.places k start.dest p.arms c.used.result c.self.invariant.joined fit.chained.are
+          (c.join_seldom.ensures.slots ∙ ap (λ (r : Rings). r.slots) same) (c.join_seldom.ensures.values ∙ c.replace.ensures.values) joins;
+    }
 
 pub returns-clause-kept : goal.returns-clause-kept
 returns-clause-kept c =
