@@ -33,7 +33,7 @@ use Rattle.ert_plain.specs.PlainTurns.{due_rows, expiries, advance_now}
 
 -- the milliseconds of the record are those of the look
 
-look_stays : (w : ℕ) (timer : TimerRef) (missed : Option (Option Status)) (g : Settings) (z : State)
+pub look_stays : (w : ℕ) (timer : TimerRef) (missed : Option (Option Status)) (g : Settings) (z : State)
     → (next g z (expires_by w timer missed)).looked (Sched w) ≡ z.looked (Sched w)
 look_stays w timer None g z = cond_same (nat_eq w w) (z.looked (Sched w))
 look_stays w timer (Some found) g z = cond_same (nat_eq w w) (z.looked (Sched w))
@@ -49,7 +49,7 @@ to_is g w to (t ∷ tries) z legal =
 other_armed : (t r : TimerRef) (x : Option Status) → r ≢ t → is_armed x ≡ is_armed (cond (same_timer t r) (settled_as Expired x) x)
 other_armed t r x apart = sym (ap (λ (b : Bool). is_armed (cond b (settled_as Expired x) x)) (same_timer-false t r (λ same. apart (sym same))))
 
-differs_from : (x : Row) (before : List Row) (row : Row) (behind : List Row) → All (Differ x) (before ++ (row ∷ behind)) → x.timer ≢ row.timer
+pub differs_from : (x : Row) (before : List Row) (row : Row) (behind : List Row) → All (Differ x) (before ++ (row ∷ behind)) → x.timer ≢ row.timer
 differs_from x [] row behind all = All-head (Differ x) row behind all
 differs_from x (y ∷ before) row behind all = differs_from x before row behind (All-tail (Differ x) y (before ++ (row ∷ behind)) all)
 
@@ -130,7 +130,7 @@ expires_here g to t z kept can is =
 wheel_of : (w v : ℕ) → Sched w ≡ Sched v → v ≡ w
 wheel_of w v is = cc
 
-expires_first : (g : Settings) (w to : ℕ) (t : TimerRef) (z : State) → IsKept z → Can g z (expire_entry w t) → pos to ≡ down g (z.looked (Sched w))
+pub expires_first : (g : Settings) (w to : ℕ) (t : TimerRef) (z : State) → IsKept z → Can g z (expire_entry w t) → pos to ≡ down g (z.looked (Sched w))
     → ExpiresFirst g w to t z
 expires_first g w to t z kept can is =
     let P : ℕ → Type 0 = λ v. Can g z (expire_entry v t) → pos to ≡ down g (z.looked (Sched v)) → ExpiresFirst g v to t z in

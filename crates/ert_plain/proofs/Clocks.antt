@@ -42,7 +42,7 @@ done_as g n ls s c reply es fs piece other is same h =
 pub Decides-int_le : (a b : ℤ) → Decides (int_le a b) (a ≤ℤ b)
 Decides-int_le a b = grind (arith, ints)
 
-Decides-int_lt : (a b : ℤ) → Decides (int_lt a b) (a <ℤ b)
+pub Decides-int_lt : (a b : ℤ) → Decides (int_lt a b) (a <ℤ b)
 Decides-int_lt a b = grind (arith, ints)
 
 -- what isn't so fails its test
@@ -50,7 +50,7 @@ pub decided_not : (b : Bool) (P : Type 0) → Decides b P → (P → ⊥) → b 
 decided_not true P d fails = absurd (fails (d.0 refl))
 decided_not false P d fails = refl
 
-Decides-within : (x : ℤ) → Decides (is_within x) (IsOffset x)
+pub Decides-within : (x : ℤ) → Decides (is_within x) (IsOffset x)
 Decides-within x =
     Decides-like _ (λ p. record { low = p.0; high = p.1 }) (λ h. (h.low, h.high))
     (Decides-and _ _ (Decides-int_lt _ _) (Decides-int_lt _ _))

@@ -40,7 +40,7 @@ unmarked false true = refl
 unmarked false false = refl
 
 -- the scheduler keeps the others
-kept_others : (g : Settings) (w p : ℕ) (was : Bool) (s : State) (e : Entry) → e.by ≡ Sched w
+pub kept_others : (g : Settings) (w p : ℕ) (was : Bool) (s : State) (e : Entry) → e.by ≡ Sched w
     → ((z : State) → ((next g z e).scheds w).expired ≡ (cond (has_actor e (Sched w)) (others_of (z.scheds w).expired) (z.scheds w).expired))
     → has_actor e (Sched w) ≡ true
     → ((next g (next g s (mark_entry (Sched w) p false was)) e).scheds w).expired ≡ others_of (s.scheds w).expired
@@ -50,7 +50,7 @@ kept_others g w p was s e by goes has =
     goes z ∙ ap (λ (b : Bool). cond b (others_of (z.scheds w).expired) (z.scheds w).expired) has
     ∙ ap (λ (x : SchedState). others_of x.expired) same
 
-expired_if : (b : Bool) (x y : SchedState) → (cond b x y).expired ≡ cond b x.expired y.expired
+pub expired_if : (b : Bool) (x y : SchedState) → (cond b x y).expired ≡ cond b x.expired y.expired
 expired_if true x y = refl
 expired_if false x y = refl
 

@@ -22,3 +22,11 @@ pub mod StartsAgree
 pub mod Steps
 pub mod Sweeps
 pub mod Taken
+pub mod PossibleCalls
+pub mod Reached
+pub mod PossibleStarts
+pub mod PossibleAdvances
+pub mod Following
+pub mod PossibleSweeps
+pub mod PossibleTurns
+pub mod PossibleOps

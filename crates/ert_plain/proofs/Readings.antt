@@ -133,7 +133,7 @@ info_done g n ls s c start end mode correction offset state es h legal told is =
 
 -- conversions
 
-Decides-fits : (x : ℤ) → Decides (fits_64_bits x) (FitsSigned w64 x)
+pub Decides-fits : (x : ℤ) → Decides (fits_64_bits x) (FitsSigned w64 x)
 Decides-fits x =
     Decides-like (fits_64_bits x)
     (λ (p : (negsuc 9223372036854775807 ≤ℤ x) × (x ≤ℤ pos 9223372036854775807)). omega (arith, ints))

@@ -1,3 +1,4 @@
+pub mod Existence
 pub mod Laws
 pub mod Pieces
 pub mod Plain

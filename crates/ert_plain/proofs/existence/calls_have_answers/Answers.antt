@@ -1,0 +1,28 @@
+-- Each call has an answer after each legal history.
+
+use Rattle.ert_defs.specs.States.{state}
+use Rattle.ert_laws.proofs.SlotUses.{timers_few}
+use Rattle.ert_plain.proofs.PossibleCalls.{clock_answers, processes_answer, possible_read, possible_cancel}
+use Rattle.ert_plain.proofs.PossibleStarts.{possible_start}
+use Rattle.ert_plain.proofs.PossibleSweeps.{possible_exit}
+use Rattle.ert_plain.proofs.PossibleTurns.{possible_serve, can_advance, possible_deliver, possible_turn}
+use Rattle.ert_plain.proofs.Reached.{reached}
+use Rattle.ert_plain.proofs.existence.calls_have_answers.Goals as goal
+
+pub returns : goal.returns
+returns c = λ g h checked legal. (
+  clock_answers g (state g h),
+  record {
+    read = possible_read g (state g h);
+    cancel = possible_cancel g (state g h);
+    start = λ n w start. possible_start g (state g h) n w start (reached g h checked legal) (timers_few g h w legal);
+  },
+  processes_answer g (state g h),
+  record {
+    serve = λ w sched. possible_serve g h w legal sched;
+    advance = λ w sched. can_advance g h w checked legal sched;
+    deliver = λ w sched. possible_deliver g h w legal sched;
+    turn = λ w sched. possible_turn g h w checked legal sched;
+    exit = λ n p caller process. possible_exit g h n p checked legal caller process;
+  },
+)
