@@ -7,7 +7,9 @@
 //! asked: so no word is a flag.
 //!
 //! `ertime` is the whole program; its contract says what each status means. Its commands stand in `running` and
-//! `racing`, which `reading` gives a scenario, and in `living` and `stressing`. It stands on `ert_scenario`, which reads,
+//! `racing`, which `reading` gives a scenario, and in `living` and `stressing`. What `run` writes is told by the function
+//! of `ert_plain`, what `race` writes by an outcome of `ert_race` (`specs/Runs`, `specs/Races`); what is refused is told
+//! apart (`specs/RefusedInputs`). It stands on `ert_scenario`, which reads,
 //! `ert_script`, which runs the ops on a world, `ert_race`, which lets threads run lists of them, `ert_io`, and
 //! `ert_table`, whose desk it returns. Where it refuses its input it returns the bytes and their refusal, which
 //! `ert_explain` explains.
