@@ -1,8 +1,6 @@
 -- What `run` leaves.
 
-use Rattle.std.specs.Prelude.{◌≡◌, ℕ, false, List, Option, Some, length, IfSome}
-use Rattle.ert_program.specs.declared.command.Command.{Command}
-use Rattle.ert_program.specs.declared.command.Command.TheVariants.{Run}
+use Rattle.std.specs.Prelude.{◌≡◌, ℕ, false, List, Option, length}
 use Rattle.ert_defs.specs.declared.entry.Entry.{Entry}
 use Rattle.ert_defs.specs.declared.settings.Settings.{Settings}
 use Rattle.ert_io.specs.Known.{HasRoomFor}
@@ -48,8 +46,3 @@ RunOn = DidOn false RunOf
 pub record InputFits (left : Option (List ℕ)) (room : Option ℕ) : Type 0 where
   pub done : RunFits left room
   pub refused : RefusalFits false left room
-
--- where the output tells its room, the command is `run`, and all that it may write fits
-pub record AllFits (command : Option Command) (left : Option (List ℕ)) (room : Option ℕ) : Type 0 where
-  pub run : IfSome room (λ r. command ≡ Some Run)
-  pub fits : InputFits left room

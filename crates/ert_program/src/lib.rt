@@ -7,7 +7,9 @@
 //! asked: so no word is a flag.
 //!
 //! `ertime` is the whole program; its contract says what each status means. Its commands stand in `running` and
-//! `racing`, which `reading` gives a scenario, and in `living` and `stressing`. It stands on `ert_scenario`, which reads,
+//! `racing`, which `reading` gives a scenario, and in `living` and `stressing`. What `run` writes is told by the function
+//! of `ert_plain`, what `race` writes by an outcome of `ert_race` (`specs/Runs`, `specs/Races`); what is refused is told
+//! apart (`specs/RefusedInputs`). It stands on `ert_scenario`, which reads,
 //! `ert_script`, which runs the ops on a world, `ert_race`, which lets threads run lists of them, `ert_io`, and
 //! `ert_table`, whose desk it returns. Where it refuses its input it returns the bytes and their refusal, which
 //! `ert_explain` explains.
@@ -22,11 +24,10 @@
 //! **Choices.**
 //!
 //! - **The program returns its desk instead of its words**, since closing a desk takes memory.
-//! - **`run` says that its text is a transcript, and not which.** The plain service as a function stood in the
-//!   contract, 280 lines of definitions that nobody had to believe, since every script run has that text by law. Now
-//!   the contract names a script run, as that of `race` names an outcome, and the law stands in `ert_plain`, beside
-//!   everything. After a failed write the text is the first part of a transcript or of the lines of some first ops:
-//!   that those ops have a transcript at all isn't claimed there.
+//! - **`run` says which text it writes**, as the plain service prints it: a function that computes and is unique by its
+//!   form, and 300 lines less of definitions to believe than a script run of calls. That a script run has that text is
+//!   a law, and the clause on the desk names the script run with its legal history, as `race` names an outcome. After
+//!   a failed write a first part of that very text stands.
 //! - **The program's contract has one record a command.**
 //! - **`live` writes its lines at the end**, all at once; they are below 64 KiB.
 //! - **`clap` is told no help flag and no help subcommand**; `command_of` takes an allocator, since `clap` allocates.

@@ -1,4 +1,4 @@
-ghost use Rattle.std.specs.Prelude.{◌≡◌, ◌≢◌, ◌≤◌, ◌⊎◌, ℕ, true, false, Some, None, IsSomeAnd};
+ghost use Rattle.std.specs.Prelude.{◌≡◌, ◌≢◌, ◌≤◌, ◌⊎◌, ℕ, true, false, Some, None, IfSome, IsSomeAnd};
 ghost use Rattle.ert_program.specs.declared.command.Command.TheVariants.{Run, Race, Live, Stress};
 ghost use Rattle.ert_io.specs.Faults.{Rose};
 ghost use Rattle.ert_io.specs.Reads.{input_of};
@@ -8,7 +8,7 @@ ghost use Rattle.ert_program.specs.Lives.{LiveEnds};
 ghost use Rattle.ert_program.specs.Races.{RaceEnds, RaceOn};
 ghost use Rattle.ert_program.specs.Refusals.{usage_line};
 ghost use Rattle.ert_program.specs.RefusedInputs.{RefusalEnds};
-ghost use Rattle.ert_program.specs.Runs.{AllFits, RunEnds, RunOn};
+ghost use Rattle.ert_program.specs.Runs.{InputFits, RunEnds, RunOn};
 ghost use Rattle.ert_program.specs.Streams.{told_by_sink, output_of, clock_stream_of};
 ghost use Rattle.ert_program.specs.Stresses.{StressEnds};
 
@@ -41,7 +41,8 @@ pub fn ertime<
     C: OsClock,
     G: Gate + Sync,
 >(rt: &R, words: &[String], input: &mut I, output: &mut O, clock: &mut C, gate: &G) -> Ended
-    requires fits { AllFits (command_asked words.now) (I.left input.old) (O.room output.old) }
+    requires only_run { IfSome (O.room output.old) (λ r. command_asked words.now ≡ Some Run) }
+    requires fits { InputFits (I.left input.old) (O.room output.old) }
     ensures run { command_asked words.now ≡ Some Run
         → RunEnds (input_of I.given I.ended I.left I.faults input.old) (input_of I.given I.ended I.left I.faults input.new)
         (output_of O.taken O.room O.faults output.old) (output_of O.taken O.room O.faults output.new) result.status }

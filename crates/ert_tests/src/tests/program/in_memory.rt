@@ -5,7 +5,7 @@ ghost use Rattle.ert_program.specs.Runs.{InputFits};
 use super::{LEAP, LEAP_TEXT};
 use ert_io::{MemSink, MemSource, SureSink, SureSource};
 use ert_program::{EndStatus, run, run_in_memory};
-use ert_scenario::{one_verdict, scenarios_are_valid};
+use ert_scenario::{one_verdict, scenarios_are_accepted};
 use std::alloc::{AllocError, Global};
 use std::test::Fail;
 
@@ -14,7 +14,7 @@ fn room_for(alloc: Global, text: &[u8]) -> Result<Option<usize>, AllocError>
     ensures { IfOk result (λ found. IfSome found (λ n. InputFits (Some text.now) (Some n))) }
 {
     one_verdict();
-    scenarios_are_valid();
+    scenarios_are_accepted();
     let mut input = MemSource::new(text.to_vec(alloc)?, Vec::new(alloc));
     let mut output = MemSink::new(alloc, 64, Vec::new(alloc));
     let ended = run(alloc, &mut input, &mut output);

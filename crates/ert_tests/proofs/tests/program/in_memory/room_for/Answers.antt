@@ -1,4 +1,4 @@
-use Rattle.std.proofs.Common.{rules, ◌≡◌, Some, ap, ◌∙◌, arith}
+use Rattle.std.proofs.Common.{rules, ◌≡◌, Some, ap, ◌∙◌}
 use Rattle.ert_program.specs.declared.ending.EndStatus.TheVariants.{Done}
 use Rattle.ert_tests.proofs.Rooms.{room_told}
 use Rattle.ert_tests.proofs.tests.program.in_memory.room_for.Goals as goal
@@ -8,7 +8,5 @@ returns c =
     let text : c.in_ok-to_vec.field-0.items ≡ c.args.text.now = search rules in
     let how : c.run-ended.result.status ≡ Done = search rules in
     room_told c.args.text.now c.bytes.result.now _ _ _ _ _ c.one_verdict.ensures.one_scenario c.one_verdict.ensures.never_both
-    (λ race bytes plan is.
-    let are = c.scenarios_are_valid.ensures.labels race bytes plan is in
-    (are, omega (arith, are.few, c.scenarios_are_valid.ensures.looks race bytes plan is)))
+    c.scenarios_are_accepted.ensures.scenario
     (c.new-input.ensures.left ∙ ap (λ xs. Some xs) text) c.new-output.ensures.taken c.bytes.ensures (c.run-ended.ensures.ends.done how)
