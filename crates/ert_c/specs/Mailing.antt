@@ -16,10 +16,11 @@ use Rattle.ert_c.specs.Told.{mail_as, IsToldDone}
 use Rattle.ert_c.specs.declared.mail_calls.ErtMail.{ErtMail}
 use Rattle.ert_c.specs.declared.status.TheConstants.{OK, NO_MEMORY, EMPTY, EXITED}
 
--- a process that hasn't exited and has mail is told, or that there is none; if memory runs out, nothing has changed
+-- a process that hasn't exited and has mail is told, or that there is none; memory may run out
+-- at the first such call alone, and then nothing has changed
 pub record FindsMailBy (answer : Result (Option ℕ) OutOfMemory) (old new : Seen) : Type 0 where
   pub next : IfOk answer (λ found. FindsMail old found new)
-  pub memory : OnErr answer (new ≡ old)
+  pub memory : OnErr answer ((old.turns ≡ None) × (new ≡ old))
 
 -- a process with mail, for C
 abbrev pub IsNextTold : Result (Option ℕ) OutOfMemory → ℕ → ℤ → ℕ → Type 0

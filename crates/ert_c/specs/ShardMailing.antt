@@ -1,7 +1,7 @@
 -- What a shard does by the calls that find a process with mail, take several messages, and make room in a mailbox or in the
 -- list of expired timers, and how C is told the answers.
 
-use Rattle.std.specs.Prelude.{◌≡◌, ℕ, ◌+◌, ℤ, List, length, Option, Result, IfOk, OnErr, ⊤}
+use Rattle.std.specs.Prelude.{◌≡◌, ℕ, ◌+◌, ℤ, List, length, Option, None, Result, IfOk, OnErr, ⊤}
 use Rattle.ert_c.specs.Mailing.{LeavesAll, StandFirst}
 use Rattle.ert_c.specs.ShardCalls.{AtHome}
 use Rattle.ert_c.specs.Through.{Through, TellsC}
@@ -13,11 +13,11 @@ use Rattle.ert_shard.specs.Receiving.{ShardFindsMail, CallerTakesSome}
 use Rattle.ert_shard.specs.Shards.{Owned, ShardSteps}
 use Rattle.ert_world.specs.declared.mailing.TakeEnd.{TakeEnd}
 
--- a process of a shard that hasn't exited and has mail is told, or that there is none; if memory runs out, nothing has
--- changed
+-- a process of a shard that hasn't exited and has mail is told, or that there is none; memory may run out
+-- at the first such call alone, and then nothing has changed
 pub record ShardFindsMailBy (answer : Result (Option ℕ) OutOfMemory) (old new : Owned) : Type 0 where
   pub next : IfOk answer (λ found. ShardFindsMail old found new)
-  pub memory : OnErr answer (new ≡ old)
+  pub memory : OnErr answer ((old.turns ≡ None) × (new ≡ old))
 
 -- a shard takes messages of a process as its caller, so many at most: these, and how that ended
 abbrev pub ShardTakesSomeBy : ℕ → ℕ → List Mail × TakeEnd → Owned → Owned → Type 0

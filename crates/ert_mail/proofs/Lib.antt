@@ -7,4 +7,4 @@ pub mod Counts
 pub mod InboxStanding
 pub mod LawsHold
 pub mod Listing
-mod Looked
+pub mod Looked

@@ -1,15 +1,16 @@
 -- A row of processes, and which are listed in it.
 
-use Rattle.std.proofs.Common.{◌≡◌, ◌≢◌, ℕ, zero, suc, ◌<◌, Bool, true, false, not, ◌&&◌, ◌||◌, nat_eq, List, [], ◌∷◌, length, Option, Some, None, IfNone, refl, sym, ap, subst, ◌∙◌, eqb-true, eq-eqb, arith}
+use Rattle.std.proofs.Common.{◌≡◌, ◌≢◌, ℕ, ◌<◌, Bool, true, false, not, ◌&&◌, ◌||◌, nat_eq, List, [], ◌∷◌, ◌++◌, length, Option, Some, None, IfNone, refl, sym, ap, subst, ◌∙◌, eqb-true, eq-eqb, if◌then◌else◌}
 use Rattle.std.specs.Prelude.{slice_set, slice_index_or}
 use Rattle.std.proofs.lemmas.Grind.{get_or-set_at}
 use Rattle.std.proofs.lemmas.List.{get_or-set_other, get_or_default, length-set}
-use Rattle.std.specs.Ordering.{nat_cmp}
+use Rattle.std.specs.List.{list_any}
 use Rattle.std.specs.Cmp.{nat_cmp_total, unsigned_tied}
 use Rattle.std.specs.FinSet as sets
 use Rattle.ert_defs.specs.declared.mail.Mail.{Mail}
-use Rattle.ert_mail.specs.Lists.{IsRow, AreListed, IsNextIn}
+use Rattle.ert_mail.specs.Lists.{IsRow, AreListed, IsNextIn, is_listed, with_listed}
 use Rattle.ert_mail.specs.Mailboxes.{Mailbox}
+use Rattle.ert_words.proofs.Held.{contains-from_list, list_any-push}
 use Rattle.ert_words.specs.Free.{FreeSet}
 use Rattle.ert_words.specs.Turns.{TurnRow, row_set}
 
@@ -55,37 +56,67 @@ row_taken row new listed p is low taken = record {
     at q true same = ap (λ b. not b && sets.contains row.held q) same ∙ sym ((flag_at listed p q false low).0 same)
     at q false apart = ap (λ b. not b && sets.contains row.held q) apart ∙ (is.each q ∙ sym ((flag_at listed p q false low).1 apart))
 
--- an empty row lists none
-pub row_empty : (row : TurnRow) (listed : List Bool) → IsRow (row_set row) listed → row.held ≡ [] → (p : ℕ) → slice_index_or listed p false ≡ false
-row_empty row listed is none p =
-    sym (is.each p) ∙ (ap (λ (xs : List ℕ). sets.contains {R = nat_cmp} (sets.from_list {R = nat_cmp} xs) p) none ∙ sets.contains-empty nat_cmp p)
+-- a process is listed where the row's set has it
+pub listed_in : (row : TurnRow) (listed : List Bool) (p : ℕ) → IsRow (row_set row) listed → is_listed row p ≡ slice_index_or listed p false
+listed_in row listed p is = sym (contains-from_list row.held p) ∙ is.each p
+
+-- as the flag at its place tells
+pub flag_is : (row : TurnRow) (listed : List Bool) (p : ℕ) (b : Bool) → IsRow (row_set row) listed → p < length listed → b ≡ slice_index_or listed p b
+    → is_listed row p ≡ b
+flag_is row listed p b is low at = listed_in row listed p is ∙ (get_or_default listed p false b low ∙ sym at)
+
+-- one that is taken out isn't listed
+pub taken_away : (row new : TurnRow) (listed : List Bool) (p : ℕ) → IsRow (row_set row) listed → p < length listed
+    → row_set new ≡ record (row_set row) { held = sets.remove (row_set row).held p } → is_listed new p ≡ false
+taken_away row new listed p is low taken =
+    listed_in new (slice_set listed p false) p (row_taken (row_set row) (row_set new) listed p is low taken) ∙ get_or-set_at listed p p false false refl low
+
+-- one that is listed needn't be put
+pub with_there : (row : TurnRow) (p : ℕ) → is_listed row p ≡ true → with_listed row p ≡ row
+with_there row p is = ap (λ b. (if b then row else record row { held = row.held ++ p ∷ [] })) is
+
+-- and another one is put last
+pub with_new : (row : TurnRow) (p : ℕ) → is_listed row p ≡ false → with_listed row p ≡ record row { held = row.held ++ p ∷ [] }
+with_new row p is = ap (λ b. (if b then row else record row { held = row.held ++ p ∷ [] })) is
+
+-- so that just this one more is listed
+pub listed_with : (row : TurnRow) (p q : ℕ) → is_listed (with_listed row p) q ≡ (nat_eq q p || is_listed row q)
+listed_with row p q = at (is_listed row p) refl (nat_eq q p) refl
+  where
+    at : (b : Bool) → is_listed row p ≡ b → (e : Bool) → nat_eq q p ≡ e → is_listed (with_listed row p) q ≡ (e || is_listed row q)
+    at true is true same =
+        ap (λ (r : TurnRow). is_listed r q) (with_there row p is) ∙ (ap (is_listed row) (eqb-true q p same) ∙ is)
+    at true is false apart = ap (λ (r : TurnRow). is_listed r q) (with_there row p is)
+    at false is e same =
+        ap (λ (r : TurnRow). is_listed r q) (with_new row p is) ∙ (list_any-push (nat_eq q) row.held p ∙ ap (λ b. b || is_listed row q) same)
+
+-- it has as many places
+pub bound_with : (row : TurnRow) (p : ℕ) → (with_listed row p).bound ≡ row.bound
+bound_with row p = at (is_listed row p) refl
+  where
+    at : (b : Bool) → is_listed row p ≡ b → (with_listed row p).bound ≡ row.bound
+    at true is = ap (λ (r : TurnRow). r.bound) (with_there row p is)
+    at false is = ap (λ (r : TurnRow). r.bound) (with_new row p is)
 
 pub if_none : {A : Type 0} (o : Option A) (X : Type 0) → X → IfNone o X
 if_none None X x = x
 if_none (Some a) X x = tt
 
--- only a number in range is listed
-pub listed_low : (listed : List Bool) (p : ℕ) → slice_index_or listed p false ≡ true → p < length listed
-listed_low [] p is = absurd cc
-listed_low (b ∷ bs) zero is = omega arith
-listed_low (b ∷ bs) (suc p) is = let low = listed_low bs p is in omega (arith, low)
-
 -- a mailbox of which nothing can be taken needn't be listed
-pub still_listed : (exited : ℕ → Bool) (listed : List Bool) (mails : List Mailbox) (p : ℕ) → AreListed exited listed mails
-    → slice_index_or listed p false ≡ true → ((d : Mailbox) → (slice_index_or mails p d).held.queue ≢ [] → exited p ≡ false → ⊥)
-    → AreListed exited (slice_set listed p false) mails
-still_listed exited listed mails p are was none = record {
-  counted = length-set listed p false ∙ are.counted;
-  each = λ q e low some lives. at q e low some lives (nat_eq q p) refl;
+pub still_listed : (exited : ℕ → Bool) (old new : TurnRow) (mails : List Mailbox) (p : ℕ) → old ≡ record new { held = p ∷ new.held }
+    → AreListed exited old mails → ((d : Mailbox) → (slice_index_or mails p d).held.queue ≢ [] → exited p ≡ false → ⊥)
+    → AreListed exited new mails
+still_listed exited old new mails p is are none = record {
+  counted = sym (ap (λ (r : TurnRow). r.bound) is) ∙ are.counted;
+  each = λ q e low some lives. at q e some lives (nat_eq q p) refl (sym (ap (λ (r : TurnRow). is_listed r q) is) ∙ are.each q e low some lives);
 }
   where
-    at : (q : ℕ) (e : Mailbox) → q < length mails → (slice_index_or mails q e).held.queue ≢ [] → exited q ≡ false → (b : Bool) → nat_eq q p ≡ b
-        → slice_index_or (slice_set listed p false) q false ≡ true
-    at q e low some lives true same =
+    at : (q : ℕ) (e : Mailbox) → (slice_index_or mails q e).held.queue ≢ [] → exited q ≡ false → (b : Bool) → nat_eq q p ≡ b
+        → (nat_eq q p || is_listed new q) ≡ true → is_listed new q ≡ true
+    at q e some lives true same was =
         let one : q ≡ p = eqb-true q p same in
         absurd (none e (λ no. some (ap (λ n. (slice_index_or mails n e).held.queue) one ∙ no)) (ap exited (sym one) ∙ lives))
-    at q e low some lives false apart =
-        (flag_at listed p q false (listed_low listed p was)).1 apart ∙ are.each q e low some lives
+    at q e some lives false apart was = sym (ap (λ b. b || is_listed new q) apart) ∙ was
 
 -- where a mailbox is empty nothing can be taken
 pub none_waits : (exited : ℕ → Bool) (mails : List Mailbox) (p : ℕ) (m : Mailbox) → p < length mails → m ≡ slice_index_or mails p m → length m.held.queue ≡ 0
@@ -94,9 +125,9 @@ none_waits exited mails p m low is empty d some lives =
     some (ap (λ (x : Mailbox). x.held.queue) (get_or_default mails p d m low) ∙ (ap (λ (x : Mailbox). x.held.queue) (sym is) ∙ no_length m.held.queue empty))
 
 -- more processes may have exited
-pub listed_on : (before after : ℕ → Bool) (listed : List Bool) (mails : List Mailbox) → ((p : ℕ) → before p ≡ true → after p ≡ true)
-    → AreListed before listed mails → AreListed after listed mails
-listed_on before after listed mails on are = record {
+pub listed_on : (before after : ℕ → Bool) (row : TurnRow) (mails : List Mailbox) → ((p : ℕ) → before p ≡ true → after p ≡ true)
+    → AreListed before row mails → AreListed after row mails
+listed_on before after row mails on are = record {
   counted = are.counted;
   each = λ q e low some lives. are.each q e low some (at q lives (before q) refl);
 }
@@ -106,24 +137,48 @@ listed_on before after listed mails on are = record {
     at q lives true is = let clash : true ≡ false = sym (on q is) ∙ lives in absurd cc
 
 -- one that was taken out and put again
-pub listed_again : (exited : ℕ → Bool) (listed : List Bool) (mails : List Mailbox) (p : ℕ) → AreListed exited listed mails
-    → slice_index_or listed p false ≡ true → AreListed exited (slice_set (slice_set listed p false) p true) mails
-listed_again exited listed mails p are was = record {
-  counted = length-set (slice_set listed p false) p true ∙ (length-set listed p false ∙ are.counted);
-  each = λ q e low some lives. at q e low some lives (nat_eq q p) refl;
+pub listed_again : (exited : ℕ → Bool) (old new : TurnRow) (mails : List Mailbox) (p : ℕ) → old ≡ record new { held = p ∷ new.held }
+    → AreListed exited old mails → AreListed exited (with_listed new p) mails
+listed_again exited old new mails p is are = record {
+  counted = bound_with new p ∙ (sym (ap (λ (r : TurnRow). r.bound) is) ∙ are.counted);
+  each = λ q e low some lives. listed_with new p q ∙ (sym (ap (λ (r : TurnRow). is_listed r q) is) ∙ are.each q e low some lives);
+}
+
+-- a process is listed, and then its mailbox changes
+pub listed_put : (exited : ℕ → Bool) (row : TurnRow) (mails : List Mailbox) (p : ℕ) (new : Mailbox) → AreListed exited row mails → p < length mails
+    → AreListed exited (with_listed row p) (slice_set mails p new)
+listed_put exited row mails p new all low = record {
+  counted = bound_with row p ∙ (all.counted ∙ sym (length-set mails p new));
+  each = λ q d below some lives.
+      listed_with row p q ∙ at q d (subst (λ n. q < n) (length-set mails p new) below) some lives (nat_eq q p) refl;
 }
   where
-    in_range : p < length listed
-    in_range = listed_low listed p was
+    at : (q : ℕ) (d : Mailbox) → q < length mails → (slice_index_or (slice_set mails p new) q d).held.queue ≢ [] → exited q ≡ false → (b : Bool)
+        → nat_eq q p ≡ b → (nat_eq q p || is_listed row q) ≡ true
+    at q d below some lives true same = ap (λ b. b || is_listed row q) same
+    at q d below some lives false apart =
+        let other : q ≢ p = λ (e : q ≡ p). let clash : true ≡ false = sym (eq-eqb q p e) ∙ apart in cc in
+        ap (λ b. b || is_listed row q) apart
+        ∙ all.each q d below (λ none. some (ap (λ (m : Mailbox). m.held.queue) (get_or-set_other mails p q new d other) ∙ none)) lives
 
-    still : p < length (slice_set listed p false)
-    still = subst (λ n. p < n) (sym (length-set listed p false)) in_range
-
-    at : (q : ℕ) (e : Mailbox) → q < length mails → (slice_index_or mails q e).held.queue ≢ [] → exited q ≡ false → (b : Bool) → nat_eq q p ≡ b
-        → slice_index_or (slice_set (slice_set listed p false) p true) q false ≡ true
-    at q e low some lives true same = (flag_at (slice_set listed p false) p q true still).0 same
-    at q e low some lives false apart =
-        (flag_at (slice_set listed p false) p q true still).1 apart ∙ ((flag_at listed p q false in_range).1 apart ∙ are.each q e low some lives)
+-- a mailbox gets no mail
+pub listed_less : (exited : ℕ → Bool) (row : TurnRow) (mails : List Mailbox) (p : ℕ) (old new : Mailbox) → AreListed exited row mails → p < length mails
+    → old ≡ slice_index_or mails p old → (new.held.queue ≢ [] → old.held.queue ≢ []) → AreListed exited row (slice_set mails p new)
+listed_less exited row mails p old new all low is less = record {
+  counted = all.counted ∙ sym (length-set mails p new);
+  each = λ q d below some lives. at q d (subst (λ n. q < n) (length-set mails p new) below) some lives (nat_eq q p) refl;
+}
+  where
+    at : (q : ℕ) (d : Mailbox) → q < length mails → (slice_index_or (slice_set mails p new) q d).held.queue ≢ [] → exited q ≡ false → (b : Bool)
+        → nat_eq q p ≡ b → is_listed row q ≡ true
+    at q d below some lives true same =
+        let one : q ≡ p = eqb-true q p same in
+        let had : old.held.queue ≢ [] = less (λ none. some (ap (λ (m : Mailbox). m.held.queue) (get_or-set_at mails p q new d one low) ∙ none)) in
+        subst (λ n. is_listed row n ≡ true) (sym one)
+        (all.each p old low (λ none. had (ap (λ (m : Mailbox). m.held.queue) is ∙ none)) (ap exited (sym one) ∙ lives))
+    at q d below some lives false apart =
+        let other : q ≢ p = λ (e : q ≡ p). let clash : true ≡ false = sym (eq-eqb q p e) ∙ apart in cc in
+        all.each q d below (λ none. some (ap (λ (m : Mailbox). m.held.queue) (get_or-set_other mails p q new d other) ∙ none)) lives
 
 -- a mailbox of which something waits has mail
 pub some_next : (exited : ℕ → Bool) (mails : List Mailbox) (p : ℕ) (m : Mailbox) → p < length mails → m ≡ slice_index_or mails p m
@@ -133,3 +188,12 @@ some_next exited mails p m low is some lives = (
   lives,
   λ d no. some (ap (length {A = Mail}) (ap (λ (x : Mailbox). x.held.queue) (is ∙ get_or_default mails p m d low) ∙ no)),
 )
+
+-- where none is listed each that has mail has exited
+pub none_next : (exited : ℕ → Bool) (row : TurnRow) (mails : List Mailbox) → AreListed exited row mails → row.held ≡ [] → IsNextIn exited mails None
+none_next exited row mails are none = λ p d low some. at p d low some (exited p) refl
+  where
+    at : (p : ℕ) (d : Mailbox) → p < length mails → (slice_index_or mails p d).held.queue ≢ [] → (b : Bool) → exited p ≡ b → exited p ≡ true
+    at p d low some true is = is
+    at p d low some false is =
+        let there : false ≡ true = sym (ap (list_any (nat_eq p)) none) ∙ are.each p d low some is in absurd cc

@@ -1,13 +1,15 @@
 -- A process with mail is looked for.
 
-use Rattle.std.proofs.Common.{◌≡◌, ℕ, ◌+◌, Bool, true, false, ◌&&◌, ◌||◌, List, [], ◌∷◌, ◌++◌, Some, None, refl, sym, ap, ◌∙◌, append-nil}
+use Rattle.std.proofs.Common.{◌≡◌, ◌≢◌, ℕ, ◌+◌, ◌<◌, Bool, true, false, cond, ◌&&◌, ◌||◌, List, [], ◌∷◌, ◌++◌, length, filter, slice_index_or, Some, None, refl, sym, ap, ◌∙◌, append-nil, append_assoc}
 use Rattle.std.proofs.lemmas.List.{map-append}
+use Rattle.std.proofs.lemmas.List.Elements.{filter-append}
 use Rattle.ert_calls.proofs.Looks.{can_step}
 use Rattle.ert_defs.proofs.Runs.{state-append, exit_stays}
 use Rattle.ert_defs.specs.Entries.{mark_entry}
 use Rattle.ert_defs.specs.States.{State, state}
 use Rattle.ert_defs.specs.declared.entry.Actor.TheVariants.{Caller}
 use Rattle.ert_defs.specs.declared.entry.Entry.{Entry}
+use Rattle.ert_defs.specs.declared.mail.Mail.{Mail}
 use Rattle.ert_defs.specs.declared.settings.Settings.{Settings}
 use Rattle.ert_table.proofs.Calls.{step_takes_place, takes_place_then}
 use Rattle.ert_table.proofs.Parts.{stepped}
@@ -15,38 +17,93 @@ use Rattle.ert_table.specs.Calls.{IsMade}
 use Rattle.ert_table.specs.Takes.{Appends, TakesPlace}
 use Rattle.ert_table.specs.declared.view.View.{View}
 use Rattle.ert_mail.proofs.Listing.{listed_on}
-use Rattle.ert_mail.specs.Lists.{AreListed, LooksForMail, exited_from, exits_seen}
+use Rattle.ert_mail.specs.Lists.{AreListed, HaveMailFrom, LooksForMail, exited_from, exits_seen, is_waiting, with_mail}
 use Rattle.ert_mail.specs.Mailboxes.{Mailbox}
+use Rattle.ert_words.specs.Turns.{TurnRow}
+
+-- a row is gone through up to here: some processes are passed, and of these those with mail are found exited
+pub record Passes (first by : ℕ) (row later : List ℕ) (s : State) (es : List Entry) : Type 0 where
+  pub passed : List ℕ
+  pub was : row ≡ passed ++ later
+  pub entries : es ≡ exits_seen first by (with_mail first s passed)
+
+-- whether one more that is passed has mail
+with_one : (first : ℕ) (s : State) (passed : List ℕ) (p : ℕ) (b : Bool) (more : List ℕ) → is_waiting (s.mails (first + p)).queue ≡ b
+    → filter (λ q. is_waiting (s.mails (first + q)).queue) (p ∷ []) ≡ more → with_mail first s (passed ++ p ∷ []) ≡ with_mail first s passed ++ more
+with_one first s passed p b more is one =
+    filter-append (λ q. is_waiting (s.mails (first + q)).queue) passed (p ∷ []) ∙ ap (λ l. with_mail first s passed ++ l) one
+
+-- one that has no mail is passed
+pub passed_more : (g : Settings) (v u : View) (first by p : ℕ) (row held later : List ℕ) (s : State) → s ≡ state g v.front → held ≡ p ∷ later
+    → (s.mails (first + p)).queue ≡ [] → IsMade g v (Passes first by row held) u → IsMade g v (Passes first by row later) u
+passed_more g v u first by p row held later s same is none made =
+    let passed : List ℕ = made.allowed.passed in
+    let t : State = state g v.front in
+    let test : is_waiting (t.mails (first + p)).queue ≡ false =
+    ap (λ (r : State). is_waiting (r.mails (first + p)).queue) (sym same) ∙ ap is_waiting none in
+    record {
+      entries = made.entries;
+      allowed = record {
+        passed = passed ++ p ∷ [];
+        was = made.allowed.was ∙ (ap (λ l. passed ++ l) is ∙ sym (append_assoc passed (p ∷ []) later));
+        entries = made.allowed.entries
+            ∙ ap (exits_seen first by) (sym (with_one first t passed p false [] test (ap (λ b. cond b (p ∷ []) []) test) ∙ append-nil (with_mail first t passed)));
+      };
+      call = made.call;
+    }
 
 -- one more is found exited
-pub looked_more : (g : Settings) (v u w : View) (first by p : ℕ) → IsMade g v (LooksForMail first by None) u
-    → Appends g u (mark_entry (Caller by) (first + p) false true) w → IsMade g v (LooksForMail first by None) w
-looked_more g v u w first by p made step =
+pub looked_more : (g : Settings) (v u w : View) (first by p : ℕ) (row held later : List ℕ) (s : State) → s ≡ state g v.front → held ≡ p ∷ later
+    → is_waiting (s.mails (first + p)).queue ≡ true → IsMade g v (Passes first by row held) u
+    → Appends g u (mark_entry (Caller by) (first + p) false true) w → IsMade g v (Passes first by row later) w
+looked_more g v u w first by p row held later s same is some made step =
     let e : Entry = mark_entry (Caller by) (first + p) false true in
-    let gone : List ℕ = made.allowed.gone in
+    let passed : List ℕ = made.allowed.passed in
+    let t : State = state g v.front in
+    let test : is_waiting (t.mails (first + p)).queue ≡ true = ap (λ (r : State). is_waiting (r.mails (first + p)).queue) (sym same) ∙ some in
     record {
       entries = made.entries ++ e ∷ [];
       allowed = record {
-        gone = gone ++ p ∷ [];
-        entries = ap (λ l. l ++ e ∷ []) (made.allowed.entries ∙ append-nil (exits_seen first by gone))
-            ∙ (sym (map-append (λ n. mark_entry (Caller by) (first + n) false true) gone (p ∷ [])) ∙ sym (append-nil (exits_seen first by (gone ++ p ∷ []))));
+        passed = passed ++ p ∷ [];
+        was = made.allowed.was ∙ (ap (λ l. passed ++ l) is ∙ sym (append_assoc passed (p ∷ []) later));
+        entries = ap (λ l. l ++ e ∷ []) made.allowed.entries
+            ∙ (sym (map-append (λ n. mark_entry (Caller by) (first + n) false true) (with_mail first t passed) (p ∷ []))
+            ∙ ap (exits_seen first by) (sym (with_one first t passed p true (p ∷ []) test (ap (λ b. cond b (p ∷ []) []) test))));
       };
       call = takes_place_then g v u w made.entries (e ∷ []) made.call (step_takes_place g u e w step);
     }
 
 -- one is found alive
-pub looked_last : (g : Settings) (v u w : View) (first by p : ℕ) → IsMade g v (LooksForMail first by None) u
-    → Appends g u (mark_entry (Caller by) (first + p) false false) w → IsMade g v (LooksForMail first by (Some p)) w
-looked_last g v u w first by p made step =
+pub looked_last : (g : Settings) (v u w : View) (first by p : ℕ) (row held later after : List ℕ) → held ≡ p ∷ later → after ≡ later ++ p ∷ []
+    → IsMade g v (Passes first by row held) u → Appends g u (mark_entry (Caller by) (first + p) false false) w
+    → IsMade g v (LooksForMail first by row (Some p) after) w
+looked_last g v u w first by p row held later after is last made step =
     let e : Entry = mark_entry (Caller by) (first + p) false false in
     record {
       entries = made.entries ++ e ∷ [];
       allowed = record {
-        gone = made.allowed.gone;
-        entries = ap (λ l. l ++ e ∷ []) (made.allowed.entries ∙ append-nil (exits_seen first by made.allowed.gone));
+        passed = made.allowed.passed;
+        later = later;
+        was = made.allowed.was ∙ ap (λ l. made.allowed.passed ++ l) is;
+        last = last;
+        entries = ap (λ l. l ++ e ∷ []) made.allowed.entries;
       };
       call = takes_place_then g v u w made.entries (e ∷ []) made.call (step_takes_place g u e w step);
     }
+
+-- or none is left
+pub looked_all : (g : Settings) (v w : View) (first by : ℕ) (row later : List ℕ) → later ≡ [] → IsMade g v (Passes first by row later) w
+    → IsMade g v (LooksForMail first by row None later) w
+looked_all g v w first by row later none made = record {
+  entries = made.entries;
+  allowed = (
+    none,
+    made.allowed.entries
+    ∙ ap (λ l. exits_seen first by (with_mail first (state g v.front) l))
+    (sym (made.allowed.was ∙ (ap (λ l. made.allowed.passed ++ l) none ∙ append-nil made.allowed.passed))),
+  );
+  call = made.call;
+}
 
 no_exit : (b c : Bool) → (b || (c && false)) ≡ b
 no_exit true c = refl
@@ -69,10 +126,29 @@ exits_on g v w es call p gone =
     ∙ (ap (λ (s : State). s.exited p) (state-append g v.front call.later) ∙ exit_stays g p (state g v.front) call.later gone)
 
 -- the processes are listed still after a look
-pub listed_then : (g : Settings) (u w : View) (first by p : ℕ) (was : Bool) (listed : List Bool) (mails : List Mailbox)
-    → Appends g u (mark_entry (Caller by) (first + p) false was) w → AreListed (exited_from first (state g u.front).exited) listed mails
-    → AreListed (exited_from first (state g w.front).exited) listed mails
-listed_then g u w first by p was listed mails step all =
+pub listed_then : (g : Settings) (u w : View) (first by p : ℕ) (was : Bool) (row : TurnRow) (mails : List Mailbox)
+    → Appends g u (mark_entry (Caller by) (first + p) false was) w → AreListed (exited_from first (state g u.front).exited) row mails
+    → AreListed (exited_from first (state g w.front).exited) row mails
+listed_then g u w first by p was row mails step all =
     let e : Entry = mark_entry (Caller by) (first + p) false was in
-    listed_on (exited_from first (state g u.front).exited) (exited_from first (state g w.front).exited) listed mails
+    listed_on (exited_from first (state g u.front).exited) (exited_from first (state g w.front).exited) row mails
     (λ q. exits_on g u w (e ∷ []) (step_takes_place g u e w step) (first + q)) all
+
+-- the mailbox of a process has what the process has: none waits
+pub none_there : (first : ℕ) (s : State) (mails : List Mailbox) (p : ℕ) (m : Mailbox) → HaveMailFrom first s mails → p < length mails → m ≡ slice_index_or mails p m
+    → length m.held.queue ≡ 0 → (s.mails (first + p)).queue ≡ []
+none_there first s mails p m have low is none = sym (have p m low) ∙ (ap (λ (x : Mailbox). x.held.queue) (sym is) ∙ empty m.held.queue none)
+  where
+    empty : (q : List Mail) → length q ≡ 0 → q ≡ []
+    empty [] is = refl
+    empty (x ∷ q) is = absurd cc
+
+-- or some do
+pub some_there : (first : ℕ) (s : State) (mails : List Mailbox) (p : ℕ) (m : Mailbox) → HaveMailFrom first s mails → p < length mails → m ≡ slice_index_or mails p m
+    → length m.held.queue ≢ 0 → is_waiting (s.mails (first + p)).queue ≡ true
+some_there first s mails p m have low is some =
+    ap is_waiting (sym (have p m low)) ∙ (ap (λ (x : Mailbox). is_waiting x.held.queue) (sym is) ∙ waits m.held.queue some)
+  where
+    waits : (q : List Mail) → length q ≢ 0 → is_waiting q ≡ true
+    waits [] is = absurd (is refl)
+    waits (x ∷ q) is = refl

@@ -1,31 +1,46 @@
--- The processes that are listed since their mailboxes may have mail.
+-- The processes that are listed since their mailboxes may have mail, in a row.
 
-use Rattle.std.specs.Prelude.{◌≡◌, ◌≢◌, ℕ, ◌+◌, ◌<◌, ◌≤◌, Bool, true, false, map, List, [], ◌∷◌, ◌++◌, length, Option, Some, None, slice_index_or}
+use Rattle.std.specs.Prelude.{◌≡◌, ◌≢◌, ℕ, ◌+◌, ◌<◌, ◌≤◌, Bool, true, false, nat_eq, map, filter, List, [], ◌∷◌, ◌++◌, length, Option, Some, None, slice_index_or, if◌then◌else◌}
 use Rattle.std.specs.FinSet as set
+use Rattle.std.specs.List.{list_any}
 use Rattle.ert_defs.specs.Entries.{mark_entry}
 use Rattle.ert_defs.specs.States.{State}
 use Rattle.ert_defs.specs.declared.entry.Actor.TheVariants.{Caller}
 use Rattle.ert_defs.specs.declared.entry.Entry.{Entry}
+use Rattle.ert_defs.specs.declared.mail.Mail.{Mail}
 use Rattle.ert_defs.specs.declared.settings.Settings.{Settings}
 use Rattle.ert_table.specs.Held.{is_held}
 use Rattle.ert_table.specs.declared.view.View.{View}
 use Rattle.ert_mail.specs.Mailboxes.{Mailbox}
 use Rattle.ert_words.specs.Free.{FreeSet}
+use Rattle.ert_words.specs.Turns.{TurnRow}
 
 -- a row has those that are listed
 pub record IsRow (row : FreeSet) (listed : List Bool) : Type 0 where
   pub slots : row.slots ≡ length listed
   pub each : (p : ℕ) → set.contains row.held p ≡ slice_index_or listed p false
 
+-- whether a process stands in a row
+abbrev pub is_listed : TurnRow → ℕ → Bool
+is_listed row p = list_any (nat_eq p) row.held
+
+-- a row with a process: it is put last, unless it stands in the row
+abbrev pub with_listed : TurnRow → ℕ → TurnRow
+with_listed row p = (if is_listed row p then row else record row { held = row.held ++ p ∷ [] })
+
 -- each of these mailboxes that has mail is listed, where its process hasn't exited
-pub record AreListed (exited : ℕ → Bool) (listed : List Bool) (mails : List Mailbox) : Type 0 where
-  pub counted : length listed ≡ length mails
+pub record AreListed (exited : ℕ → Bool) (row : TurnRow) (mails : List Mailbox) : Type 0 where
+  pub counted : row.bound ≡ length mails
   pub each : (p : ℕ) (d : Mailbox) → p < length mails → (slice_index_or mails p d).held.queue ≢ [] → exited p ≡ false
-      → slice_index_or listed p false ≡ true
+      → is_listed row p ≡ true
 
 -- which processes have exited, counted from a first one
 abbrev pub exited_from : ℕ → (ℕ → Bool) → ℕ → Bool
 exited_from first exited = λ p. exited (first + p)
+
+-- these are the mailboxes of the processes from a first one on: each has the messages of its process
+abbrev pub HaveMailFrom : ℕ → State → List Mailbox → Type 0
+HaveMailFrom first s mails = (p : ℕ) (d : Mailbox) → p < length mails → (slice_index_or mails p d).held.queue ≡ (s.mails (first + p)).queue
 
 -- a pass can look at each of so many processes from a first one on: it holds a caller, and all are in range
 pub record CanLook (g : Settings) (v : View) (by first count : ℕ) : Type 0 where
@@ -38,17 +53,34 @@ abbrev pub IsNextIn : (ℕ → Bool) → List Mailbox → Option ℕ → Type 0
 IsNextIn exited mails (Some p) = (p < length mails) × (exited p ≡ false) × ((d : Mailbox) → (slice_index_or mails p d).held.queue ≢ [])
 IsNextIn exited mails None = (p : ℕ) (d : Mailbox) → p < length mails → (slice_index_or mails p d).held.queue ≢ [] → exited p ≡ true
 
--- the entries of looks that find processes exited, counted from a first one
+-- whether messages wait
+abbrev pub is_waiting : List Mail → Bool
+is_waiting [] = false
+is_waiting (mail ∷ later) = true
+
+-- of some processes, counted from a first one, those that have mail
+abbrev pub with_mail : ℕ → State → List ℕ → List ℕ
+with_mail first s row = filter (λ p. is_waiting (s.mails (first + p)).queue) row
+
+-- the entries of the looks that find these processes exited, counted from a first one
 abbrev pub exits_seen : ℕ → ℕ → List ℕ → List Entry
 exits_seen first by gone = map (λ p. mark_entry (Caller by) (first + p) false true) gone
 
--- the entry of the look that finds a process alive, where one is found
-abbrev pub life_seen : ℕ → ℕ → Option ℕ → List Entry
-life_seen first by (Some p) = mark_entry (Caller by) (first + p) false false ∷ []
-life_seen first by None = []
+-- the entry of the look that finds a process alive
+abbrev pub life_seen : ℕ → ℕ → ℕ → List Entry
+life_seen first by p = mark_entry (Caller by) (first + p) false false ∷ []
 
--- a process with mail is looked for, by a caller, among those from a first one on: some are found exited, and then this
--- one alive, or none
-pub record LooksForMail (first by : ℕ) (answer : Option ℕ) (s : State) (es : List Entry) : Type 0 where
-  pub gone : List ℕ
-  pub entries : es ≡ exits_seen first by gone ++ life_seen first by answer
+-- a process of a row has its turn: those before it have no mail or are found exited, and leave the row, and it is found
+-- alive and put last
+pub record HasTurn (first by : ℕ) (row : List ℕ) (p : ℕ) (after : List ℕ) (s : State) (es : List Entry) : Type 0 where
+  pub passed : List ℕ
+  pub later : List ℕ
+  pub was : row ≡ passed ++ p ∷ later
+  pub last : after ≡ later ++ p ∷ []
+  pub entries : es ≡ exits_seen first by (with_mail first s passed) ++ life_seen first by p
+
+-- a process with mail is looked for, by a caller, among those of a row: the first of them that hasn't exited has its turn,
+-- and where each that has mail is found exited the row is empty then
+abbrev pub LooksForMail : ℕ → ℕ → List ℕ → Option ℕ → List ℕ → State → List Entry → Type 0
+LooksForMail first by row (Some p) after s es = HasTurn first by row p after s es
+LooksForMail first by row None after s es = (after ≡ []) × (es ≡ exits_seen first by (with_mail first s row))

@@ -19,27 +19,29 @@ pub struct MailList {
 }
 
 impl Model for MailList {
-    ghost use Rattle.std.specs.Prelude.{Bool, List};
     ghost use Rattle.ert_mail.specs.Lists.{IsRow};
-    ghost use Rattle.ert_words.specs.Turns.{row_set};
+    ghost use Rattle.ert_words.specs.Turns.{TurnRow, row_code, row_set};
 
-    ghost Value = { List Bool };
+    ghost Value = { TurnRow };
 
-    ghost view = { λ m. m.listed.items };
+    ghost coded = { row_code };
+
+    ghost view = { λ m. m.row };
 
     ghost invariant = { λ m. IsRow (row_set m.row) m.listed.items };
 }
 
 impl MailList {
-    ghost use Rattle.std.specs.Prelude.{◌≡◌, ◌<◌, ℕ, true, false, IfOk, IfSome, IfNone, length, replicate, slice_set, slice_index_or};
+    ghost use Rattle.std.specs.Prelude.{◌≡◌, ◌<◌, ◌∷◌, [], false, IfOk, IfSome, IfNone, length};
+    ghost use Rattle.std.specs.List.{range_with_len};
     ghost use Rattle.ert_defs.specs.Legal.{Legal};
     ghost use Rattle.ert_table.specs.Calls.{IsMade};
     ghost use Rattle.ert_table.specs.Desks.{settings_of, view_of, front_of, state_of, Belongs};
-    ghost use Rattle.ert_mail.specs.Lists.{AreListed, CanLook, IsNextIn, LooksForMail, exited_from};
+    ghost use Rattle.ert_mail.specs.Lists.{AreListed, CanLook, HaveMailFrom, IsNextIn, LooksForMail, exited_from, is_listed, with_listed};
 
-    /// A list with every process below a number.
+    /// A list with every process below a number, in order.
     pub fn all(alloc: Global, processes: u32) -> Result<MailList, NoMemory>
-        ensures { IfOk result (λ list. list ≡ replicate processes true) }
+        ensures { IfOk result (λ list. list ≡ record { bound = processes; held = range_with_len 0 processes }) }
     {
         let row = Turns::new(alloc, processes)?;
         let listed = vec![in alloc; true; processes as usize]?;
@@ -48,8 +50,8 @@ impl MailList {
 
     /// Puts a process last, unless it is listed.
     pub fn put(&mut self, process: u32)
-        requires { process < length self.old }
-        ensures { self.new ≡ slice_set self.old process true }
+        requires { process < self.old.bound }
+        ensures { self.new ≡ with_listed self.old process }
     {
         if self.listed[process as usize] {
             return;
@@ -61,17 +63,19 @@ impl MailList {
     /// Takes the first process out; None where none is listed.
     fn pick(&mut self) -> Option<u32>
         ensures none { IfNone result (self.new ≡ self.old) }
-        ensures empty { IfNone result ((process : ℕ) → slice_index_or self.old process false ≡ false) }
-        ensures was { IfSome result (λ process. slice_index_or self.old process false ≡ true) }
-        ensures picked { IfSome result (λ process. self.new ≡ slice_set self.old process false) }
+        ensures empty { IfNone result (self.old.held ≡ []) }
+        ensures picked { IfSome result (λ process. self.old ≡ record self.new { held = process ∷ self.new.held }) }
+        ensures away { IfSome result (λ process. is_listed self.new process ≡ false) }
+        ensures in_range { IfSome result (λ process. process < self.old.bound) }
     {
         let process = self.row.pick_first()?;
         self.listed[process as usize] = false;
         Some(process)
     }
 
-    /// A process that hasn't exited and whose mailbox has mail; None exactly where there is none. It is put last, so that
-    /// each gets its turn. The mailboxes are those of the processes from `first` on, and the answer is counted from it.
+    /// The first process of the row that hasn't exited and whose mailbox has mail; None exactly where there is none. It is
+    /// put last, so that each has its turn, and those before it leave the row. The mailboxes are those of the processes
+    /// from `first` on, and the answer is counted from it.
     ///
     /// The caller looks whether the process whose turn it is has exited: then none of its messages can be taken, and it
     /// leaves the row.
@@ -87,9 +91,11 @@ impl MailList {
         requires legal { Legal (settings_of desk.now) (front_of pass.old) }
         requires caller { CanLook (settings_of desk.now) (view_of pass.old) by first (length mails.now) }
         requires listed { AreListed (exited_from first (state_of desk.now pass.old).exited) self.old mails.now }
+        requires mail { HaveMailFrom first (state_of desk.now pass.old) mails.now }
         ensures belongs { Belongs desk.now pass.new }
-        ensures call { IsMade (settings_of desk.now) (view_of pass.old) (LooksForMail first by result) (view_of pass.new) }
+        ensures call { IsMade (settings_of desk.now) (view_of pass.old) (LooksForMail first by self.old.held result self.new.held) (view_of pass.new) }
         ensures listed { AreListed (exited_from first (state_of desk.now pass.new).exited) self.new mails.now }
+        ensures bound { self.new.bound ≡ self.old.bound }
         ensures next { IsNextIn (exited_from first (state_of desk.now pass.new).exited) mails.now result }
     {
         while let Some(process) = self.pick() {

@@ -101,7 +101,7 @@ ends start w n over far =
     }
 
 -- a race is what all do at once, and then the last turns
-pub races_to : (old seen v w : Seen) (labels : Labels) (race : Race) (dids : List Did) → old ≡ seen → RunsAtOnce seen labels race dids v → EndsRound v w
+pub races_to : (old seen v w : Seen) (labels : Labels) (race : Race) (dids : List Did) → old ≡ record seen { turns = old.turns } → RunsAtOnce seen labels race dids v → EndsRound v w
     → RacesTo old labels race dids w
 races_to old seen v w labels race dids same one last =
     subst (λ (s : Seen). RacesTo s labels race dids w) (sym same)

@@ -1,6 +1,6 @@
 //! A race over a world.
 ghost use Rattle.std.specs.Arc.{arc_value};
-ghost use Rattle.std.specs.Prelude.{◌≡◌, suc, List, length, IfOk};
+ghost use Rattle.std.specs.Prelude.{◌≡◌, suc, List, length, IfOk, None};
 ghost use Rattle.ert_defs.specs.declared.entry.Entry.{Entry};
 ghost use Rattle.ert_locks.specs.Names.{IsDesk};
 ghost use Rattle.ert_ops.specs.Races.{MayDoAll, lists_of, race_of};
@@ -78,7 +78,7 @@ fn run_at_once<L: DeskName + Send + Sync, R: Threads + Wait + Sync, G: Gate + Sy
     requires fit { AreFit (arc_value parts.desk) parts.pass 1 (parts_of parts.keeper parts.wheels.items parts.inboxes.items parts.mails.items parts.scheds.items) }
     requires callers { L.settings.callers ≡ suc (length race.now.callers.items) }
     requires may { MayDoAll L.settings (lists_of (race_of race.now)) }
-    ensures { IfOk result (λ e. RunsAtOnce (seen (arc_value parts.desk) parts.pass 1 parts.keeper parts.wheels.items)
+    ensures { IfOk result (λ e. RunsAtOnce (seen (arc_value parts.desk) parts.pass 1 parts.keeper parts.wheels.items None)
         known.now (race_of race.now) (dids_of e.lists.items) e.world) }
 {
     let Opened {

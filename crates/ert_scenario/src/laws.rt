@@ -17,8 +17,24 @@ ghost use Rattle.ert_scenario.specs.Places.{HasShapeFault, HasRangeFault, IsTooM
 ghost use Rattle.ert_scenario.specs.Scenarios.{Plan, IsValue, IsScenario, HasRefusal, verdict_of};
 ghost use Rattle.ert_scenario.specs.declared.scenario.ScenarioErr.{ScenarioErr as Refusal};
 
+use crate::limits::{
+    MOST_CALLERS, MOST_LISTS, MOST_OPS, MOST_PROCESSES, MOST_SCHEDULERS, MOST_SLOTS,
+    MOST_SLOTS_IN_ALL, MOST_TURNS,
+};
 use crate::scenario::ScenarioErr;
 use ert_defs::SCENARIO_LOOKS;
+
+/// The limits of scenarios. How many slots a start of one looks at is a limit of services (`ert_defs`).
+pub fn limits_are_fixed()
+    ensures schedulers { MOST_SCHEDULERS ≡ 64 }
+    ensures processes { MOST_PROCESSES ≡ 1024 }
+    ensures slots { MOST_SLOTS ≡ 65536 }
+    ensures slots_in_all { MOST_SLOTS_IN_ALL ≡ 262144 }
+    ensures lists { MOST_LISTS ≡ 16 }
+    ensures callers { MOST_CALLERS ≡ 17 }
+    ensures turns { MOST_TURNS ≡ 10000 }
+    ensures ops { MOST_OPS ≡ 100000 }
+{}
 
 /// Bytes are a scenario or have a refusal, never both, and at most one of each: with `some_verdict`,
 /// exactly one of all. So it is where a race is wanted, and where none is.

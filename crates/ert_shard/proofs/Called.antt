@@ -1,6 +1,6 @@
 -- A call of a part, or of an actor alone, is a call of the shard that has it.
 
-use Rattle.std.proofs.Common.{◌≡◌, ℕ, ◌+◌, ◌-◌, ◌<◌, Bool, false, Option, arith, ne_eqb, List, [], ◌∷◌, ◌++◌, filter, length, slice_index_or, refl, sym, ap, subst, ◌∙◌}
+use Rattle.std.proofs.Common.{◌≡◌, ℕ, ◌+◌, ◌-◌, ◌<◌, false, Option, arith, ne_eqb, List, [], ◌∷◌, ◌++◌, filter, length, slice_index_or, refl, sym, ap, subst, ◌∙◌}
 use Rattle.std.specs.Prelude.{slice_set}
 use Rattle.std.proofs.Math.Nat.{le_refl, le_trans}
 use Rattle.std.proofs.lemmas.List.{length-set}
@@ -24,18 +24,20 @@ use Rattle.ert_table.specs.declared.desk.Desk.{Desk}
 use Rattle.ert_table.specs.declared.desk.Pass.{Pass}
 use Rattle.ert_timers.specs.Parts.{Part, PartStands as WheelStands}
 use Rattle.ert_timers.specs.Passed.{LosesRows}
+use Rattle.ert_words.specs.Turns.{TurnRow}
+use Rattle.ert_world.specs.Stepping.{turns_same}
 use Rattle.ert_world.proofs.Returned.{at_place}
-use Rattle.ert_world.specs.Worlds.{ListAll}
+use Rattle.ert_world.specs.Worlds.{ListAll, TurnsGrow}
 
 -- the parts of a shard after a call: they fit, and what callers see of it goes on by the call
 pub record Does (before : Owned) (d : Desk) (q : Pass) (s : Share) (new : ShardParts) (call : Owned → Way → Growth) : Type 0 where
   pub fit : AreShardPartsFit d q s new
-  pub goes : ShardGoes before (call before) (owned d q s new.wheel)
+  pub goes : ShardGoes before (call before) (owned d q s new.wheel new.list)
 
 -- the same of a call that starts no timer
 pub record Did (before : Owned) (d : Desk) (q : Pass) (s : Share) (new : ShardParts) (call : Owned → Way → Growth) : Type 0 where
   pub fit : AreShardPartsFit d q s new
-  pub steps : ShardSteps before (call before) (owned d q s new.wheel)
+  pub steps : ShardSteps before (call before) (owned d q s new.wheel new.list)
 
 pub does_at : {before : Owned} {d e : Desk} {q : Pass} {s : Share} {new : ShardParts} {call : Owned → Way → Growth} → d ≡ e
     → Does before d q s new call → Does before e q s new call
@@ -53,30 +55,30 @@ same_rows p = record { number = refl; slots = refl; left = λ k key is. is; time
 pub lost : (before o : Owned) (call : Way → Growth) (old new : Part) → before.wheel ≡ old → ShardGoes before call o → LosesRows old new
     → ShardSteps before call (record o { wheel = new })
 lost before o call old new is goes rows = record {
-  goes = record { grows = goes.grows; legal = goes.legal; table = goes.table; settings = goes.settings; share = goes.share };
+  goes = record { grows = goes.grows; legal = goes.legal; table = goes.table; settings = goes.settings; share = goes.share; turns = goes.turns };
   rows = subst (λ (p : Part). LosesRows p new) (sym is) rows;
 }
 
 -- what a shard has at a desk before a call
 pub record Has (before : Owned) (d : Desk) (p : Pass) (s : Share) (parts : ShardParts) : Type 0 where
-  pub is : owned d p s parts.wheel ≡ before
+  pub is : owned d p s parts.wheel parts.list ≡ before
   pub fit : AreShardPartsFit d p s parts
 
-pub has_at : {before : Owned} {d e : Desk} {p : Pass} {s : Share} {parts : ShardParts} → d ≡ e → owned e p s parts.wheel ≡ before
+pub has_at : {before : Owned} {d e : Desk} {p : Pass} {s : Share} {parts : ShardParts} → d ≡ e → owned e p s parts.wheel parts.list ≡ before
     → AreShardPartsFit e p s parts → Has before d p s parts
 has_at {before} {d} {e} {p} {s} {parts} same is fit = subst (λ x. Has before x p s parts) (sym same) (record { is = is; fit = fit })
 
 -- what a call may record, of a piece of the history in which these entries are the share's
-abbrev pub Makes : Desk → Pass → Pass → Share → Part → List Entry → (Owned → Way → Growth) → Type 0
-Makes d p q s wheel es call =
-    (m : List Entry) → front_of q ≡ front_of p ++ m → filter (is_by s) m ≡ es → call (owned d p s wheel) (shard_way (owned d p s wheel)) (front_of p) m
+abbrev pub Makes : Desk → Pass → Pass → Share → ShardParts → List Entry → (Owned → Way → Growth) → Type 0
+Makes d p q s parts es call =
+    (m : List Entry) → front_of q ≡ front_of p ++ m → filter (is_by s) m ≡ es → call (owned d p s parts.wheel parts.list) (shard_way (owned d p s parts.wheel parts.list)) (front_of p) m
 
 pub finish : (before : Owned) (d : Desk) (p q : Pass) (s : Share) (old new : ShardParts) (es : List Entry) (lent : List Actor) (call : Owned → Way → Growth)
-    → Has before d p s old → Belongs d q → TakesPlace (settings_of d) (view_of p) es (view_of q) → AreOnlyOf lent es → AreOwn s lent
+    → Has before d p s old → TurnsGrow old.list new.list → Belongs d q → TakesPlace (settings_of d) (view_of p) es (view_of q) → AreOnlyOf lent es → AreOwn s lent
     → AreHome s (of (front_of q) (Wheel s.number))
     → (ShardPartsStand (settings_of d) (front_of q) s lent old → ShardPartsStand (settings_of d) (front_of q) s [] new)
-    → Makes d p q s old.wheel es call → Does before d q s new call
-finish before d p q s old new es lent call has belongs takes only own home back allowed =
+    → Makes d p q s old es call → Does before d q s new call
+finish before d p q s old new es lent call has grows belongs takes only own home back allowed =
     let g : Settings = settings_of d in
     record {
       fit = record {
@@ -85,7 +87,7 @@ finish before d p q s old new es lent call has belongs takes only own home back 
         stand = back (others_stand g (view_of p) es (view_of q) s lent old takes only has.fit.holds has.fit.stand);
         home = home;
       };
-      goes = subst (λ o. ShardGoes o (call o) (owned d q s new.wheel)) has.is (record {
+      goes = subst (λ o. ShardGoes o (call o) (owned d q s new.wheel new.list)) has.is (record {
         grows = record {
           piece = takes.later;
           grown = takes.grown;
@@ -95,13 +97,14 @@ finish before d p q s old new es lent call has belongs takes only own home back 
         table = refl;
         settings = refl;
         share = refl;
+        turns = grows;
       });
     }
 
 -- what one step may record
-pub makes : (d : Desk) (p q : Pass) (s : Share) (wheel : Part) (es : List Entry) (allows : ℕ → Settings → State → List Entry → Type 0)
-    → allows s.number (settings_of d) (state (settings_of d) (front_of p)) es → Makes d p q s wheel es (λ o. ShardBy o (allows o.share.number))
-makes d p q s wheel es allows allowed = λ m grown own. subst (allows s.number (settings_of d) (state (settings_of d) (front_of p))) (sym own) allowed
+pub makes : (d : Desk) (p q : Pass) (s : Share) (parts : ShardParts) (es : List Entry) (allows : ℕ → Settings → State → List Entry → Type 0)
+    → allows s.number (settings_of d) (state (settings_of d) (front_of p)) es → Makes d p q s parts es (λ o. ShardBy o (allows o.share.number))
+makes d p q s parts es allows allowed = λ m grown own. subst (allows s.number (settings_of d) (state (settings_of d) (front_of p))) (sym own) allowed
 
 -- where the wheel isn't lent no timer was started on it
 pub home_kept : (before : Owned) (d : Desk) (p q : Pass) (s : Share) (old : ShardParts) (es : List Entry) (lent : List Actor) → Has before d p s old
@@ -113,13 +116,13 @@ home_kept before d p q s old es lent has takes only apart =
 
 -- a call that left the wheel as it was
 pub still : {before : Owned} {d e : Desk} (p : Pass) {q : Pass} {s : Share} (old new : ShardParts) {call : Owned → Way → Growth} → d ≡ e
-    → owned e p s old.wheel ≡ before → new.wheel ≡ old.wheel → Does before d q s new call → Did before e q s new call
+    → owned e p s old.wheel old.list ≡ before → new.wheel ≡ old.wheel → Does before d q s new call → Did before e q s new call
 still {before} {d} {e} p {q} {s} old new {call} same is kept done =
     let there : Does before e q s new call = does_at same done in
     let wheel : before.wheel ≡ old.wheel = sym (ap (λ (o : Owned). o.wheel) is) in
     record {
       fit = there.fit;
-      steps = lost before (owned e q s new.wheel) (call before) old.wheel new.wheel wheel there.goes (subst (LosesRows old.wheel) (sym kept) (same_rows old.wheel));
+      steps = lost before (owned e q s new.wheel new.list) (call before) old.wheel new.wheel wheel there.goes (subst (LosesRows old.wheel) (sym kept) (same_rows old.wheel));
     }
 
 -- a call by which the wheel lost rows
@@ -127,7 +130,7 @@ pub losing : {before : Owned} {d : Desk} {p q : Pass} {s : Share} {old new : Sha
     → LosesRows old.wheel new.wheel → Does before d q s new call → Did before d q s new call
 losing {before} {d} {p} {q} {s} {old} {new} {call} has rows done = record {
   fit = done.fit;
-  steps = lost before (owned d q s new.wheel) (call before) old.wheel new.wheel (sym (ap (λ (o : Owned). o.wheel) has.is)) done.goes rows;
+  steps = lost before (owned d q s new.wheel new.list) (call before) old.wheel new.wheel (sym (ap (λ (o : Owned). o.wheel) has.is)) done.goes rows;
 }
 
 -- rows are lost, and then more
@@ -141,13 +144,13 @@ rows_then p q r one other = record {
 
 -- a call of the shard's caller alone
 pub alone_called : (before : Owned) (d e : Desk) (p q : Pass) (s : Share) (old : ShardParts) (allows : ℕ → Settings → State → List Entry → Type 0) → d ≡ e
-    → owned e p s old.wheel ≡ before → AreShardPartsFit e p s old → Belongs d q → IsMade (settings_of d) (view_of p) (allows s.number (settings_of d)) (view_of q)
+    → owned e p s old.wheel old.list ≡ before → AreShardPartsFit e p s old → Belongs d q → IsMade (settings_of d) (view_of p) (allows s.number (settings_of d)) (view_of q)
     → ((st : State) (es : List Entry) → allows s.number (settings_of d) st es → AreOnlyOf (Caller (s.number + 1) ∷ []) es)
     → Did before e q s old (λ o. ShardBy o (allows o.share.number))
 alone_called before d e p q s old allows same is fit belongs made only =
     let it = only (state (settings_of d) (front_of p)) made.entries made.allowed in
     let has : Has before d p s old = has_at same is fit in
-    still p old old same is refl (finish before d p q s old old made.entries (Caller (s.number + 1) ∷ []) (λ o. ShardBy o (allows o.share.number)) has belongs made.call it (self_own (s.number + 1), tt)
+    still p old old same is refl (finish before d p q s old old made.entries (Caller (s.number + 1) ∷ []) (λ o. ShardBy o (allows o.share.number)) has (turns_same old.list) belongs made.call it (self_own (s.number + 1), tt)
     (home_kept before d p q s old made.entries (Caller (s.number + 1) ∷ []) has made.call it refl)
     (λ stand. record {
       legal = stand.legal;
@@ -160,11 +163,11 @@ alone_called before d e p q s old allows same is fit belongs made only =
       mails = record { counted = stand.mails.counted; named = stand.mails.named; stand = λ i d low apart. stand.mails.stand i d low refl };
       listed = stand.listed;
     })
-    (makes d p q s old.wheel made.entries allows made.allowed))
+    (makes d p q s old made.entries allows made.allowed))
 
 -- a step on the shard's wheel by its caller, whose starts are for its processes
 pub wheel_stepped : (before : Owned) (d e : Desk) (p q : Pass) (s : Share) (old : ShardParts) (new : Part) (allows : ℕ → ℕ → Settings → State → List Entry → Type 0)
-    → d ≡ e → owned e p s old.wheel ≡ before → AreShardPartsFit e p s old → Belongs d q → new.number ≡ old.wheel.number → WheelStands (settings_of d) (front_of q) new
+    → d ≡ e → owned e p s old.wheel old.list ≡ before → AreShardPartsFit e p s old → Belongs d q → new.number ≡ old.wheel.number → WheelStands (settings_of d) (front_of q) new
     → IsMade (settings_of d) (view_of p) (allows s.number old.wheel.number (settings_of d)) (view_of q)
     → ((n : ℕ) (st : State) (es : List Entry) → allows s.number n (settings_of d) st es → AreOnlyOf (Caller (s.number + 1) ∷ (Wheel n ∷ [])) es)
     → ((n : ℕ) (st : State) (es : List Entry) → allows s.number n (settings_of d) st es → AreHome s es)
@@ -176,7 +179,7 @@ wheel_stepped before d e p q s old new allows same is fit belongs named stands m
     let one : old.wheel.number ≡ n = has.fit.stand.wheel_is in
     let it : IsMade g (view_of p) (allows n n g) (view_of q) = subst (λ i. IsMade g (view_of p) (allows n i g) (view_of q)) one made in
     let mine = only n (state g (front_of p)) it.entries it.allowed in
-    does_at same (finish before d p q s old (record old { wheel = new }) it.entries (Caller (n + 1) ∷ (Wheel n ∷ [])) (λ o. ShardBy o (allows o.share.number o.share.number)) has belongs it.call mine
+    does_at same (finish before d p q s old (record old { wheel = new }) it.entries (Caller (n + 1) ∷ (Wheel n ∷ [])) (λ o. ShardBy o (allows o.share.number o.share.number)) has (turns_same old.list) belongs it.call mine
     (self_own (n + 1), (self_own n, tt))
     (home_on g (view_of p) it.entries (view_of q) s it.call has.fit.holds has.fit.home (homes n (state g (front_of p)) it.entries it.allowed))
     (λ stand. record {
@@ -190,7 +193,7 @@ wheel_stepped before d e p q s old new allows same is fit belongs named stands m
       mails = record { counted = stand.mails.counted; named = stand.mails.named; stand = λ i d low apart. stand.mails.stand i d low refl };
       listed = stand.listed;
     })
-    (makes d p q s old.wheel it.entries (λ m. allows m m) it.allowed))
+    (makes d p q s old it.entries (λ m. allows m m) it.allowed))
 
 -- a wheel that was changed without an entry
 pub wheel_replaced : (d : Desk) (q : Pass) (s : Share) (parts : ShardParts) (new : Part) → AreShardPartsFit d q s parts → new.number ≡ parts.wheel.number
@@ -213,7 +216,7 @@ wheel_replaced d q s parts new fit named stands = record {
 }
 
 -- a list of processes with mail that was made or read
-pub list_replaced : (d : Desk) (q : Pass) (s : Share) (parts : ShardParts) (list : Option (List Bool)) → AreShardPartsFit d q s parts
+pub list_replaced : (d : Desk) (q : Pass) (s : Share) (parts : ShardParts) (list : Option TurnRow) → AreShardPartsFit d q s parts
     → ListAll (counted_from s.from (state (settings_of d) (front_of q))) list parts.mails → AreShardPartsFit d q s (record parts { list = list })
 list_replaced d q s parts list fit listed = record {
   belongs = fit.belongs;
@@ -270,14 +273,14 @@ mails_back g h s lent mails process x home are named stands =
           (rw (ne_eqb process (s.from + j) (λ e. other (omega (arith, sum, e)))) left));
     }
 
--- a list of processes with mail is one after a mailbox has changed
-abbrev pub IsListedOn : ShardParts → ℕ → Mailbox → Option (List Bool) → Type 0
+-- a row of processes that may have mail is one after a mailbox has changed, and all keep their places in it
+abbrev pub IsListedOn : ShardParts → ℕ → Mailbox → Option TurnRow → Type 0
 IsListedOn parts place new list =
-    (st : State) → ListAll st parts.list parts.mails → place < length parts.mails → ListAll st list (slice_set parts.mails place new)
+    TurnsGrow parts.list list × ((st : State) → ListAll st parts.list parts.mails → place < length parts.mails → ListAll st list (slice_set parts.mails place new))
 
 -- a step on a mailbox by the shard's caller
-pub mail_stepped : (before : Owned) (d e : Desk) (p q : Pass) (s : Share) (parts : ShardParts) (list : Option (List Bool)) (process : ℕ) (old new : Mailbox)
-    (allows : ℕ → ℕ → Settings → State → List Entry → Type 0) → d ≡ e → owned e p s parts.wheel ≡ before → AreShardPartsFit e p s parts → Belongs d q → IsHome before.share process
+pub mail_stepped : (before : Owned) (d e : Desk) (p q : Pass) (s : Share) (parts : ShardParts) (list : Option TurnRow) (process : ℕ) (old new : Mailbox)
+    (allows : ℕ → ℕ → Settings → State → List Entry → Type 0) → d ≡ e → owned e p s parts.wheel parts.list ≡ before → AreShardPartsFit e p s parts → Belongs d q → IsHome before.share process
     → old ≡ slice_index_or parts.mails (process - s.from) old → new.process ≡ old.process → MailStands (settings_of d) (front_of q) new
     → (Legal (settings_of d) (front_of p) → IsMade (settings_of d) (view_of p) (allows s.number old.process (settings_of d)) (view_of q))
     → ((n : ℕ) (st : State) (es : List Entry) → allows s.number n (settings_of d) st es → AreOnlyOf (Caller (s.number + 1) ∷ (MailOf n ∷ [])) es)
@@ -294,7 +297,7 @@ mail_stepped before d e p q s parts list process old new allows same is fit belo
     let mine = only process (state g (front_of p)) it.entries it.allowed in
     still p parts (record parts { mails = slice_set parts.mails (process - s.from) new; list = list }) same is refl
     (finish before d p q s parts (record parts { mails = slice_set parts.mails (process - s.from) new; list = list }) it.entries lending
-    (λ o. ShardBy o (allows o.share.number process)) has belongs it.call mine
+    (λ o. ShardBy o (allows o.share.number process)) has listed.0 belongs it.call mine
     (self_own (n + 1), (home_own s process home, tt))
     (home_kept before d p q s parts it.entries lending has it.call mine refl)
     (λ stand. record {
@@ -310,6 +313,6 @@ mail_stepped before d e p q s parts list process old new allows same is fit belo
         named = stand.mails.named;
         stand = stand.mails.stand;
       }) (named ∙ one) stands;
-      listed = listed (counted_from s.from (state g (front_of q))) stand.listed (place_low fit process home);
+      listed = listed.1 (counted_from s.from (state g (front_of q))) stand.listed (place_low fit process home);
     })
-    (makes d p q s parts.wheel it.entries (λ m. allows m process) it.allowed))
+    (makes d p q s parts it.entries (λ m. allows m process) it.allowed))

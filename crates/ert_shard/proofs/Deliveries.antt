@@ -22,6 +22,8 @@ use Rattle.ert_laws.proofs.RowRanges.{first_placed}
 use Rattle.ert_laws.specs.Ranges.{IsPlaced}
 use Rattle.ert_mail.proofs.LawsHold.{handing_only}
 use Rattle.ert_mail.specs.Mailboxes.{Mailbox, HoldsMailboxAndSched, handed, MailboxStands as MailStands}
+use Rattle.ert_world.specs.Stepping.{turns_same, turns_then}
+use Rattle.ert_world.specs.Worlds.{TurnsGrow}
 use Rattle.ert_shard.specs.Turning.{shard_expired}
 use Rattle.ert_shard.specs.Shards.{Share, counted_from, IsHome, Owned, shard_way, ShardSteps, ShardParts, AreShardPartsFit}
 use Rattle.ert_shard.proofs.Home.{first_home}
@@ -37,6 +39,7 @@ use Rattle.ert_table.specs.declared.desk.Desk.{Desk}
 use Rattle.ert_table.specs.declared.desk.Pass.{Pass}
 use Rattle.ert_timers.proofs.Settled.{expired_let_go, handed_free}
 use Rattle.ert_timers.specs.Freeing.{IsLetGo}
+use Rattle.ert_words.specs.Turns.{TurnRow}
 use Rattle.ert_world.proofs.Bounding.{puts_drops}
 use Rattle.ert_world.proofs.Standing.{free_kept}
 use Rattle.ert_world.specs.Bounded.{AreLeft, DeliversSome}
@@ -61,7 +64,7 @@ own_first before d p s parts expired has first =
     }
 
 -- it was handed over, and is out of the list
-pub handed_now : (before : Owned) (d : Desk) (p q : Pass) (s : Share) (parts : ShardParts) (list : Option (List Bool)) (old new : Mailbox) (expired : Row) (how : Handed) (x : SchedPart)
+pub handed_now : (before : Owned) (d : Desk) (p q : Pass) (s : Share) (parts : ShardParts) (list : Option TurnRow) (old new : Mailbox) (expired : Row) (how : Handed) (x : SchedPart)
     → Has before d p s parts → Belongs d q → first_of (shard_expired before) ≡ Some expired
     → old ≡ slice_index_or parts.mails (expired.dest - s.from) old → new.process ≡ old.process → MailStands (settings_of d) (front_of q) new
     → IsMade (settings_of d) (view_of p) (HandsOver (settings_of d) expired.timer.wheel expired (Ok how)) (view_of q)
@@ -89,7 +92,7 @@ handed_now before d p q s parts list old new expired how x has belongs first len
     let lending : List Actor = Sched n ∷ (MailOf expired.dest ∷ []) in
     let only = handing_only g n expired (Ok how) st made.entries made.allowed in
     finish before d p q s parts (record parts { mails = slice_set parts.mails (expired.dest - s.from) new; sched = x; list = list }) made.entries lending
-    (λ o way. Hands o.settings way o.share.number (Ok how)) has belongs made.call only (self_own n, (home_own s expired.dest own.home, tt))
+    (λ o way. Hands o.settings way o.share.number (Ok how)) has listed.0 belongs made.call only (self_own n, (home_own s expired.dest own.home, tt))
     (home_kept before d p q s parts made.entries lending has made.call only refl)
     (λ stand. record {
       legal = stand.legal;
@@ -101,7 +104,7 @@ handed_now before d p q s parts list old new expired how x has belongs first len
       sched = λ apart. now;
       mails = mails_back g (front_of q) s [] parts.mails expired.dest new own.home
           (record { counted = stand.mails.counted; named = stand.mails.named; stand = stand.mails.stand }) (named ∙ one) stands;
-      listed = listed (counted_from s.from (state g (front_of q))) stand.listed (place_low has.fit expired.dest own.home);
+      listed = listed.1 (counted_from s.from (state g (front_of q))) stand.listed (place_low has.fit expired.dest own.home);
     })
     (λ m grown mine. record {
       expired = expired;
@@ -182,9 +185,9 @@ named_free d q p timer belongs can g named =
     subst (λ t. is_taken ((state t (front_of q)).status timer) ≡ false) same can.free
 
 -- a step that found no memory changed nothing but the room of a mailbox
-pub step_refused : (before : Owned) (d : Desk) (p q : Pass) (s : Share) (parts : ShardParts) (list : Option (List Bool)) (process : ℕ) (old new : Mailbox) (call : Owned → Way → Growth)
+pub step_refused : (before : Owned) (d : Desk) (p q : Pass) (s : Share) (parts : ShardParts) (list : Option TurnRow) (process : ℕ) (old new : Mailbox) (call : Owned → Way → Growth)
     → Has before d p s parts → Belongs d q → IsHome s process → old ≡ slice_index_or parts.mails (process - s.from) old → new.process ≡ old.process
-    → MailStands (settings_of d) (front_of q) new → view_of q ≡ view_of p → Makes d p q s parts.wheel [] call → IsListedOn parts (process - s.from) new list
+    → MailStands (settings_of d) (front_of q) new → view_of q ≡ view_of p → Makes d p q s parts [] call → IsListedOn parts (process - s.from) new list
     → Did before d q s (record parts { mails = slice_set parts.mails (process - s.from) new; list = list }) call
 step_refused before d p q s parts list process old new call has belongs home lent named stands same allowed listed =
     let g : Settings = settings_of d in
@@ -193,7 +196,7 @@ step_refused before d p q s parts list process old new call has belongs home len
     subst (λ w. TakesPlace g (view_of p) [] w) (sym same)
     (record { actors = refl; legal = has.fit.stand.legal; later = []; grown = sym (append-nil (front_of p)); ours = refl }) in
     losing has (same_rows parts.wheel)
-    (finish before d p q s parts (record parts { mails = slice_set parts.mails (process - s.from) new; list = list }) [] (MailOf process ∷ []) call has belongs takes tt
+    (finish before d p q s parts (record parts { mails = slice_set parts.mails (process - s.from) new; list = list }) [] (MailOf process ∷ []) call has listed.0 belongs takes tt
     (home_own s process home, tt) (home_kept before d p q s parts [] (MailOf process ∷ []) has takes tt refl)
     (λ stand. record {
       legal = stand.legal;
@@ -205,7 +208,7 @@ step_refused before d p q s parts list process old new call has belongs home len
       sched = λ apart. stand.sched refl;
       mails = mails_back g (front_of q) s [] parts.mails process new home
           (record { counted = stand.mails.counted; named = stand.mails.named; stand = stand.mails.stand }) (named ∙ one) stands;
-      listed = listed (counted_from s.from (state g (front_of q))) stand.listed (place_low has.fit process home);
+      listed = listed.1 (counted_from s.from (state g (front_of q))) stand.listed (place_low has.fit process home);
     })
     allowed)
 
@@ -216,6 +219,7 @@ pub record Handing (old : Owned) (hows : List Handed) (now : Owned) : Type 0 whe
   pub table : now.table ≡ old.table
   pub settings : now.settings ≡ old.settings
   pub share : now.share ≡ old.share
+  pub turns : TurnsGrow old.turns now.turns
 
 pub none_handed : (o : Owned) → Handing o [] o
 none_handed o = record {
@@ -224,6 +228,7 @@ none_handed o = record {
   table = refl;
   settings = refl;
   share = refl;
+  turns = turns_same o.turns;
 }
 
 pub one_handed : (old mid new : Owned) (hows : List Handed) (how : Handed) → Handing old hows mid
@@ -235,6 +240,7 @@ one_handed old mid new hows how handing steps = record {
   table = steps.goes.table ∙ handing.table;
   settings = steps.goes.settings ∙ handing.settings;
   share = steps.goes.share ∙ handing.share;
+  turns = turns_then old.turns mid.turns new.turns handing.turns steps.goes.turns;
 }
 
 none_left : {X : Type 0} (xs : List X) → first_of xs ≡ None → xs ≡ []
@@ -267,6 +273,7 @@ all_handed old new hows put dropped handing legal put_is dropped_is none =
         table = handing.table;
         settings = handing.settings;
         share = handing.share;
+        turns = handing.turns;
       };
     }
 
@@ -298,6 +305,7 @@ some_handed old new most put dropped more hows handing legal put_is dropped_is f
         table = handing.table;
         settings = handing.settings;
         share = handing.share;
+        turns = handing.turns;
       };
     }
 
@@ -320,5 +328,6 @@ some_unhanded old mid new most put dropped e hows handing put_is dropped_is few 
         table = steps.goes.table ∙ handing.table;
         settings = steps.goes.settings ∙ handing.settings;
         share = steps.goes.share ∙ handing.share;
+        turns = turns_then old.turns mid.turns new.turns handing.turns steps.goes.turns;
       };
     }

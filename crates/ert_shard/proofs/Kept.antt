@@ -27,6 +27,7 @@ use Rattle.ert_table.specs.Takes.{TakesPlace}
 use Rattle.ert_table.specs.Views.{Begins}
 use Rattle.ert_table.specs.declared.view.View.{View}
 use Rattle.ert_timers.proofs.LawsHold.{stand_on as wheel_on}
+use Rattle.ert_words.specs.Turns.{TurnRow}
 use Rattle.ert_world.proofs.Standing.{grown_by, own_kept}
 use Rattle.ert_world.specs.Worlds.{ListAll}
 
@@ -87,11 +88,11 @@ pub same_of : (g : Settings) (v : View) (es : List Entry) (w : View) (s : Share)
 same_of g v es w s lent a takes only holds ranged mine apart = own_kept g v es w lent a takes only (holds.own a ranged ∙ mine) apart
 
 -- more processes may have exited, of those that are listed
-pub list_on : (g : Settings) (f h : List Entry) (from : ℕ) (list : Option (List Bool)) (mails : List Mailbox) → Begins f h
+pub list_on : (g : Settings) (f h : List Entry) (from : ℕ) (list : Option TurnRow) (mails : List Mailbox) → Begins f h
     → ListAll (counted_from from (state g f)) list mails → ListAll (counted_from from (state g h)) list mails
 list_on g f h from None mails more all = tt
-list_on g f h from (Some listed) mails more all =
-    listed_on (exited_from from (state g f).exited) (exited_from from (state g h).exited) listed mails
+list_on g f h from (Some row) mails more all =
+    listed_on (exited_from from (state g f).exited) (exited_from from (state g h).exited) row mails
     (λ p gone. ap (λ l. (state g l).exited (from + p)) more.grown
     ∙ (ap (λ (st : State). st.exited (from + p)) (state-append g f more.later) ∙ exit_stays g (from + p) (state g f) more.later gone)) all
 

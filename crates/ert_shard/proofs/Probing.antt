@@ -7,6 +7,7 @@ use Rattle.ert_defs.specs.declared.entry.Actor.TheVariants.{Wheel, Sched}
 use Rattle.ert_defs.specs.declared.entry.Entry.{Entry}
 use Rattle.ert_defs.specs.declared.settings.Settings.{Settings}
 use Rattle.ert_effects.specs.Sleeping.{Probed, DropsSettled, ProbesForNext, probed_entries}
+use Rattle.ert_world.specs.Stepping.{turns_same}
 use Rattle.ert_shard.proofs.Called.{Did, Has, did_at, finish, has_at, losing, makes}
 use Rattle.ert_shard.proofs.Home.{home_on}
 use Rattle.ert_shard.proofs.Kept.{self_own}
@@ -55,7 +56,7 @@ probed before d p q s parts new probes allows has belongs named stands loses cal
     sched_stands g (front_of q) parts.sched ((state g (front_of q)).scheds i) below (ap (λ n. (state g (front_of q)).scheds n) was.wheel)
     (was.hand ∙ sym (ap (λ (t : SchedState). t.hand) kept)) (was.expired ∙ sym (ap (λ (t : SchedState). t.expired) kept)) in
     losing has loses (finish before d p q s parts (record parts { wheel = new }) es (Sched i ∷ (Wheel i ∷ []))
-    (λ o. ShardBy o (allows o.share.number)) has belongs call (probed_only i probes) (self_own i, (self_own i, tt))
+    (λ o. ShardBy o (allows o.share.number)) has (turns_same parts.list) belongs call (probed_only i probes) (self_own i, (self_own i, tt))
     (home_on g (view_of p) es (view_of q) s call has.fit.holds has.fit.home (probed_home s i probes))
     (λ stand. record {
       legal = stand.legal;
@@ -68,10 +69,10 @@ probed before d p q s parts new probes allows has belongs named stands loses cal
       mails = record { counted = stand.mails.counted; named = stand.mails.named; stand = λ j d low apart. stand.mails.stand j d low refl };
       listed = stand.listed;
     })
-    (makes d p q s parts.wheel es allows allowed))
+    (makes d p q s parts es allows allowed))
 
 -- until a timer was armed
-pub asked : (before : Owned) (d e : Desk) (p q : Pass) (s : Share) (parts : ShardParts) (new : Part) → d ≡ e → owned e p s parts.wheel ≡ before
+pub asked : (before : Owned) (d e : Desk) (p q : Pass) (s : Share) (parts : ShardParts) (new : Part) → d ≡ e → owned e p s parts.wheel parts.list ≡ before
     → AreShardPartsFit e p s parts → Belongs d q → new.number ≡ parts.wheel.number → WheelStands (settings_of d) (front_of q) new
     → LosesRows parts.wheel new → IsMade (settings_of d) (view_of p) (ProbesForNext (settings_of d) parts.wheel.number) (view_of q)
     → Did before e q s (record parts { wheel = new }) (λ o. ShardBy o (λ g. ProbesForNext g o.share.number))
@@ -81,7 +82,7 @@ asked before d e p q s parts new same is fit belongs named stands loses made =
     (subst (ProbesForNext (settings_of d) parts.wheel.number (state (settings_of d) (front_of p))) made.allowed.entries made.allowed))
 
 -- each that has a row
-pub all_probed : (before : Owned) (d e : Desk) (p q : Pass) (s : Share) (n : ℕ) (parts : ShardParts) (new : Part) → d ≡ e → owned e p s parts.wheel ≡ before
+pub all_probed : (before : Owned) (d e : Desk) (p q : Pass) (s : Share) (n : ℕ) (parts : ShardParts) (new : Part) → d ≡ e → owned e p s parts.wheel parts.list ≡ before
     → AreShardPartsFit e p s parts → Belongs d q → new.number ≡ parts.wheel.number → WheelStands (settings_of d) (front_of q) new
     → LosesRows parts.wheel new → (all : ProbesRows (settings_of d) (view_of p) parts.wheel new n (view_of q))
     → Did before e q s (record parts { wheel = new }) (λ o. ShardBy o (λ g. DropsSettled g o.share.number n all.probes))

@@ -1,6 +1,6 @@
 -- The steps by which a shard's scheduler takes requests from its inbox, and answers them to processes of its share.
 
-use Rattle.std.proofs.Common.{◌≡◌, ℕ, ◌+◌, ◌-◌, ◌<◌, Bool, true, List, [], ◌∷◌, slice_index_or, Option, Some, None, Result, Ok, refl, sym, ap, subst, ◌∙◌}
+use Rattle.std.proofs.Common.{◌≡◌, ℕ, ◌+◌, ◌-◌, ◌<◌, true, List, [], ◌∷◌, slice_index_or, Option, Some, None, Result, Ok, refl, sym, ap, subst, ◌∙◌}
 use Rattle.std.specs.Option.{is_some}
 use Rattle.std.specs.Prelude.{slice_set}
 use Rattle.ert_defs.specs.Legal.{Legal}
@@ -15,6 +15,7 @@ use Rattle.ert_effects.specs.RequestCalls.{Asks, Picks, Answers}
 use Rattle.ert_mail.proofs.LawsHold.{asks_only, picks_only, answers_only}
 use Rattle.ert_mail.specs.Inboxes.{Waiting, InboxStands, sched_after_pick}
 use Rattle.ert_mail.specs.Mailboxes.{Mailbox, sched_after_answer, MailboxStands as MailStands}
+use Rattle.ert_world.specs.Stepping.{turns_same}
 use Rattle.ert_shard.proofs.Called.{Did, Has, IsListedOn, finish, has_at, home_kept, losing, mail_named, mails_back, makes, place_low, same_rows, still}
 use Rattle.ert_shard.proofs.Gone.{IsGone, gone_by}
 use Rattle.ert_shard.proofs.Kept.{self_own, home_own}
@@ -25,6 +26,7 @@ use Rattle.ert_table.specs.Desks.{settings_of, view_of, front_of, Belongs}
 use Rattle.ert_table.specs.declared.desk.Desk.{Desk}
 use Rattle.ert_table.specs.declared.desk.Pass.{Pass}
 use Rattle.ert_timers.specs.ExpiredLists.{Queue}
+use Rattle.ert_words.specs.Turns.{TurnRow}
 use Rattle.ert_world.proofs.Gone.{answers_hit}
 use Rattle.ert_world.proofs.SchedCalls.{sched_stands}
 use Rattle.ert_world.specs.Parts.{SchedStands}
@@ -33,7 +35,7 @@ use Rattle.ert_world.specs.declared.sched_part.SchedPart.{SchedPart}
 
 -- a request was put into the inbox, or there was no memory for it
 pub asked : (before : Owned) (d e : Desk) (p q : Pass) (s : Share) (parts : ShardParts) (new : Waiting) (request : Request) (answer : Result (Unit {0}) NoMemory) → d ≡ e
-    → owned e p s parts.wheel ≡ before → AreShardPartsFit e p s parts → Belongs d q → new.wheel ≡ parts.inbox.wheel → InboxStands (settings_of d) (front_of q) new
+    → owned e p s parts.wheel parts.list ≡ before → AreShardPartsFit e p s parts → Belongs d q → new.wheel ≡ parts.inbox.wheel → InboxStands (settings_of d) (front_of q) new
     → (Legal (settings_of d) (front_of p) → IsMade (settings_of d) (view_of p) (Asks (settings_of d) (s.number + 1) parts.inbox.wheel request answer) (view_of q))
     → Did before e q s (record parts { inbox = new }) (λ o. ShardBy o (λ g. Asks g (o.share.number + 1) o.share.number request answer))
 asked before d e p q s parts new request answer same is fit belongs named stands made_w =
@@ -47,7 +49,7 @@ asked before d e p q s parts new request answer same is fit belongs named stands
     let only = asks_only g (n + 1) n request answer (state g (front_of p)) made.entries made.allowed in
     still p parts (record parts { inbox = new }) same is refl
     (finish before d p q s parts (record parts { inbox = new }) made.entries lending
-    (λ o. ShardBy o (λ g. Asks g (o.share.number + 1) o.share.number request answer)) has belongs made.call only
+    (λ o. ShardBy o (λ g. Asks g (o.share.number + 1) o.share.number request answer)) has (turns_same parts.list) belongs made.call only
     (self_own (n + 1), (self_own n, tt))
     (home_kept before d p q s parts made.entries lending has made.call only refl)
     (λ stand. record {
@@ -61,11 +63,11 @@ asked before d e p q s parts new request answer same is fit belongs named stands
       mails = record { counted = stand.mails.counted; named = stand.mails.named; stand = λ i d low apart. stand.mails.stand i d low refl };
       listed = stand.listed;
     })
-    (makes d p q s parts.wheel made.entries (λ m g. Asks g (m + 1) m request answer) made.allowed))
+    (makes d p q s parts made.entries (λ m g. Asks g (m + 1) m request answer) made.allowed))
 
 -- the scheduler took a request into its hand, or there was none
 pub picked : (before : Owned) (d e : Desk) (p q : Pass) (s : Share) (parts : ShardParts) (new : Waiting) (got : Option Request) (x : SchedPart) → d ≡ e
-    → owned e p s parts.wheel ≡ before → AreShardPartsFit e p s parts → Belongs d q → new.wheel ≡ parts.inbox.wheel → InboxStands (settings_of d) (front_of q) new
+    → owned e p s parts.wheel parts.list ≡ before → AreShardPartsFit e p s parts → Belongs d q → new.wheel ≡ parts.inbox.wheel → InboxStands (settings_of d) (front_of q) new
     → IsMade (settings_of d) (view_of p) (Picks (settings_of d) parts.inbox.wheel got) (view_of q)
     → (state (settings_of d) (front_of q)).scheds parts.inbox.wheel ≡ sched_after_pick got ((state (settings_of d) (front_of p)).scheds parts.inbox.wheel)
     → x.wheel ≡ parts.sched.wheel → x.hand ≡ got → x.expired ≡ parts.sched.expired
@@ -89,7 +91,7 @@ picked before d e p q s parts new got x same is fit belongs named stands made_w 
     let only = picks_only g n got st made.entries made.allowed in
     still p parts (record parts { inbox = new; sched = x }) same is refl
     (finish before d p q s parts (record parts { inbox = new; sched = x }) made.entries lending
-    (λ o way. way (Inbox o.share.number ∷ []) (Picks o.settings o.share.number got)) has belongs made.call only (self_own n, (self_own n, tt))
+    (λ o way. way (Inbox o.share.number ∷ []) (Picks o.settings o.share.number got)) has (turns_same parts.list) belongs made.call only (self_own n, (self_own n, tt))
     (home_kept before d p q s parts made.entries lending has made.call only refl)
     (λ stand. record {
       legal = stand.legal;
@@ -112,7 +114,7 @@ hand_picked d p q s parts got fit sched =
     ap (λ n. ((state (settings_of d) (front_of q)).scheds n).hand) (sym fit.stand.inbox_is) ∙ ap (λ (t : SchedState). t.hand) sched
 
 -- the request in the hand was answered, and the hand is empty
-pub answered_now : (before : Owned) (d : Desk) (p q : Pass) (s : Share) (parts : ShardParts) (list : Option (List Bool)) (old new : Mailbox) (request : Request)
+pub answered_now : (before : Owned) (d : Desk) (p q : Pass) (s : Share) (parts : ShardParts) (list : Option TurnRow) (old new : Mailbox) (request : Request)
     (left : Option ℕ) (x : SchedPart) → Has before d p s parts → Belongs d q → IsHome s request.reply_to
     → old ≡ slice_index_or parts.mails (request.reply_to - s.from) old → new.process ≡ old.process → MailStands (settings_of d) (front_of q) new
     → IsMade (settings_of d) (view_of p) (Answers (settings_of d) s.number request (Ok left)) (view_of q)
@@ -136,7 +138,7 @@ answered_now before d p q s parts list old new request left x has belongs home l
     let only = answers_only g n request (Ok left) st made.entries made.allowed in
     losing has (same_rows parts.wheel)
     (finish before d p q s parts (record parts { mails = slice_set parts.mails (process - s.from) new; sched = x; list = list }) made.entries lending
-    (λ o way. way (MailOf request.reply_to ∷ []) (Answers o.settings o.share.number request (Ok left))) has belongs made.call only (self_own n, (home_own s process home, tt))
+    (λ o way. way (MailOf request.reply_to ∷ []) (Answers o.settings o.share.number request (Ok left))) has listed.0 belongs made.call only (self_own n, (home_own s process home, tt))
     (home_kept before d p q s parts made.entries lending has made.call only refl)
     (λ stand. record {
       legal = stand.legal;
@@ -148,7 +150,7 @@ answered_now before d p q s parts list old new request left x has belongs home l
       sched = λ apart. now;
       mails = mails_back g (front_of q) s [] parts.mails process new home
           (record { counted = stand.mails.counted; named = stand.mails.named; stand = stand.mails.stand }) (named ∙ one) stands;
-      listed = listed (counted_from s.from (state g (front_of q))) stand.listed (place_low has.fit process home);
+      listed = listed.1 (counted_from s.from (state g (front_of q))) stand.listed (place_low has.fit process home);
     })
     (λ m grown mine. subst (Answers g n request (Ok left) st) (sym mine) made.allowed))
 

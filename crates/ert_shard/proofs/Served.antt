@@ -15,6 +15,7 @@ use Rattle.ert_effects.proofs.Growing.{grows_more}
 use Rattle.ert_effects.specs.Chains.{HoldsBy, HoldsRequest, Serves, ServesMany, units}
 use Rattle.ert_effects.specs.RequestCalls.{Answers}
 use Rattle.ert_effects.specs.Ways.{Then, Many}
+use Rattle.ert_world.specs.Stepping.{turns_same, turns_then}
 use Rattle.ert_shard.proofs.Called.{same_rows, rows_then}
 use Rattle.ert_shard.proofs.Stepped.{since, steps_as, steps_then, steps_then_share}
 use Rattle.ert_shard.specs.Serving.{ShardHasForgottenAll, ShardForgetsCancelled, ShardServes, ShardServesAll}
@@ -38,6 +39,7 @@ held_before o request legal is = record {
     table = refl;
     settings = refl;
     share = refl;
+    turns = turns_same o.turns;
   };
   rows = same_rows o.wheel;
 }
@@ -85,6 +87,7 @@ served_more a b c n one other =
         table = other.goes.table ∙ one.goes.table;
         settings = other.goes.settings ∙ one.goes.settings;
         share = other.goes.share ∙ one.goes.share;
+        turns = turns_then a.turns b.turns c.turns one.goes.turns other.goes.turns;
       };
       rows = rows_then a.wheel b.wheel c.wheel one.rows other.rows;
     }

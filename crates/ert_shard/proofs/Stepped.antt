@@ -12,6 +12,7 @@ use Rattle.ert_effects.specs.SomeCalls.{AdvancesWheelSome, is_more}
 use Rattle.ert_effects.specs.Ways.{Growth, Way, Grows, Then}
 use Rattle.ert_effects.specs.declared.answers.Left.{Left}
 use Rattle.ert_effects.specs.declared.answers.Left.TheVariants.{Due}
+use Rattle.ert_world.specs.Stepping.{turns_then}
 use Rattle.ert_shard.specs.Serving.{ShardServesAll}
 use Rattle.ert_shard.specs.Shards.{Share, Owned, shard_way, as_share, ShardGoes, ShardSteps}
 use Rattle.ert_shard.specs.Turning.{ShardTurns, TurnsUpTo}
@@ -47,6 +48,7 @@ goes_then_share old mid new one other first second = record {
   table = second.table ∙ first.table;
   settings = second.settings ∙ first.settings;
   share = second.share ∙ first.share;
+  turns = turns_then old.turns mid.turns new.turns first.turns second.turns;
 }
 
 pub goes_then : (old mid new : Owned) (one other : Settings → ℕ → Way → Growth) → ShardGoes old (one old.settings old.share.number) mid
@@ -77,6 +79,7 @@ goes_as old new call other so goes = record {
   table = goes.table;
   settings = goes.settings;
   share = goes.share;
+  turns = goes.turns;
 }
 
 pub steps_as : (old new : Owned) (call other : Way → Growth) → ((m : List Entry) → call (shard_way old) old.history m → other (shard_way old) old.history m)

@@ -12,6 +12,7 @@ use Rattle.ert_effects.specs.SomeCalls.{AdvancesSome, AdvancesWheelSome}
 use Rattle.ert_effects.specs.declared.answers.Left.{Left}
 use Rattle.ert_effects.specs.WheelCalls.{Advances, Sweeps, IsSwept}
 use Rattle.ert_laws.proofs.Few.{expired_few}
+use Rattle.ert_world.specs.Stepping.{turns_same}
 use Rattle.ert_shard.specs.Turning.{shard_expired}
 use Rattle.ert_shard.specs.Shards.{Share, Owned, ShardParts}
 use Rattle.ert_shard.proofs.Advancing.{AreOfTurn, all_are, some_are, hand_kept}
@@ -75,7 +76,7 @@ advanced before d p q s parts new x allows has belongs named stands loses are ma
     sched_stands g (front_of q) x ((state g (front_of q)).scheds i) below (ap (λ n. (state g (front_of q)).scheds n) at)
     (hand ∙ (was.hand ∙ sym kept)) (rows ∙ ap (λ n. ((state g (front_of q)).scheds n).expired) one) in
     losing has loses (finish before d p q s parts (record parts { wheel = new; sched = x }) made.entries (Sched i ∷ (Wheel i ∷ []))
-    (λ o way. way (Wheel o.share.number ∷ []) (allows o.settings o.share.number)) has belongs made.call of_turn.only (self_own i, (self_own i, tt))
+    (λ o way. way (Wheel o.share.number ∷ []) (allows o.settings o.share.number)) has (turns_same parts.list) belongs made.call of_turn.only (self_own i, (self_own i, tt))
     (home_on g (view_of p) made.entries (view_of q) s made.call has.fit.holds has.fit.home of_turn.home)
     (λ stand. record {
       legal = stand.legal;
@@ -185,7 +186,7 @@ sweep_called before d p q s parts process new has belongs named stands loses mad
     let swept : IsSwept (state g (front_of q)) n process = subst (λ i. IsSwept (state g (front_of q)) i process) one swept_w in
     let only = sweeps_only g (n + 1) n process st made.entries made.allowed in
     losing has loses (finish before d p q s parts (record parts { wheel = new }) made.entries (Caller (n + 1) ∷ (Wheel n ∷ []))
-    (λ o way. SweepsWheel o.settings way (o.share.number + 1) process o.share.number) has belongs made.call only (self_own (n + 1), (self_own n, tt))
+    (λ o way. SweepsWheel o.settings way (o.share.number + 1) process o.share.number) has (turns_same parts.list) belongs made.call only (self_own (n + 1), (self_own n, tt))
     (home_on g (view_of p) made.entries (view_of q) s made.call has.fit.holds has.fit.home (sweeps_home s g (n + 1) n process st made.entries made.allowed))
     (λ stand. record {
       legal = stand.legal;

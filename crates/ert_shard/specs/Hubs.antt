@@ -1,6 +1,6 @@
 -- What callers see of the rest of a world that is divided, and how shards are given and come back.
 
-use Rattle.std.specs.Prelude.{◌≡◌, ℕ, zero, suc, ◌+◌, ◌-◌, ◌<◌, ◌≤◌, ◌⊎◌, Bool, true, false, not, ◌&&◌, ◌||◌, nat_le, nat_lt, List, [], ◌∷◌, ◌++◌, length, take, remove, All, slice_get, Some, slice_index_or}
+use Rattle.std.specs.Prelude.{◌≡◌, ℕ, zero, suc, ◌+◌, ◌-◌, ◌<◌, ◌≤◌, ◌⊎◌, Bool, true, false, not, ◌&&◌, ◌||◌, nat_le, nat_lt, List, [], ◌∷◌, ◌++◌, length, take, remove, All, slice_get, Some, slice_index_or, None}
 use Rattle.atomic_table.specs.Seated.{TableId}
 use Rattle.ert_clock.specs.Shown.{Shown, ClockStands}
 use Rattle.ert_defs.specs.Actors.{of}
@@ -158,6 +158,7 @@ pub record GivesShard (old : Rest) (processes : ℕ) (new : Rest) (shard : Owned
   pub settings : shard.settings ≡ old.settings
   pub history : shard.history ≡ old.history
   pub share : shard.share ≡ share_of (old.left - 1) (old.first - processes) old.first
+  pub turns : shard.turns ≡ None
   pub rest : new ≡ record old { left = old.left - 1; first = old.first - processes; homes = take (length old.homes - 1) old.homes }
 
 -- the processes below one, for a wheel

@@ -1,14 +1,16 @@
 -- A process of a shard with mail, and takes of several messages.
 
-use Rattle.std.specs.Prelude.{◌≡◌, ◌≢◌, ℕ, ◌+◌, ◌<◌, List, [], ◌++◌, length, Option, Some, None, option_map}
+use Rattle.std.specs.Prelude.{◌≡◌, ◌≢◌, ℕ, ◌+◌, ◌-◌, ◌<◌, true, List, [], ◌++◌, length, Option, Some, None, option_map}
 use Rattle.ert_defs.specs.States.{state, HasExited}
 use Rattle.ert_defs.specs.declared.mail.Mail.{Mail}
 use Rattle.ert_defs.specs.declared.settings.Settings.{Settings}
 use Rattle.ert_effects.specs.MailCalls.{Takes}
 use Rattle.ert_effects.specs.Ways.{Growth, Way, Then, Many}
 use Rattle.ert_effects.specs.declared.answers.Taken.TheVariants.{Mail as Took, Empty, Exited}
-use Rattle.ert_mail.specs.Lists.{LooksForMail}
+use Rattle.ert_mail.specs.Lists.{LooksForMail, is_listed}
 use Rattle.ert_shard.specs.Shards.{Owned, ShardSteps, ShardBy, IsHome}
+use Rattle.ert_words.specs.Turns.{TurnRow}
+use Rattle.ert_world.specs.Mailing.{turns_of}
 use Rattle.ert_world.specs.declared.mailing.TakeEnd.{TakeEnd}
 use Rattle.ert_world.specs.declared.mailing.TakeEnd.TheVariants.{Most, Empty as FoundEmpty, Exited as HadExited}
 
@@ -27,11 +29,20 @@ IsShardsNextMail o None =
 abbrev pub process_from : ℕ → Option ℕ → Option ℕ
 process_from first place = option_map (λ p. first + p) place
 
--- `next_mail` of a shard: a process with mail is looked for, by the shard's caller, and the wheel stays
+-- `next_mail` of a shard: a process with mail is looked for, by the shard's caller, in the order of turns, and there is a row
+-- then in which each of its processes stands that has mail and hasn't exited. The wheel stays
 pub record ShardFindsMail (old : Owned) (answer : Option ℕ) (new : Owned) : Type 0 where
-  pub steps : ShardSteps old (ShardBy old (λ g. LooksForMail 0 (old.share.number + 1) answer)) new
+  pub row : TurnRow
+  pub is : new.turns ≡ Some row
+  pub bound : old.share.from + row.bound ≡ old.share.to
+  pub place : Option ℕ
+  pub told : answer ≡ process_from old.share.from place
+  pub steps : ShardSteps (record old { turns = Some row }) (ShardBy old (λ g.
+      LooksForMail old.share.from (old.share.number + 1) (turns_of (old.share.to - old.share.from) old.turns) place row.held)) new
   pub wheel : new.wheel ≡ old.wheel
   pub next : IsShardsNextMail new answer
+  pub listed : (process : ℕ) → IsHome new.share process → shard_mail new process ≢ [] → (HasExited new.settings new.history process → ⊥)
+      → is_listed row (process - new.share.from) ≡ true
 
 -- messages of a process are taken by a caller, one after the other
 abbrev pub CallerTakesMails : Settings → Way → ℕ → ℕ → List Mail → Growth

@@ -23,9 +23,10 @@ use Rattle.ert_table.specs.declared.desk.Pass.{Pass}
 use Rattle.ert_timers.specs.Freeing.{IsHeld}
 use Rattle.ert_timers.specs.Parts.{Part, PartStands as WheelStands}
 use Rattle.ert_timers.specs.Passed.{LosesRows}
+use Rattle.ert_words.specs.Turns.{TurnRow}
 use Rattle.ert_world.specs.Parts.{SchedStands}
 use Rattle.ert_world.specs.Ways.{among}
-use Rattle.ert_world.specs.Worlds.{ListAll}
+use Rattle.ert_world.specs.Worlds.{ListAll, TurnsGrow}
 use Rattle.ert_world.specs.declared.sched_part.SchedPart.{SchedPart}
 
 -- what a shard has: the scheduler of this number, and the processes from one on, below another
@@ -55,39 +56,43 @@ is_by s e = is_own s e.by
 abbrev pub as_share : Settings → Share → Way
 as_share g s = among g (is_by s)
 
--- what callers see of a shard: which desk it is of, with its settings, the history that it knows, its share, and its
--- wheel
+-- what callers see of a shard: which desk it is of, with its settings, the history that it knows, its share, its wheel, and
+-- the row of its processes that may have mail, counted from the first, from the first `next_mail` on
 pub record Owned : Type 0 where
   pub table : TableId
   pub settings : Settings
   pub history : List Entry
   pub share : Share
   pub wheel : Part
+  pub turns : Option TurnRow
 
 abbrev pub share_of : ℕ → ℕ → ℕ → Share
 share_of number from to = record { number = number; from = from; to = to }
 
 -- what callers see of a shard with these: the history is the front of its pass
-abbrev pub owned : Desk → Pass → Share → Part → Owned
-owned d p s wheel = record {
+abbrev pub owned : Desk → Pass → Share → Part → Option TurnRow → Owned
+owned d p s wheel turns = record {
   table = d.table.shared.table_id;
   settings = settings_of d;
   history = front_of p;
   share = s;
   wheel = wheel;
+  turns = turns;
 }
 
 -- the steps of a shard come about beside those of all others
 abbrev pub shard_way : Owned → Way
 shard_way o = as_share o.settings o.share
 
--- a shard makes a call: its history grows by it and is legal. Its desk, its settings and its share stay
+-- a shard makes a call: its history grows by it and is legal. Its desk, its settings and its share
+-- stay, and who waits for a turn keeps its place
 pub record ShardGoes (old : Owned) (call : Way → Growth) (new : Owned) : Type 0 where
   pub grows : Grows (call (shard_way old)) old.history new.history
   pub legal : Legal new.settings new.history
   pub table : new.table ≡ old.table
   pub settings : new.settings ≡ old.settings
   pub share : new.share ≡ old.share
+  pub turns : TurnsGrow old.turns new.turns
 
 -- it makes a call that starts no timer: no row comes to its wheel
 pub record ShardSteps (old : Owned) (call : Way → Growth) (new : Owned) : Type 0 where
@@ -121,9 +126,9 @@ pub record ShardParts : Type 0 where
   pub inbox : Waiting
   pub sched : SchedPart
   pub mails : List Mailbox
-  pub list : Option (List Bool)
+  pub list : Option TurnRow
 
-abbrev pub shard_parts_of : Part → Waiting → SchedPart → List Mailbox → Option (List Bool) → ShardParts
+abbrev pub shard_parts_of : Part → Waiting → SchedPart → List Mailbox → Option TurnRow → ShardParts
 shard_parts_of wheel inbox sched mails list =
     record { wheel = wheel; inbox = inbox; sched = sched; mails = mails; list = list }
 

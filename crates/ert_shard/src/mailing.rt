@@ -1,5 +1,6 @@
 //! The calls of a shard that find a process with mail, and take several messages.
-ghost use Rattle.std.specs.Prelude.{◌≡◌, ◌<◌, IfSome, length, option_map, slice_set, true};
+ghost use Rattle.std.specs.Prelude.{◌≡◌, ◌<◌, IfSome, option_map};
+ghost use Rattle.ert_mail.specs.Lists.{with_listed};
 
 use crate::shard::Shard;
 use ert_defs::{Mail, NoMemory};
@@ -8,8 +9,8 @@ use ert_world::TakeEnd;
 
 /// Lists a process whose mailbox may get mail, counted from the first of the shard.
 pub(crate) fn may_get_mail(list: &mut Option<MailList>, place: u32)
-    requires { IfSome list.old (λ listed. place < length listed) }
-    ensures { list.new ≡ option_map (λ listed. slice_set listed place true) list.old }
+    requires { IfSome list.old (λ row. place < row.bound) }
+    ensures { list.new ≡ option_map (λ row. with_listed row place) list.old }
 {
     if let Some(list) = list {
         list.put(place);
@@ -17,7 +18,7 @@ pub(crate) fn may_get_mail(list: &mut Option<MailList>, place: u32)
 }
 
 impl Shard {
-    ghost use Rattle.std.specs.Prelude.{◌≡◌, ◌+◌, ◌≤◌, IfOk, OnErr, vec_len};
+    ghost use Rattle.std.specs.Prelude.{◌≡◌, ◌+◌, ◌≤◌, None, IfOk, OnErr, vec_len};
     ghost use Rattle.std.specs.Vec.{vec_capacity};
     ghost use Rattle.ert_shard.specs.Receiving.{ShardFindsMail, ShardTakesInto};
     ghost use Rattle.ert_shard.specs.Shards.{IsHome};
@@ -32,7 +33,7 @@ impl Shard {
     /// has changed.
     pub fn next_mail(&mut self) -> Result<Option<u32>, NoMemory>
         ensures next { IfOk result (λ answer. ShardFindsMail self.old answer self.new) }
-        ensures memory { OnErr result (self.new ≡ self.old) }
+        ensures memory { OnErr result ((self.old.turns ≡ None) × (self.new ≡ self.old)) }
     {
         let mut list = match self.list.take() {
             Some(list) => list,

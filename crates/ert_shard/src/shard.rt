@@ -38,12 +38,13 @@ impl Model for Shard {
     ghost use Rattle.std.specs.Coded.{codes};
     ghost use Rattle.ert_shard.specs.Shards.{Owned, owned, share_of, shard_parts_of, AreShardPartsFit};
     ghost use Rattle.ert_timers.specs.Parts.{part_code};
+    ghost use Rattle.ert_words.specs.Turns.{row_code};
 
     ghost Value = { Owned };
 
-    ghost coded = { Prim.hlevel (codes, part_code) };
+    ghost coded = { Prim.hlevel (codes, part_code, row_code) };
 
-    ghost view = { λ s. owned (arc_value s.desk) s.pass (share_of s.number s.from s.to) s.wheel };
+    ghost view = { λ s. owned (arc_value s.desk) s.pass (share_of s.number s.from s.to) s.wheel s.list };
 
     ghost invariant = { λ s. AreShardPartsFit (arc_value s.desk) s.pass (share_of s.number s.from s.to) (shard_parts_of s.wheel s.inbox s.sched s.mails.items s.list) };
 }

@@ -176,7 +176,7 @@ advanced before b d q i old new part x allows has belongs low lent lent_part nam
     (rows ∙ ap (λ n. ((state g (front_of q)).scheds n).expired) one) in
     let back : AllParts = record (parts_in b) { scheds = slice_set b.scheds.items i x } in
     finish before b d q (record back { wheels = slice_set b.wheels.items i new }) made.entries (Sched i ∷ (Wheel i ∷ []))
-    (λ w way. way (Wheel i ∷ []) (allows w.settings i)) has belongs made.call of_advance.only of_advance.calm (refl, (refl, tt))
+    (λ w way. way (Wheel i ∷ []) (allows w.settings i)) has refl belongs made.call of_advance.only of_advance.calm (refl, (refl, tt))
     (λ stand. wheel_back g (front_of q) [] back i new below (named ∙ one) stands (sched_back g (front_of q) (Wheel i ∷ []) (parts_in b) i x below at now stand))
     (λ m grown own. subst (allows g i s) (sym own) made.allowed)
     (λ alone. one_holds (state g (front_of q)) b.wheels.items i old new (rw has.fit.stand.wheels.counted below) lent (lost_hold (state g (front_of q)) old new loses)) refl

@@ -16,7 +16,7 @@ use Rattle.ert_timers.specs.Passed.{LosesRows}
 use Rattle.ert_world.proofs.Divided.{none_given}
 use Rattle.ert_world.specs.Stepping.{Stays}
 use Rattle.ert_world.specs.Ways.{beside_seats}
-use Rattle.ert_world.specs.Worlds.{Seen, IsUnseated, HoldsRest, ForgetsCancelled, LoseRows, Goes, way_of}
+use Rattle.ert_world.specs.Worlds.{Seen, IsUnseated, HoldsRest, ForgetsCancelled, LoseRows, Goes, TurnsGrow, way_of}
 
 every : (next : ℕ) (a : Actor) → next ≡ 1 → IsUnseated next a
 every next Keeper one = tt
@@ -51,8 +51,8 @@ lone old h call grows one =
     subst (λ (way : Way). Grows (call way) old.history h) (ap (λ (n : ℕ). beside_seats old.settings n) one ∙ no_seats old.settings) grows
 
 pub went : (old new : Seen) (call : Way → Growth) → Grows (call (way_of old)) old.history new.history → Legal new.settings new.history
-    → new.table ≡ old.table → new.settings ≡ old.settings → new.clock ≡ old.clock → new.next ≡ old.next → Goes old call new
-went old new call grows legal table settings clock next = record {
+    → new.table ≡ old.table → new.settings ≡ old.settings → new.clock ≡ old.clock → new.next ≡ old.next → TurnsGrow old.turns new.turns → Goes old call new
+went old new call grows legal table settings clock next turns = record {
   grows = grows;
   lone = lone old new.history call grows;
   legal = legal;
@@ -60,12 +60,13 @@ went old new call grows legal table settings clock next = record {
   settings = settings;
   clock = clock;
   next = next;
+  turns = turns;
 }
 
 -- a chain that a world made is a call
 pub goes_on : (old new : Seen) (call : Way → Growth) → Grows (call (way_of old)) old.history new.history → Legal new.settings new.history → Stays old new
     → Goes old call new
-goes_on old new call grows legal stays = went old new call grows legal stays.table stays.settings stays.clock stays.next
+goes_on old new call grows legal stays = went old new call grows legal stays.table stays.settings stays.clock stays.next stays.turns
 
 -- and each call that loses rows at most and forgets what it cancelled leaves what every step leaves
 pub stays_by : {old new : Seen} {call : Way → Growth} → Goes old call new → LoseRows old new → ForgetsCancelled old new → Stays old new
@@ -74,6 +75,7 @@ stays_by goes rows forgotten = record {
   settings = goes.settings;
   next = goes.next;
   clock = goes.clock;
+  turns = goes.turns;
   rows = rows;
   forgotten = forgotten;
 }

@@ -39,17 +39,18 @@ use Rattle.ert_world.proofs.Standing.{others_stand}
 use Rattle.ert_world.proofs.Tidying.{AllHoldOn, same_hold, tidy_on}
 use Rattle.ert_world.proofs.Unseated.{AreUnseated, own_unseated}
 use Rattle.ert_world.specs.Parts.{AllParts, parts_of, Stand}
+use Rattle.ert_world.specs.Stepping.{turns_same}
 use Rattle.ert_world.specs.Ways.{is_unseated}
-use Rattle.ert_world.specs.Worlds.{Seen, seen, HoldsRest, AreFit, AreTidy, AreSound, ForgetsCancelled, HasForgottenAll, Goes, GoesOnClock, By, way_of}
+use Rattle.ert_world.specs.Worlds.{Seen, seen, HoldsRest, AreFit, AreTidy, AreSound, ForgetsCancelled, HasForgottenAll, Goes, GoesOnClock, TurnsGrow, By, way_of}
 use Rattle.ert_world.specs.declared.world.World.TheInside.{Inside}
 
 -- all parts that a world has
 abbrev pub parts_in : Inside → AllParts
-parts_in b = parts_of b.keeper b.wheels.items b.inboxes.items b.mails.items b.scheds.items
+parts_in b = record (parts_of b.keeper b.wheels.items b.inboxes.items b.mails.items b.scheds.items) { turns = b.list }
 
 -- what callers see of a world at a desk
 abbrev pub seen_at : Desk → Inside → Seen
-seen_at d b = seen d b.pass b.next b.keeper b.wheels.items
+seen_at d b = seen d b.pass b.next b.keeper b.wheels.items b.list
 
 -- a world has these at a desk before a call
 pub record Has (before : Seen) (b : Inside) (d : Desk) : Type 0 where
@@ -64,14 +65,14 @@ has_at {before} {b} {d} {e} same is kept = subst (λ x. Has before b x) (sym sam
 -- the parts of a world after a call: they fit, and what callers see of them goes on by it
 pub record Does (before : Seen) (d : Desk) (q : Pass) (next : ℕ) (parts : AllParts) (call : Seen → Way → Growth) : Type 0 where
   pub fit : AreSound d q next parts
-  pub goes : Goes before (call before) (seen d q next parts.keeper parts.wheels)
-  pub forgets : ForgetsCancelled before (seen d q next parts.keeper parts.wheels)
+  pub goes : Goes before (call before) (seen d q next parts.keeper parts.wheels parts.turns)
+  pub forgets : ForgetsCancelled before (seen d q next parts.keeper parts.wheels parts.turns)
 
 -- the same of a call that may move the clock
 pub record DoesOnClock (before : Seen) (d : Desk) (q : Pass) (next : ℕ) (parts : AllParts) (call : Seen → Way → Growth) : Type 0 where
   pub fit : AreSound d q next parts
-  pub goes : GoesOnClock before (call before) (seen d q next parts.keeper parts.wheels)
-  pub forgets : ForgetsCancelled before (seen d q next parts.keeper parts.wheels)
+  pub goes : GoesOnClock before (call before) (seen d q next parts.keeper parts.wheels parts.turns)
+  pub forgets : ForgetsCancelled before (seen d q next parts.keeper parts.wheels parts.turns)
 
 does_on_clock_at : {before : Seen} {d e : Desk} {q : Pass} {next : ℕ} {parts : AllParts} {call : Seen → Way → Growth} → d ≡ e
     → DoesOnClock before d q next parts call → DoesOnClock before e q next parts call
@@ -138,12 +139,12 @@ calm_forgets w (e ∷ es) calm =
 
 -- a call of a world that cancels nothing, on the parts that these actors have
 finish_on_clock : (before : Seen) (b : Inside) (d : Desk) (q : Pass) (new : AllParts) (es : List Entry) (lent : List Actor) (call : Seen → Way → Growth)
-    → Has before b d → Belongs d q → TakesPlace (settings_of d) (view_of b.pass) es (view_of q) → AreOnlyOf lent es → AreCalm es → AreUnseated b.next lent
+    → Has before b d → new.turns ≡ b.list → Belongs d q → TakesPlace (settings_of d) (view_of b.pass) es (view_of q) → AreOnlyOf lent es → AreCalm es → AreUnseated b.next lent
     → ComeBack b d q lent new → Makes b d q es call → (b.next ≡ 1 → AllHoldOn (state (settings_of d) (front_of q)) b.wheels.items new.wheels) → DoesOnClock before d q b.next new call
-finish_on_clock before b d q new es lent call has belongs takes only calm unseated back allowed hold =
+finish_on_clock before b d q new es lent call has turns belongs takes only calm unseated back allowed hold =
     let g : Settings = settings_of d in
     let fit : AreFit d q b.next new = fit_on d b.pass q b.next (parts_in b) new es lent has.fit belongs takes only back in
-    let end : Seen = seen d q b.next new.keeper new.wheels in
+    let end : Seen = seen d q b.next new.keeper new.wheels new.turns in
     let own = own_unseated g (view_of b.pass) es (view_of q) b.next lent has.fit.holds takes only unseated in
     record {
       fit = record {
@@ -157,7 +158,7 @@ finish_on_clock before b d q new es lent call has belongs takes only calm unseat
             piece = takes.later;
             grown = takes.grown;
             made = allowed takes.later takes.grown own;
-          }) takes.legal refl refl refl refl);
+          }) takes.legal refl refl refl refl (subst (TurnsGrow b.list) (sym turns) (turns_same b.list)));
       forgets = subst (λ w. ForgetsCancelled w end) has.is (record {
         piece = takes.later;
         grown = takes.grown;
@@ -167,25 +168,25 @@ finish_on_clock before b d q new es lent call has belongs takes only calm unseat
 
 -- one that leaves the clock
 pub finish : (before : Seen) (b : Inside) (d : Desk) (q : Pass) (new : AllParts) (es : List Entry) (lent : List Actor) (call : Seen → Way → Growth)
-    → Has before b d → Belongs d q → TakesPlace (settings_of d) (view_of b.pass) es (view_of q) → AreOnlyOf lent es → AreCalm es → AreUnseated b.next lent
+    → Has before b d → new.turns ≡ b.list → Belongs d q → TakesPlace (settings_of d) (view_of b.pass) es (view_of q) → AreOnlyOf lent es → AreCalm es → AreUnseated b.next lent
     → ComeBack b d q lent new → Makes b d q es call → (b.next ≡ 1 → AllHoldOn (state (settings_of d) (front_of q)) b.wheels.items new.wheels) → new.keeper ≡ b.keeper
     → Does before d q b.next new call
-finish before b d q new es lent call has belongs takes only calm unseated back allowed hold same =
-    let done = finish_on_clock before b d q new es lent call has belongs takes only calm unseated back allowed hold in
+finish before b d q new es lent call has turns belongs takes only calm unseated back allowed hold same =
+    let done = finish_on_clock before b d q new es lent call has turns belongs takes only calm unseated back allowed hold in
     record {
       fit = done.fit;
-      goes = subst (λ k. Goes (record before { clock = k }) (call before) (seen d q b.next new.keeper new.wheels))
+      goes = subst (λ k. Goes (record before { clock = k }) (call before) (seen d q b.next new.keeper new.wheels new.turns))
           (same ∙ ap (λ (w : Seen). w.clock) has.is) done.goes;
       forgets = done.forgets;
     }
 
 -- one that cancels nothing and leaves the wheels
 pub calm_called : (before : Seen) (b : Inside) (d : Desk) (q : Pass) (new : AllParts) (es : List Entry) (lent : List Actor) (call : Seen → Way → Growth)
-    → Has before b d → Belongs d q → TakesPlace (settings_of d) (view_of b.pass) es (view_of q) → AreOnlyOf lent es → AreCalm es
+    → Has before b d → new.turns ≡ b.list → Belongs d q → TakesPlace (settings_of d) (view_of b.pass) es (view_of q) → AreOnlyOf lent es → AreCalm es
     → AreUnseated b.next lent → new.wheels ≡ b.wheels.items → new.keeper ≡ b.keeper
     → ComeBack b d q lent new → Makes b d q es call → Does before d q b.next new call
-calm_called before b d q new es lent call has belongs takes only calm unseated wheels same back allowed =
-    finish before b d q new es lent call has belongs takes only calm unseated back allowed
+calm_called before b d q new es lent call has turns belongs takes only calm unseated wheels same back allowed =
+    finish before b d q new es lent call has turns belongs takes only calm unseated back allowed
     (λ alone. same_hold (state (settings_of d) (front_of q)) b.wheels.items new.wheels wheels) same
 
 -- what one step may record
@@ -194,11 +195,11 @@ pub makes : (b : Inside) (d : Desk) (q : Pass) (es : List Entry) (allows : Setti
 makes b d q es allows allowed = λ m grown own. subst (allows (settings_of d) (state (settings_of d) (front_of b.pass))) (sym own) allowed
 
 pub called_with : (before : Seen) (b : Inside) (d : Desk) (q : Pass) (new : AllParts) (lent : List Actor) (allows : Settings → State → List Entry → Type 0)
-    → Has before b d → Belongs d q → (made : IsMade (settings_of d) (view_of b.pass) (allows (settings_of d)) (view_of q)) → AreOnlyOf lent made.entries
+    → Has before b d → new.turns ≡ b.list → Belongs d q → (made : IsMade (settings_of d) (view_of b.pass) (allows (settings_of d)) (view_of q)) → AreOnlyOf lent made.entries
     → AreCalm made.entries → AreUnseated b.next lent → new.wheels ≡ b.wheels.items → new.keeper ≡ b.keeper
     → ComeBack b d q lent new → Does before d q b.next new (λ w. By w allows)
-called_with before b d q new lent allows has belongs made only calm unseated wheels same back =
-    calm_called before b d q new made.entries lent (λ w. By w allows) has belongs made.call only calm unseated wheels same back
+called_with before b d q new lent allows has turns belongs made only calm unseated wheels same back =
+    calm_called before b d q new made.entries lent (λ w. By w allows) has turns belongs made.call only calm unseated wheels same back
     (makes b d q made.entries allows made.allowed)
 
 -- a call by caller 0 alone, that has no part of its own
@@ -207,7 +208,7 @@ pub alone_called : (before : Seen) (b : Inside) (d e : Desk) (q : Pass) (allows 
     → ((s : State) (es : List Entry) → allows (settings_of d) s es → IsQuiet (Caller 0 ∷ []) es) → Does before e q b.next (parts_in b) (λ w. By w allows)
 alone_called before b d e q allows same is fit belongs made quiet =
     let it = quiet (state (settings_of d) (front_of b.pass)) made.entries made.allowed in
-    does_at same (called_with before b d q (parts_in b) (Caller 0 ∷ []) allows (has_at same is fit) belongs made it.only it.calm (refl, tt) refl refl
+    does_at same (called_with before b d q (parts_in b) (Caller 0 ∷ []) allows (has_at same is fit) refl belongs made it.only it.calm (refl, tt) refl refl
     (caller_back (settings_of d) (front_of q) [] (parts_in b) 0))
 
 -- a call on the clock, by caller 0
@@ -221,7 +222,7 @@ keeper_called before b d e q x allows same is fit belongs stands made quiet =
     let it = quiet (state g (front_of b.pass)) made.entries made.allowed in
     let new : AllParts = record (parts_in b) { keeper = x } in
     let has : Has before b d = has_at same is fit in
-    does_on_clock_at same (finish_on_clock before b d q new made.entries (Keeper ∷ (Caller 0 ∷ [])) (λ w. By w allows) has belongs made.call it.only it.calm
+    does_on_clock_at same (finish_on_clock before b d q new made.entries (Keeper ∷ (Caller 0 ∷ [])) (λ w. By w allows) has refl belongs made.call it.only it.calm
     (refl, (refl, tt))
     (λ stand. caller_back g (front_of q) [] new 0 (keeper_back g (front_of q) (Caller 0 ∷ []) (parts_in b) x stands stand))
     (makes b d q made.entries allows made.allowed) (λ alone. same_hold (state g (front_of q)) b.wheels.items b.wheels.items refl))
@@ -259,7 +260,7 @@ mail_called before b d e q i old new allows same is fit belongs low lent named s
     let made = making has.fit.stand.legal in
     let s : State = state g (front_of b.pass) in
     does_at same (subst (λ n. Does before d q b.next (record (parts_in b) { mails = slice_set b.mails.items n new }) (λ w. By w (allows n))) one
-    (called_with before b d q (record (parts_in b) { mails = slice_set b.mails.items p new }) (Caller 0 ∷ (MailOf p ∷ [])) (allows p) has belongs made
+    (called_with before b d q (record (parts_in b) { mails = slice_set b.mails.items p new }) (Caller 0 ∷ (MailOf p ∷ [])) (allows p) has refl belongs made
     (only s made.entries made.allowed) (calm s made.entries made.allowed) (refl, (refl, tt)) refl refl
     (λ stand. mail_back g (front_of q) [] (parts_in b) p new (rw one below) named stands (caller_back g (front_of q) (MailOf p ∷ []) (parts_in b) 0 stand))))
 
@@ -280,7 +281,7 @@ inbox_called before b d e q i old new allows same is fit belongs low lent named 
     let made = making has.fit.stand.legal in
     let s : State = state g (front_of b.pass) in
     does_at same (subst (λ n. Does before d q b.next (record (parts_in b) { inboxes = slice_set b.inboxes.items n new }) (λ w. By w (allows n))) one
-    (called_with before b d q (record (parts_in b) { inboxes = slice_set b.inboxes.items n new }) (Caller 0 ∷ (Inbox n ∷ [])) (allows n) has belongs made
+    (called_with before b d q (record (parts_in b) { inboxes = slice_set b.inboxes.items n new }) (Caller 0 ∷ (Inbox n ∷ [])) (allows n) has refl belongs made
     (only s made.entries made.allowed) (calm s made.entries made.allowed) (refl, (refl, tt)) refl refl
     (λ stand. inbox_back g (front_of q) [] (parts_in b) n new (rw one below) named stands (caller_back g (front_of q) (Inbox n ∷ []) (parts_in b) 0 stand))))
 

@@ -36,21 +36,21 @@ use Rattle.ert_world.specs.Ways.{is_unseated}
 use Rattle.ert_world.proofs.Unseated.{AreUnseated, own_unseated}
 use Rattle.ert_world.proofs.WheelCalls.{rows_set, wheel_named}
 use Rattle.ert_world.specs.Parts.{AllParts}
-use Rattle.ert_world.specs.Stepping.{Stays}
+use Rattle.ert_world.specs.Stepping.{Stays, turns_same}
 use Rattle.ert_world.proofs.Sparing.{IsTidyAt, StayTidyBut, GoesBut, CancelOnly, Forgets}
-use Rattle.ert_world.specs.Worlds.{Seen, seen, AreFit, AreSound, Goes, HasForgotten, HasForgottenAll, By, way_of}
+use Rattle.ert_world.specs.Worlds.{Seen, seen, AreFit, AreSound, Goes, HasForgotten, HasForgottenAll, TurnsGrow, By, way_of}
 use Rattle.ert_world.specs.declared.world.World.TheInside.{Inside}
 
 -- the parts of a world after a call that cancelled a timer, if this much was left of it
 pub record DoesBut (timer : TimerRef) (left : Option ℕ) (before : Seen) (d : Desk) (q : Pass) (next : ℕ) (parts : AllParts) (call : Seen → Way → Growth) : Type 0 where
   pub fit : AreFit d q next parts
-  pub goes : GoesBut timer left before (call before) (seen d q next parts.keeper parts.wheels)
+  pub goes : GoesBut timer left before (call before) (seen d q next parts.keeper parts.wheels parts.turns)
 
 -- wheels that a cancel doesn't touch are tidy but for its timer
 settled_tidy : {before : Seen} (b : Inside) (d : Desk) (q : Pass) (new : AllParts) (es : List Entry) (timer : TimerRef) (left : Option ℕ) → Has before b d
     → TakesPlace (settings_of d) (view_of b.pass) es (view_of q)
     → (b.next ≡ 1 → Settles (settings_of d) (state (settings_of d) (front_of b.pass)) es timer left)
-    → StayTidyBut timer left (seen_at d b) (seen d q b.next new.keeper b.wheels.items)
+    → StayTidyBut timer left (seen_at d b) (seen d q b.next new.keeper b.wheels.items new.turns)
 settled_tidy b d q new es timer None has takes settles = λ alone i low tidy x k key is.
     let g : Settings = settings_of d in
     let p : Part = slice_index_or b.wheels.items i x in
@@ -65,12 +65,12 @@ settled_tidy b d q new es timer (Some left) has takes settles = λ alone i low t
 -- a call that may have cancelled a timer, on the parts that these actors have
 pub finish_but : (before : Seen) (b : Inside) (d : Desk) (q : Pass) (new : AllParts) (es : List Entry) (lent : List Actor) (timer : TimerRef) (left : Option ℕ)
     (call : Seen → Way → Growth)
-    → Has before b d → Belongs d q → TakesPlace (settings_of d) (view_of b.pass) es (view_of q) → AreOnlyOf lent es → AreUnseated b.next lent
+    → Has before b d → new.turns ≡ b.list → Belongs d q → TakesPlace (settings_of d) (view_of b.pass) es (view_of q) → AreOnlyOf lent es → AreUnseated b.next lent
     → ((n : ℕ) → is_held lent (Wheel n) ≡ false) → ComeBack b d q lent new → new.wheels ≡ b.wheels.items → Makes b d q es call
     → (b.next ≡ 1 → Settles (settings_of d) (state (settings_of d) (front_of b.pass)) es timer left)
     → ((n : ℕ) → left ≡ Some n → Hits (settings_of d) timer es) → new.keeper ≡ b.keeper → CancelOnly timer left es
     → DoesBut timer left before d q b.next new call
-finish_but before b d q new es lent timer left call has belongs takes only unseated apart back wheels allowed settles hits same cancels =
+finish_but before b d q new es lent timer left call has turns belongs takes only unseated apart back wheels allowed settles hits same cancels =
     let g : Settings = settings_of d in
     let own = own_unseated g (view_of b.pass) es (view_of q) b.next lent has.fit.holds takes only unseated in
     let grows : Grows (call (seen_at d b) (way_of (seen_at d b))) (front_of b.pass) (front_of q) = record {
@@ -80,7 +80,7 @@ finish_but before b d q new es lent timer left call has belongs takes only unsea
     } in
     record {
       fit = fit_on d b.pass q b.next (parts_in b) new es lent has.fit belongs takes only back;
-      goes = subst (λ w. GoesBut timer left w (call w) (seen d q b.next new.keeper new.wheels)) has.is (record {
+      goes = subst (λ w. GoesBut timer left w (call w) (seen d q b.next new.keeper new.wheels new.turns)) has.is (record {
         grows = grows;
         lone = lone (seen_at d b) (front_of q) (call (seen_at d b)) grows;
         legal = takes.legal;
@@ -88,10 +88,11 @@ finish_but before b d q new es lent timer left call has belongs takes only unsea
         settings = refl;
         clock = same;
         next = refl;
+        turns = subst (TurnsGrow b.list) (sym turns) (turns_same b.list);
         wheels = wheels;
         cancels = record { piece = takes.later; grown = takes.grown; only = subst (CancelOnly timer left) (sym own) cancels };
-        tidy = subst (λ ws. StayTidyBut timer left (seen_at d b) (seen d q b.next new.keeper ws)) (sym wheels) (settled_tidy b d q new es timer left has takes settles);
-        gone = gone_in before b d q es lent timer left (seen d q b.next new.keeper new.wheels) has takes only apart hits refl refl wheels;
+        tidy = subst (λ ws. StayTidyBut timer left (seen_at d b) (seen d q b.next new.keeper ws new.turns)) (sym wheels) (settled_tidy b d q new es timer left has takes settles);
+        gone = gone_in before b d q es lent timer left (seen d q b.next new.keeper new.wheels new.turns) has takes only apart hits refl refl wheels;
       });
     }
 
@@ -103,7 +104,7 @@ cancel_called before b d q timer left has belongs made =
     let g : Settings = settings_of d in
     let s : State = state g (front_of b.pass) in
     let only = cancel_only g (Caller 0) timer left s made.entries made.allowed in
-    finish_but before b d q (parts_in b) made.entries (Caller 0 ∷ []) timer left (λ w. By w (λ g. Cancels g (Caller 0) timer left)) has belongs made.call only
+    finish_but before b d q (parts_in b) made.entries (Caller 0 ∷ []) timer left (λ w. By w (λ g. Cancels g (Caller 0) timer left)) has refl belongs made.call only
     (refl, tt) (λ n. refl) (caller_back g (front_of q) [] (parts_in b) 0) refl
     (makes b d q made.entries (λ g. Cancels g (Caller 0) timer left) made.allowed)
     (λ alone. cancel_settles g (Caller 0) timer left s made.entries made.allowed
@@ -128,7 +129,7 @@ put_back d q next parts i old new fit low lent named stands =
 forgot : (d : Desk) (q : Pass) (next : ℕ) (parts : AllParts) (old new : Part) (timer : TimerRef) → AreFit d q next parts
     → timer.wheel < (settings_of d).schedulers → old ≡ slice_index_or parts.wheels timer.wheel old → WheelStands (settings_of d) (front_of q) new
     → LosesRows old new → (IsHeld new timer → ⊥)
-    → Forgets timer (seen d q next parts.keeper parts.wheels) (seen d q next parts.keeper (slice_set parts.wheels timer.wheel new))
+    → Forgets timer (seen d q next parts.keeper parts.wheels parts.turns) (seen d q next parts.keeper (slice_set parts.wheels timer.wheel new) parts.turns)
 forgot d q next parts old new timer fit low lent stands loses gone =
     let s : State = state (settings_of d) (front_of q) in
     let ws : List Part = parts.wheels in
@@ -140,6 +141,7 @@ forgot d q next parts old new timer fit low lent stands loses gone =
       settings = refl;
       clock = refl;
       next = refl;
+      turns = refl;
       rows = rows_set ws i old new wide lent loses;
       forgotten = λ x. at_place (λ (y : Part). IsHeld y timer → ⊥) ws i i new x wide (λ one. gone) (λ other. absurd (other refl));
       tidy = λ j in_range but x.
@@ -166,8 +168,8 @@ forgot d q next parts old new timer fit low lent stands loses gone =
 -- the parts of a world after a call that may have cancelled a timer, whose row went then
 pub record DoesCancel (before : Seen) (d : Desk) (q : Pass) (next : ℕ) (parts : AllParts) (call : Seen → Way → Growth) : Type 0 where
   pub fit : AreSound d q next parts
-  pub goes : Goes before (call before) (seen d q next parts.keeper parts.wheels)
-  pub stays : Stays before (seen d q next parts.keeper parts.wheels)
+  pub goes : Goes before (call before) (seen d q next parts.keeper parts.wheels parts.turns)
+  pub stays : Stays before (seen d q next parts.keeper parts.wheels parts.turns)
 
 pub does_cancel_at : {before : Seen} {d e : Desk} {q : Pass} {next : ℕ} {parts : AllParts} {call : Seen → Way → Growth} → d ≡ e
     → DoesCancel before d q next parts call → DoesCancel before e q next parts call
@@ -180,6 +182,7 @@ goes_forgetting timer left old mid new call goes forgets =
     went old new call (subst (λ h. Grows (call (way_of old)) old.history h) (sym forgets.history) goes.grows)
     (subst (λ h. Legal new.settings h) (sym forgets.history) (subst (λ g. Legal g mid.history) (sym forgets.settings) goes.legal))
     (forgets.table ∙ goes.table) (forgets.settings ∙ goes.settings) (forgets.clock ∙ goes.clock) (forgets.next ∙ goes.next)
+    (subst (TurnsGrow old.turns) (sym forgets.turns) goes.turns)
 
 -- its wheels forget what it cancelled
 forgets_only : (w : Seen) (timer : TimerRef) (left : Option ℕ) (es : List Entry) → CancelOnly timer left es → HasForgotten w timer → HasForgottenAll w es
@@ -213,6 +216,7 @@ goes_none goes = record {
   settings = goes.settings;
   clock = goes.clock;
   next = goes.next;
+  turns = goes.turns;
 }
 
 stays_none : (timer : TimerRef) (old new : Seen) (call : Way → Growth) → GoesBut timer None old call new → Stays old new
@@ -241,7 +245,7 @@ cancelled_none before b d q parts timer call has done = record {
         done.goes.tidy one i below (all_tidy before b d has one i below) x;
   };
   goes = goes_none done.goes;
-  stays = stays_none timer before (seen d q b.next parts.keeper parts.wheels) (call before) done.goes;
+  stays = stays_none timer before (seen d q b.next parts.keeper parts.wheels parts.turns) (call before) done.goes;
 }
 
 -- one that cancelled nothing, since a seat had settled the timer before, whose row then went
@@ -251,7 +255,7 @@ pub cancelled_settled : (before : Seen) (b : Inside) (d : Desk) (q : Pass) (part
     → LosesRows old new → (IsHeld new timer → ⊥)
     → DoesCancel before d q b.next (record parts { wheels = slice_set parts.wheels timer.wheel new }) call
 cancelled_settled before b d q parts timer old new call has done low lent named stands loses gone =
-    let end : Seen = seen d q b.next parts.keeper (slice_set parts.wheels timer.wheel new) in
+    let end : Seen = seen d q b.next parts.keeper (slice_set parts.wheels timer.wheel new) parts.turns in
     let forgets = forgot d q b.next parts old new timer done.fit low lent stands loses gone in
     let goes : Goes before (call before) end = record {
       grows = done.goes.grows;
@@ -261,6 +265,7 @@ cancelled_settled before b d q parts timer old new call has done low lent named 
       settings = done.goes.settings;
       clock = done.goes.clock;
       next = done.goes.next;
+      turns = done.goes.turns;
     } in
     record {
       fit = record {
@@ -288,8 +293,8 @@ pub cancelled_some : (before : Seen) (b : Inside) (d : Desk) (q : Pass) (parts :
     → LosesRows old new → (IsHeld new timer → ⊥)
     → DoesCancel before d q b.next (record parts { wheels = slice_set parts.wheels timer.wheel new }) call
 cancelled_some before b d q parts timer left old new call has done lent named stands loses gone =
-    let mid : Seen = seen d q b.next parts.keeper parts.wheels in
-    let end : Seen = seen d q b.next parts.keeper (slice_set parts.wheels timer.wheel new) in
+    let mid : Seen = seen d q b.next parts.keeper parts.wheels parts.turns in
+    let end : Seen = seen d q b.next parts.keeper (slice_set parts.wheels timer.wheel new) parts.turns in
     let low : timer.wheel < (settings_of d).schedulers = done.goes.gone.0 in
     let forgets : Forgets timer mid end = forgot d q b.next parts old new timer done.fit low lent stands loses gone in
     record {

@@ -7,6 +7,7 @@ use Rattle.ert_defs.specs.Legal.{Legal}
 use Rattle.ert_defs.specs.Mails.{first_of}
 use Rattle.ert_defs.specs.declared.settings.Settings.{Settings}
 use Rattle.ert_world.proofs.Alone.{went}
+use Rattle.ert_world.specs.Stepping.{turns_same, turns_then}
 use Rattle.ert_world.specs.Ways.{beside_seats}
 use Rattle.ert_world.specs.Worlds.{Seen, Goes, way_of}
 
@@ -23,6 +24,7 @@ of_same a b c call settings next grows =
 joined : (a b c : Seen) (first second call : Way → Growth) → Goes a first b → Goes b second c → Grows (call (way_of a)) a.history c.history → Goes a call c
 joined a b c first second call one other grows =
     went a c call grows other.legal (other.table ∙ one.table) (other.settings ∙ one.settings) (other.clock ∙ one.clock) (other.next ∙ one.next)
+    (turns_then a.turns b.turns c.turns one.turns other.turns)
 
 -- calls that can be made in any way
 pub goes_then : (a b c : Seen) (first : Way → Growth) (second : Settings → Way → Growth) → Goes a first b → Goes b (second b.settings) c
@@ -34,7 +36,7 @@ goes_then a b c first second one other =
 
 pub goes_nothing : (a : Seen) (call : Way → Growth) → Legal a.settings a.history → call (way_of a) a.history [] → Goes a call a
 goes_nothing a call legal none =
-    went a a call (record { piece = []; grown = sym (append-nil a.history); made = none }) legal refl refl refl refl
+    went a a call (record { piece = []; grown = sym (append-nil a.history); made = none }) legal refl refl refl refl (turns_same a.turns)
 
 pub goes_more : {A : Type 0} (a b c : Seen) (call : Settings → Way → A → Growth) (answers : List A) (answer : A)
     → Goes a (λ way. Many (call a.settings way) answers) b → Goes b (λ way. call b.settings way answer) c

@@ -1,6 +1,6 @@
 -- The wheels of a world that is put together drop the rows of settled timers, one wheel after the other.
 
-use Rattle.std.proofs.Common.{◌≡◌, ℕ, ◌+◌, ◌<◌, List, [], length, slice_index_or, sym, ap, subst, ◌∙◌, arith}
+use Rattle.std.proofs.Common.{◌≡◌, ℕ, ◌+◌, ◌<◌, List, [], length, slice_index_or, sym, ap, subst, ◌∙◌, arith, None}
 use Rattle.std.specs.Prelude.{slice_set}
 use Rattle.std.proofs.lemmas.List.{length-set}
 use Rattle.ert_defs.specs.States.{state}
@@ -80,7 +80,7 @@ kept_then d e p q parts ws same fit belongs view ordered tidy =
     }
 
 pub put_together : (e : Desk) (p q : Pass) (keeper : Shown) (ws vs : List Part) → view_of q ≡ view_of p
-    → ((i : ℕ) (d : Part) → LosesRows (slice_index_or ws i d) (slice_index_or vs i d)) → IsPutTogether (seen e p 1 keeper ws) (seen e q 1 keeper vs)
+    → ((i : ℕ) (d : Part) → LosesRows (slice_index_or ws i d) (slice_index_or vs i d)) → IsPutTogether (seen e p 1 keeper ws None) (seen e q 1 keeper vs None)
 put_together e p q keeper ws vs view rows = record {
   rest = ap (λ (v : View). let w : Seen = record {
     table = e.table.shared.table_id;
@@ -89,6 +89,7 @@ put_together e p q keeper ws vs view rows = record {
     clock = keeper;
     next = 1;
     wheels = vs;
+    turns = None;
   } in w) view;
   rows = rows;
 }

@@ -84,7 +84,7 @@ one_ended : (a b : Seen) (w process : ℕ) (e : Ended) → IsHeldAt a w process 
 one_ended a b w process e held goes =
     went a b (λ (way : Way). CancelsOne a.settings way w process e)
     (record { piece = goes.grows.piece; grown = goes.grows.grown; made = record { of = held.2; cancels = goes.grows.made } })
-    goes.legal goes.table goes.settings goes.clock goes.next
+    goes.legal goes.table goes.settings goes.clock goes.next goes.turns
 
 -- timers of a wheel were ended so far
 pub record EndsSome (a b : Seen) (w process count : ℕ) : Type 0 where
@@ -142,7 +142,7 @@ ends_all a b w process count some none =
         swept = subst (λ (h : List Entry). IsSwept (state a.settings h) w process) some.runs.grows.grown
             (subst (λ (g : Settings). IsSwept (state g b.history) w process) some.runs.settings none);
       };
-    }) some.runs.legal some.runs.table some.runs.settings some.runs.clock some.runs.next
+    }) some.runs.legal some.runs.table some.runs.settings some.runs.clock some.runs.next some.runs.turns
 
 -- wheel by wheel
 pub record EndsWheels (a b : Seen) (process wheels count : ℕ) : Type 0 where

@@ -107,7 +107,7 @@ module _ (before : Seen) (b : Inside) (d : Desk) (s j q r : Pass) (n : ℕ) (has
     (met : IsMeeting d b.pass s j q r (Caller n)) where
   world_met : Does before d q b.next (parts_in b) (λ w. By w MakesNone)
   world_met =
-      calm_called before b d q (parts_in b) [] [] (λ w. By w MakesNone) has belongs (world_takes d b.pass s j q r (Caller n) met) tt tt tt refl refl
+      calm_called before b d q (parts_in b) [] [] (λ w. By w MakesNone) has refl belongs (world_takes d b.pass s j q r (Caller n) met) tt tt tt refl refl
       (λ stand. stand) (λ m grown own. own)
 
   pub met_fit : AreSound d q b.next (parts_in b)
@@ -115,7 +115,7 @@ module _ (before : Seen) (b : Inside) (d : Desk) (s j q r : Pass) (n : ℕ) (has
 
   -- and the seat too
   pub met_both : (seat : Seated) (e : Desk) → seated e s n ≡ seat → settings_of d ≡ settings_of e → front_of j ≡ longer (front_of b.pass) (front_of s)
-      → Meets before seat (seen d q b.next b.keeper b.wheels.items) (seated e r n)
+      → Meets before seat (seen d q b.next b.keeper b.wheels.items b.list) (seated e r n)
   met_both seat e is same long =
       let takes = seat_takes d b.pass s j q r (Caller n) met in
       record {

@@ -34,10 +34,11 @@ new_more is_new n xs x are one = record {
 
 -- the desk that it has is shared
 pub opened : (g : Settings) (d e : Desk) (p : Pass) (keeper : Shown) (wheels : List Part) → IsChecked g → e ≡ d → settings_of d ≡ g
-    → front_of p ≡ [] → ClockStands g [] keeper → IsOpened g (seen e p 1 keeper wheels)
+    → front_of p ≡ [] → ClockStands g [] keeper → IsOpened g (seen e p 1 keeper wheels None)
 opened g d e p keeper wheels checked same settings front stands = record {
   stands = record { settings = ap settings_of same ∙ settings; history = front; checked = checked; clock = stands };
   next = refl;
+  turns = refl;
 }
 
 -- no wheel holds a row

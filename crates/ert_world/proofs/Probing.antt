@@ -95,7 +95,7 @@ probed before b d q i old new probes allows has belongs low lent named stands lo
     (was.hand ∙ sym (ap (λ (t : SchedState). t.hand) kept)) (was.expired ∙ sym (ap (λ (t : SchedState). t.expired) kept)) in
     let back : AllParts = record (parts_in b) { wheels = slice_set b.wheels.items i new } in
     subst (λ (l : List SchedPart). Does before d q b.next (record back { scheds = l }) (λ w. By w (allows i))) (same_set ss i x mine)
-    (finish before b d q (record back { scheds = slice_set ss i x }) es (Sched i ∷ (Wheel i ∷ [])) (λ w. By w (allows i)) has belongs call
+    (finish before b d q (record back { scheds = slice_set ss i x }) es (Sched i ∷ (Wheel i ∷ [])) (λ w. By w (allows i)) has refl belongs call
     (probed_only i probes) (probed_calm i probes) (refl, (refl, tt))
     (λ stand. wheel_back g (front_of q) [] (record (parts_in b) { scheds = slice_set ss i x }) i new below (named ∙ one) stands
     (sched_back g (front_of q) (Wheel i ∷ []) (parts_in b) i x below was.wheel now stand))

@@ -44,6 +44,7 @@ use Rattle.ert_world.proofs.Tidying.{HoldsOn, armed_or, armed_self, cancelled_be
 use Rattle.ert_world.proofs.Unseated.{own_unseated}
 use Rattle.ert_world.proofs.WheelCalls.{calm_append, closing_calm, probes_calm, wheel_named}
 use Rattle.ert_world.specs.Restarts.{Forgets, wheel_for}
+use Rattle.ert_world.specs.Stepping.{turns_same}
 use Rattle.ert_world.specs.Worlds.{Seen, seen, AreFit, AreSound, Goes, By}
 use Rattle.ert_world.specs.declared.world.World.TheInside.{Inside}
 
@@ -172,8 +173,8 @@ wheel_is g timer low = ap (λ b. cond b timer.wheel 0) (below timer.wheel g.sche
 -- a timer of a world was given a new deadline, or wasn't, by a wheel whose place is known
 pub record IsRestarted (before : Seen) (b : Inside) (d : Desk) (i : ℕ) (q : Pass) (timer : TimerRef) (start : Start) (answer : Result TimerRef RestartErr) (new : Part) : Type 0 where
   pub fit : AreSound d q b.next (record (parts_in b) { wheels = slice_set b.wheels.items i new })
-  pub goes : Goes before (By before (λ g. Restarts g 0 (wheel_for g timer) timer start answer)) (seen d q b.next b.keeper (slice_set b.wheels.items i new))
-  pub gone : Forgets timer answer (seen d q b.next b.keeper (slice_set b.wheels.items i new))
+  pub goes : Goes before (By before (λ g. Restarts g 0 (wheel_for g timer) timer start answer)) (seen d q b.next b.keeper (slice_set b.wheels.items i new) b.list)
+  pub gone : Forgets timer answer (seen d q b.next b.keeper (slice_set b.wheels.items i new) b.list)
 
 module _ (before : Seen) (b : Inside) (d : Desk) (q : Pass) (timer : TimerRef) (start : Start) (answer : Result TimerRef RestartErr) (old new : Part)
     (has : Has before b d) (belongs : Belongs d q) (low : wheel_for (settings_of d) timer < (settings_of d).schedulers)
@@ -277,19 +278,19 @@ module _ (before : Seen) (b : Inside) (d : Desk) (q : Pass) (timer : TimerRef) (
       (fit.stand.wheels.stand j x below refl)
 
   let_go : (a : Result TimerRef RestartErr) → Restarts g 0 i timer start a s it.entries → HasLetGo timer a new
-      → Forgets timer a (seen d q b.next b.keeper (slice_set ws i new))
+      → Forgets timer a (seen d q b.next b.keeper (slice_set ws i new) b.list)
   let_go (Err e) restarted gone = tt
   let_go (Ok fresh) restarted gone = at (names_timer g timer) refl restarted.ends
     where
       at : (names : Bool) → names_timer g timer ≡ names → RestartEnds names 0 i timer start (Ok fresh) restarted.end
-          → Forgets timer (Ok fresh) (seen d q b.next b.keeper (slice_set ws i new))
+          → Forgets timer (Ok fresh) (seen d q b.next b.keeper (slice_set ws i new) b.list)
       at false is ends = absurd (let clash : ◌≡◌ {A = Result TimerRef RestartErr} (Ok fresh) (Err NotArmed) = ends.0 in cc)
       at true is ends = λ x held.
           gone_set ws i new timer wide gone x (subst (λ n. IsHeld (slice_index_or (slice_set ws i new) n x) timer) (sym (wheel_is g timer (wheel_low g timer is))) held)
 
   restarted : IsRestarted before b d i q timer start answer new
   restarted =
-      let end : Seen = seen d q b.next b.keeper (slice_set ws i new) in
+      let end : Seen = seen d q b.next b.keeper (slice_set ws i new) b.list in
       let own = own_unseated g (view_of b.pass) it.entries (view_of q) b.next (Caller 0 ∷ (Wheel i ∷ [])) has.fit.holds it.call only (refl, (refl, tt)) in
       record {
         fit = record { fit = fit; tidy = tidy_all };
@@ -298,7 +299,7 @@ module _ (before : Seen) (b : Inside) (d : Desk) (q : Pass) (timer : TimerRef) (
               piece = it.call.later;
               grown = it.call.grown;
               made = makes b d q it.entries (λ g. Restarts g 0 (wheel_for g timer) timer start answer) it.allowed it.call.later it.call.grown own;
-            }) it.call.legal refl refl refl refl);
+            }) it.call.legal refl refl refl refl (turns_same b.list));
         gone = let_go answer it.allowed gone;
       }
 

@@ -14,7 +14,7 @@ use Rattle.ert_world.proofs.Calls.{Has, parts_in, schedulers_at}
 use Rattle.ert_world.proofs.NextDue.{part_at}
 use Rattle.ert_world.proofs.Returned.{at_place}
 use Rattle.ert_world.proofs.WheelCalls.{rows_set}
-use Rattle.ert_world.specs.Stepping.{Stays}
+use Rattle.ert_world.specs.Stepping.{Stays, turns_same}
 use Rattle.ert_world.specs.Worlds.{Seen, seen, AreSound, KeepsRows}
 use Rattle.ert_world.specs.declared.world.World.TheInside.{Inside}
 use Rattle.ert_world.proofs.CancelCalls.{put_back}
@@ -30,7 +30,7 @@ loses_tidy s p q loses tidy k key held = ap s.status (same_last p q k loses) ∙
 -- a world whose wheel holds a slot free again
 pub record Freed (before : Seen) (b : Inside) (d : Desk) (new : List Part) : Type 0 where
   pub fit : AreSound d b.pass b.next (record (parts_in b) { wheels = new })
-  pub stays : Stays before (seen d b.pass b.next b.keeper new)
+  pub stays : Stays before (seen d b.pass b.next b.keeper new b.list)
 
 -- the wheel at a place holds a slot free again
 pub freed : (before : Seen) (b : Inside) (d : Desk) (i : ℕ) (old new : Part) → Has before b d → i < before.settings.schedulers
@@ -46,11 +46,12 @@ freed before b d i old new has low lent named stands loses =
         fit = put_back d b.pass b.next (parts_in b) i old new has.fit below lent named stands;
         tidy = λ alone j x in_range. loses_tidy s (slice_index_or ws j x) (slice_index_or (slice_set ws i new) j x) (lost j x) (has.tidy alone j x in_range);
       };
-      stays = subst (λ w. Stays w (seen d b.pass b.next b.keeper (slice_set ws i new))) has.is (record {
+      stays = subst (λ w. Stays w (seen d b.pass b.next b.keeper (slice_set ws i new) b.list)) has.is (record {
         table = refl;
         settings = refl;
         next = refl;
         clock = refl;
+        turns = turns_same b.list;
         rows = lost;
         forgotten = record { piece = []; grown = sym (append-nil (front_of b.pass)); forgotten = tt };
       });

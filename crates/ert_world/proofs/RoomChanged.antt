@@ -1,6 +1,6 @@
 -- The room of a mailbox or of a list of expired timers changes, and nothing else.
 
-use Rattle.std.proofs.Common.{◌≡◌, ℕ, ◌<◌, Bool, List, [], ◌∷◌, length, Option, slice_index_or, refl, sym, ap, subst, ◌∙◌}
+use Rattle.std.proofs.Common.{◌≡◌, ℕ, ◌<◌, List, [], ◌∷◌, length, slice_index_or, refl, sym, ap, subst, ◌∙◌}
 use Rattle.std.specs.Prelude.{slice_set}
 use Rattle.ert_defs.specs.Mails.{MailState}
 use Rattle.ert_defs.specs.States.{state}
@@ -22,10 +22,10 @@ use Rattle.ert_world.specs.Worlds.{AreKept}
 use Rattle.ert_world.specs.declared.sched_part.SchedPart.{SchedPart}
 
 -- a world keeps its parts where a mailbox is what it was but for its room
-pub room_changed : (d : Desk) (p : Pass) (next : ℕ) (parts : AllParts) (list : Option (List Bool)) (i : ℕ) (old new : Mailbox) → AreKept d p next parts list
+pub room_changed : (d : Desk) (p : Pass) (next : ℕ) (parts : AllParts) (i : ℕ) (old new : Mailbox) → AreKept d p next parts
     → i < (settings_of d).processes → old ≡ slice_index_or parts.mails i old → IsSame old new
-    → AreKept d p next (record parts { mails = slice_set parts.mails i new }) list
-room_changed d p next parts list i old new kept low lent same =
+    → AreKept d p next (record parts { mails = slice_set parts.mails i new })
+room_changed d p next parts i old new kept low lent same =
     let g : Settings = settings_of d in
     let h : List Entry = front_of p in
     let stand : Stand g h [] parts = kept.sound.fit.stand in
@@ -41,7 +41,7 @@ room_changed d p next parts list i old new kept low lent same =
         };
         tidy = kept.sound.tidy;
       };
-      listed = listed_kept (state g h) list parts.mails i old new kept.listed within lent (λ some none. some (ap (λ (m : MailState). m.queue) same.held ∙ none));
+      listed = listed_kept (state g h) parts.turns parts.mails i old new kept.listed within lent (λ some none. some (ap (λ (m : MailState). m.queue) same.held ∙ none));
     }
 
 -- a scheduler's part with this list of expired timers
@@ -54,10 +54,10 @@ pub list_stands : (g : Settings) (h : List Entry) (part : SchedPart) (list : Que
 list_stands g h part list stands same = record { in_range = stands.in_range; hand = stands.hand; expired = same ∙ stands.expired }
 
 -- a world keeps its parts where a list of expired timers is what it was but for its room
-pub list_room_changed : (d : Desk) (p : Pass) (next : ℕ) (parts : AllParts) (list : Option (List Bool)) (i : ℕ) (part : SchedPart) (new : Queue)
-    → AreKept d p next parts list → i < (settings_of d).schedulers → part ≡ slice_index_or parts.scheds i part → new.rows ≡ part.expired.rows
-    → AreKept d p next (record parts { scheds = slice_set parts.scheds i (with_list part new) }) list
-list_room_changed d p next parts list i part new kept low lent same =
+pub list_room_changed : (d : Desk) (p : Pass) (next : ℕ) (parts : AllParts) (i : ℕ) (part : SchedPart) (new : Queue)
+    → AreKept d p next parts → i < (settings_of d).schedulers → part ≡ slice_index_or parts.scheds i part → new.rows ≡ part.expired.rows
+    → AreKept d p next (record parts { scheds = slice_set parts.scheds i (with_list part new) })
+list_room_changed d p next parts i part new kept low lent same =
     let g : Settings = settings_of d in
     let h : List Entry = front_of p in
     let stand : Stand g h [] parts = kept.sound.fit.stand in

@@ -32,6 +32,7 @@ use Rattle.ert_table.specs.declared.desk.Desk.{Desk}
 use Rattle.ert_table.specs.declared.desk.Pass.{Pass}
 use Rattle.ert_timers.proofs.Settled.{expired_let_go, handed_free}
 use Rattle.ert_timers.specs.ExpiredLists.{Queue}
+use Rattle.ert_words.specs.Turns.{TurnRow}
 use Rattle.ert_world.proofs.Calls.{Has, Does, Makes, ComeBack, parts_in, exact, added, calm_called, called_with, inbox_named, mail_named, schedulers_at}
 use Rattle.ert_world.proofs.CancelCalls.{DoesBut, finish_but}
 use Rattle.ert_world.proofs.Cancelled.{answer_settles}
@@ -127,7 +128,7 @@ pick_called before b d q i old new part x got has belongs low lent lent_part nam
     let at : x.wheel ≡ i = wheel ∙ was.wheel in
     let now : SchedStands g (front_of q) x = now_stands before b d q i x (sched_after_pick got (s.scheds i)) has low at sched_i hand (ap (λ (f : Queue). f.rows) expired ∙ was.expired) in
     let after : AllParts = record (parts_in b) { scheds = slice_set b.scheds.items i x } in
-    called_with before b d q (record after { inboxes = slice_set b.inboxes.items i new }) (Sched i ∷ (Inbox i ∷ [])) (λ g. Picks g i got) has belongs made_i
+    called_with before b d q (record after { inboxes = slice_set b.inboxes.items i new }) (Sched i ∷ (Inbox i ∷ [])) (λ g. Picks g i got) has refl belongs made_i
     (picks_only g i got s made_i.entries made_i.allowed) (picks_calm g i got s made_i.entries made_i.allowed) (refl, (refl, tt)) refl refl
     (λ stand. inbox_back g (front_of q) [] after i new below (named ∙ one) stands (sched_back g (front_of q) (Inbox i ∷ []) (parts_in b) i x below at now stand))
 
@@ -160,7 +161,7 @@ answered_now before b d q n old new request left part x has belongs low hand len
     let at : x.wheel ≡ n = wheel ∙ was.wheel in
     let now = now_stands before b d q n x (sched_after_answer (Ok left) (s.scheds n)) has low at sched empty (ap (λ (f : Queue). f.rows) expired ∙ was.expired) in
     finish_but before b d q (record (parts_in b) { mails = slice_set b.mails.items i new; scheds = slice_set b.scheds.items n x }) made.entries (Sched n ∷ (MailOf i ∷ []))
-    request.timer (cancelled_by request (Ok left)) (λ w. By w (λ g. Answers g n request (Ok left))) has belongs made.call
+    request.timer (cancelled_by request (Ok left)) (λ w. By w (λ g. Answers g n request (Ok left))) has refl belongs made.call
     (answers_only g n request (Ok left) s made.entries made.allowed) (refl, (refl, tt)) (λ j. refl)
     (mail_and_sched before b d q i n old new x has low (asker_low before b d n request has hand) lent named stands at now) refl
     (λ m grown own. subst (Answers g n request (Ok left) s) (sym own) made.allowed)
@@ -188,7 +189,7 @@ handed_now before b d q n old new expired how part x has belongs low first lent 
     subst (λ m. (state g (front_of q)).scheds m ≡ handed (Ok how) (s.scheds m)) placed.wheel sched in
     let now = now_stands before b d q n x (handed (Ok how) (s.scheds n)) has low at sched_n (hand ∙ was.hand) (rows ∙ ap (λ (l : List Row). others_of l) was.expired) in
     calm_called before b d q (record (parts_in b) { mails = slice_set b.mails.items expired.dest new; scheds = slice_set b.scheds.items n x }) made.entries
-    (Sched n ∷ (MailOf expired.dest ∷ [])) (λ w way. Hands w.settings way n (Ok how)) has belongs made.call
+    (Sched n ∷ (MailOf expired.dest ∷ [])) (λ w way. Hands w.settings way n (Ok how)) has refl belongs made.call
     (handing_only g n expired (Ok how) s made.entries made.allowed) (hands_calm g n expired (Ok how) s made.entries made.allowed) (refl, (refl, tt)) refl refl
     (mail_and_sched before b d q expired.dest n old new x has low placed.dest lent named stands at now)
     (λ m grown own. record {
@@ -209,11 +210,11 @@ hands_on before b d q n expired how has first sched =
     ap (λ (s : SchedState). s.expired) mine ∙ ap (λ (w : Seen). others_of (world_sched w n).expired) has.is
 
 -- its slot can be used again
-pub handed_in : (before : Seen) (b : Inside) (d : Desk) (q : Pass) (n : ℕ) (expired : Row) (how : Handed) → Has before b d → n < before.settings.schedulers
+pub handed_in : (before : Seen) (b : Inside) (d : Desk) (q : Pass) (n : ℕ) (expired : Row) (how : Handed) (list : Option TurnRow) → Has before b d → n < before.settings.schedulers
     → first_of (world_sched before n).expired ≡ Some expired
     → IsMade (settings_of d) (view_of b.pass) (HandsOver (settings_of d) expired.timer.wheel expired (Ok how)) (view_of q)
-    → IsHandedIn (seen d q b.next b.keeper b.wheels.items) expired.timer
-handed_in before b d q n expired how has low first made =
+    → IsHandedIn (seen d q b.next b.keeper b.wheels.items list) expired.timer
+handed_in before b d q n expired how list has low first made =
     let g : Settings = settings_of d in
     let h : List Entry = front_of b.pass in
     let w : ℕ = expired.timer.wheel in
@@ -244,6 +245,6 @@ pub step_refused : (before : Seen) (b : Inside) (d : Desk) (q : Pass) (i : ℕ) 
 step_refused before b d q i old new call has belongs ranged lent named stands same allowed =
     let g : Settings = settings_of d in
     let mine : new.process ≡ i = named ∙ mail_named g (front_of b.pass) [] (parts_in b) i old has.fit.stand ranged lent in
-    calm_called before b d q (record (parts_in b) { mails = slice_set b.mails.items i new }) [] (MailOf i ∷ []) call has belongs
+    calm_called before b d q (record (parts_in b) { mails = slice_set b.mails.items i new }) [] (MailOf i ∷ []) call has refl belongs
     (none_taken b d q has.fit.stand same) tt tt (refl, tt) refl refl
     (λ stand. mail_back g (front_of q) [] (parts_in b) i new ranged mine stands stand) allowed

@@ -12,7 +12,7 @@ use Rattle.ert_timers.specs.Freeing.{IsLast}
 use Rattle.ert_timers.specs.Parts.{Part}
 use Rattle.ert_timers.specs.Tidy.{IsTidy, IsTidyBut}
 use Rattle.ert_world.specs.Ways.{is_unseated}
-use Rattle.ert_world.specs.Worlds.{Seen, HasForgotten, LoseRows, way_of}
+use Rattle.ert_world.specs.Worlds.{Seen, HasForgotten, LoseRows, TurnsGrow, way_of}
 
 -- a wheel of a world is tidy
 abbrev pub IsTidyAt : Seen → ℕ → Type 0
@@ -62,6 +62,7 @@ pub record GoesBut (timer : TimerRef) (left : Option ℕ) (old : Seen) (call : W
   pub settings : new.settings ≡ old.settings
   pub clock : new.clock ≡ old.clock
   pub next : new.next ≡ old.next
+  pub turns : TurnsGrow old.turns new.turns
   pub wheels : new.wheels ≡ old.wheels
   pub tidy : StayTidyBut timer left old new
   pub cancels : CancelsOnly timer left old new
@@ -74,6 +75,7 @@ pub record Forgets (timer : TimerRef) (old new : Seen) : Type 0 where
   pub settings : new.settings ≡ old.settings
   pub clock : new.clock ≡ old.clock
   pub next : new.next ≡ old.next
+  pub turns : new.turns ≡ old.turns
   pub rows : LoseRows old new
   pub forgotten : HasForgotten new timer
   pub tidy : (i : ℕ) → i < old.settings.schedulers → IsTidyButAt old i timer → IsTidyAt new i

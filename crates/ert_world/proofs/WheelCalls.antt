@@ -119,7 +119,7 @@ wheel_called before b d q i old new es call has belongs low lent named stands ta
     let one : n ≡ i = wheel_named g (front_of b.pass) [] (parts_in b) i old has.fit.stand below lent in
     let mine : old ≡ slice_index_or b.wheels.items n old = subst (λ k. old ≡ slice_index_or b.wheels.items k old) (sym one) lent in
     subst (λ n. Does before d q b.next (record (parts_in b) { wheels = slice_set b.wheels.items n new }) (call n)) one
-    (finish before b d q (record (parts_in b) { wheels = slice_set b.wheels.items n new }) es (Caller 0 ∷ (Wheel n ∷ [])) (call n) has belongs takes only calm (refl, (refl, tt))
+    (finish before b d q (record (parts_in b) { wheels = slice_set b.wheels.items n new }) es (Caller 0 ∷ (Wheel n ∷ [])) (call n) has refl belongs takes only calm (refl, (refl, tt))
     (λ stand. wheel_back g (front_of q) [] (parts_in b) n new (rw one below) named stands (caller_back g (front_of q) (Wheel n ∷ []) (parts_in b) 0 stand)) allowed
     (λ alone. one_holds (state g (front_of q)) b.wheels.items n old new (rw (has.fit.stand.wheels.counted, one) below) mine (holds alone)) refl)
 

@@ -1,13 +1,15 @@
 -- A process with mail, and takes of several messages.
 
-use Rattle.std.specs.Prelude.{◌≡◌, ◌≢◌, ℕ, ◌<◌, List, [], ◌++◌, length, Option, Some, None}
+use Rattle.std.specs.Prelude.{◌≡◌, ◌≢◌, ℕ, ◌<◌, true, List, [], ◌++◌, length, Option, Some, None}
+use Rattle.std.specs.List.{range_with_len}
 use Rattle.ert_defs.specs.States.{state}
 use Rattle.ert_defs.specs.declared.mail.Mail.{Mail}
 use Rattle.ert_defs.specs.declared.settings.Settings.{Settings}
 use Rattle.ert_effects.specs.MailCalls.{Takes}
 use Rattle.ert_effects.specs.Ways.{Growth, Way, Then, Many}
 use Rattle.ert_effects.specs.declared.answers.Taken.TheVariants.{Mail as Took, Empty, Exited}
-use Rattle.ert_mail.specs.Lists.{LooksForMail}
+use Rattle.ert_mail.specs.Lists.{LooksForMail, is_listed}
+use Rattle.ert_words.specs.Turns.{TurnRow}
 use Rattle.ert_world.specs.Worlds.{Seen, Goes, By, HasProcessExited}
 use Rattle.ert_world.specs.declared.mailing.TakeEnd.{TakeEnd}
 use Rattle.ert_world.specs.declared.mailing.TakeEnd.TheVariants.{Most, Empty as FoundEmpty, Exited as HadExited}
@@ -21,11 +23,21 @@ abbrev pub IsNextMail : Seen → Option ℕ → Type 0
 IsNextMail w (Some process) = (process < w.settings.processes) × (HasProcessExited w process → ⊥) × (mail_of w process ≢ [])
 IsNextMail w None = (process : ℕ) → process < w.settings.processes → mail_of w process ≢ [] → HasProcessExited w process
 
--- `next_mail`: a process with mail is looked for, by caller 0, and the wheels stay
+-- the processes that may have mail, in the order of their turns: all, where there is no row yet
+abbrev pub turns_of : ℕ → Option TurnRow → List ℕ
+turns_of processes None = range_with_len 0 processes
+turns_of processes (Some row) = row.held
+
+-- `next_mail`: a process with mail is looked for, by caller 0, in the order of turns, and there is a row then in which each
+-- stands that has mail and hasn't exited. The wheels stay
 pub record FindsMail (old : Seen) (answer : Option ℕ) (new : Seen) : Type 0 where
-  pub goes : Goes old (By old (λ g. LooksForMail 0 0 answer)) new
+  pub row : TurnRow
+  pub is : new.turns ≡ Some row
+  pub bound : row.bound ≡ old.settings.processes
+  pub goes : Goes (record old { turns = Some row }) (By old (λ g. LooksForMail 0 0 (turns_of old.settings.processes old.turns) answer row.held)) new
   pub wheels : new.wheels ≡ old.wheels
   pub next : IsNextMail new answer
+  pub listed : (process : ℕ) → process < new.settings.processes → mail_of new process ≢ [] → (HasProcessExited new process → ⊥) → is_listed row process ≡ true
 
 -- messages of a process are taken, one after the other
 abbrev pub TakesMails : Settings → Way → ℕ → List Mail → Growth

@@ -7,10 +7,11 @@ use Rattle.ert_timers.specs.Parts.{Part, PartStands}
 use Rattle.ert_world.specs.Worlds.{Seen, StandsFor}
 use Rattle.ert_world.specs.declared.sched_part.SchedPart.{SchedPart}
 
--- a world was opened: it stands for the empty history, and has given out no seat
+-- a world was opened: it stands for the empty history, has given out no seat, and no process waits for a turn
 pub record IsOpened (g : Settings) (w : Seen) : Type 0 where
   pub stands : StandsFor g [] w
   pub next : w.next ≡ 1
+  pub turns : w.turns ≡ None
 
 -- so many parts of one kind, each new as its number says
 pub record AreNew {X : Type 0} (is_new : ℕ → X → Type 0) (count : ℕ) (xs : List X) : Type 0 where

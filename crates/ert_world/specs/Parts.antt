@@ -1,6 +1,6 @@
 -- The parts of a service, and when they stand for its history.
 
-use Rattle.std.specs.Prelude.{◌≡◌, ℕ, ◌<◌, false, List, length, slice_index_or}
+use Rattle.std.specs.Prelude.{◌≡◌, ℕ, ◌<◌, false, List, length, Option, None, slice_index_or}
 use Rattle.ert_clock.specs.Shown.{Shown, ClockStands}
 use Rattle.ert_defs.specs.Legal.{Legal}
 use Rattle.ert_defs.specs.States.{state}
@@ -12,20 +12,23 @@ use Rattle.ert_mail.specs.Inboxes.{Waiting, InboxStands}
 use Rattle.ert_mail.specs.Mailboxes.{Mailbox, MailboxStands as MailStands}
 use Rattle.ert_table.specs.Held.{is_held}
 use Rattle.ert_timers.specs.Parts.{Part, PartStands as WheelStands}
+use Rattle.ert_words.specs.Turns.{TurnRow}
 use Rattle.ert_world.specs.declared.sched_part.SchedPart.{SchedPart}
 
--- the parts of a service: the clock's, and those of each wheel, inbox, process and scheduler
+-- the parts of a service: the clock's, those of each wheel, inbox, process and scheduler, and the row of the processes that
+-- may have mail, where there is one
 pub record AllParts : Type 0 where
   pub keeper : Shown
   pub wheels : List Part
   pub inboxes : List Waiting
   pub mails : List Mailbox
   pub scheds : List SchedPart
+  pub turns : Option TurnRow
 
--- the parts of a service that has these
+-- the parts of a service that has these, without a row
 abbrev pub parts_of : Shown → List Part → List Waiting → List Mailbox → List SchedPart → AllParts
 parts_of keeper wheels inboxes mails scheds =
-    record { keeper = keeper; wheels = wheels; inboxes = inboxes; mails = mails; scheds = scheds }
+    record { keeper = keeper; wheels = wheels; inboxes = inboxes; mails = mails; scheds = scheds; turns = None }
 
 -- a scheduler's part stands for a history: its hand and its list of expired timers are those of the history
 pub record SchedStands (g : Settings) (h : List Entry) (p : SchedPart) : Type 0 where

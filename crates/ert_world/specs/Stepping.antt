@@ -12,15 +12,17 @@ use Rattle.ert_timers.specs.Slots.{Slot}
 use Rattle.ert_timers.specs.Passed.{LosesRows}
 use Rattle.ert_wheel.specs.Rows.{key_in}
 use Rattle.ert_wheel.specs.declared.row.Key.{Key}
+use Rattle.ert_words.specs.Turns.{TurnRow}
 use Rattle.ert_world.specs.Ways.{is_unseated}
-use Rattle.ert_world.specs.Worlds.{Seen, ForgetsCancelled, HasForgottenAll, HasPassedAt, LoseRows}
+use Rattle.ert_world.specs.Worlds.{Seen, ForgetsCancelled, HasForgottenAll, HasPassedAt, LoseRows, TurnsGrow}
 
--- the desk, its settings, the clock and the seats stay, no row comes, and the wheels forget what the world cancelled
+-- the desk, its settings, the clock and the seats stay, who waits for a turn keeps its place, no row of a timer comes, and the wheels forget what the world cancelled
 pub record Stays (old new : Seen) : Type 0 where
   pub table : new.table ≡ old.table
   pub settings : new.settings ≡ old.settings
   pub next : new.next ≡ old.next
   pub clock : new.clock ≡ old.clock
+  pub turns : TurnsGrow old.turns new.turns
   pub rows : LoseRows old new
   pub forgotten : ForgetsCancelled old new
 
@@ -37,7 +39,7 @@ held_before p q timer loses held = record {
     at (Some key) is none = (let clash : None ≡ Some key = sym none ∙ loses.left timer.slot key is in absurd cc)
 
 -- what is forgotten stays so where rows go
-forgotten_on : (b c : Seen) (es : List Entry) → LoseRows b c → HasForgottenAll b es → HasForgottenAll c es
+pub forgotten_on : (b c : Seen) (es : List Entry) → LoseRows b c → HasForgottenAll b es → HasForgottenAll c es
 forgotten_on b c [] rows gone = tt
 forgotten_on b c (e ∷ es) rows gone =
     (λ timer left is d held. gone.0 timer left is d (held_before _ _ timer (rows timer.wheel d) held), forgotten_on b c es rows gone.1)
@@ -56,12 +58,25 @@ forgets_then a b c one other next rows = record {
       (subst (λ n. HasForgottenAll c (filter (is_unseated n) other.piece)) next other.forgotten));
 }
 
+-- a row stays as it is
+pub turns_same : (o : Option TurnRow) → TurnsGrow o o
+turns_same None = refl
+turns_same (Some row) = ([], ap (λ (held : List ℕ). Some (record row { held = held })) (sym (append-nil row.held)))
+
+-- and grows further
+pub turns_then : (a b c : Option TurnRow) → TurnsGrow a b → TurnsGrow b c → TurnsGrow a c
+turns_then None b c one other = subst (λ (o : Option TurnRow). TurnsGrow o c) one other
+turns_then (Some row) b c one other =
+    let far : TurnsGrow (Some (record row { held = row.held ++ one.0 })) c = subst (λ (o : Option TurnRow). TurnsGrow o c) one.1 other in
+    (one.0 ++ far.0, far.1 ∙ ap (λ (held : List ℕ). Some (record row { held = held })) (append_assoc row.held one.0 far.0))
+
 pub stay : (a b c : Seen) → Stays a b → Stays b c → Stays a c
 stay a b c one other = record {
   table = other.table ∙ one.table;
   settings = other.settings ∙ one.settings;
   next = other.next ∙ one.next;
   clock = other.clock ∙ one.clock;
+  turns = turns_then a.turns b.turns c.turns one.turns other.turns;
   rows = λ i d. (let first = one.rows i d in let second = other.rows i d in record {
     number = second.number ∙ first.number;
     slots = second.slots ∙ first.slots;
@@ -77,6 +92,7 @@ same a = record {
   settings = refl;
   next = refl;
   clock = refl;
+  turns = turns_same a.turns;
   rows = λ i d. record { number = refl; slots = refl; left = λ k key is. is; time = le_refl (slice_index_or a.wheels i d).passed };
   forgotten = record { piece = []; grown = sym (append-nil a.history); forgotten = tt };
 }

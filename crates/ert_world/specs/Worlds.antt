@@ -1,6 +1,6 @@
 -- What callers see of a world, the history that it knows, and how its calls make that longer.
 
-use Rattle.std.specs.Prelude.{◌≡◌, ◌≢◌, ℕ, ◌<◌, ◌≤◌, ◌⊎◌, ◌++◌, Bool, true, false, List, [], ◌∷◌, filter, slice_index_or, Option, Some, None, Result, Ok, Err}
+use Rattle.std.specs.Prelude.{◌≡◌, ◌≢◌, ℕ, ◌<◌, ◌≤◌, ◌⊎◌, ◌++◌, true, false, List, [], ◌∷◌, filter, slice_index_or, Option, Some, None, Result, Ok, Err}
 use Rattle.atomic_table.specs.Seated.{TableId}
 use Rattle.ert_effects.specs.Ways.{Growth, Way, Grows, alone}
 use Rattle.ert_clock.specs.Shown.{Shown, ClockStands}
@@ -30,11 +30,13 @@ use Rattle.ert_timers.specs.NextDue.{IsNearest, IsNextHeld}
 use Rattle.ert_timers.specs.Parts.{Part}
 use Rattle.ert_timers.specs.Passed.{HasPassed, LosesRows}
 use Rattle.ert_timers.specs.Tidy.{IsTidy}
+use Rattle.ert_words.specs.Turns.{TurnRow}
 use Rattle.ert_world.specs.Parts.{AllParts, Stand}
 use Rattle.ert_world.specs.Ways.{beside_seats, is_unseated}
 
 -- what callers see of a world: which desk it is of, with its settings, the history that it knows, what its clock
--- shows, the next caller that is to get a seat, and its wheels
+-- shows, the next caller that is to get a seat, its wheels, and the row of the processes that may have mail, from the first
+-- `next_mail` on
 pub record Seen : Type 0 where
   pub table : TableId
   pub settings : Settings
@@ -42,16 +44,18 @@ pub record Seen : Type 0 where
   pub clock : Shown
   pub next : ℕ
   pub wheels : List Part
+  pub turns : Option TurnRow
 
 -- what they see of a world with these: the history is the front of its pass
-abbrev pub seen : Desk → Pass → ℕ → Shown → List Part → Seen
-seen d p next clock wheels = record {
+abbrev pub seen : Desk → Pass → ℕ → Shown → List Part → Option TurnRow → Seen
+seen d p next clock wheels turns = record {
   table = d.table.shared.table_id;
   settings = settings_of d;
   history = front_of p;
   clock = clock;
   next = next;
   wheels = wheels;
+  turns = turns;
 }
 
 -- an actor was given no seat: every one but the callers from 1 on, below the next
@@ -83,14 +87,14 @@ pub record AreSound (d : Desk) (p : Pass) (next : ℕ) (parts : AllParts) : Type
   pub tidy : next ≡ 1 → AreTidy (settings_of d) (front_of p) parts.wheels
 
 -- where processes are listed, each that hasn't exited and whose mailbox has mail is
-abbrev pub ListAll : State → Option (List Bool) → List Mailbox → Type 0
+abbrev pub ListAll : State → Option TurnRow → List Mailbox → Type 0
 ListAll s None mails = Unit {0}
-ListAll s (Some listed) mails = AreListed s.exited listed mails
+ListAll s (Some row) mails = AreListed s.exited row mails
 
 -- what a world keeps: its parts are sound, and the processes with mail are listed where any are
-pub record AreKept (d : Desk) (p : Pass) (next : ℕ) (parts : AllParts) (list : Option (List Bool)) : Type 0 where
+pub record AreKept (d : Desk) (p : Pass) (next : ℕ) (parts : AllParts) : Type 0 where
   pub sound : AreSound d p next parts
-  pub listed : ListAll (state (settings_of d) (front_of p)) list parts.mails
+  pub listed : ListAll (state (settings_of d) (front_of p)) parts.turns parts.mails
 
 -- how early the next of the rows that a wheel of a world holds is due, and None where it holds none. It holds the row
 -- of each armed timer, and may hold the row of one that was cancelled until that would have been due
@@ -140,8 +144,14 @@ KeepRows old new = (i : ℕ) (d : Part) → KeepsRows (slice_index_or old.wheels
 abbrev pub HasPassedAt : Seen → ℕ → ℕ → Type 0
 HasPassedAt w i to = (d : Part) → HasPassed (slice_index_or w.wheels i d) to
 
+-- who waits for a turn keeps its place: there is a row only once `next_mail` made one, and others are put behind those in it
+abbrev pub TurnsGrow : Option TurnRow → Option TurnRow → Type 0
+TurnsGrow None new = new ≡ None
+TurnsGrow (Some row) new = (more : List ℕ) × (new ≡ Some (record row { held = row.held ++ more }))
+
 -- a world makes a call, which may be made in any way: its history grows by it, beside its seats, and as that of one
--- thread where it gave out none. It is legal then. The world's desk, its settings, its clock and its seats stay
+-- thread where it gave out none. It is legal then. The world's desk, its settings, its clock and its seats stay, and who
+-- waits for a turn keeps its place
 pub record Goes (old : Seen) (call : Way → Growth) (new : Seen) : Type 0 where
   pub grows : Grows (call (way_of old)) old.history new.history
   pub lone : old.next ≡ 1 → Grows (call (alone old.settings)) old.history new.history
@@ -150,6 +160,7 @@ pub record Goes (old : Seen) (call : Way → Growth) (new : Seen) : Type 0 where
   pub settings : new.settings ≡ old.settings
   pub clock : new.clock ≡ old.clock
   pub next : new.next ≡ old.next
+  pub turns : TurnsGrow old.turns new.turns
 
 -- the same of a call that may move the clock
 abbrev pub GoesOnClock : Seen → (Way → Growth) → Seen → Type 0

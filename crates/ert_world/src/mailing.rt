@@ -1,5 +1,6 @@
 //! The calls that find a process with mail, and take several messages.
-ghost use Rattle.std.specs.Prelude.{◌≡◌, ◌<◌, IfSome, length, option_map, slice_set, true};
+ghost use Rattle.std.specs.Prelude.{◌≡◌, ◌<◌, IfSome, option_map};
+ghost use Rattle.ert_mail.specs.Lists.{with_listed};
 
 use crate::world::{CALLER, World};
 use ert_defs::{Mail, NoMemory};
@@ -18,8 +19,8 @@ pub enum TakeEnd {
 
 /// Lists a process whose mailbox may get mail.
 pub(crate) fn may_get_mail(list: &mut Option<MailList>, process: u32)
-    requires { IfSome list.old (λ listed. process < length listed) }
-    ensures { list.new ≡ option_map (λ listed. slice_set listed process true) list.old }
+    requires { IfSome list.old (λ row. process < row.bound) }
+    ensures { list.new ≡ option_map (λ row. with_listed row process) list.old }
 {
     if let Some(list) = list {
         list.put(process);
@@ -27,7 +28,7 @@ pub(crate) fn may_get_mail(list: &mut Option<MailList>, process: u32)
 }
 
 impl World {
-    ghost use Rattle.std.specs.Prelude.{◌≡◌, ◌+◌, ◌<◌, ◌≤◌, IfOk, OnErr, vec_len};
+    ghost use Rattle.std.specs.Prelude.{◌≡◌, ◌+◌, ◌<◌, ◌≤◌, None, IfOk, OnErr, vec_len};
     ghost use Rattle.std.specs.Vec.{vec_capacity};
     ghost use Rattle.ert_defs.specs.Legal.{Legal};
     ghost use Rattle.ert_world.specs.Mailing.{FindsMail, TakesInto};
@@ -41,7 +42,7 @@ impl World {
     /// with a step and 5 bytes for each process; later calls take no memory. If memory runs out, nothing has changed.
     pub fn next_mail(&mut self) -> Result<Option<u32>, NoMemory>
         ensures next { IfOk result (λ answer. FindsMail self.old answer self.new) }
-        ensures memory { OnErr result (self.new ≡ self.old) }
+        ensures memory { OnErr result ((self.old.turns ≡ None) × (self.new ≡ self.old)) }
     {
         let mut list = match self.list.take() {
             Some(list) => list,

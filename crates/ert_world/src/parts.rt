@@ -32,6 +32,7 @@ pub struct Parts {
 
 impl World {
     ghost use Rattle.std.specs.Arc.{arc_value};
+    ghost use Rattle.std.specs.Prelude.{None};
     ghost use Rattle.ert_table.specs.Desks.{settings_of};
     ghost use Rattle.ert_world.specs.Parts.{parts_of};
     ghost use Rattle.ert_world.specs.Worlds.{seen, AreFit, IsPutTogether};
@@ -41,7 +42,7 @@ impl World {
         requires { self.next ≡ 1 }
         ensures settings { result.settings ≡ settings_of (arc_value result.desk) }
         ensures fit { AreFit (arc_value result.desk) result.pass 1 (parts_of result.keeper result.wheels.items result.inboxes.items result.mails.items result.scheds.items) }
-        ensures same { self ≡ seen (arc_value result.desk) result.pass 1 result.keeper result.wheels.items }
+        ensures same { self ≡ seen (arc_value result.desk) result.pass 1 result.keeper result.wheels.items self.turns }
         ensures tidy { AreTidy (settings_of (arc_value result.desk)) (front_of result.pass) result.wheels.items }
     {
         Parts {
@@ -65,7 +66,7 @@ impl World {
     pub fn from_parts(parts: Parts) -> World
         requires settings { parts.settings ≡ settings_of (arc_value parts.desk) }
         requires fit { AreFit (arc_value parts.desk) parts.pass 1 (parts_of parts.keeper parts.wheels.items parts.inboxes.items parts.mails.items parts.scheds.items) }
-        ensures { IsPutTogether (seen (arc_value parts.desk) parts.pass 1 parts.keeper parts.wheels.items) result }
+        ensures { IsPutTogether (seen (arc_value parts.desk) parts.pass 1 parts.keeper parts.wheels.items None) result }
     {
         let Parts {
             desk,

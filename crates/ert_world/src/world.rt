@@ -49,16 +49,17 @@ impl Model for World {
     ghost use Rattle.std.specs.Arc.{arc_value};
     ghost use Rattle.std.specs.Coded.{codes};
     ghost use Rattle.ert_timers.specs.Parts.{part_code};
+    ghost use Rattle.ert_words.specs.Turns.{row_code};
     ghost use Rattle.ert_world.specs.Parts.{parts_of};
     ghost use Rattle.ert_world.specs.Worlds.{Seen, seen, AreKept};
 
     ghost Value = { Seen };
 
-    ghost coded = { Prim.hlevel (codes, part_code) };
+    ghost coded = { Prim.hlevel (codes, part_code, row_code) };
 
-    ghost view = { λ w. seen (arc_value w.desk) w.pass w.next w.keeper w.wheels.items };
+    ghost view = { λ w. seen (arc_value w.desk) w.pass w.next w.keeper w.wheels.items w.list };
 
-    ghost invariant = { λ w. AreKept (arc_value w.desk) w.pass w.next (parts_of w.keeper w.wheels.items w.inboxes.items w.mails.items w.scheds.items) w.list };
+    ghost invariant = { λ w. AreKept (arc_value w.desk) w.pass w.next (record (parts_of w.keeper w.wheels.items w.inboxes.items w.mails.items w.scheds.items) { turns = w.list }) };
 }
 
 impl World {

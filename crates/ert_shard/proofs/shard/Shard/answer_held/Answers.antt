@@ -10,7 +10,7 @@ use Rattle.ert_shard.proofs.Gone.{named_over, named_stands}
 use Rattle.ert_shard.proofs.Requested.{answered_now, asked_gone}
 use Rattle.ert_shard.specs.Shards.{Owned, IsHome, counted_from, share_of, shard_parts_of}
 use Rattle.ert_table.specs.Desks.{state_of}
-use Rattle.ert_world.proofs.Listed.{list_low, listed_now}
+use Rattle.ert_world.proofs.Listed.{list_low, listed_now, listed_grown}
 use Rattle.ert_world.specs.declared.sched_part.SchedPart.{SchedPart}
 use Rattle.ert_shard.proofs.shard.Shard.answer_held.Goals as goal
 
@@ -94,7 +94,7 @@ invariant_of-self c =
     let did = did_at c.deref.ensures (step_refused c.args.self.now c.deref.result.now b.pass c.answer.new.pass s parts c.may_get_mail.new.list request.reply_to
     c.index_mut-mail.result.now c.answer.new.self (λ o way. way (MailOf request.reply_to ∷ []) (Answers o.settings o.share.number request (Err c.in_err-left.field-0.0))) has
     c.answer.ensures.belongs home c.index_mut-mail.ensures.value c.answer.ensures.process c.answer.ensures.stands c.in_err-left.ensures.call.same (λ m grown own. own)
-    (λ st all low. listed_now st b.list c.may_get_mail.new.list b.mails.items (request.reply_to - b.from) c.answer.new.self c.may_get_mail.ensures all low)) in
+    (listed_grown b.list c.may_get_mail.new.list (request.reply_to - b.from) c.may_get_mail.ensures, λ st all low. listed_now st b.list c.may_get_mail.new.list b.mails.items (request.reply_to - b.from) c.answer.new.self c.may_get_mail.ensures all low)) in
     did.fit
 
 pub returns-in_err-left-clause-call : goal.returns-in_err-left-clause-call
@@ -108,7 +108,7 @@ returns-in_err-left-clause-call c =
     let did = did_at c.deref.ensures (step_refused c.args.self.now c.deref.result.now b.pass c.answer.new.pass s parts c.may_get_mail.new.list request.reply_to
     c.index_mut-mail.result.now c.answer.new.self (λ o way. way (MailOf request.reply_to ∷ []) (Answers o.settings o.share.number request (Err c.in_err-left.field-0.0))) has
     c.answer.ensures.belongs home c.index_mut-mail.ensures.value c.answer.ensures.process c.answer.ensures.stands c.in_err-left.ensures.call.same (λ m grown own. own)
-    (λ st all low. listed_now st b.list c.may_get_mail.new.list b.mails.items (request.reply_to - b.from) c.answer.new.self c.may_get_mail.ensures all low)) in
+    (listed_grown b.list c.may_get_mail.new.list (request.reply_to - b.from) c.may_get_mail.ensures, λ st all low. listed_now st b.list c.may_get_mail.new.list b.mails.items (request.reply_to - b.from) c.answer.new.self c.may_get_mail.ensures all low)) in
     let result : c.from_residual.result ≡ Err c.in_err-left.field-0.0 = search rules in
     rw result did.steps
 
@@ -124,7 +124,7 @@ forget-requires-clause-stands c =
     let now = shard_parts_of b.wheel b.inbox x (slice_set b.mails.items (request.reply_to - b.from) c.answer.new.self) c.may_get_mail.new.list in
     let done = answered_now c.args.self.now c.deref.result.now b.pass c.answer.new.pass s parts c.may_get_mail.new.list c.index_mut-mail.result.now c.answer.new.self request
     c.in_ok-left.left x has c.answer.ensures.belongs home c.index_mut-mail.ensures.value c.answer.ensures.process c.answer.ensures.stands c.in_ok-left.ensures.call
-    c.in_ok-left.ensures.sched refl refl refl (λ st all low. listed_now st b.list c.may_get_mail.new.list b.mails.items (request.reply_to - b.from) c.answer.new.self c.may_get_mail.ensures all low) in
+    c.in_ok-left.ensures.sched refl refl refl (listed_grown b.list c.may_get_mail.new.list (request.reply_to - b.from) c.may_get_mail.ensures, λ st all low. listed_now st b.list c.may_get_mail.new.list b.mails.items (request.reply_to - b.from) c.answer.new.self c.may_get_mail.ensures all low) in
     named_stands c.deref.result.now c.answer.new.pass s now done.fit
 
 pub forget-requires-clause-last : goal.forget-requires-clause-last
@@ -163,7 +163,7 @@ invariant_of-self-then-has_cancelled c =
     let now = shard_parts_of b.wheel b.inbox x (slice_set b.mails.items (request.reply_to - b.from) c.answer.new.self) c.may_get_mail.new.list in
     let done = answered_now c.args.self.now c.deref.result.now b.pass c.answer.new.pass s parts c.may_get_mail.new.list c.index_mut-mail.result.now c.answer.new.self request
     c.in_ok-left.left x has c.answer.ensures.belongs home c.index_mut-mail.ensures.value c.answer.ensures.process c.answer.ensures.stands c.in_ok-left.ensures.call
-    c.in_ok-left.ensures.sched refl refl refl (λ st all low. listed_now st b.list c.may_get_mail.new.list b.mails.items (request.reply_to - b.from) c.answer.new.self c.may_get_mail.ensures all low) in
+    c.in_ok-left.ensures.sched refl refl refl (listed_grown b.list c.may_get_mail.new.list (request.reply_to - b.from) c.may_get_mail.ensures, λ st all low. listed_now st b.list c.may_get_mail.new.list b.mails.items (request.reply_to - b.from) c.answer.new.self c.may_get_mail.ensures all low) in
     let fit = (did_at c.deref.ensures done).fit in
     wheel_replaced (arc_value b.desk) c.answer.new.pass s now c.forget.new.self fit c.forget.ensures.number (c.forget.ensures.stands _ fit.belongs.named)
 
@@ -179,7 +179,7 @@ invariant_of-self-else-has_cancelled c =
     let now = shard_parts_of b.wheel b.inbox x (slice_set b.mails.items (request.reply_to - b.from) c.answer.new.self) c.may_get_mail.new.list in
     let done = answered_now c.args.self.now c.deref.result.now b.pass c.answer.new.pass s parts c.may_get_mail.new.list c.index_mut-mail.result.now c.answer.new.self request
     c.in_ok-left.left x has c.answer.ensures.belongs home c.index_mut-mail.ensures.value c.answer.ensures.process c.answer.ensures.stands c.in_ok-left.ensures.call
-    c.in_ok-left.ensures.sched refl refl refl (λ st all low. listed_now st b.list c.may_get_mail.new.list b.mails.items (request.reply_to - b.from) c.answer.new.self c.may_get_mail.ensures all low) in
+    c.in_ok-left.ensures.sched refl refl refl (listed_grown b.list c.may_get_mail.new.list (request.reply_to - b.from) c.may_get_mail.ensures, λ st all low. listed_now st b.list c.may_get_mail.new.list b.mails.items (request.reply_to - b.from) c.answer.new.self c.may_get_mail.ensures all low) in
     (did_at c.deref.ensures done).fit
 
 pub returns-then-has_cancelled-clause-call : goal.returns-then-has_cancelled-clause-call
@@ -194,7 +194,7 @@ returns-then-has_cancelled-clause-call c =
     let now = shard_parts_of b.wheel b.inbox x (slice_set b.mails.items (request.reply_to - b.from) c.answer.new.self) c.may_get_mail.new.list in
     let done = answered_now c.args.self.now c.deref.result.now b.pass c.answer.new.pass s parts c.may_get_mail.new.list c.index_mut-mail.result.now c.answer.new.self request
     c.in_ok-left.left x has c.answer.ensures.belongs home c.index_mut-mail.ensures.value c.answer.ensures.process c.answer.ensures.stands c.in_ok-left.ensures.call
-    c.in_ok-left.ensures.sched refl refl refl (λ st all low. listed_now st b.list c.may_get_mail.new.list b.mails.items (request.reply_to - b.from) c.answer.new.self c.may_get_mail.ensures all low) in
+    c.in_ok-left.ensures.sched refl refl refl (listed_grown b.list c.may_get_mail.new.list (request.reply_to - b.from) c.may_get_mail.ensures, λ st all low. listed_now st b.list c.may_get_mail.new.list b.mails.items (request.reply_to - b.from) c.answer.new.self c.may_get_mail.ensures all low) in
     lost c.args.self.now _ (λ way. way (MailOf request.reply_to ∷ []) (Answers c.args.self.now.settings c.args.self.now.share.number request (Ok c.in_ok-left.left))) b.wheel c.forget.new.self (sym (ap (λ (o : Owned). o.wheel) c.self.view_is))
     (did_at c.deref.ensures done).steps.goes c.forget.ensures.loses
 
@@ -210,7 +210,7 @@ returns-else-has_cancelled-clause-call c =
     let now = shard_parts_of b.wheel b.inbox x (slice_set b.mails.items (request.reply_to - b.from) c.answer.new.self) c.may_get_mail.new.list in
     let done = answered_now c.args.self.now c.deref.result.now b.pass c.answer.new.pass s parts c.may_get_mail.new.list c.index_mut-mail.result.now c.answer.new.self request
     c.in_ok-left.left x has c.answer.ensures.belongs home c.index_mut-mail.ensures.value c.answer.ensures.process c.answer.ensures.stands c.in_ok-left.ensures.call
-    c.in_ok-left.ensures.sched refl refl refl (λ st all low. listed_now st b.list c.may_get_mail.new.list b.mails.items (request.reply_to - b.from) c.answer.new.self c.may_get_mail.ensures all low) in
+    c.in_ok-left.ensures.sched refl refl refl (listed_grown b.list c.may_get_mail.new.list (request.reply_to - b.from) c.may_get_mail.ensures, λ st all low. listed_now st b.list c.may_get_mail.new.list b.mails.items (request.reply_to - b.from) c.answer.new.self c.may_get_mail.ensures all low) in
     (did_at c.deref.ensures done).steps
 
 pub returns-then-has_cancelled-clause-forgotten : goal.returns-then-has_cancelled-clause-forgotten

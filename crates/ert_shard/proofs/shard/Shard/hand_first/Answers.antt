@@ -11,7 +11,7 @@ use Rattle.ert_shard.specs.Turning.{shard_expired}
 use Rattle.ert_shard.specs.Shards.{Owned, counted_from, share_of, shard_parts_of}
 use Rattle.ert_table.specs.Desks.{settings_of, front_of, state_of}
 use Rattle.ert_table.specs.declared.desk.Desk.{Desk}
-use Rattle.ert_world.proofs.Listed.{list_low, listed_now}
+use Rattle.ert_world.proofs.Listed.{list_low, listed_now, listed_grown}
 use Rattle.ert_timers.specs.Parts.{Part}
 use Rattle.ert_world.proofs.Reusing.{keeps_reused, loses_reused}
 use Rattle.ert_world.specs.Worlds.{KeepsRows}
@@ -95,7 +95,7 @@ reuse-requires-clause-stands c =
     let does = does_at c.deref.ensures (handed_now c.args.self.now c.deref.result.now b.pass c.deliver.new.pass s parts c.may_get_mail.new.list c.index_mut.result.now c.deliver.new.self c.args.expired.now
     c.in_ok-handed.handed x has c.deliver.ensures.belongs c.requires c.index_mut.ensures.value c.deliver.ensures.process c.deliver.ensures.stands c.in_ok-handed.ensures.call
     c.in_ok-handed.ensures.sched refl refl c.pop.ensures.others
-    (λ st all low. listed_now st b.list c.may_get_mail.new.list b.mails.items (c.args.expired.now.dest - b.from) c.deliver.new.self c.may_get_mail.ensures all low)) in
+    (listed_grown b.list c.may_get_mail.new.list (c.args.expired.now.dest - b.from) c.may_get_mail.ensures, λ st all low. listed_now st b.list c.may_get_mail.new.list b.mails.items (c.args.expired.now.dest - b.from) c.deliver.new.self c.may_get_mail.ensures all low)) in
     named_stands (arc_value b.desk) c.deliver.new.pass s (shard_parts_of b.wheel b.inbox x (slice_set b.mails.items (c.args.expired.now.dest - b.from) c.deliver.new.self) c.may_get_mail.new.list) does.fit
 
 pub reuse-requires-clause-let_go : goal.reuse-requires-clause-let_go
@@ -129,7 +129,7 @@ invariant_of-self-2 c =
     let does = does_at c.deref.ensures (handed_now c.args.self.now c.deref.result.now b.pass c.deliver.new.pass s parts c.may_get_mail.new.list c.index_mut.result.now c.deliver.new.self c.args.expired.now
     c.in_ok-handed.handed x has c.deliver.ensures.belongs c.requires c.index_mut.ensures.value c.deliver.ensures.process c.deliver.ensures.stands c.in_ok-handed.ensures.call
     c.in_ok-handed.ensures.sched refl refl c.pop.ensures.others
-    (λ st all low. listed_now st b.list c.may_get_mail.new.list b.mails.items (c.args.expired.now.dest - b.from) c.deliver.new.self c.may_get_mail.ensures all low)) in
+    (listed_grown b.list c.may_get_mail.new.list (c.args.expired.now.dest - b.from) c.may_get_mail.ensures, λ st all low. listed_now st b.list c.may_get_mail.new.list b.mails.items (c.args.expired.now.dest - b.from) c.deliver.new.self c.may_get_mail.ensures all low)) in
     wheel_replaced (arc_value b.desk) c.deliver.new.pass s (shard_parts_of b.wheel b.inbox x (slice_set b.mails.items (c.args.expired.now.dest - b.from) c.deliver.new.self) c.may_get_mail.new.list) c.reuse.new.self does.fit c.reuse.ensures.number
     (c.reuse.ensures.stands _ does.fit.belongs.named)
 
@@ -144,7 +144,7 @@ returns-clause-call c =
     let does = does_at c.deref.ensures (handed_now c.args.self.now c.deref.result.now b.pass c.deliver.new.pass s parts c.may_get_mail.new.list c.index_mut.result.now c.deliver.new.self c.args.expired.now
     c.in_ok-handed.handed x has c.deliver.ensures.belongs c.requires c.index_mut.ensures.value c.deliver.ensures.process c.deliver.ensures.stands c.in_ok-handed.ensures.call
     c.in_ok-handed.ensures.sched refl refl c.pop.ensures.others
-    (λ st all low. listed_now st b.list c.may_get_mail.new.list b.mails.items (c.args.expired.now.dest - b.from) c.deliver.new.self c.may_get_mail.ensures all low)) in
+    (listed_grown b.list c.may_get_mail.new.list (c.args.expired.now.dest - b.from) c.may_get_mail.ensures, λ st all low. listed_now st b.list c.may_get_mail.new.list b.mails.items (c.args.expired.now.dest - b.from) c.deliver.new.self c.may_get_mail.ensures all low)) in
     lost c.args.self.now _ (λ way. Hands c.args.self.now.settings way c.args.self.now.share.number (Ok c.in_ok-handed.handed)) b.wheel c.reuse.new.self
     (sym (ap (λ (o : Owned). o.wheel) c.self.view_is)) does.goes (loses_reused b.wheel c.reuse.new.self c.args.expired.now.timer.slot c.reuse.ensures.freed)
 
@@ -173,7 +173,7 @@ invariant_of-self c =
       first = subst (λ (o : Owned). first_of (shard_expired o) ≡ Some c.args.expired.now) (sym has.is) c.requires;
       step = mine;
     })
-    (λ st all low. listed_now st b.list c.may_get_mail.new.list b.mails.items (c.args.expired.now.dest - b.from) c.deliver.new.self c.may_get_mail.ensures all low)) in
+    (listed_grown b.list c.may_get_mail.new.list (c.args.expired.now.dest - b.from) c.may_get_mail.ensures, λ st all low. listed_now st b.list c.may_get_mail.new.list b.mails.items (c.args.expired.now.dest - b.from) c.deliver.new.self c.may_get_mail.ensures all low)) in
     did.fit
 
 pub returns-in_err-handed : goal.returns-in_err-handed
@@ -191,7 +191,7 @@ returns-in_err-handed c =
       first = subst (λ (o : Owned). first_of (shard_expired o) ≡ Some c.args.expired.now) (sym has.is) c.requires;
       step = mine;
     })
-    (λ st all low. listed_now st b.list c.may_get_mail.new.list b.mails.items (c.args.expired.now.dest - b.from) c.deliver.new.self c.may_get_mail.ensures all low)) in
+    (listed_grown b.list c.may_get_mail.new.list (c.args.expired.now.dest - b.from) c.may_get_mail.ensures, λ st all low. listed_now st b.list c.may_get_mail.new.list b.mails.items (c.args.expired.now.dest - b.from) c.deliver.new.self c.may_get_mail.ensures all low)) in
     let result : c.from_residual.result ≡ Err c.in_err-handed.field-0.0 = search rules in
     rw result (record {
       call = did.steps;

@@ -8,8 +8,8 @@ use Rattle.ert_world.proofs.Alone.{stays_same}
 use Rattle.ert_world.proofs.Calls.{mail_named}
 use Rattle.ert_table.specs.Desks.{settings_of, front_of, state_of}
 use Rattle.ert_table.specs.declared.desk.Desk.{Desk}
-use Rattle.ert_world.proofs.Calls.{Has, has_at, does_at, parts_in, schedulers_at}
-use Rattle.ert_world.proofs.Listed.{list_low, listed_now, kept_by}
+use Rattle.ert_world.proofs.Calls.{Has, has_at, parts_in, schedulers_at}
+use Rattle.ert_world.proofs.Listed.{list_low, listed_now, kept_by, does_listed, turns_put}
 use Rattle.ert_world.proofs.SchedCalls.{expired_placed, hands_on, handed_in, sched_holds, handed_now, step_refused}
 use Rattle.ert_world.specs.Worlds.{Seen, seen, IsHandedIn, world_sched}
 use Rattle.ert_world.proofs.world.World.hand_over.Goals as goal
@@ -59,7 +59,7 @@ returns-in_err-handed-clause-call c =
     let has : Has c.args.self.now c.self.inside c.deref.result.now = has_at c.deref.ensures c.self.view_is c.self.invariant.sound in
     let placed = expired_placed c.args.self.now c.self.inside c.deref.result.now c.args.sched c.args.expired.now (has_at c.deref.ensures c.self.view_is c.self.invariant.sound) c.requires.first in
     let result : c.from_residual.result ≡ Err c.in_err-handed.field-0.0 = search rules in
-    rw result (does_at c.deref.ensures (step_refused c.args.self.now c.self.inside c.deref.result.now c.deliver.new.pass c.args.expired.now.dest c.index_mut.result.now c.deliver.new.self
+    rw result (does_listed c.may_get_mail.new.list (turns_put c.args.self.now c.self.inside.list c.may_get_mail.new.list c.args.expired.now.dest (ap (λ (w : Seen). w.turns) c.self.view_is) c.may_get_mail.ensures) c.deref.ensures (step_refused c.args.self.now c.self.inside c.deref.result.now c.deliver.new.pass c.args.expired.now.dest c.index_mut.result.now c.deliver.new.self
     (λ w way. Hands w.settings way c.args.sched (Err c.in_err-handed.field-0.0)) has c.deliver.ensures.belongs
     placed.dest c.index_mut.ensures.value c.deliver.ensures.process c.deliver.ensures.stands c.in_err-handed.ensures.call.same
     (λ m grown own. record {
@@ -73,7 +73,7 @@ invariant_of-self c =
     let all =
     (let has : Has c.args.self.now c.self.inside c.deref.result.now = has_at c.deref.ensures c.self.view_is c.self.invariant.sound in
     let placed = expired_placed c.args.self.now c.self.inside c.deref.result.now c.args.sched c.args.expired.now has c.requires.first in
-    (does_at c.deref.ensures (step_refused c.args.self.now c.self.inside c.deref.result.now c.deliver.new.pass c.args.expired.now.dest c.index_mut.result.now c.deliver.new.self
+    (does_listed c.may_get_mail.new.list (turns_put c.args.self.now c.self.inside.list c.may_get_mail.new.list c.args.expired.now.dest (ap (λ (w : Seen). w.turns) c.self.view_is) c.may_get_mail.ensures) c.deref.ensures (step_refused c.args.self.now c.self.inside c.deref.result.now c.deliver.new.pass c.args.expired.now.dest c.index_mut.result.now c.deliver.new.self
     (λ w way. Hands w.settings way c.args.sched (Err c.in_err-handed.field-0.0)) has c.deliver.ensures.belongs
     placed.dest c.index_mut.ensures.value c.deliver.ensures.process c.deliver.ensures.stands c.in_err-handed.ensures.call.same
     (λ m grown own. record {
@@ -88,7 +88,7 @@ invariant_of-self c =
 pub invariant_of-self-2 : goal.invariant_of-self-2
 invariant_of-self-2 c =
     let all =
-    ((does_at c.deref.ensures (handed_now c.args.self.now c.self.inside c.deref.result.now c.deliver.new.pass c.args.sched c.index_mut.result.now c.deliver.new.self c.args.expired.now c.in_ok-handed.handed
+    ((does_listed c.may_get_mail.new.list (turns_put c.args.self.now c.self.inside.list c.may_get_mail.new.list c.args.expired.now.dest (ap (λ (w : Seen). w.turns) c.self.view_is) c.may_get_mail.ensures) c.deref.ensures (handed_now c.args.self.now c.self.inside c.deref.result.now c.deliver.new.pass c.args.sched c.index_mut.result.now c.deliver.new.self c.args.expired.now c.in_ok-handed.handed
     c.index_mut-2.result.now (record { wheel = c.index_mut-2.result.now.wheel; hand = c.index_mut-2.result.now.hand; expired = c.pop.new.self })
     (has_at c.deref.ensures c.self.view_is c.self.invariant.sound) c.deliver.ensures.belongs c.requires.sched c.requires.first c.index_mut.ensures.value c.deliver.ensures.process
     c.deliver.ensures.stands c.in_ok-handed.ensures.call c.in_ok-handed.ensures.sched c.index_mut-2.ensures.value refl refl c.pop.ensures.others))) in
@@ -98,7 +98,7 @@ invariant_of-self-2 c =
 
 pub returns-clause-call : goal.returns-clause-call
 returns-clause-call c =
-    (does_at c.deref.ensures (handed_now c.args.self.now c.self.inside c.deref.result.now c.deliver.new.pass c.args.sched c.index_mut.result.now c.deliver.new.self c.args.expired.now c.in_ok-handed.handed
+    (does_listed c.may_get_mail.new.list (turns_put c.args.self.now c.self.inside.list c.may_get_mail.new.list c.args.expired.now.dest (ap (λ (w : Seen). w.turns) c.self.view_is) c.may_get_mail.ensures) c.deref.ensures (handed_now c.args.self.now c.self.inside c.deref.result.now c.deliver.new.pass c.args.sched c.index_mut.result.now c.deliver.new.self c.args.expired.now c.in_ok-handed.handed
     c.index_mut-2.result.now (record { wheel = c.index_mut-2.result.now.wheel; hand = c.index_mut-2.result.now.hand; expired = c.pop.new.self })
     (has_at c.deref.ensures c.self.view_is c.self.invariant.sound) c.deliver.ensures.belongs c.requires.sched c.requires.first c.index_mut.ensures.value c.deliver.ensures.process
     c.deliver.ensures.stands c.in_ok-handed.ensures.call c.in_ok-handed.ensures.sched c.index_mut-2.ensures.value refl refl c.pop.ensures.others)).goes
@@ -111,14 +111,14 @@ returns-clause-expired c =
 
 pub returns-clause-handed : goal.returns-clause-handed
 returns-clause-handed c =
-    subst (λ (d : Desk). IsHandedIn (seen d c.deliver.new.pass c.self.inside.next c.self.inside.keeper c.self.inside.wheels.items) c.args.expired.now.timer) c.deref.ensures
-    (handed_in c.args.self.now c.self.inside c.deref.result.now c.deliver.new.pass c.args.sched c.args.expired.now c.in_ok-handed.handed (has_at c.deref.ensures c.self.view_is c.self.invariant.sound)
+    subst (λ (d : Desk). IsHandedIn (seen d c.deliver.new.pass c.self.inside.next c.self.inside.keeper c.self.inside.wheels.items c.may_get_mail.new.list) c.args.expired.now.timer) c.deref.ensures
+    (handed_in c.args.self.now c.self.inside c.deref.result.now c.deliver.new.pass c.args.sched c.args.expired.now c.in_ok-handed.handed c.may_get_mail.new.list (has_at c.deref.ensures c.self.view_is c.self.invariant.sound)
     c.requires.sched c.requires.first c.in_ok-handed.ensures.call)
 
 pub returns-clause-stays : goal.returns-clause-stays
 returns-clause-stays c =
     let done =
-    (does_at c.deref.ensures (handed_now c.args.self.now c.self.inside c.deref.result.now c.deliver.new.pass c.args.sched c.index_mut.result.now c.deliver.new.self c.args.expired.now c.in_ok-handed.handed
+    (does_listed c.may_get_mail.new.list (turns_put c.args.self.now c.self.inside.list c.may_get_mail.new.list c.args.expired.now.dest (ap (λ (w : Seen). w.turns) c.self.view_is) c.may_get_mail.ensures) c.deref.ensures (handed_now c.args.self.now c.self.inside c.deref.result.now c.deliver.new.pass c.args.sched c.index_mut.result.now c.deliver.new.self c.args.expired.now c.in_ok-handed.handed
     c.index_mut-2.result.now (record { wheel = c.index_mut-2.result.now.wheel; hand = c.index_mut-2.result.now.hand; expired = c.pop.new.self })
     (has_at c.deref.ensures c.self.view_is c.self.invariant.sound) c.deliver.ensures.belongs c.requires.sched c.requires.first c.index_mut.ensures.value c.deliver.ensures.process
     c.deliver.ensures.stands c.in_ok-handed.ensures.call c.in_ok-handed.ensures.sched c.index_mut-2.ensures.value refl refl c.pop.ensures.others)) in
@@ -129,7 +129,7 @@ returns-in_err-handed-clause-stays c =
     let has : Has c.args.self.now c.self.inside c.deref.result.now = has_at c.deref.ensures c.self.view_is c.self.invariant.sound in
     let placed = expired_placed c.args.self.now c.self.inside c.deref.result.now c.args.sched c.args.expired.now (has_at c.deref.ensures c.self.view_is c.self.invariant.sound) c.requires.first in
     let done =
-    does_at c.deref.ensures (step_refused c.args.self.now c.self.inside c.deref.result.now c.deliver.new.pass c.args.expired.now.dest c.index_mut.result.now c.deliver.new.self
+    does_listed c.may_get_mail.new.list (turns_put c.args.self.now c.self.inside.list c.may_get_mail.new.list c.args.expired.now.dest (ap (λ (w : Seen). w.turns) c.self.view_is) c.may_get_mail.ensures) c.deref.ensures (step_refused c.args.self.now c.self.inside c.deref.result.now c.deliver.new.pass c.args.expired.now.dest c.index_mut.result.now c.deliver.new.self
     (λ w way. Hands w.settings way c.args.sched (Err c.in_err-handed.field-0.0)) has c.deliver.ensures.belongs
     placed.dest c.index_mut.ensures.value c.deliver.ensures.process c.deliver.ensures.stands c.in_err-handed.ensures.call.same
     (λ m grown own. record {

@@ -16,7 +16,7 @@ pub invariant_of-self : goal.invariant_of-self
 invariant_of-self c = record {
   sound =
       subst (λ (ws : List Part). AreSound (arc_value c.self.inside.desk) c.self.inside.pass c.self.inside.next
-      (parts_of c.self.inside.keeper ws c.self.inside.inboxes.items c.self.inside.mails.items c.self.inside.scheds.items))
+      (record (parts_of c.self.inside.keeper ws c.self.inside.inboxes.items c.self.inside.mails.items c.self.inside.scheds.items) { turns = c.self.inside.list }))
       (sym (same_set c.self.inside.wheels.items c.args.wheel c.index_mut.result.now c.held_for.new.self c.index_mut.ensures.value c.held_for.ensures.same))
       c.self.invariant.sound;
   listed = c.self.invariant.listed;
@@ -24,7 +24,7 @@ invariant_of-self c = record {
 
 pub returns-clause-same : goal.returns-clause-same
 returns-clause-same c =
-    ap (λ (ws : List Part). seen (arc_value c.self.inside.desk) c.self.inside.pass c.self.inside.next c.self.inside.keeper ws)
+    ap (λ (ws : List Part). seen (arc_value c.self.inside.desk) c.self.inside.pass c.self.inside.next c.self.inside.keeper ws c.self.inside.list)
     (same_set c.self.inside.wheels.items c.args.wheel c.index_mut.result.now c.held_for.new.self c.index_mut.ensures.value c.held_for.ensures.same)
     ∙ c.self.view_is
 

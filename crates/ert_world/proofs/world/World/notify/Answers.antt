@@ -1,11 +1,12 @@
-use Rattle.std.proofs.Common.{refl}
+use Rattle.std.proofs.Common.{refl, ap}
 use Rattle.std.specs.Arc.{arc_value}
 use Rattle.ert_effects.specs.MailCalls.{Notifies}
 use Rattle.ert_mail.proofs.LawsHold.{notifies_only}
 use Rattle.ert_table.specs.Desks.{settings_of, view_of, state_of}
 use Rattle.ert_world.proofs.Calls.{has_at, mail_called, if_ok_made}
-use Rattle.ert_world.proofs.Listed.{list_low, listed_now, mails_low, kept_by}
+use Rattle.ert_world.proofs.Listed.{list_low, listed_now, mails_low, kept_by, relisted, turns_put}
 use Rattle.ert_world.proofs.Calm.{notifies_calm}
+use Rattle.ert_world.specs.Worlds.{Seen}
 use Rattle.ert_world.proofs.world.World.notify.Goals as goal
 
 pub may_get_mail-requires : goal.may_get_mail-requires
@@ -28,8 +29,9 @@ pub returns : goal.returns
 returns c =
     record {
       call =
+          (relisted c.may_get_mail.new.list (turns_put c.args.self.now c.self.inside.list c.may_get_mail.new.list c.args.process (ap (λ (w : Seen). w.turns) c.self.view_is) c.may_get_mail.ensures)
           (mail_called c.args.self.now c.self.inside c.deref.result.now _ c.notify.new.pass c.args.process c.index_mut.result.now c.notify.new.self (λ n g. Notifies g 0 n c.notify.result)
           c.deref.ensures c.self.view_is c.self.invariant.sound c.notify.ensures.belongs c.requires c.index_mut.ensures.value c.notify.ensures.process c.notify.ensures.stands
           (λ legal. if_ok_made (settings_of c.deref.result.now) (view_of c.self.inside.pass) (Notifies (settings_of c.deref.result.now) 0 c.index_mut.result.now.process) c.notify.result (view_of c.notify.new.pass) legal c.notify.ensures.call)
-          (notifies_only (settings_of c.deref.result.now) 0 c.index_mut.result.now.process c.notify.result) (notifies_calm (settings_of c.deref.result.now) 0 c.index_mut.result.now.process c.notify.result)).goes;
+          (notifies_only (settings_of c.deref.result.now) 0 c.index_mut.result.now.process c.notify.result) (notifies_calm (settings_of c.deref.result.now) 0 c.index_mut.result.now.process c.notify.result))).goes;
     }

@@ -8,5 +8,5 @@ pub invariant_of-self : goal.invariant_of-self
 invariant_of-self c =
     let b = c.self.inside in
     let has : Has c.args.self.now b (arc_value b.desk) = has_at refl c.self.view_is c.self.invariant.sound in
-    list_room_changed (arc_value b.desk) b.pass b.next (parts_in b) b.list c.args.sched c.index_mut.result.now c.shrink.new.self c.self.invariant
+    list_room_changed (arc_value b.desk) b.pass b.next (parts_in b) c.args.sched c.index_mut.result.now c.shrink.new.self c.self.invariant
     (schedulers_at has c.args.sched c.requires) c.index_mut.ensures.value c.shrink.ensures.rows
