@@ -91,10 +91,7 @@ correction_number(false) -> 0.
 %% '''
 -spec close(ertime:clock()) -> boolean().
 close(Clock) ->
-    case ertime_use:everywhere() of
-        Clock -> ertime_use:put_everywhere(none);
-        _ -> ok
-    end,
+    ok = ertime_use:leave_everywhere(Clock),
     case ertime_nif:close(Clock) of
         badarg ->
             error(badarg, [Clock]);
