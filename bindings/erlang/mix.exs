@@ -11,10 +11,10 @@ defmodule Ertime.MixProject do
         licenses: ["Apache-2.0"],
         links: %{},
         files:
-          ~w(README.md mix.exs rebar.config lib src c_src/Makefile c_src/*.c c_src/*.h c_src/text/*.c)
+          ~w(README.md mix.exs rebar.config chunks.escript lib src c_src/Makefile c_src/*.c c_src/*.h c_src/text/*.c)
       ],
       docs: docs(),
-      compilers: [:ertime_nif | Mix.compilers()],
+      compilers: [:ertime_nif | Mix.compilers()] ++ [:ertime_chunks],
       erlc_options: [:debug_info],
       deps: []
     ]
@@ -67,5 +67,17 @@ defmodule Mix.Tasks.Compile.ErtimeNif do
   def clean do
     System.cmd("make", ["-C", Path.join(File.cwd!(), "c_src"), "clean"])
     :ok
+  end
+end
+
+defmodule Mix.Tasks.Compile.ErtimeChunks do
+  @moduledoc "Writes what `h :ertime` of iex tells, by `chunks.escript`."
+  use Mix.Task.Compiler
+
+  @impl true
+  def run(_arguments) do
+    {told, _} = System.cmd("escript", ["chunks.escript", Mix.Project.app_path()], stderr_to_stdout: true)
+    told == "" || Mix.shell().info(told)
+    {:ok, []}
   end
 end

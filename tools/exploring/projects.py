@@ -20,8 +20,7 @@ class Project:
     """A project, its EUnit tests, and what they need."""
 
     name: str
-    source: str  # Debian's source package
-    archive: str  # of upstream's sources, as `apt-get source` fetches it
+    sources: tuple[str, ...]  # Debian's source packages
     parts: tuple[Part, ...]
     tests: tuple[str, ...]
     own: bool = False  # whether the tests are of this repository: Debian's sources have none
@@ -29,7 +28,8 @@ class Project:
     is_fresh: bool = False  # whether a seed needs a node of its own, since tests leave something behind
     needs: str = ""  # a program that is started beside, and the port at which it is ready
     port: int = 0
-    applications: str = ""  # of a program that is there as beams, the folders of its applications in Debian's package `source`
+    archive: str = ".orig.tar.*"  # how the name of an archive that is fetched ends: of upstream's sources, or of a package
+    applications: str = ""  # of a program that is there as beams, the folders of its applications in Debian's package
     turned: tuple[str, ...] = ()  # those of them that are turned
     environment: dict[str, str] = field(default_factory=dict)  # `@` is the folder of a run
 
@@ -41,23 +41,20 @@ RABBIT = "rabbitmq-server-*/deps"
 PROJECTS = (
     Project(
         "poolboy",
-        "erlang-poolboy",
-        "erlang-poolboy_*.orig.tar.gz",
+        ("erlang-poolboy",),
         (Part("erlang-poolboy-*", ("src/*.erl", "test/poolboy_tests.erl", "test/poolboy_test_worker.erl"), options=EUNIT),),
         ("poolboy_tests",),
     ),
     Project(
         "goldrush",
-        "erlang-goldrush",
-        "erlang-goldrush_*.orig.tar.gz",
+        ("erlang-goldrush",),
         (Part("goldrush-*", options=EUNIT),),
         ("glc", "glc_lib", "gre", "gr_context"),
         is_fresh=True,
     ),
     Project(
         "lager",
-        "erlang-lager",
-        "erlang-*_*.orig.tar.gz",
+        ("erlang-lager", "erlang-goldrush"),
         (
             Part("goldrush-*"),
             Part("lager-*", ("src/*.erl", "test/*.erl"), ("src/lager_util.erl", "src/lager_transform.erl"), LAGER),
@@ -72,8 +69,7 @@ PROJECTS = (
     ),
     Project(
         "eredis",
-        "erlang-redis-client",
-        "erlang-redis-client_*.orig.tar.gz",
+        ("erlang-redis-client",),
         (Part("eredis-*", ("src/*.erl", "test/*.erl"), options=(*EUNIT, "-Dnamespaced_types")),),
         ("eredis_tests", "eredis_sub_tests", "eredis_parser_tests"),
         needs="redis-server",
@@ -81,15 +77,13 @@ PROJECTS = (
     ),
     Project(
         "p1_utils",
-        "erlang-p1-utils",
-        "erlang-p1-utils_*.orig.tar.gz",
+        ("erlang-p1-utils",),
         (Part("p1_utils-*", ("src/*.erl", "test/*.erl"), ("src/p1_server.erl",), (*EUNIT, "-DHAVE_RAND")),),
         ("p1_queue_test",),
     ),
     Project(
         "p1_shaper",
-        "erlang-p1-utils",
-        "erlang-p1-utils_*.orig.tar.gz",
+        ("erlang-p1-utils",),
         (
             Part("p1_utils-*", first=("src/p1_server.erl",), options=("-I", "include", "-DHAVE_RAND")),
             Part("", ("p1_shaper_rate_tests.erl",)),
@@ -100,8 +94,7 @@ PROJECTS = (
     ),
     Project(
         "cache_tab",
-        "erlang-p1-cache-tab",
-        "erlang-p1-*.orig.tar.gz",
+        ("erlang-p1-cache-tab", "erlang-p1-utils"),
         (
             Part("p1_utils-*", first=("src/p1_server.erl",), options=("-I", "include", "-DHAVE_RAND")),
             Part("cache_tab-*", ("src/*.erl", "test/*.erl"), options=EUNIT, nif="c_src/ets_cache.c"),
@@ -111,8 +104,7 @@ PROJECTS = (
     ),
     Project(
         "ets_cache",
-        "erlang-p1-cache-tab",
-        "erlang-p1-*.orig.tar.gz",
+        ("erlang-p1-cache-tab", "erlang-p1-utils"),
         (
             Part("p1_utils-*", first=("src/p1_server.erl",), options=("-I", "include", "-DHAVE_RAND")),
             Part("cache_tab-*", nif="c_src/ets_cache.c"),
@@ -124,15 +116,13 @@ PROJECTS = (
     ),
     Project(
         "aten",
-        "rabbitmq-server",
-        "rabbitmq-server_*.orig.tar.xz",
+        ("rabbitmq-server",),
         (Part(f"{RABBIT}/aten", options=EUNIT),),
         ("aten", "aten_detect", "aten_detector"),
     ),
     Project(
         "ra",
-        "rabbitmq-server",
-        "rabbitmq-server_*.orig.tar.xz",
+        ("rabbitmq-server",),
         (
             Part(f"{RABBIT}/gen_batch_server"),
             Part(f"{RABBIT}/aten"),
@@ -146,13 +136,13 @@ PROJECTS = (
     ),
     Project(
         "rabbitmq",
-        "rabbitmq-server",
-        "rabbitmq-server_*_all.deb",
+        ("rabbitmq-server",),
         (Part("", ("broker_ttl_tests.erl",)),),
         ("broker_ttl_tests",),
         own=True,
         is_fresh=True,
         real={"TTL": "2000"},
+        archive="_all.deb",
         applications="usr/lib/rabbitmq/lib/*/plugins/*/ebin",
         turned=tuple(
             "rabbit rabbit_common amqp_client rabbitmq_prelaunch ra aten gen_batch_server osiris sysmon_handler seshat"

@@ -46,6 +46,7 @@ typedef struct {
     int64_t when;
     bool absolute;
     bool again; /* the wheel for it was full */
+    uint32_t wheel; /* the one for the next try then */
     bool listed;
     group *filled; /* has to be given back, or retired */
     int32_t status;
@@ -53,8 +54,8 @@ typedef struct {
 
 /*
  * Starts a timer on its wheel, or on the one that had room last, and lists it unless its process has exited. Where the
- * wheel is full the next one is for the next try: to find it so, the library has looked at each of its slots. Under the
- * lock.
+ * wheel is full the next one is for the next try of this start, whatever others find meanwhile, so that it comes to each:
+ * to find a wheel full, the library has looked at each of its slots. Under the lock.
  */
 static int32_t start_timer(ErlNifEnv *env, clock_resource *clock, starting *its) {
     state *s = clock->state;
@@ -72,10 +73,10 @@ static int32_t start_timer(ErlNifEnv *env, clock_resource *clock, starting *its)
         .bare = it->bare,
         .dest = alive ? ALIVE : EXITED,
     };
-    uint32_t wheel = its->again ? s->wheel : wheel_for(s, to);
+    uint32_t wheel = its->again ? its->wheel : wheel_for(s, to);
     status = ert_world_start(&s->world, wheel, &start, &it->name);
     if (status == ERT_FULL) {
-        s->wheel = (wheel + 1) % s->settings.schedulers;
+        its->wheel = s->wheel = (wheel + 1) % s->settings.schedulers;
         its->again = true;
     } else if (status == ERT_OK && alive) {
         timer_list(s, to, it);

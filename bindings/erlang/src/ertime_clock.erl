@@ -4,7 +4,7 @@
 -export([
     open/0, open/1, close/1, advance/1, advance/2, warp/1, warp/2, warp/3, drift/2, info/0, info/1, rest/1
 ]).
-%% @hidden
+%% For the package itself.
 -export([open_for/2, is_followed/2]).
 
 -include("ertime.hrl").
@@ -91,10 +91,7 @@ correction_number(false) -> 0.
 %% '''
 -spec close(ertime:clock()) -> boolean().
 close(Clock) ->
-    case ertime_use:everywhere() of
-        Clock -> ertime_use:put_everywhere(none);
-        _ -> ok
-    end,
+    ok = ertime_use:leave_everywhere(Clock),
     case ertime_nif:close(Clock) of
         badarg ->
             error(badarg, [Clock]);

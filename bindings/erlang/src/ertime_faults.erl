@@ -3,27 +3,27 @@
 %% A schedule is a list of `{At, Fault}': milliseconds of OS monotonic time since the clock was opened, and what happens then,
 %% after the timers that are due by then; at 0, before the test begins.
 %%
-%% <table>
-%% <tr><td>`{leap, Milliseconds}'</td><td>the OS system clock leaps, forward or back, and is checked at once</td></tr>
-%% <tr><td>`{late_check, Milliseconds}'</td><td>it leaps, and the runtime notices when it checks next, within a minute</td></tr>
-%% <tr><td>`{drift, PartsPerMillion}'</td><td>from then on it runs so much faster than the OS monotonic clock</td></tr>
-%% <tr><td>`{freeze, Milliseconds}'</td><td>it stands still for so long</td></tr>
-%% <tr><td>`finalize'</td><td>the time offset is finalized; in single time warp mode alone</td></tr>
-%% <tr><td>`{order, Seed}'</td><td>timers that are due at once come in an order that is drawn</td></tr>
-%% <tr><td>`serial'</td><td>timers that are due at once come one by one, each when all processes rest</td></tr>
-%% <tr><td>`{late, Scheduler, Milliseconds}'</td><td>the timers of one of four schedulers don't expire for so long</td></tr>
-%% <tr><td>`{stall, Milliseconds}'</td><td>the whole node stands still for so long</td></tr>
-%% <tr><td>`{pause, Process, Milliseconds}'</td><td>one process does: that of a registered name, or the one of a number, as they
-%%     joined the clock, the test's own process left out</td></tr>
-%% <tr><td>`{cost, Microseconds}'</td><td>from then on each reading of the time takes a process so long</td></tr>
-%% </table>
+%% <dl>
+%% <dt>`{leap, Milliseconds}'</dt><dd>the OS system clock leaps, forward or back, and is checked at once</dd>
+%% <dt>`{late_check, Milliseconds}'</dt><dd>it leaps, and the runtime notices when it checks next, within a minute</dd>
+%% <dt>`{drift, PartsPerMillion}'</dt><dd>from then on it runs so much faster than the OS monotonic clock</dd>
+%% <dt>`{freeze, Milliseconds}'</dt><dd>it stands still for so long</dd>
+%% <dt>`finalize'</dt><dd>the time offset is finalized; in single time warp mode alone</dd>
+%% <dt>`{order, Seed}'</dt><dd>timers that are due at once come in an order that is drawn</dd>
+%% <dt>`serial'</dt><dd>timers that are due at once come one by one, each when all processes rest</dd>
+%% <dt>`{late, Scheduler, Milliseconds}'</dt><dd>the timers of one of four schedulers don't expire for so long</dd>
+%% <dt>`{stall, Milliseconds}'</dt><dd>the whole node stands still for so long</dd>
+%% <dt>`{pause, Process, Milliseconds}'</dt><dd>one process does: that of a registered name, or the one of a number, as they
+%%     joined the clock, the test's own process left out</dd>
+%% <dt>`{cost, Microseconds}'</dt><dd>from then on each reading of the time takes a process so long</dd>
+%% </dl>
 %%
 %% In multi time warp mode with time correction those above `late' are <em>silent</em>: a program that is right has the same
 %% timers and monotonic times with them and without. The others are <em>loud</em>.
 -module(ertime_faults).
 
 -export([kinds/2, draw/3, check/3, text/1, needs_spread/1]).
-%% @hidden
+%% For the package itself.
 -export([refuse/2]).
 
 -export_type([schedule/0, fault/0, kind/0]).

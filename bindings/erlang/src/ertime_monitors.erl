@@ -7,7 +7,7 @@
 -export([
     monitor/2, monitor/3, demonitor/1, demonitor/2, system_flag/2, system_info/1, process_info/2
 ]).
-%% @hidden
+%% For the package itself.
 -export([mode_of/1]).
 
 -include("ertime.hrl").
@@ -184,6 +184,7 @@ item(os_system_time_source, {_, System}) -> source(System).
 source(Time) ->
     [{function, ertime}, {resolution, 1000000000}, {extended, no}, {parallel, yes}, {time, Time}].
 
+%% @private
 mode_of(0) -> no_time_warp;
 mode_of(1) -> single_time_warp;
 mode_of(2) -> multi_time_warp.

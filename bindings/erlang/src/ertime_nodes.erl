@@ -16,7 +16,7 @@
 -module(ertime_nodes).
 
 -export([open/1, add/2, up/1, advance/2, warp/3, drift/3, info/2, close/1, seeds/4, test/3]).
-%% @hidden
+%% For the package itself.
 -export([open_here/1, send_here/0, run_here/1, free_run_here/0, armed_here/0, warp_here/1, drift_here/1, info_here/0, close_here/0, rest_here/0]).
 
 -export_type([nodes/0]).

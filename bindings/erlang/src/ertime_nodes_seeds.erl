@@ -4,7 +4,7 @@
 -module(ertime_nodes_seeds).
 
 -export([run/4, check/4, test/3, open_here/2]).
-%% @hidden
+%% For the package itself.
 -export([clear_here/1]).
 
 -define(LIMIT, 60000).
@@ -89,6 +89,7 @@ open_here(Schedule, Options) ->
     Clock.
 
 %% Ends the processes that have come since the clock was opened and use the clock, or were started from another node, and closes the clock.
+%% @private
 clear_here(Before) ->
     Clock = ertime_use:everywhere(),
     Members = case Clock of none -> []; _ -> ertime_nif:members(Clock) end,

@@ -4,7 +4,7 @@
 -module(ertime_quiet).
 
 -export([with/1]).
-%% @hidden
+%% For the package itself.
 -export([drops/2]).
 
 %% Calls a function with both, which end with the call or its process.

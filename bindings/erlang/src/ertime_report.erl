@@ -14,7 +14,8 @@
 
 -spec report() -> #{turned := [module()], unturned := [module()]}.
 report() ->
-    Found = [read(File) || Folder <- code:get_path(), is_of_project(Folder), File <- filelib:wildcard(filename:join(Folder, "*.beam"))],
+    {ok, Here} = file:get_cwd(),
+    Found = [read(File) || Folder <- code:get_path(), is_of_project(Folder, Here), File <- filelib:wildcard(filename:join(Folder, "*.beam"))],
     Own = lists:append(Found),
     Behaviours = lists:usort([maps:get(It, ?BEHAVIOURS) || {_, _, Followed, _} <- Own, It <- Followed, is_map_key(It, ?BEHAVIOURS)]),
     Modules = [{Module, IsTurned orelse ertime_load:is_turned(Module)} || {Module, true, _, IsTurned} <- Own] ++ [{Module, ertime_load:is_turned(Module)} || Module <- Behaviours],
@@ -50,9 +51,8 @@ name(Module) ->
         Name -> Name
     end.
 
-is_of_project(Folder) ->
-    Path = filename:split(filename:absname(Folder)),
-    {ok, Here} = file:get_cwd(),
+is_of_project(Folder, Here) ->
+    Path = filename:split(filename:absname(Folder, Here)),
     (lists:member("_build", Path) orelse lists:prefix(filename:split(Here), Path)) andalso not lists:member("ertime", Path).
 
 %% Whether it calls a function about time, the behaviours that it follows, and whether it was turned when it was compiled.

@@ -18,7 +18,7 @@
 -module(ertime_tap).
 
 -export([start/0, start/1, is_on/0, stop/0, timers/1, summary/1, print/1, history/1]).
-%% @hidden
+%% For the package itself.
 -export([format_error/2]).
 
 -export_type([options/0, log/0]).

@@ -9,7 +9,7 @@
     apply_repeatedly/3, apply_repeatedly/4, send_after/2, send_after/3, send_interval/2, send_interval/3, exit_after/2,
     exit_after/3, kill_after/1, kill_after/2, cancel/1, tc/1, tc/2, tc/3, tc/4
 ]).
-%% @hidden
+%% For the package itself.
 -export([stop/1]).
 
 -export_type([tref/0]).
@@ -220,6 +220,7 @@ server(Clock) ->
     end.
 
 %% Ends what serves a clock.
+%% @private
 stop(Clock) ->
     case ertime_keeper:take({timer, Clock}) of
         none -> ok;

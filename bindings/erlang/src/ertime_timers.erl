@@ -6,7 +6,7 @@
     start_timer/3, start_timer/4, send_after/3, send_after/4, cancel_timer/1, cancel_timer/2, read_timer/1,
     read_timer/2, sleep/1, receive_start/1, receive_stop/1, elixir_send_after/3, elixir_send_after/4
 ]).
-%% @hidden
+%% For the package itself.
 -export([options/3]).
 
 -include("ertime.hrl").
@@ -85,6 +85,7 @@ absolute(Options, Arguments) ->
     maps:get(abs, options(Options, #{abs => false}, Arguments)).
 
 %% Options with their values, the last of each. Anything else is a bad argument.
+%% @private
 options([], Known, _) ->
     Known;
 options([{Name, Value} | Options], Known, Arguments) when is_map_key(Name, Known), is_boolean(Value) ->

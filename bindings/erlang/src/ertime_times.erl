@@ -9,7 +9,7 @@
     timestamp/0, universaltime/0, localtime/0, unique_integer/0, unique_integer/1, convert_time_unit/3,
     date/0, time/0, now/0, os_system_time/0, os_system_time/1, os_timestamp/0
 ]).
-%% @hidden
+%% For the package itself.
 -export([nanoseconds/3]).
 
 -include("ertime.hrl").
@@ -252,6 +252,7 @@ convert(Time, From, To, Arguments) ->
     end.
 
 %% The last of the arguments is the time.
+%% @private
 nanoseconds(Time, Unit, Arguments) when is_integer(Time) ->
     nanoseconds({Time, Unit}, Unit, Arguments);
 nanoseconds({Time, Unit}, _, Arguments) when is_integer(Time) ->

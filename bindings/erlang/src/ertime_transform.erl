@@ -9,7 +9,7 @@
 -module(ertime_transform).
 
 -export([parse_transform/2]).
-%% @hidden
+%% For the package itself.
 -export([marked/1, unmarked/1]).
 
 -define(AFTER, '$ertime_after').
@@ -35,12 +35,14 @@ parse_transform(Forms, Options) ->
     New.
 
 %% With an attribute, by which a module that is turned is known.
+%% @private
 marked(Forms) ->
     lists:append([[Form | mark(Form)] || Form <- Forms]).
 
 mark({attribute, Anno, module, _}) -> [{attribute, Anno, ertime_transform, true}];
 mark(_) -> [].
 
+%% @private
 unmarked(Forms) ->
     [Form || Form <- Forms, not is_mark(Form)].
 

@@ -11,7 +11,7 @@
 %% it was found, so a process that changes these looks again.
 -module(ertime_use).
 
--export([clock/0, open_clock/0, clock_if_open/0, count_seen/1, is_seen/0, turn_on/0, lost/0, put_clock/1, put_everywhere/1, everywhere/0, allow/2, disallow/1, stand_apart/0, clock_of/2, facts/1]).
+-export([clock/0, open_clock/0, clock_if_open/0, count_seen/1, is_seen/0, turn_on/0, lost/0, put_clock/1, put_everywhere/1, leave_everywhere/1, everywhere/0, allow/2, disallow/1, stand_apart/0, clock_of/2, facts/1]).
 
 -define(KEY, '$ertime').
 -define(SEEN, '$ertime_seen').
@@ -222,18 +222,24 @@ replace_clock(Clock) ->
     ertime_on:on() andalso changed(),
     ok.
 
+%% The clock for the node stands in the table, and no call of another process is made for it: such a call would wait by the clock
+%% of the calling process, which may be closed meanwhile.
+put_everywhere(none) ->
+    ertime_on:on() andalso begin _ = ertime_keeper:take(everywhere), changed() end,
+    ok;
 put_everywhere(Clock) ->
-    case Clock of
-        none -> application:unset_env(ertime, everywhere);
-        _ -> application:set_env(ertime, everywhere, Clock)
-    end,
-    ertime_on:on() andalso changed(),
+    ok = ertime_keeper:put(everywhere, Clock),
+    changed().
+
+%% The node sees this clock no longer, if it did.
+leave_everywhere(Clock) ->
+    ertime_on:on() andalso ertime_keeper:get(everywhere) =:= Clock andalso begin ok = ertime_keeper:drop(everywhere, Clock), changed() end,
     ok.
 
 everywhere() ->
-    case application:get_env(ertime, everywhere) of
-        {ok, Clock} -> open_or_none(Clock);
-        undefined -> none
+    case ertime_on:on() andalso ertime_keeper:get(everywhere) of
+        Clock when is_reference(Clock) -> open_or_none(Clock);
+        _ -> none
     end.
 
 %% --- processes that were allowed a clock --------------------------------------------------------------------------

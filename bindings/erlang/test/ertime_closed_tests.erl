@@ -24,10 +24,13 @@ closed_test_() ->
 instrument() ->
     %% The first clock of a node loads modules.
     true = ertime:close(ertime:open()),
+    %% A call of a server of the runtime waits by the clock, too.
+    ok = ertime:transform([gen]),
     _ = [load(Module, instrumented(Module)) || Module <- ?MODULES],
     ?MODULES.
 
 restore(Modules) ->
+    ok = ertime:untransform([gen]),
     _ = [begin code:purge(Module), {module, Module} = code:load_file(Module) end || Module <- Modules],
     ok.
 

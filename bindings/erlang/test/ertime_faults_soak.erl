@@ -84,11 +84,12 @@ offsets(_) ->
 changes(Monitor, Last) ->
     receive {'CHANGE', Monitor, time_offset, clock_service, Offset} -> changes(Monitor, Offset) after 0 -> Last end.
 
-%% Processes end with timers that are armed.
+%% Processes end with timers that are armed, and each had a slot for all that it started.
 exits(_) ->
     Test = self(),
-    _ = [spawn(fun() -> _ = [erlang:send_after(N * 10, Test, {late, N}) || N <- lists:seq(1, 5)], _ = erlang:send_after(100 * N0, self(), x), timer:sleep(13 * N0) end) || N0 <- lists:seq(1, 20)],
+    Ended = [spawn_monitor(fun() -> _ = [erlang:send_after(N * 10, Test, {late, N}) || N <- lists:seq(1, 5)], _ = erlang:send_after(100 * N0, self(), x), timer:sleep(13 * N0) end) || N0 <- lists:seq(1, 20)],
     timer:sleep(600000),
+    ?assertEqual([normal || _ <- Ended], [receive {'DOWN', Monitor, process, Pid, Reason} -> Reason end || {Pid, Monitor} <- Ended]),
     ?assertEqual(100, length(late())).
 
 late() ->

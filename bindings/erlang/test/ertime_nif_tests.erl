@@ -78,6 +78,18 @@ full_test_() ->
         ?assertEqual(70000, length(ertime_nif:timers(Clock)))
     end).
 
+%% Processes that start timers side by side find the last slot of each wheel, whichever wheels are full for others meanwhile.
+full_side_by_side_test_() ->
+    {timeout, 120, fun() -> ?assertEqual([], [Refused || _ <- lists:seq(1, 300), Refused <- refused(), Refused =/= normal]) end}.
+
+refused() ->
+    ertime:test(#{schedule => [{0, {late, 1, 1}}], slots => 160, seen => false}, fun(_) ->
+        Test = self(),
+        Starts = [spawn_monitor(fun() -> receive start -> _ = [ertime:send_after(1000, Test, x) || _ <- lists:seq(1, 8)] end end) || _ <- lists:seq(1, 20)],
+        _ = [Pid ! start || {Pid, _} <- Starts],
+        [receive {'DOWN', Monitor, process, Pid, {Reason, _}} -> Reason; {'DOWN', Monitor, process, Pid, Reason} -> Reason end || {Pid, Monitor} <- Starts]
+    end).
+
 %% Each of many monitors is told of each change once, and of a finalization also where the offset stays.
 many_monitors_test_() ->
     with_clock(#{mode => multi_time_warp}, fun(Clock) ->

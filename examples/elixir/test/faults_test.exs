@@ -8,6 +8,22 @@ defmodule FaultsTest do
   @hour 3_600_000
   @minute 60_000
 
+  setup_all do
+    for _ <- List.duplicate(:busy, String.to_integer(System.get_env("EXAMPLE_BUSY", "0"))) do
+      spawn_link(fn ->
+        Ertime.use(:real)
+        burn()
+      end)
+    end
+
+    :ok
+  end
+
+  defp burn do
+    Enum.to_list(1..1_000)
+    burn()
+  end
+
   @tag timeout: :infinity
   test "a lease", do: lease(:monotonic)
 
