@@ -23,6 +23,26 @@
 //!
 //! It stands on `ert_defs`, `ert_clock`, `ert_effects` and `ert_table`.
 //!
+//! **One cancel, from the call to the word.** This is how a cancel goes on the desk while other threads step too. In
+//! the program there is one thread, which is caller 0.
+//!
+//! 1. **The call.** A thread that holds the actor Caller 3 calls `cancel_timer(desk, pass, Actor::Caller(3), timer)`
+//!    (`crates/ert_calls/src/timer_calls.rt`) with a reference of wheel 0, slot 5 and generation 2.
+//! 2. **The look.** `Pass::load_time` loads the time word (`crates/ert_table/src/clock_steps.rt`). That is the entry
+//!    Look by Caller 3, and its time is what is left of the timer counted from.
+//! 3. **The peek.** The reference is in range, so `Pass::cancel` loads the word of slot 5 (`timer_steps.rt`), which
+//!    stands at place 24 + 5 of the table (`places.rt`): the time is at 8, and no cache line has words of two wheels,
+//!    or of a wheel and the time. By `armed_deadline` (`crates/ert_words/src/timer_words.rt`) it is the word of a timer
+//!    that is armed, of generation 2, with the deadline 40: the entry Peek, with what is left by the look.
+//! 4. **The exchange.** Then it makes one compare-and-exchange on the same word, from armed, 40, 2 to cancelled, 40, 2.
+//!    The whole word is compared, so it succeeds only if exactly this timer is armed at that moment. If it does, it is
+//!    the entry Cancel with the number; if another thread was faster, it is a Cancel that found nothing. It is never
+//!    tried again.
+//! 5. **The answer.** The number of milliseconds, or none. The contract says that the call took place with entries that
+//!    `Cancels` allows (`crates/ert_effects/specs/TimerCalls.antt`): the three entries are in the history in this
+//!    order, with none of Caller 3's between, whatever other threads did meanwhile; and the law of the model says that
+//!    no other entry settles this timer, before or after.
+//!
 //! **Choices.**
 //!
 //! - **A finalization of an offset that is not preliminary makes an Off by Keeper** and takes no reading.

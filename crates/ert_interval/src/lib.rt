@@ -43,6 +43,17 @@
 //! to it; a firing is a timer, with a reference that can be read; and a late turn sends one message of each interval,
 //! so a burst after a pause is spread over turns.
 //!
+//! **One late interval.**
+//!
+//! 1. **The interval.** `every(0, 10, 5, 0, 9)` (`crates/ert_interval/src/intervals.rt`) starts a timer with the
+//!    deadline 10. Each `turn` of scheduler 0 makes the world's turn, and then goes over the intervals of the wheel
+//!    (`turns.rt`): the last timer of this one has expired, so `go_on` (`going.rt`) starts the next, with the deadline
+//!    15, whatever the time is.
+//! 2. **A late turn.** When the next turn comes at 27, the timer of 15 expires and that of 20 is started, which is late
+//!    already. The turn after it lets that expire, and starts the one of 25; a third does so again, and then 30 is
+//!    armed. No deadline is skipped, each firing is late by what the turn was late, and as soon as the turns come in
+//!    time, so do the firings.
+//!
 //! **Choices.**
 //!
 //! - **A turn looks at the last timer of each open interval of its wheel**, in order of number, since the world does

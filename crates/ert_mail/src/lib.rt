@@ -35,6 +35,33 @@
 //!
 //! It stands on `ert_defs`, `ert_laws`, `ert_effects`, `ert_table` and `ert_calls`.
 //!
+//! **One asynchronous cancel, from the ask to the message.** A process can have a timer cancelled without waiting for
+//! the answer. Process 2 asks to cancel the timer of wheel 1, slot 5 and generation 2; scheduler 1 does it, at its next
+//! turn.
+//!
+//! 1. **The ask.** A thread that holds Caller 3 takes the inbox of scheduler 1, and calls `InboxPart::ask(desk, pass,
+//!    3, request)` (`crates/ert_mail/src/inbox.rt`), where the request has the kind Cancel, the timer, `reply_to` 2 and
+//!    `info` true. It makes room in the ring of requests; without memory it ends here, and nothing was recorded. Then
+//!    `Pass::load_time` loads the time word, only so that the entry Ask by Caller 3 with Inbox 1 stands in the history,
+//!    and the request is put last in the ring.
+//! 2. **The pick.** A thread that holds Sched 1 takes that inbox, and calls `InboxPart::pick`. The hand of scheduler 1
+//!    is empty in the history. The first request is taken off the ring, and the load of the time word is the entry Pick
+//!    by Sched 1 with Inbox 1. The contract says that in the state after it the request is in the hand (`sched`): where
+//!    it stands now belongs to the scheduler, and the inbox is free for others.
+//! 3. **Room in the mailbox.** The same thread takes the mailbox of process 2, and calls `MailPart::answer(desk, pass,
+//!    1, &request)` (`crates/ert_mail/src/part.rt`). It makes room for one message. Without memory it ends here: the
+//!    request is in the hand, the timer as it was, and the next turn tries again.
+//! 4. **The cancel.** `reply` (`crates/ert_mail/src/replies.rt`) calls `cancel_timer` as Sched 1: a look, a peek and an
+//!    exchange (`ert_calls`). What the exchange found left is the result of the scheduler's last step on the request,
+//!    and so what the answer has to say: an answer by an earlier look would be no legal entry.
+//! 5. **The answer.** The last load of the time word is the entry Answer by Sched 1 with MailOf 2. In the history it
+//!    empties the hand and puts CancelDone with the number, or with none, last in the mailbox; the code puts that
+//!    message last in its ring (`put_answer`). The mailbox stands for the new front (`stands`), and the hand of the
+//!    scheduler is empty in it (`sched`).
+//! 6. **The take.** A thread that holds Caller 0 takes the mailbox of process 2, and calls `MailPart::take`. A look at
+//!    the exit of the process finds it alive, and the first message is taken, with the entry Take:
+//!    `Taken::Mail(Mail::CancelDone { timer, left: Some(31) })`, where 31 milliseconds were left.
+//!
 //! **Choices.**
 //!
 //! - **A mailbox is seen with the room that it has**, and a refusal changes nothing else; out of memory comes only if

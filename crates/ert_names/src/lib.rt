@@ -20,6 +20,18 @@
 //! So a named timer's message is handed over once at most: each life has one message at most, what was put into the
 //! registrar's mailbox was taken once or stands there, and each message that was taken is posted once or lost.
 //!
+//! **One message for a name.**
+//!
+//! 1. **The start.** `start_named(0, After(1), "db", 7, Wrapped)` (`crates/ert_names/src/named_calls.rt`) keeps a row
+//!    with the name, the message and the kind, say at place 0. It starts a wrapped timer of the world for process 0,
+//!    whose message is 0, the place. Nobody looks at who has the name.
+//! 2. **Another owner.** `unregister("db")` and `register("db", 2)` change the two maps of the registry (`registry.rt`)
+//!    alone.
+//! 3. **The turn.** `turn(0)` (`turns.rt`) makes the world's turn, which lets the timer expire and puts `Timeout {
+//!    timer, msg: 0 }` into the mailbox of process 0. Then `hand_next` makes room for one mail and takes that message.
+//!    Row 0 has the name `db`, which process 2 has now: the mail with the message 7 is its, and the first process, that
+//!    had the name at the start, gets nothing. A test of names (`ert_tests`) does just this.
+//!
 //! **Choices.**
 //!
 //! - **Messages for names go to process 0, the registrar**, as wrapped timers whose message is the place of a row,

@@ -24,6 +24,22 @@
 //!
 //! Its laws have the premises of a scenario: no two starts with one label, and at most 100,000 ops.
 //!
+//! **One start, in two services.** The law of one transcript compares any service with the plain one
+//! (`crates/ert_plain`). Take the ops `["start",7,0,"rel",5,0,9]`, `["tick",0,5000000]`, `["turn",0]` and
+//! `["receive",0]`, without time correction.
+//!
+//! 1. **A service.** A start is allowed to look at slots and to take any that is free (`specs/Calls`, and `Starts` of
+//!    `ert_effects`), say slot 3: the entries are a Look, four Probes, the Arm of the timer (0, 3, 1), and a Mark. The
+//!    label 7 is bound to that reference (`specs/Scripts`, `labels_after`).
+//! 2. **The plain service.** `start_now` (`specs/PlainTimers`) counts no taken row, which is below 1,024 slots, and
+//!    arms (0, 7, 1): the slot is the label. Its entries are a Look, the Arm and a Mark.
+//! 3. **The same but for names.** (0, 7, 1) is the name of (0, 3, 1) (`proofs/Bound`, `IsName`), and the two states
+//!    differ in names alone (`proofs/Shown`, `Shows`). Each event keeps that (`proofs/Steps`).
+//! 4. **The turn.** At 5 milliseconds the timer is due, so the one service makes Expire of (0, 3, 1), and the other of
+//!    (0, 7, 1). Each puts its message into the mailbox.
+//! 5. **The line.** The one prints the label that its list has for (0, 3, 1), and the other the slot of (0, 7, 1):
+//!    `receive timeout 7 9`, both times.
+//!
 //! **Choices.**
 //!
 //! - **A label is a timer's name in the proofs as in the lines**, since no two starts have one label.

@@ -21,6 +21,55 @@
 //!
 //! The crate `ert_cli` hands it the command line and the standard streams of the machine.
 //!
+//! **One line of input, from the bytes to the end.** Take the scenario `examples/ertime/frozen_clock.json`, and its
+//! third op, `["tick",2000000000,1767222000000000000]`: the OS system clock has leapt back by an hour.
+//!
+//! 1. **The bytes.** `main` (`crates/ert_cli/src/main.rt`) hands the words of the command line, standard input and
+//!    standard output to `ertime` (`crates/ert_program/src/program.rt`). The input is a `StdSource`, a type of `ert_io`
+//!    that counts the reads that fail; for the proofs it also logs what they gave. `read_all`
+//!    (`crates/ert_io/src/reading.rt`) asks it for pieces of 64 KiB until it ends, and gives a vector of bytes.
+//! 2. **The value.** `read_scenario` (`crates/ert_scenario/src/scenario.rt`) first tries the quick way (`quick.rt`):
+//!    one pass over the tokens of the text, which reads each op into a buffer of values that is used again for the
+//!    next. If anything is unusual, a fault above all, it gives nothing, and `serde_json` reads the bytes into a value
+//!    (`read_slowly`), over whose lists `scan` goes once (`scanning.rt`, `walk.rt`). Either way `op_of` or `op_from`
+//!    (`rows.rt`) finds the row of its name, `tick`, whose arguments are two integers that make a valid reading. The
+//!    definition has the same rows (`specs/Rows.antt`), so a row of the code is proved by looking at it.
+//! 3. **The op.** Now it is `Op::Tick { mono: 2000000000, sys: 1767222000000000000 }`, in a vector of ops beside the
+//!    settings: a `Scenario`.
+//! 4. **The world.** `run` (`crates/ert_program/src/running.rt`) opens a `World` (`crates/ert_world/src/world.rt`) for
+//!    the settings: a desk of atomic words (`crates/ert_table`), the pass that holds every actor, and every part: the
+//!    clock's (`crates/ert_calls/src/keeper.rt`), and those of wheels, inboxes, mailboxes and schedulers. It hands the
+//!    world with the ops and the output to `run_ops` (`crates/ert_script/src/run.rt`), which does one op after the
+//!    other. What it has done so far is a script run (`crates/ert_transcript/specs/Scripts.antt`): a legal history, the
+//!    replies, and the labels that starts have bound.
+//! 5. **The clock.** `reply_op` (`reply.rt`) hands the op to `do_op` (`doing.rt`), which does the ops of a caller for
+//!    whoever makes its calls (`Doer`). Here that is a world: it calls `World::tick`, that `KeeperPart::tick`
+//!    (`crates/ert_calls/src/keeper.rt`) for caller 0, and that first `Clock::tick` (`crates/ert_clock/src/clock.rt`).
+//!    The clock's time is 1000000000 and its offset 1767225600000000000, so OS system time less the offset is
+//!    -3600000000000, an hour ago: the time stays. The clock's contract says that it then stands for the history with
+//!    one entry more: `Tick` by Keeper with Caller 0, with this reading and the time 1000000000. By the model
+//!    (`crates/ert_defs/specs/Legal.antt`, `CanTick`) that is the only time with which the entry is legal.
+//! 6. **The word.** The clock has answered, so nothing can be refused any more. `Pass::store_time`
+//!    (`crates/ert_table/src/clock_steps.rt`) stores the time word, the nanoseconds since the start, 1000000000: one
+//!    atomic step, and that very entry in the desk's history. No shift is due, so the offset word stays. The pass holds
+//!    every actor, so no other entry came between: its front, the whole history, has grown by just this one
+//!    (`World::tick`, clause `call`).
+//! 7. **The reply.** It is `Reply::Tick { now: 1000000000, shift: None }`. `put` (`crates/ert_script/src/output.rt`)
+//!    appends its line, `tick 1000000000` (`line.rt`), to a page, and writes a page out when it has 64 KiB.
+//! 8. **The end.** After the last op the page is written out by `write_all` (`crates/ert_io/src/writing.rt`) to a
+//!    `StdSink`, and then the line `end 2000000000`. `World::into_desk` gives out the desk and the pass. `ertime`
+//!    answers Done and returns both, and its contract says what that means: all of the input was read, it is a
+//!    scenario, what was written is its transcript, a function of its settings and ops, and the history of the pass is
+//!    that of a script run that has this text. Who closes the desk (`Desk::close`) finds its words as they are after
+//!    the last line.
+//!
+//! **`live N`.** `live` (`ert_program`, `living.rt`) → `OsClock::read` (`ert_io`) N times: the first reading opens a
+//! `World`, each later one is a tick → after each, `monotonic_time` and `system_time` make a line, and all lines are
+//! written at the end.
+//!
+//! **`stress SEED N`.** `stress` (`stressing.rt`) → `generate` (`generation.rt`) draws the ops from the seed → `do_ops`
+//! (`ert_script`) does them on a `World` and writes nothing → `World::counts` → `write_settled` and the end line.
+//!
 //! **Choices.**
 //!
 //! - **The program returns its desk instead of its words**, since closing a desk takes memory.

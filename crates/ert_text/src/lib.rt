@@ -7,6 +7,10 @@
 //!
 //! No exported function asks anything of its caller (there is no `requires`), and none follows a pointer but those of
 //! the slices that it is passed.
+//!
+//! **A scenario from C.** `ert_run` (`ert_text`, `exports.rt`) → `run_text` (`ert_commands`, `running.rt`) → `run`
+//! (`ert_program`) over the bytes, into a `TextSink` → where it refuses them, `message_on` (`ert_explain`) →
+//! `copy_over` (`copying.rt`) puts what fits of both texts into the caller's buffers.
 #![tactic(auto)]
 
 mod copying;

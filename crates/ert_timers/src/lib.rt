@@ -77,6 +77,11 @@
 //!
 //! It stands on `ert_defs`, `ert_effects`, `ert_words`, `ert_wheel`, `ert_table` and `ert_calls`.
 //!
+//! **`next_due`.** `World::next_due` → `WheelPart::next_due` (`sleeping.rt`) → `Wheel::next_due`: `Chains::first_used`
+//! finds the first bucket that has a row by its mark, and `early_in` tells the least deadline there, or the begin of
+//! the bucket's window. `Wheel::teller` has the slot whose row told it: the scheduler probes that (`probe_row`), and
+//! where its timer isn't armed the row goes (`forget`) and the wheel is asked again.
+//!
 //! **Choices.**
 //!
 //! - **An advance collects what is due, where an advance with a bound takes one after the other.** With the second way

@@ -37,6 +37,9 @@
 //!
 //! It stands on `ert_defs`, for `NoMemory`, and the kit's `atomic_table`.
 //!
+//! **One draw.** `Uniques::monotonic` (`ert_unique`) adds one to a single word of a table of its own, and the answer is
+//! above all that the pass has seen; `UniquePass::plain` makes no step: each pass has a range of 2^40 numbers.
+//!
 //! **Choices.**
 //!
 //! - **Unique integers have a table of their own**, since no rule of the clock or the timers speaks of them.
