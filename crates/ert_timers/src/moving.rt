@@ -243,7 +243,10 @@ pub(crate) fn told(answer: Result<TimerRef, RestartErr>, named: &mut TimerRef) -
 
 /// The answer of two parts.
 #[inline(always)]
-pub(crate) fn answer_of(refused: Option<RestartErr>, named: TimerRef) -> Result<TimerRef, RestartErr>
+pub(crate) fn answer_of(
+    refused: Option<RestartErr>,
+    named: TimerRef,
+) -> Result<TimerRef, RestartErr>
     ensures { result ≡ answer_of refused named }
 {
     match refused {
