@@ -38,6 +38,7 @@ impl<T: Copy> Kept<T> {
     ghost use Rattle.std.specs.Prelude.{◌≡◌, ◌-◌, ◌<◌, ◌≤◌, [], ◌++◌, IfOk, Some, length, replicate, slice_index_or, slice_set};
     ghost use Rattle.std.specs.List.{slice_get};
     ghost use Rattle.ert_wheel.specs.Rows.{key_of};
+    ghost use Rattle.ert_wheel.specs.Walks.{stored_order};
     ghost use Rattle.ert_wheel.specs.Wheels.{no_key};
 
     /// Room for so many slots, of which none is written. No call takes memory after this.
@@ -96,6 +97,17 @@ impl<T: Copy> Kept<T> {
         ensures { result ≡ (slice_index_or self.now.keys slot no_key).order }
     {
         self.records[slot as usize].key.order
+    }
+
+    /// The order of a slot's last row; 0 where the slot isn't written.
+    #[inline]
+    pub fn order_if_any(&self, slot: u32) -> u64
+        ensures { result ≡ stored_order self.now.keys slot }
+    {
+        match self.records.get(slot as usize) {
+            Some(record) => record.key.order,
+            None => 0,
+        }
     }
 
     /// The value of a slot.

@@ -112,6 +112,7 @@ mod marked;
 mod marks;
 mod oldest;
 mod row;
+mod sorting;
 mod telling;
 mod walk;
 mod wheel;

@@ -127,7 +127,6 @@ impl<T: Copy> Wheel<T> {
         }
         Some(HeldRow {
             deadline: self.kept.deadline(slot),
-            rank: 0,
             slot,
         })
     }
