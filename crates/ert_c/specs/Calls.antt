@@ -1,6 +1,6 @@
 -- What a service does by the calls on timers, mailboxes and turns.
 
-use Rattle.std.specs.Prelude.{◌≡◌, ◌≢◌, ℕ, ℤ, Bool, Option, Result, Err, IfOk, MatchOption, OnSome, ⊤}
+use Rattle.std.specs.Prelude.{◌≡◌, ◌≢◌, ℕ, ◌≤◌, ℤ, Bool, Option, Result, Err, IfOk, MatchOption, OnSome, ⊤}
 use Rattle.ert_effects.specs.Chains.{Exits, Serves, AdvancesWheel, Delivers, Turns}
 use Rattle.ert_effects.specs.MailCalls.{Takes, Monitors, Demonitors, Notifies}
 use Rattle.ert_effects.specs.RequestCalls.{Asks, inbox_for}
@@ -21,7 +21,7 @@ use Rattle.ert_defs.specs.declared.mail.Request.{Request}
 use Rattle.ert_defs.specs.declared.memory.NoMemory.{NoMemory as OutOfMemory}
 use Rattle.ert_defs.specs.declared.timer.Start.{Start}
 use Rattle.ert_defs.specs.declared.timer.TimerRef.{TimerRef}
-use Rattle.ert_world.specs.Frees.{IsUsedUpAt, UsesFreeAt}
+use Rattle.ert_world.specs.Frees.{IsUsedUpAt, IsOpenAt, UsesFreeAt}
 use Rattle.ert_world.specs.Restarts.{HasNoDeadline}
 use Rattle.ert_world.specs.Sleeping.{DropsSettledAt, HasSameTimeAt, IsFoundAt}
 use Rattle.ert_world.specs.Stepping.{Stays}
@@ -61,13 +61,15 @@ AnswersAtProcess n call tells kept found old status new =
 
 -- caller 0 starts a timer, with this answer, which is never out of memory, and tells that it has no deadline only where it has
 -- none. No row comes to a wheel of a timer that was started before. It is refused as full only where the wheel has had 2^53
--- timers or holds no slot free afterwards, and takes no free slot but that of its timer
+-- timers or holds no slot free afterwards, and not where a look at the room has just found some; and it takes no free slot but
+-- that of its timer
 pub record StartsBy (wheel : ℕ) (start : Start) (answer : Result TimerRef StartErr) (old new : Seen) : Type 0 where
   pub makes : MakesCall (λ w. By w (λ g. Starts g 0 wheel start answer)) old new
   pub time : answer ≡ Err BadArg → HasNoDeadline old start
   pub memory : answer ≢ Err NoMemory
   pub forgotten : StayForgotten old new
   pub full : answer ≡ Err Full → IsUsedUpAt old new wheel
+  pub ready : IsOpenAt old wheel → answer ≢ Err Full
   pub frees : UsesFreeAt old new wheel answer
 
 -- C starts a timer on the wheel of a scheduler, for a process; where there is no such scheduler or process,
@@ -77,9 +79,11 @@ StartsTimer sched start kept found old status new = Through (found ≡ kept) (λ
     (AtProcess start.dest (StartsBy sched (start_of start)) (λ answer. IsStartTold answer kept status found) status (found ≡ kept) was now)
     (IsOutOfRange status (found ≡ kept) was now)) old status new
 
--- caller 0 looks how much room the wheel of a scheduler has
-abbrev pub TellsRoomBy : ℕ → Room → Seen → Seen → Type 0
-TellsRoomBy sched answer = MakesCall (λ w. By w (λ g. TellsRoom g 0 sched answer))
+-- caller 0 looks how much room the wheel of a scheduler has; where it has some, the next looks begin at a slot that can take
+-- a timer
+pub record TellsRoomBy (sched : ℕ) (answer : Room) (old new : Seen) : Type 0 where
+  pub makes : MakesCall (λ w. By w (λ g. TellsRoom g 0 sched answer)) old new
+  pub ready : 1 ≤ answer.free → IsOpenAt new sched
 
 -- C asks how much room the wheel of a scheduler has; where there is no such one, what C passed is as it was
 abbrev pub AsksRoom : ℕ → Type 0 → ℕ → ℕ → Option Seen → ℤ → Option Seen → Type 0

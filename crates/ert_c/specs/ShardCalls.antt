@@ -34,7 +34,7 @@ use Rattle.ert_defs.specs.declared.timer.Start.{Start}
 use Rattle.ert_defs.specs.declared.timer.TimerRef.{TimerRef}
 use Rattle.ert_shard.specs.Hubs.{Rest, GivesShard}
 use Rattle.ert_shard.specs.Renewing.{LetsGo}
-use Rattle.ert_shard.specs.Shards.{Share, IsHome, Owned, ShardGoes, ShardSteps, ShardBy, ShardHasForgotten}
+use Rattle.ert_shard.specs.Shards.{Share, IsHome, Owned, ShardGoes, ShardSteps, ShardBy, ShardHasForgotten, ShardStayForgotten}
 use Rattle.ert_shard.specs.Sleeping.{ShardDropsSettled}
 use Rattle.ert_shard.specs.Turning.{shard_expired, HasTurnedMost, IsMoreLeft, ShardTurns, TurnsUpTo, ShardExits}
 use Rattle.ert_shard.specs.declared.turns.Turn.{Turn}
@@ -119,12 +119,14 @@ pub record ShardReadsOffset (status : ℤ) (offset : ErtOffset) (old new : Owned
   pub steps : ShardSteps old (ShardBy old (λ g. TellsOffset g (Caller (old.share.number + 1)) (offset.offset, offset_state))) new
 
 -- a shard starts a timer on its wheel as its caller, with this answer, which is never out of memory; it is refused as full only
--- where the wheel has had 2^53 timers or holds no slot free afterwards, and takes no free slot but that of its timer
+-- where the wheel has had 2^53 timers or holds no slot free afterwards, and takes no free slot but that of its timer. No row
+-- comes to the wheel of a timer that was started before
 pub record ShardStartsBy (start : Start) (answer : Result TimerRef StartErr) (old new : Owned) : Type 0 where
   pub goes : ShardGoes old (ShardBy old (λ g. Starts g (old.share.number + 1) old.share.number start answer)) new
   pub memory : answer ≢ Err NoMemory
   pub full : answer ≡ Err Full → IsUsedUp old.wheel new.wheel
   pub frees : UsesFree old.wheel new.wheel answer
+  pub forgotten : ShardStayForgotten old new
 
 -- C starts a timer on the wheel of a shard; where the process isn't of the shard, nothing has changed
 abbrev pub ShardStarts : ErtStart → ErtTimer → ErtTimer → Option Owned → ℤ → Option Owned → Type 0

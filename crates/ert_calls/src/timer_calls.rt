@@ -52,12 +52,7 @@ pub fn cancel_timer(desk: &Desk, pass: &mut Pass, by: Actor, timer: TimerRef) ->
     let settings = desk.settings();
     // All that hangs on the time alone is reckoned before the exchange, behind which the time would be read again.
     let up = rounded_up(settings, now);
-    if !timer.has_slot(settings) {
-        return None;
-    }
-    // The word is on its way from memory while the generation is tested.
-    desk.touch(timer.wheel, timer.slot);
-    if !timer.has_generation() {
+    if !timer.is_in_range(settings) {
         return None;
     }
     let deadline = pass.cancel(desk, by, timer)?;

@@ -2,6 +2,7 @@ pub mod Advancing
 pub mod Called
 pub mod Cut
 pub mod Deliveries
+pub mod Forgets
 pub mod Given
 pub mod Gone
 pub mod Home

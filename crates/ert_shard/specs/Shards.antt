@@ -1,6 +1,6 @@
 -- What callers see of a shard, and how its calls make its history longer.
 
-use Rattle.std.specs.Prelude.{◌≡◌, ℕ, ◌+◌, ◌<◌, ◌≤◌, Bool, false, ◌&&◌, nat_eq, nat_le, nat_lt, List, [], ◌∷◌, length, Option, slice_index_or}
+use Rattle.std.specs.Prelude.{◌≡◌, ◌≢◌, ℕ, ◌+◌, ◌<◌, ◌≤◌, Bool, false, ◌&&◌, nat_eq, nat_le, nat_lt, List, [], ◌∷◌, length, Option, None, slice_index_or}
 use Rattle.atomic_table.specs.Seated.{TableId}
 use Rattle.ert_defs.specs.Actors.{of}
 use Rattle.ert_defs.specs.Legal.{Legal}
@@ -101,6 +101,11 @@ ShardBy o allows way = way [] (allows o.settings)
 -- the wheel of a shard holds no row of a timer, if that is of this wheel
 abbrev pub ShardHasForgotten : Owned → TimerRef → Type 0
 ShardHasForgotten o timer = timer.wheel ≡ o.share.number → IsHeld o.wheel timer → ⊥
+
+-- nor of one that was started before and that it had forgotten
+abbrev pub ShardStayForgotten : Owned → Owned → Type 0
+ShardStayForgotten old new = (timer : TimerRef) → (state old.settings old.history).status timer ≢ None → ShardHasForgotten old timer
+    → ShardHasForgotten new timer
 
 -- of the actors in range a pass holds just those of a share in range
 pub record HoldsShare (g : Settings) (actors : List Actor) (s : Share) : Type 0 where

@@ -13,11 +13,11 @@ use Rattle.ert_defs.specs.declared.settings.Settings.{Settings}
 use Rattle.ert_defs.specs.declared.timer.Status.{Status}
 use Rattle.ert_defs.specs.declared.timer.Status.TheVariants.{Armed, Expired, Delivered, Cancelled, Orphaned, Dropped}
 use Rattle.ert_defs.specs.declared.timer.TimerRef.{TimerRef}
-use Rattle.ert_words.specs.Ranges.{IsTimer, IsTimerWord, shown_generation}
+use Rattle.ert_words.specs.Ranges.{IsTimer, IsTimerWord, shown_generation, word_deadline, word_generation}
 use Rattle.ert_table.specs.Acts.{Acts}
 use Rattle.ert_table.specs.Held.{is_held}
 use Rattle.ert_table.specs.Places.{slot_place}
-use Rattle.ert_table.specs.Settlings.{ShownWord, wheel_in, slot_in, shown_by, shown_in, left_of_shown, left_shown, read_entry, status_in, word_deadline, word_generation, parts_in}
+use Rattle.ert_table.specs.Settlings.{ShownWord, wheel_in, slot_in, shown_by, shown_in, left_of_shown, left_shown, read_entry, status_in, parts_in}
 use Rattle.ert_table.specs.Takes.{MayStep}
 use Rattle.ert_table.proofs.SlotFacts.{KeepsSlots, slots_kept}
 use Rattle.ert_table.proofs.SlotWords.{IsIdle, IsUsed, slot_cases, slot_found, taken_is_last}

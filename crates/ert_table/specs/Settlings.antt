@@ -1,6 +1,6 @@
 -- What a word of a slot has, and the entries of the steps on it.
 
-use Rattle.std.specs.Prelude.{◌≡◌, ◌≢◌, ℕ, ℤ, ◌/◌, ◌%◌, Bool, true, false, cond, nat_eq, Option, Some, None, option_map}
+use Rattle.std.specs.Prelude.{◌≡◌, ◌≢◌, ℕ, ℤ, ◌%◌, Bool, true, false, cond, nat_eq, Option, Some, None, option_map}
 use Rattle.ert_defs.specs.Milliseconds.{left}
 use Rattle.ert_defs.specs.States.{State, state}
 use Rattle.ert_defs.specs.Timers.{Row, row_of, timer_at}
@@ -14,13 +14,13 @@ use Rattle.ert_defs.specs.declared.timer.Status.{Status}
 use Rattle.ert_defs.specs.declared.timer.Status.TheVariants.{Armed, Expired, Delivered, Cancelled, Orphaned, Dropped}
 use Rattle.ert_defs.specs.declared.timer.TimerRef.{TimerRef}
 use Rattle.ert_defs.specs.Entries.{entry_by, probe_entry}
-use Rattle.ert_words.specs.Ranges.{shown_generation}
 use Rattle.ert_table.specs.Takes.{Appends}
 use Rattle.ert_table.specs.declared.carry.Settle.{Settle}
 use Rattle.ert_table.specs.declared.carry.Settle.TheVariants.{Cancel as ToCancel, Expire as ToExpire, Orphan as ToOrphan, Deliver as ToDeliver, Drop as ToDrop}
 use Rattle.ert_table.specs.declared.carry.TimerCarry.{TimerCarry}
 use Rattle.ert_table.specs.declared.carry.TimerCarry.TheVariants.{Probe as ToProbe, Peek as ToPeek}
 use Rattle.ert_table.specs.declared.view.View.{View}
+use Rattle.ert_words.specs.Ranges.{shown_generation, word_deadline, word_generation}
 
 -- the status of a code
 abbrev pub status_by : ℕ → Option Status
@@ -36,14 +36,6 @@ status_by code =
 -- the status in the word of a slot, None where it was never used
 abbrev pub status_in : ℕ → Option Status
 status_in n = status_by (n % 8)
-
--- the deadline in the word of a slot, in milliseconds after the start time
-abbrev pub word_deadline : ℕ → ℕ
-word_deadline n = (n / 8) % 8796093022208
-
--- the generation in the word of a slot whose timer is armed; else which use of its round that is
-abbrev pub word_generation : ℕ → ℕ
-word_generation n = cond (nat_eq (n % 8) 7) (n / 8) (n / 70368744177664)
 
 -- a timer has a row with this deadline
 pub record HasRow (s : State) (timer : TimerRef) (deadline : ℕ) : Type 0 where

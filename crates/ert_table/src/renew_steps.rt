@@ -9,15 +9,15 @@ ghost use Rattle.ert_table.specs.Desks.{settings_of, view_of, actors_of, state_o
 ghost use Rattle.ert_table.specs.Held.{is_held};
 ghost use Rattle.ert_table.specs.Places.{IsPlaceOf};
 ghost use Rattle.ert_table.specs.Renewals.{IsWordOf, MayRenew, PeeksWord, renewal};
-ghost use Rattle.ert_table.specs.Settlings.{word_deadline};
 ghost use Rattle.ert_table.specs.declared.carry.Settle.TheVariants.{Cancel as ToCancel};
+ghost use Rattle.ert_words.specs.Ranges.{word_deadline};
 
 use crate::carry::{Settle, TimerCarry};
 use crate::desk::{Desk, Pass};
 use crate::places::SlotPlace;
 use crate::plays::{CarriedAll, ComparesAll};
 use ert_defs::{Actor, Start, TimerRef};
-use ert_words::{armed_deadline, armed_word};
+use ert_words::{armed_deadline, armed_word, word_deadline};
 use std::marker::Brand;
 
 /// The word of a timer that was armed when it was read.
@@ -26,18 +26,13 @@ pub struct ArmedWord {
     pub(crate) word: u64,
 }
 
-/// From which bit on a word has the deadline, and how many values that has.
-const DEADLINE: u64 = 1 << 3;
-
-const DEADLINES: u64 = 1 << 43;
-
 impl ArmedWord {
     /// The deadline that it has, in milliseconds after the start time.
     #[inline(always)]
     fn deadline(self) -> u64
         ensures { result ≡ word_deadline self.word }
     {
-        self.word / DEADLINE % DEADLINES
+        word_deadline(self.word)
     }
 }
 

@@ -8,7 +8,7 @@ use ert_effects::{StartErr, Taken};
 use ert_locks::DeskName;
 use ert_service::CallerSession;
 use ert_unique::{Spent, Uniques};
-use ert_wheel::{HeldRow, Row, Wheel};
+use ert_wheel::{HeldRow, Key, Row, Wheel};
 use ert_world::World;
 use std::alloc::Global;
 use std::process::Abort;
@@ -111,14 +111,23 @@ fn a_pass_draws(rt: HostRuntime) -> Result<(), NoMemory> {
 fn due_rows(alloc: Global) -> Result<Vec<HeldRow>, Fail> {
     let mut wheel = Wheel::new(alloc, 64, 1)?;
     let mut due = Vec::with_capacity(alloc, 64)?;
-    wheel.write_up_to(4, 0u64);
+    wheel.write_up_to(
+        4,
+        Key {
+            deadline: 0,
+            order: 0,
+        },
+    );
     wheel.insert(
         Row {
             deadline: 20,
             order: 0,
             slot: 3,
         },
-        7,
+        Key {
+            deadline: 20,
+            order: 0,
+        },
     );
     wheel.advance(20, &mut due);
     Ok(due)

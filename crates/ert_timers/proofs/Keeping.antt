@@ -12,7 +12,8 @@ use Rattle.ert_defs.specs.declared.timer.Start.{Start}
 use Rattle.ert_timers.specs.Changes.{MayBecomeFree, LostRow, NextOf, picked, slot_for, kept}
 use Rattle.ert_timers.specs.Owners.{Joins, Thinned, FindsRow}
 use Rattle.ert_timers.specs.Parts.{AreFieldsFit, AreOwned, IsWritten, Part, all_slots, last_timer, slot_at, unused}
-use Rattle.ert_timers.specs.Slots.{Slot}
+use Rattle.ert_timers.specs.Slots.{Slot, stored_slot}
+use Rattle.ert_timers.specs.declared.slot.Stored.{Stored}
 use Rattle.ert_timers.specs.declared.part.Use.{Use}
 use mir.Val.{bool_byte}
 use Rattle.ert_timers.proofs.AllSlots.{all_set, read_at}
@@ -149,8 +150,8 @@ fit_kept p free owners new k start next fit same can few dest slots homes writte
         cc
 
 -- what is kept of the slots with that timer, as it is stored
-pub slots_kept : (values new : List Slot) (n m k : ℕ) (last used : Slot) (start : Start) (next : Use) → slice_get values k ≡ Some last → k < n → m ≡ n
-    → new ≡ set values k used → used ≡ slot_for next last.above start
+pub slots_kept : (values new : List Stored) (n m k : ℕ) (last used : Stored) (start : Start) (next : Use) → slice_get values k ≡ Some last → k < n → m ≡ n
+    → new ≡ set values k used → stored_slot used ≡ slot_for next (stored_slot last).above start
     → all_slots new m ≡ set (all_slots values n) k (slot_for next (slot_at (all_slots values n) k).above start)
 slots_kept values new n m k last used start next is low wide more with =
     (λ i. all_slots (more i) (wide i))
@@ -218,17 +219,18 @@ picked_free p free owners k fit same held = record {
 }
 
 -- more of them are, and then more
-pub written_twice : (old mid new : Held Slot) (n m : ℕ) → IsWritten old mid n → IsWritten mid new m → IsWritten old new m
+pub written_twice : (old mid new : Held Stored) (n m : ℕ) → IsWritten old mid n → IsWritten mid new m → IsWritten old new m
 written_twice old mid new n m one two = record {
   more = omega (arith, one.more, two.more, ap (λ (r : Rings). r.written) one.owners);
   keys = two.keys ∙ one.keys;
   owners = two.owners ∙ ap (λ (r : Rings). let q : Rings = record r { written = m } in q) one.owners;
   slots = λ k. two.slots k ∙ one.slots k;
+  joined = λ joined. two.joined (one.joined joined);
   passed = two.passed ∙ one.passed;
 }
 
 -- a part is seen as before then, but for the slots that are held free
-pub seen_written : (p : Part) (old new : Held Slot) (free : sets.FinSet nat_cmp) (written : ℕ) → IsWritten old new written → p.processes ≡ old.owners.homes
+pub seen_written : (p : Part) (old new : Held Stored) (free : sets.FinSet nat_cmp) (written : ℕ) → IsWritten old new written → p.processes ≡ old.owners.homes
     → p.slots ≡ all_slots old.values old.owners.slots → p.keys ≡ old.keys → p.passed ≡ old.passed
     → (let q : Part = record p { processes = new.owners.homes; slots = all_slots new.values new.owners.slots; keys = new.keys; free = free; passed = new.passed } in q)
     ≡ (let q : Part = record p { free = free } in q)
@@ -241,7 +243,7 @@ seen_written p old new free written is homes slots keys passed = λ i. (let q : 
 } in q)
 
 -- and fits
-pub fit_written : (old wheel : Held Slot) (free new : FreeSet) (a x o k written : ℕ)
+pub fit_written : (old wheel : Held Stored) (free new : FreeSet) (a x o k written : ℕ)
     → AreFieldsFit (all_slots old.values old.owners.slots) old.keys free old.owners a x o → new ≡ record free { held = sets.remove free.held k }
     → IsWritten old wheel written → k < written
     → AreFieldsFit (all_slots wheel.values wheel.owners.slots) wheel.keys new wheel.owners a x o

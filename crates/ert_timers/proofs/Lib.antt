@@ -1,5 +1,6 @@
 pub mod AllSlots
 pub mod Rounding
+pub mod Joined
 pub mod Later
 pub mod Rows
 pub mod StayArmed
@@ -26,6 +27,8 @@ pub mod Takings
 pub mod Dropped
 pub mod Probed
 pub mod Starts
+mod OpenSlots
+mod Searched
 pub mod Roomed
 pub mod Swept
 pub mod Settled

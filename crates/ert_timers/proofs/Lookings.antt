@@ -23,7 +23,7 @@ use Rattle.ert_timers.specs.Changes.{is_resting, dropped, freed}
 use Rattle.ert_laws.proofs.Since.{rounds_begun}
 use Rattle.ert_laws.specs.Counts.{is_expire, is_orphan}
 use Rattle.ert_timers.specs.Parts.{HoldsCaller, Part, PartStands, slot_at, last_timer}
-use Rattle.ert_timers.specs.Starting.{LooksAt, status_shown}
+use Rattle.ert_timers.specs.Starting.{IsUntaken, LooksAt, status_shown}
 use Rattle.ert_timers.specs.Passed.{LosesRows}
 use Rattle.ert_timers.proofs.Later.{later_before, later_step}
 use Rattle.ert_timers.proofs.Resting.{later_awake, rested_by}
@@ -62,11 +62,17 @@ since_same : (g : Settings) (v : View) (by w k : ℕ) (found : Option Status) (u
 since_same g v by w k found u step held j =
     ap (λ (x : Uses). x.since) ((later_step g v (probe_entry (Caller by) w k found) u w step held refl).uses j)
 
+-- a slot that isn't taken stays so while one of the wheel is looked at
+pub still_untaken : (g : Settings) (v : View) (by : ℕ) (p : Part) (k : ℕ) (found : Option Status) (u : View) → HoldsCaller g v by p.number
+    → Appends g v (probe_entry (Caller by) p.number k found) u → (j : ℕ) → IsUntaken g v p j → IsUntaken g u p j
+still_untaken g v by p k found u holds step j none =
+    (later_step g v (probe_entry (Caller by) p.number k found) u p.number step holds.wheel refl).free (last_timer p.number p.slots j) refl none
+
 -- a slot was found taken
 pub looks_taken : (g : Settings) (v : View) (by now : ℕ) (p : Part) (k : ℕ) (found : Option Status) (u : View) → PartStands g v.front p
-    → HoldsCaller g v by p.number → sets.contains p.free k ≡ false → Appends g v (probe_entry (Caller by) p.number k found) u
+    → HoldsCaller g v by p.number → k < g.slots → sets.contains p.free k ≡ false → Appends g v (probe_entry (Caller by) p.number k found) u
     → is_taken found ≡ true → LooksAt g v by now p p k u
-looks_taken g v by now p k found u stands holds away step taken = record {
+looks_taken g v by now p k found u stands holds low away step taken = record {
   found = found;
   step = step;
   stands = stands_step g v (probe_entry (Caller by) p.number k found) u p stands step holds.wheel (record { arm = refl; expire = refl; orphan = refl });
@@ -78,6 +84,11 @@ looks_taken g v by now p k found u stands holds away step taken = record {
   rested = λ held. (let none : true ≡ false = sym held ∙ away in cc);
   since = since_same g v by p.number k found u step holds.wheel;
   loses = loses_none p;
+  still = still_untaken g v by p k found u holds step;
+  meets = λ none awake.
+      (let no : true ≡ false = sym taken
+      ∙ (ap is_taken (found_is g v (Caller by) p k found u stands holds.wheel low step) ∙ still_untaken g v by p k found u holds step k none) in cc);
+  next = refl;
 }
 
 not_armed : (x : Option Status) → is_taken x ≡ false → x ≢ Some Armed
@@ -130,6 +141,10 @@ looks_resting g v by now p q k found u stands holds low away step none gone rest
       rested = λ held. (let no : true ≡ false = sym held ∙ (ap (λ (x : Part). sets.contains x.free k) gone ∙ away) in cc);
       since = since_same g v by p.number k found u step holds.wheel;
       loses = subst (LosesRows p) (sym gone) (loses_row p (dropped p k) k (subst (λ n. k < n) (sym stands.holds.wide) low) refl refl refl refl);
+      still = still_untaken g v by p k found u holds step;
+      meets = λ untaken awake.
+          (let no : true ≡ false = sym rests ∙ (ap (λ (x : Part). is_resting (slot_at x.slots k) now) gone ∙ awake) in cc);
+      next = ap (λ (x : Part). x.next_look) gone;
     }
 
 -- a slot was found not taken, and doesn't rest: it has no row from then on, and is held free
@@ -164,4 +179,7 @@ looks_free g v by now p q r k found u stands holds past low step none gone awake
       since = since_same g v by p.number k found u step holds.wheel;
       loses = subst (LosesRows p) (sym all)
           (loses_row p (freed (dropped p k) k) k (subst (λ n. k < n) (sym stands.holds.wide) low) refl refl refl refl);
+      still = still_untaken g v by p k found u holds step;
+      meets = λ untaken is. ap (λ (x : Part). sets.contains x.free k) all ∙ put_here p.free k;
+      next = ap (λ (x : Part). x.next_look) all;
     }

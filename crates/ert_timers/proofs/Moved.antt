@@ -27,7 +27,7 @@ use Rattle.ert_timers.proofs.Later.{later_step}
 use Rattle.ert_timers.proofs.Passing.{same_last}
 use Rattle.ert_timers.proofs.Renewed.{IsRead, IsStanding, IsToldStill, armed_stands, cancel_calm, cancel_settles, told_still, use_still}
 use Rattle.ert_timers.proofs.Orphaned.{still_caller}
-use Rattle.ert_table.specs.Settlings.{Settles, word_deadline}
+use Rattle.ert_table.specs.Settlings.{Settles}
 use Rattle.ert_table.specs.declared.carry.Settle.TheVariants.{Cancel as ToCancel}
 use Rattle.ert_table.specs.declared.renew_steps.ArmedWord.{ArmedWord}
 use Rattle.ert_effects.specs.declared.answers.StartErr.{StartErr}
@@ -49,6 +49,7 @@ use Rattle.ert_timers.specs.Starting.{TakesSlot}
 use Rattle.ert_timers.specs.declared.looking.Ahead.{Ahead}
 use Rattle.ert_timers.specs.declared.part.Use.{Use}
 use Rattle.ert_wheel.specs.Rows.{key_in}
+use Rattle.ert_words.specs.Ranges.{word_deadline}
 
 -- what a start was told by the look just before
 pub has_looked : (g : Settings) (v : View) (by : ℕ) (start : Start) (ahead : Option Ahead) (a : Ahead) (u : View) (w : ℕ) → ahead ≡ Some a

@@ -1,13 +1,13 @@
 -- The next use of a slot tells the deadline of its timer, and no timer before had its reference.
 
-use Rattle.std.proofs.Common.{◌≡◌, ◌≢◌, ℕ, ◌<◌, List, length, Some, option_map, sym, ap, subst, ◌∙◌, get_or-set_same}
+use Rattle.std.proofs.Common.{◌≡◌, ◌≢◌, ℕ, ◌<◌, List, length, Some, option_map, refl, sym, ap, subst, ◌∙◌, get_or-set_same}
 use Rattle.std.proofs.lemmas.List.Elements.{All-get_or}
 use Rattle.std.proofs.lemmas.Option.{get_or_from_slice_get, slice_get_within}
 use Rattle.std.specs.List.{slice_get}
 use Rattle.ert_defs.specs.Legal.{Legal}
 use Rattle.ert_defs.specs.Milliseconds.{natural, down, deadline_of}
 use Rattle.ert_defs.specs.States.{State, uses_at, state}
-use Rattle.ert_defs.specs.Timers.{Row, deadline_told}
+use Rattle.ert_defs.specs.Timers.{Row, deadline_told, timer_at}
 use Rattle.ert_defs.proofs.Rows.{IsRow, rows_hold}
 use Rattle.ert_defs.proofs.Slots.{ordered}
 use Rattle.ert_defs.proofs.Uses.{IsBefore, Use as UseOf, CanUse, fresh, told_is}
@@ -16,11 +16,13 @@ use Rattle.ert_defs.specs.declared.entry.Entry.{Entry}
 use Rattle.ert_defs.specs.declared.settings.Settings.{Settings}
 use Rattle.ert_defs.specs.declared.timer.Start.{Start}
 use Rattle.ert_defs.specs.declared.timer.TimerRef.{TimerRef}
+use Rattle.ert_table.proofs.ArmActs.{in_range_at}
 use Rattle.ert_timers.specs.Changes.{kept, slot_for}
 use Rattle.ert_timers.specs.Parts.{Part, slot_at, last_timer, unused}
 use Rattle.ert_timers.specs.Starting.{IsUseFor}
 use Rattle.ert_timers.specs.Slots.{Slot}
 use Rattle.ert_timers.specs.declared.part.Use.{Use}
+use Rattle.ert_words.specs.Ranges.{IsTimer}
 
 -- what the model takes of the next use of a slot
 abbrev pub use_of : (g : Settings) (s : State) (by w k : ℕ) (start : Start) (coming : Use) → IsUseFor g s by w k start coming → UseOf
@@ -37,6 +39,20 @@ told_of g h by w k start coming timer legal is generation =
     ap (λ n. deadline_told n is.wanted) generation
     ∙ (told_is (uses_at (state g h) w k) (use_of g (state g h) by w k start coming is) (ordered g h legal w k).sound is.can ∙ sym is.deadline)
 
+pub told_deadline : (g : Settings) (h : List Entry) (by w k : ℕ) (start : Start) (coming : Use) (timer : TimerRef) → Legal g h
+    → (is : IsUseFor g (state g h) by w k start coming) → timer.generation ≡ coming.generation
+    → option_map (deadline_told timer.generation) (deadline_of g start ((state g h).looked (Caller by))) ≡ Some coming.deadline
+told_deadline g h by w k start coming timer legal is generation =
+    ap (option_map (deadline_told timer.generation)) is.due ∙ ap (λ d. Some d) (told_of g h by w k start coming timer legal is generation)
+
+-- it has a word
+pub has_word : (g : Settings) (h : List Entry) (by w k : ℕ) (start : Start) (coming : Use) → Legal g h
+    → IsUseFor g (state g h) by w k start coming → IsTimer coming.deadline coming.generation
+has_word g h by w k start coming legal is =
+    let timer : TimerRef = timer_at w k coming.generation in
+    in_range_at g (state g h) ((state g h).looked (Caller by)) timer _ is.wanted coming.deadline (ordered g h legal) is.due is.can
+    (told_deadline g h by w k start coming timer legal is refl)
+
 -- the generation of the new timer
 pub new_generation : (p q : Part) (k : ℕ) (start : Start) (coming : Use) (timer : TimerRef) → k < length p.slots → q ≡ kept p k start coming
     → timer ≡ last_timer q.number q.slots k → timer.generation ≡ coming.generation
@@ -49,8 +65,7 @@ pub deadline_is : (g : Settings) (h : List Entry) (by : ℕ) (p q : Part) (k : �
     → k < length p.slots → IsUseFor g (state g h) by p.number k start coming → q ≡ kept p k start coming → timer ≡ last_timer q.number q.slots k
     → option_map (deadline_told timer.generation) (deadline_of g start ((state g h).looked (Caller by))) ≡ Some coming.deadline
 deadline_is g h by p q k coming start timer legal low is part timer_is =
-    ap (option_map (deadline_told timer.generation)) is.due
-    ∙ ap (λ d. Some d) (told_of g h by p.number k start coming timer legal is (new_generation p q k start coming timer low part timer_is))
+    told_deadline g h by p.number k start coming timer legal is (new_generation p q k start coming timer low part timer_is)
 
 -- each old timer has another reference
 pub old_apart : (g : Settings) (h : List Entry) (w k : ℕ) (t : UseOf) (timer : TimerRef) → Legal g h → CanUse (uses_at (state g h) w k) t

@@ -1,6 +1,6 @@
 -- The chains of the processes: a row is found, and slots without a row leave.
 
-use Rattle.std.proofs.Common.{◌≡◌, ◌≢◌, ℕ, zero, suc, ◌+◌, ◌^◌, ◌<◌, ◌≤◌, ◌↔◌, Bool, true, cond, nat_eq, List, length, Option, Some, None, option_map, refl, sym, ap, subst, ◌∙◌, arith, inl, inr}
+use Rattle.std.proofs.Common.{◌≡◌, ◌≢◌, ℕ, zero, suc, ◌+◌, ◌^◌, ◌<◌, ◌≤◌, ◌↔◌, Bool, cond, nat_eq, List, length, Option, Some, None, option_map, refl, sym, ap, subst, ◌∙◌, arith, inl, inr}
 use Rattle.std.proofs.lemmas.Bool.{cases_eq, eq-eqb, ne_eqb}
 use Rattle.std.specs.Bool.{IsTrue}
 use Rattle.std.specs.Option.{IsSome}
@@ -67,7 +67,7 @@ one_less f g (suc n) k stays low here was =
     ]
 
 -- a slot with a place isn't alone
-not_alone : (r : Rings) (places : ℕ → Option Place) (k : ℕ) (place : Place) → AreChains r places → k < r.slots
+pub not_alone : (r : Rings) (places : ℕ → Option Place) (k : ℕ) (place : Place) → AreChains r places → k < r.slots
     → places k ≡ Some place → next_at r.links k ≢ k
 not_alone r places k place are low has e =
     let s : IsSlot r.slots r.homes places k place = slot_is r.slots r.homes places k place low has in
@@ -94,15 +94,6 @@ linked_falls old new places k place are left same low has =
           | inr ne ↦ (left.alone j (omega (arith, same)) (with_place_there places k None j ne ∙ none)).forth
         ]
     at j (Some p) some down alone = absurd (not_alone old places j p are down some alone)
-
--- a slot that is in a chain, and whose last timer went to a process, stands in that of this process
-pub stands_with : (places : ℕ → Option Place) (slot dest process : ℕ) (owned : Bool) → IsTrue owned ↔ IsSome (places slot)
-    → ((place : Place) → places slot ≡ Some place → place.home ≡ dest) → dest ≡ process → owned ≡ true → StandsIn places process slot
-stands_with places slot dest process owned tells lasts same hit = at (places slot) refl (tells.0 hit)
-  where
-    at : (o : Option Place) → places slot ≡ o → IsSome o → StandsIn places process slot
-    at None none some = absurd cc
-    at (Some place) has some = record { place = place; has = has; at_home = lasts place has ∙ same }
 
 -- a slot stays in a chain
 pub joins_stay : (owners : Rings) (places : ℕ → Option Place) (slot process bound : ℕ) → AreChains owners places

@@ -1,16 +1,16 @@
 -- A timer is given a new deadline, of what its steps told.
 
-use Rattle.std.proofs.Common.{◌≡◌, ◌≢◌, ℕ, suc, ◌<◌, ◌≤◌, ℤ, Bool, true, false, cond, nat_lt, List, [], ◌∷◌, ◌++◌, length, Option, Some, None, option_map, Result, Ok, Err, inl, inr, refl, sym, ap, subst, ◌∙◌, arith}
+use Rattle.std.proofs.Common.{◌≡◌, ◌≢◌, ℕ, suc, ◌<◌, ◌≤◌, ℤ, Bool, true, false, cond, nat_lt, List, [], ◌∷◌, ◌++◌, length, Option, Some, None, Result, Ok, Err, inl, inr, refl, sym, ap, subst, ◌∙◌, arith}
 use Rattle.std.specs.FinSet as sets
 use Rattle.std.specs.List.{slice_get}
 use Rattle.std.specs.Option.{IsSome}
 use Rattle.ert_calls.proofs.Looks.{look_stepped}
 use Rattle.ert_defs.proofs.Slots.{ordered}
 use Rattle.ert_defs.specs.Entries.{arm_entry, cancel_entry, mark_entry, peek_entry}
-use Rattle.ert_defs.specs.Legal.{IsSlot, Legal}
+use Rattle.ert_defs.specs.Legal.{IsSlot}
 use Rattle.ert_defs.specs.Milliseconds.{natural, down, deadline_of, left}
 use Rattle.ert_defs.specs.States.{State, state, uses_at}
-use Rattle.ert_defs.specs.Timers.{IsNextUse, Row, Uses, deadline_in, row_of, same_timer, deadline_told, is_taken, settled_as, timer_at, turned, use_of}
+use Rattle.ert_defs.specs.Timers.{IsNextUse, Row, Uses, deadline_in, row_of, same_timer, is_taken, settled_as, timer_at, turned, use_of}
 use Rattle.ert_defs.proofs.ExpiredTimers.{same_timer_self}
 use Rattle.ert_defs.specs.declared.entry.Actor.TheVariants.{Caller, Wheel}
 use Rattle.ert_defs.specs.declared.entry.Entry.{Entry}
@@ -25,7 +25,7 @@ use Rattle.ert_effects.specs.declared.answers.RestartErr.TheVariants.{NotArmed}
 use Rattle.ert_laws.proofs.Since.{rounds_begun}
 use Rattle.ert_table.specs.Calls.{AppendsAll, IsMade}
 use Rattle.ert_table.specs.Renewals.{IsWordOf, MayRenew, PeeksWord, renewal}
-use Rattle.ert_table.specs.Settlings.{HasRow, word_deadline}
+use Rattle.ert_table.specs.Settlings.{HasRow}
 use Rattle.ert_table.specs.Takes.{Appends, TakesPlace}
 use Rattle.ert_table.specs.declared.renew_steps.ArmedWord.{ArmedWord}
 use Rattle.ert_table.specs.declared.view.View.{View}
@@ -36,7 +36,7 @@ use Rattle.ert_table.proofs.Parts.{stepped}
 use Rattle.ert_timers.proofs.Anew.{free_again, kept_again, stands_again}
 use Rattle.ert_timers.proofs.Armings.{arms}
 use Rattle.ert_timers.proofs.Later.{later_step}
-use Rattle.ert_timers.proofs.NextUses.{new_generation, old_apart, told_of, use_of as use_of_model}
+use Rattle.ert_timers.proofs.NextUses.{new_generation, old_apart, use_of as use_of_model}
 use Rattle.ert_timers.proofs.Rows.{key_left}
 use Rattle.ert_wheel.proofs.Looking.{key_low}
 use Rattle.ert_laws.specs.Counts.{is_arm}
@@ -60,6 +60,7 @@ use Rattle.ert_timers.specs.declared.looking.Ahead.{Ahead}
 use Rattle.ert_timers.specs.declared.part.Use.{Use}
 use Rattle.ert_wheel.specs.Rows.{key_in}
 use Rattle.ert_wheel.specs.declared.row.Key.{Key}
+use Rattle.ert_words.specs.Ranges.{word_deadline}
 
 -- a peek, by a caller
 pub peek_calm : (g : Settings) (v : View) (by : ℕ) (timer : TimerRef) (found : Option ℕ) (u : View) (p : Part) → PartStands g v.front p
@@ -214,12 +215,6 @@ may_renew g v by p timer start next stands holds stay standing is dest =
       next_use = subst (λ w. IsNextUse (uses_at (state g v.front) w k) (natural (down g ((state g v.front).looked (Caller by)))) is.wanted next.generation) wheel is.can;
       few = subst (λ w. length ((state g v.front).rows w) < 9007199254740992) wheel (omega (arith, stay.few, stands.holds.arms));
     }
-
-pub told_deadline : (g : Settings) (h : List Entry) (by w k : ℕ) (start : Start) (next : Use) (timer : TimerRef) → Legal g h
-    → (is : IsUseFor g (state g h) by w k start next) → timer.generation ≡ next.generation
-    → option_map (deadline_told timer.generation) (deadline_of g start ((state g h).looked (Caller by))) ≡ Some next.deadline
-told_deadline g h by w k start next timer legal is generation =
-    ap (option_map (deadline_told timer.generation)) is.due ∙ ap (λ d. Some d) (told_of g h by w k start next timer legal is generation)
 
 -- both entries were made, and the row gave way
 pub record RenewsTwice (g : Settings) (v : View) (by : ℕ) (p q : Part) (timer : TimerRef) (start : Start) (next : Use) (named : TimerRef) (left : ℕ) (u : View) : Type 0 where

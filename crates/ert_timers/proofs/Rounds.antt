@@ -1,6 +1,6 @@
 -- The slots of a round are looked at.
 
-use Rattle.std.proofs.Common.{◌≡◌, ◌≢◌, ◌⊎◌, ℕ, suc, ◌+◌, ◌<◌, ◌≤◌, true, false, List, [], ◌∷◌, ◌++◌, length, Option, inl, inr, refl, sym, ap, subst, ◌∙◌, arith, append-nil, length-append}
+use Rattle.std.proofs.Common.{◌≡◌, ◌≢◌, ◌⊎◌, ℕ, suc, ◌+◌, ◌<◌, ◌≤◌, min, true, false, List, [], ◌∷◌, ◌++◌, length, Option, inl, inr, refl, sym, ap, subst, ◌∙◌, arith, append-nil, length-append}
 use Rattle.std.proofs.lemmas.Bool.{cases_eq}
 use Rattle.std.specs.FinSet as sets
 use Rattle.ert_defs.specs.Entries.{probe_entry}
@@ -14,13 +14,14 @@ use Rattle.ert_defs.specs.declared.settings.Settings.{Settings}
 use Rattle.ert_defs.specs.declared.timer.Status.{Status}
 use Rattle.ert_calls.proofs.Looks.{look_stepped}
 use Rattle.ert_effects.proofs.Told.{probes-append}
-use Rattle.ert_effects.specs.TimerCalls.{AreProbes, Round}
+use Rattle.ert_effects.specs.TimerCalls.{AreProbes, IsInRound, Round}
 use Rattle.ert_table.specs.Takes.{Appends, TakesPlace}
 use Rattle.ert_table.specs.declared.view.View.{View}
 use Rattle.ert_table.proofs.Calls.{step_takes_place, takes_place_then}
 use Rattle.ert_timers.specs.Changes.{is_resting}
-use Rattle.ert_timers.specs.Parts.{HoldsCaller, Part, PartStands, slot_at}
-use Rattle.ert_timers.specs.Starting.{LooksAt, LooksAtSome, FindsRound, LooksAround, AreFull, probes_from}
+use Rattle.ert_timers.specs.Parts.{HoldsCaller, Part, PartStands, last_timer, slot_at}
+use Rattle.ert_timers.specs.Passed.{LosesRows}
+use Rattle.ert_timers.specs.Starting.{IsUntaken, LooksAt, LooksAtSome, FindsRound, LooksAround, AreFull, end_of, probes_from}
 use Rattle.ert_timers.proofs.Standing.{clock_at, clock_rises}
 use Rattle.ert_timers.proofs.Passing.{loses_none, loses_then}
 
@@ -40,6 +41,9 @@ looks_none g v by now p from stands = record {
   others = λ j out. refl;
   look = refl;
   loses = loses_none p;
+  still = λ j none. none;
+  meets = λ j low high none awake. absurd (omega (arith, low, high));
+  next = refl;
 }
 
 pub probes-push : (by w k : ℕ) (founds : List (Option Status)) (found : Option Status)
@@ -73,6 +77,12 @@ full-push q r now k (x ∷ founds) found slots same full last =
 out_before : (from n j : ℕ) → from ≤ n → (j < from) ⊎ (n + 1 ≤ j) → (j ≢ n) × ((j < from) ⊎ (n ≤ j))
 out_before from n j order (inl low) = (λ same. omega (arith, order, low, same), inl low)
 out_before from n j order (inr high) = (λ same. omega (arith, high, same), inr (omega (arith, high)))
+
+-- whether a slot isn't taken is the same of a part of the same wheel and slots
+pub same_untaken : (g : Settings) (v : View) (p q : Part) (j : ℕ) → p.number ≡ q.number → p.slots ≡ q.slots → IsUntaken g v p j → IsUntaken g v q j
+same_untaken g v p q j number slots none =
+    subst (λ n. is_taken ((state g v.front).status (last_timer n q.slots j)) ≡ false) number
+    (subst (λ s. is_taken ((state g v.front).status (last_timer p.number s j)) ≡ false) slots none)
 
 -- one more was looked at
 pub looks_more : (g : Settings) (v : View) (by now : ℕ) (p q r : Part) (from n : ℕ) (u w : View) → LooksAtSome g v by now p q from n u
@@ -110,6 +120,16 @@ looks_more g v by now p q r from n u w some holds one =
           one.others j before.0 ∙ some.others j before.1;
       look = look_stepped g u (probe_entry (Caller by) q.number n one.found) w one.step holds.caller ∙ some.look;
       loses = loses_then p q r some.loses one.loses;
+      still = λ j none. same_untaken g w q p j some.number some.slots
+          (one.still j (same_untaken g u p q j (sym some.number) (sym some.slots) (some.still j none)));
+      meets = λ j low high none awake.
+          elim (cases_eq j n) [
+            | inl same ↦ subst (λ m. sets.contains r.free m ≡ true) (sym same)
+                (one.meets (subst (λ m. IsUntaken g u q m) same (same_untaken g u p q j (sym some.number) (sym some.slots) (some.still j none)))
+                (ap (λ s. is_resting (slot_at s n) now) some.slots ∙ subst (λ m. is_resting (slot_at p.slots m) now ≡ false) same awake))
+            | inr other ↦ one.others j other ∙ some.meets j low (omega (arith, high, other)) none awake
+          ];
+      next = one.next ∙ some.next;
     }
 
 -- what was found of slots that are held free as before
@@ -121,10 +141,26 @@ full-same q r now k (x ∷ founds) slots same full = (
   full-same q r now (k + 1) founds slots (λ j low. same j (omega (arith, low))) full.1,
 )
 
+-- what LooksAround says of a given round, but where it begins and ends
+pub record HasLookedAround (g : Settings) (v : View) (by now : ℕ) (p q : Part) (round : Round (length p.slots) g.looks) (u : View) : Type 0 where
+  pub probes : List Entry
+  pub finds : FindsRound by now p.number q round probes
+  pub call : TakesPlace g v probes u
+  pub stands : PartStands g u.front q
+  pub number : q.number ≡ p.number
+  pub slots : q.slots ≡ p.slots
+  pub arms : q.arms ≡ p.arms
+  pub rested : (j : ℕ) → sets.contains q.free j ≡ true → is_resting (slot_at q.slots j) now ≡ false
+  pub since : (j : ℕ) → (state g u.front).since p.number j ≡ (state g v.front).since p.number j
+  pub look : (state g u.front).looked (Caller by) ≡ (state g v.front).looked (Caller by)
+  pub loses : LosesRows p q
+  pub next : q.next_look ≡ p.next_look
+  pub meets : (j : ℕ) → IsInRound round j → IsUntaken g v p j → is_resting (slot_at p.slots j) now ≡ false → sets.contains q.free j ≡ true
+
 -- the slots of a round were looked at
 pub looks_around : (g : Settings) (v : View) (by now : ℕ) (p q r : Part) (round : Round (length p.slots) g.looks) (u w : View)
     → ((k : ℕ) → sets.contains p.free k ≡ false) → LooksAtSome g v by now p q round.from (round.from + round.ahead) u
-    → LooksAtSome g u by now q r 0 round.behind w → LooksAround g v by now p r w
+    → LooksAtSome g u by now q r 0 round.behind w → HasLookedAround g v by now p r round w
 looks_around g v by now p q r round u w none first second =
     let front : List Entry = probes_from by p.number round.from first.founds in
     let back : List Entry = probes_from by p.number 0 second.founds in
@@ -132,7 +168,6 @@ looks_around g v by now p q r round u w none first second =
     let apart : (j : ℕ) → round.from ≤ j → sets.contains r.free j ≡ sets.contains q.free j = λ j low.
     second.others j (inr (omega (arith, low, round.apart))) in
     record {
-      round = round;
       probes = front ++ back;
       finds = record {
         ahead = first.founds;
@@ -158,7 +193,35 @@ looks_around g v by now p q r round u w none first second =
       since = λ j. subst (λ n. (state g w.front).since n j ≡ (state g u.front).since n j) first.number (second.since j) ∙ first.since j;
       look = second.look ∙ first.look;
       loses = loses_then p q r first.loses second.loses;
+      next = second.next ∙ first.next;
+      meets = λ j among none awake.
+          elim among [
+            | inl ahead ↦ apart j ahead.0 ∙ first.meets j ahead.0 ahead.1 none awake
+            | inr behind ↦ second.meets j (omega arith) behind (same_untaken g u p q j (sym first.number) (sym first.slots) (first.still j none))
+                (ap (λ s. is_resting (slot_at s j) now) first.slots ∙ awake)
+          ];
     }
+
+-- and where the next looks begin was told before
+pub around_from : (g : Settings) (v : View) (by now : ℕ) (p r : Part) (next : ℕ) (u : View) (round : Round (length p.slots) g.looks)
+    → round.from ≡ min p.next_look (length p.slots) → (p.next_look < length p.slots → 1 ≤ round.ahead) → next ≡ end_of round
+    → HasLookedAround g v by now (record p { next_look = next }) r round u → LooksAround g v by now p r u
+around_from g v by now p r next u round from some end all = record {
+  round = round;
+  probes = all.probes;
+  finds = all.finds;
+  call = all.call;
+  stands = all.stands;
+  number = all.number;
+  slots = all.slots;
+  arms = all.arms;
+  rested = all.rested;
+  since = all.since;
+  look = all.look;
+  loses = record { number = all.loses.number; slots = all.loses.slots; left = all.loses.left; time = all.loses.time };
+  goes_on = record { from = from; some = some; next = all.next ∙ end };
+  meets = all.meets;
+}
 
 -- the entries of looks at slots are such looks
 pub are_probes : (by w k : ℕ) (founds : List (Option Status)) → AreProbes (Caller by) w (probes_from by w k founds)

@@ -52,6 +52,26 @@ stands_with g h p free passed stands held = record {
   counted = record { arms = stands.counted.arms; expires = stands.counted.expires; orphans = stands.counted.orphans };
 }
 
+-- and wherever its next looks begin
+pub stands_next : (g : Settings) (h : List Entry) (p : Part) (next : ℕ) → PartStands g h p → PartStands g h (record p { next_look = next })
+stands_next g h p next stands = record {
+  checked = stands.checked;
+  legal = stands.legal;
+  holds = record {
+    number = stands.holds.number;
+    processes = stands.holds.processes;
+    many = stands.holds.many;
+    wide = stands.holds.wide;
+    rows = stands.holds.rows;
+    lasts = stands.holds.lasts;
+    aboves = stands.holds.aboves;
+    arms = stands.holds.arms;
+    free = stands.holds.free;
+    ready = stands.holds.ready;
+  };
+  counted = record { arms = stands.counted.arms; expires = stands.counted.expires; orphans = stands.counted.orphans };
+}
+
 -- the whole milliseconds of the clock
 abbrev pub clock_at : Settings → State → ℕ
 clock_at g s = natural (down g s.clock.now)

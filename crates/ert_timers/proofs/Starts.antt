@@ -1,6 +1,6 @@
 -- A start, of what its steps told.
 
-use Rattle.std.proofs.Common.{◌≡◌, ◌⊎◌, ℕ, zero, suc, ◌+◌, ◌<◌, ◌≤◌, ℤ, pos, true, false, List, [], ◌∷◌, ◌++◌, length, Option, Some, None, option_map, IfSome, Result, Ok, Err, inl, inr, refl, sym, ap, subst, ◌∙◌, arith}
+use Rattle.std.proofs.Common.{◌≡◌, ◌⊎◌, ℕ, zero, suc, ◌+◌, ◌<◌, ◌≤◌, min, ℤ, pos, true, false, List, [], ◌∷◌, ◌++◌, length, Option, Some, None, option_map, IfSome, Result, Ok, Err, inl, inr, refl, sym, ap, subst, ◌∙◌, arith}
 use Rattle.std.specs.FinSet as sets
 use Rattle.ert_defs.specs.Entries.{look_entry, arm_entry, mark_entry}
 use Rattle.ert_defs.specs.Milliseconds.{natural, down, deadline_of}
@@ -25,6 +25,7 @@ use Rattle.ert_laws.proofs.SlotUses.{timers_few}
 use Rattle.ert_timers.specs.Changes.{is_resting, next_use}
 use Rattle.ert_timers.specs.Looking.{LooksAhead, now_in}
 use Rattle.ert_timers.specs.Parts.{HoldsCaller, Part, PartStands, slot_at, last_timer}
+use Rattle.ert_timers.specs.Searching.{Searches}
 use Rattle.ert_timers.specs.Starting.{AreFull, Arms, Ends, IsUseFor, TakesSlot, probes_from}
 use Rattle.ert_timers.specs.declared.looking.Ahead.{Ahead}
 use Rattle.ert_timers.specs.declared.part.Use.{Use}
@@ -143,6 +144,32 @@ is_full g v by p q start ahead a slot u x stands has none looks takes =
       };
       call = takes_place_then g v u x (look_entry (Caller by) looks.now ∷ []) takes.probes
           (step_takes_place g v (look_entry (Caller by) looks.now) u looks.step) takes.call;
+    }
+
+-- and each slot of a round was looked at, which goes on where the last one ended
+pub searches : (g : Settings) (v : View) (by : ℕ) (p q : Part) (start : Start) (ahead : Option Ahead) (a : Ahead) (slot : Option ℕ) (u x : View)
+    → PartStands g v.front p → ahead ≡ Some a → slot ≡ None → LooksAhead g v by start ahead u → TakesSlot g u by (now_in a) p q slot x
+    → IsMade g v (Searches g by p q) x
+unfolding round_taken
+searches g v by p q start ahead a (Some k) u x stands has none looks takes = absurd (let no : Some k ≡ None = none in cc)
+searches g v by p q start ahead a None u x stands has none looks takes =
+    let is = is_ahead g v by start ahead a u looks has in
+    let taken = round_taken g v.front u x by (now_in a) p q None stands none takes in
+    record {
+      entries = look_entry (Caller by) looks.now ∷ takes.probes;
+      allowed = record {
+        now = looks.now;
+        probes = takes.probes;
+        round = taken.0;
+        taken = subst (λ n. IsRoundTaken by p.number n (state g v.front) taken.0 takes.probes) (ap natural is.down_to) taken.1;
+        goes_on = record {
+          from = takes.finds.goes_on.from ∙ ap (min p.next_look) stands.holds.many;
+          some = λ low. takes.finds.goes_on.some (omega (arith, low, stands.holds.many));
+          next = takes.finds.goes_on.next;
+        };
+        entries = refl;
+      };
+      call = takes_place_then g v u x (look_entry (Caller by) looks.now ∷ []) takes.probes (step_takes_place g v (look_entry (Caller by) looks.now) u looks.step) takes.call;
     }
 
 -- a start of a wheel that has had as many timers as it can have

@@ -23,10 +23,11 @@ use Rattle.ert_timers.specs.Changes.{NextOf}
 use Rattle.ert_laws.specs.Counts.{is_arm}
 use Rattle.ert_timers.specs.Parts.{HoldsCaller, Part, PartStands, last_timer, held_row}
 use Rattle.ert_timers.specs.Starting.{HoldsTimer, Orphans}
-use Rattle.ert_timers.specs.Sweeping.{SweepsSome}
+use Rattle.ert_timers.specs.Freeing.{IsHeld}
+use Rattle.ert_timers.specs.Sweeping.{SweepsHeld, SweepsSome}
 use Rattle.ert_timers.proofs.Later.{later_step}
 use Rattle.ert_timers.proofs.Rows.{armed_row}
-use Rattle.ert_timers.proofs.Passing.{loses_none, loses_row, loses_then, none_more, once_more}
+use Rattle.ert_timers.proofs.Passing.{held_push, loses_none, loses_row, loses_then, none_more, once_more, was_held}
 use Rattle.ert_timers.proofs.Tried.{held_found}
 use Rattle.ert_wheel.specs.Rows.{key_of}
 use Rattle.ert_wheel.specs.declared.row.Row.{Row as WheelRow}
@@ -40,6 +41,7 @@ sweeps_none g v by process p stands exited = record {
   tries = [];
   may = tt;
   once = tt;
+  held = tt;
   none = tt;
   loses = loses_none p;
   call = record { actors = refl; legal = stands.legal; later = []; grown = sym (append-nil v.front); ours = refl };
@@ -97,6 +99,8 @@ sweeps_more g v by process p q r row timer u w some holds next is one =
       may = may-push rows process some.tries t some.may
           (record { row = timer; stands = here; dest = dest }, one.settled);
       once = once_more q row.slot (key_of row) some.tries t next.1 named some.none some.once;
+      held = held_push p some.tries t some.held (subst (IsHeld p) (sym named)
+          (was_held p q row.slot (key_of row) some.loses (some.stands.holds.wide ∙ sym some.stands.holds.many) next.1));
       none = none_more q r row.slot some.tries t low named number slots keys time some.none;
       loses = loses_then p q r some.loses (loses_row q r row.slot low number slots keys time);
       call = subst (λ es. TakesPlace g v es w) (sym (map-append (λ (x : Try). orphans_by by p.number x.timer x.missed) some.tries (t ∷ [])))
@@ -146,3 +150,10 @@ fewer g u by process q r row timer w next is one =
     let slot : timer.timer.slot ≡ row.slot = ap (λ (x : Row). x.timer.slot) is in
     let keys : r.keys ≡ set q.keys row.slot None = ap (λ (x : Part). x.keys) one.part ∙ ap (λ k. set q.keys k None) slot in
     omega (arith, ap (count_by is_some) keys, counts_less q.keys row.slot (key_of row) (key_low q.keys row.slot (key_of row) next.1) next.1)
+
+pub sweeps_held : (g : Settings) (v : View) (by process : ℕ) (p q : Part) (u : View) → SweepsSome g v by process p q u → IsMade g v (SweepsHeld by p) u
+sweeps_held g v by process p q u some = record {
+  entries = orphan_entries by p.number some.tries;
+  allowed = record { tries = some.tries; held = some.held; entries = refl };
+  call = some.call;
+}

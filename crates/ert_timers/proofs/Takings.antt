@@ -1,6 +1,6 @@
 -- A slot is taken: one that is held free, or one that is found by looks at the slots of a round.
 
-use Rattle.std.proofs.Common.{◌≡◌, ℕ, ◌<◌, ◌≤◌, true, false, [], length, Option, Some, None, IfNone, IfSome, refl, sym, ap, subst, ◌∙◌, arith, append-nil}
+use Rattle.std.proofs.Common.{◌≡◌, ℕ, ◌<◌, ◌≤◌, inl, true, false, [], length, Option, Some, None, IfNone, IfSome, refl, sym, ap, subst, ◌∙◌, arith, append-nil}
 use Rattle.std.specs.FinSet as sets
 use Rattle.ert_defs.specs.States.{uses_at, state}
 use Rattle.ert_defs.specs.Timers.{turned, is_taken}
@@ -9,7 +9,8 @@ use Rattle.ert_table.specs.declared.view.View.{View}
 use Rattle.ert_timers.specs.Changes.{MayBecomeFree, picked}
 use Rattle.ert_laws.proofs.Since.{rounds_begun}
 use Rattle.ert_timers.specs.Parts.{Part, PartStands, slot_at, last_timer}
-use Rattle.ert_timers.specs.Starting.{FindsRound, LooksAround, TakesSlot}
+use Rattle.ert_timers.specs.Starting.{FindsRound, GoesOn, LooksAround, TakesSlot}
+use Rattle.ert_effects.specs.TimerCalls.{IsInRound, Round}
 use Rattle.ert_timers.specs.Passed.{LosesRows}
 use Rattle.ert_timers.proofs.Fit.{taken_was}
 use Rattle.ert_timers.proofs.Freed.{taken_free}
@@ -45,6 +46,7 @@ takes_first g v by now p q k stands told is free held = record {
   look = refl;
   loses = subst (LosesRows p) (sym is) (loses_picked p k);
   frees = λ j was. taken_free p q k j is was;
+  meets = λ low none awake is. (let no : Some k ≡ None = is in cc);
 }
 
 -- a slot that is held free after the looks doesn't rest
@@ -64,6 +66,13 @@ none_was : (p p' : Part) (j : ℕ) → p' ≡ p → sets.contains p'.free j ≡ 
 none_was p p' j same empty was =
     let clash : false ≡ true = sym empty ∙ (ap (λ (x : Part). sets.contains x.free j) same ∙ was) in
     cc
+
+-- the slot at which the looks begin is one of the round
+begins : (g : Settings) (p q : Part) (round : Round (length p.slots) g.looks) → GoesOn p q round → p.next_look < length p.slots
+    → IsInRound round p.next_look
+begins g p q round on low =
+    let from : round.from ≡ p.next_look = omega (arith, on.from, low) in
+    inl (omega (arith, from), omega (arith, from, on.some low))
 
 -- none was, and those of a round were looked at
 pub takes_then : (g : Settings) (v : View) (by now : ℕ) (p p' q r : Part) (slot : Option ℕ) (u : View) → PartStands g v.front p
@@ -85,12 +94,16 @@ takes_then g v by now p p' q r None u stands told same empty some none left held
         round = here.round;
         finds = subst (λ (x : Part). FindsRound by now p.number x here.round here.probes) (sym left) here.finds;
         none = λ j. ap (λ (x : Part). sets.contains x.free j) left ∙ none j;
+        goes_on = subst (λ (x : Part). GoesOn p x here.round) (sym left) here.goes_on;
       };
       usable = tt;
       rested = tt;
       look = here.look;
       loses = subst (LosesRows p) (sym left) here.loses;
       frees = λ j was. absurd (none_was p p' j same (empty j) was);
+      meets = λ low untaken awake is.
+          (let met : sets.contains q.free p.next_look ≡ true = here.meets p.next_look (begins g p q here.round here.goes_on low) untaken awake in
+          let no : true ≡ false = sym met ∙ none p.next_look in cc);
     }
 takes_then g v by now p p' q r (Some k) u stands told same empty some none left held is free =
     let here = subst (λ (x : Part). LooksAround g v by now x q u) same some in
@@ -111,4 +124,5 @@ takes_then g v by now p p' q r (Some k) u stands told same empty some none left 
       look = here.look;
       loses = loses_then p q r here.loses (subst (LosesRows q) (sym is) (loses_picked q k));
       frees = λ j was. absurd (none_was p p' j same (empty j) was);
+      meets = λ low none awake is. (let no : Some k ≡ None = is in cc);
     }

@@ -19,7 +19,7 @@ use Rattle.ert_table.specs.Takes.{Appends, MayStep}
 use Rattle.ert_table.specs.declared.view.View.{View}
 use Rattle.ert_table.proofs.Calls.{step_takes_place, takes_place_then}
 use Rattle.ert_timers.specs.Changes.{gone_on}
-use Rattle.ert_timers.specs.Expiring.{Expires, ExpiresSome, HasExpired, HasNotExpired, HasTried, HasNotTried, IsTried, IsReady, AreDue}
+use Rattle.ert_timers.specs.Expiring.{Expires, ExpiresSome, HasExpired, HasNotExpired, HasTried, HasNotTried, IsTried, IsReady, AreDue, TriesHeld}
 use Rattle.ert_timers.specs.ExpiredLists.{Queue}
 use Rattle.ert_timers.specs.Looking.{LooksDown}
 use Rattle.ert_timers.specs.Parts.{HoldsSched, Part, PartStands}
@@ -128,6 +128,7 @@ has_tried g v p p' q q' k to due n old old' new u w number first last rows down 
       due = subst (λ rows. AllDue rows to some.done.tries)
           (later_step g v look u p.number looks.step holds.wheel refl).rows some.done.due;
       once = some.done.once;
+      held = some.done.held;
       loses = subst (LosesRows p) (sym last) some.done.loses;
       call = takes_place_then g v u w (look ∷ []) (expiry_entries p.number some.done.tries) (step_takes_place g v look u looks.step) some.done.call;
       number = ap (λ (x : Part). x.number) last ∙ some.done.number;
@@ -170,6 +171,19 @@ has_expired g v p q k to old new u x number tried step holds =
       };
       expired = tried.expired;
       waits = waits_by g u (advanced_entry w to) x w last (subst (λ actors. is_held actors (Sched w) ≡ true) (sym tried.call.actors) holds.sched) has ∙ tried.waits;
+    }
+
+-- and only timers were tried that had a row before
+pub tries_held : (g : Settings) (v : View) (p q : Part) (k to : ℕ) (old new : Queue) (u x : View) → k ≡ p.number → HasTried g v p q to old new u
+    → Appends g u (advanced_entry k to) x → IsMade g v (TriesHeld p to) x
+tries_held g v p q k to old new u x number tried step =
+    let w : ℕ = p.number in
+    let es : List Entry = look_entry (Sched w) tried.now ∷ expiry_entries w tried.tries in
+    let last : Appends g u (advanced_entry w to) x = subst (λ m. Appends g u (advanced_entry m to) x) number step in
+    record {
+      entries = es ++ advanced_entry w to ∷ [];
+      allowed = record { now = tried.now; tries = tried.tries; held = tried.held; entries = refl };
+      call = takes_place_then g v u x es (advanced_entry w to ∷ []) tried.call (step_takes_place g u (advanced_entry w to) x last);
     }
 
 -- there was no memory

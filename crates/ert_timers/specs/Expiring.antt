@@ -2,9 +2,9 @@
 
 use Rattle.std.specs.Prelude.{◌≡◌, ℕ, ◌+◌, ◌≤◌, ℤ, pos, Bool, true, false, List, [], ◌∷◌, ◌++◌, All, length, drop, Option, Some, None, Result, Ok, Err}
 use Rattle.std.specs.List.{AllPairs}
-use Rattle.ert_defs.specs.Entries.{look_entry}
+use Rattle.ert_defs.specs.Entries.{look_entry, advanced_entry}
 use Rattle.ert_defs.specs.Milliseconds.{down}
-use Rattle.ert_defs.specs.States.{state}
+use Rattle.ert_defs.specs.States.{State, state}
 use Rattle.ert_defs.specs.Timers.{Row}
 use Rattle.ert_defs.specs.declared.entry.Actor.TheVariants.{Sched}
 use Rattle.ert_defs.specs.declared.entry.Entry.{Entry}
@@ -18,7 +18,7 @@ use Rattle.ert_table.specs.declared.view.View.{View}
 use Rattle.ert_timers.specs.Changes.{let_go}
 use Rattle.ert_timers.specs.ExpiredLists.{Queue}
 use Rattle.ert_timers.specs.Parts.{Part, PartStands, last_timer, held_row}
-use Rattle.ert_timers.specs.Passed.{LosesRows}
+use Rattle.ert_timers.specs.Passed.{HoldsEach, LosesRows}
 use Rattle.ert_timers.specs.Trying.{expired_after, TriesRows}
 use Rattle.ert_wheel.specs.Rows.{key_in, key_of, times, due_count, comes_before}
 use Rattle.ert_wheel.specs.declared.row.Row.{Row as WheelRow}
@@ -86,6 +86,7 @@ pub record HasTried (g : Settings) (v : View) (p q : Part) (to : ℕ) (old new :
   pub settled : AllMissesSettled tries
   pub due : AllDue ((state g v.front).rows p.number) to tries
   pub once : AreOnce tries
+  pub held : HoldsEach p tries
   pub loses : LosesRows p q
   pub call : TakesPlace g v (look_entry (Sched p.number) now ∷ expiry_entries p.number tries) u
   pub number : q.number ≡ p.number
@@ -110,3 +111,10 @@ IsTried g v p q (Err e) old new u = HasNotTried g v p q e old new u
 abbrev pub IsAdvanced : Settings → View → ℕ → Result ℕ NoMemory → Queue → Queue → View → Type 0
 IsAdvanced g v w (Ok to) old new u = HasExpired g v w to old new u
 IsAdvanced g v w (Err e) old new u = HasNotExpired g v w e old new u
+
+-- in an advance up to a time only timers were tried that had a row before it
+pub record TriesHeld (p : Part) (to : ℕ) (s : State) (es : List Entry) : Type 0 where
+  pub now : ℤ
+  pub tries : List Try
+  pub held : HoldsEach p tries
+  pub entries : es ≡ look_entry (Sched p.number) now ∷ (expiry_entries p.number tries ++ advanced_entry p.number to ∷ [])

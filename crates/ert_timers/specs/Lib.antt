@@ -15,6 +15,7 @@ pub mod Parts
 pub mod Passed
 pub mod Restarting
 pub mod Rooms
+pub mod Searching
 pub mod Sleeping
 pub mod Slots
 pub mod Starting

@@ -1,6 +1,6 @@
 -- The timers of one scheduler: what its part keeps, and when the part stands for a history.
 
-use Rattle.std.specs.Prelude.{◌≡◌, ℕ, ◌+◌, ◌<◌, ◌≤◌, true, false, List, map, length, count_by, slice_index_or, Option, Some, None, refl}
+use Rattle.std.specs.Prelude.{◌≡◌, ◌≢◌, ℕ, ◌+◌, ◌<◌, ◌≤◌, true, false, List, map, length, count_by, slice_index_or, Option, Some, None, refl}
 use Rattle.std.specs.Coded.{Coded, code_by, coded×, coded_ℕ, coded_list, coded_option}
 use Rattle.std.specs.FinSet as set
 use Rattle.std.specs.List.{range_with_len, slice_get}
@@ -22,7 +22,9 @@ use Rattle.ert_laws.specs.Counts.{entries_of, is_arm, is_expire, is_orphan}
 use Rattle.ert_table.specs.Held.{is_held}
 use Rattle.ert_table.specs.declared.view.View.{View}
 use Rattle.ert_timers.specs.Codes.{slot_code, key_code}
-use Rattle.ert_timers.specs.Slots.{Slot}
+use Rattle.ert_timers.specs.Slots.{Slot, stored_slot, is_joined, nothing}
+use Rattle.ert_timers.specs.declared.slot.Stored.{Stored}
+use Rattle.ert_wheel.specs.Links.{next_at}
 use Rattle.ert_wheel.specs.Rings.{Rings, Place, AreChains, StandsIn}
 use Rattle.ert_wheel.specs.Rows.{Held, key_in}
 use Rattle.ert_wheel.specs.declared.row.Key.{Key}
@@ -31,7 +33,8 @@ use Rattle.ert_defs.specs.declared.settings.TheConstants.{MOST_SLOTS, MOST_PROCE
 
 -- the part of one scheduler's timers: its number, the number of processes, by slot what is kept of the last
 -- timer, by slot the key of the row that is held as armed, the slots that are held free, how many timers were
--- armed, expired and were cancelled for an exit, and the first time that its wheel hasn't passed, in milliseconds
+-- armed, expired and were cancelled for an exit, the first time that its wheel hasn't passed, in milliseconds, and the
+-- slot at which the next looks for a free one begin
 pub record Part : Type 0 where
   pub number : ℕ
   pub processes : ℕ
@@ -42,14 +45,15 @@ pub record Part : Type 0 where
   pub expires : ℕ
   pub orphans : ℕ
   pub passed : ℕ
+  pub next_look : ℕ
 
 -- a part is stored as a tuple of its fields
 abbrev pub part_code : Coded Part
 part_code =
-    code_by (ℕ × (ℕ × (List Slot × (List (Option Key) × (set.FinSet nat_cmp × (ℕ × (ℕ × (ℕ × ℕ))))))))
+    code_by (ℕ × (ℕ × (List Slot × (List (Option Key) × (set.FinSet nat_cmp × (ℕ × (ℕ × (ℕ × (ℕ × ℕ)))))))))
     (coded× coded_ℕ (coded× coded_ℕ (coded× (coded_list slot_code) (coded× (coded_list (coded_option key_code))
-    (coded× (set.code coded_ℕ) (coded× coded_ℕ (coded× coded_ℕ (coded× coded_ℕ coded_ℕ))))))))
-    (λ p. (p.number, (p.processes, (p.slots, (p.keys, (p.free, (p.arms, (p.expires, (p.orphans, p.passed)))))))))
+    (coded× (set.code coded_ℕ) (coded× coded_ℕ (coded× coded_ℕ (coded× coded_ℕ (coded× coded_ℕ coded_ℕ)))))))))
+    (λ p. (p.number, (p.processes, (p.slots, (p.keys, (p.free, (p.arms, (p.expires, (p.orphans, (p.passed, p.next_look))))))))))
     (λ t. record {
       number = t.0;
       processes = t.1.0;
@@ -59,7 +63,8 @@ part_code =
       arms = t.1.1.1.1.1.0;
       expires = t.1.1.1.1.1.1.0;
       orphans = t.1.1.1.1.1.1.1.0;
-      passed = t.1.1.1.1.1.1.1.1;
+      passed = t.1.1.1.1.1.1.1.1.0;
+      next_look = t.1.1.1.1.1.1.1.1.1;
     })
     (λ _. refl)
 
@@ -71,9 +76,13 @@ unused = record { generation = 0; above = 0; dest = 0; msg = 0; kind = Wrapped }
 abbrev pub slot_at : List Slot → ℕ → Slot
 slot_at slots k = slice_index_or slots k unused
 
--- what is kept of so many slots, by what is kept of those that are written: the others were never used
-unfoldable pub all_slots : List Slot → ℕ → List Slot
-all_slots written n = map (λ k. slot_at written k) (range_with_len 0 n)
+-- what is kept of a slot, by what is stored of those that are written: the others were never used
+abbrev pub written_slot : List Stored → ℕ → Slot
+written_slot written k = stored_slot (slice_index_or written k nothing)
+
+-- and of so many
+unfoldable pub all_slots : List Stored → ℕ → List Slot
+all_slots written n = map (λ k. written_slot written k) (range_with_len 0 n)
 
 -- the last timer of a slot
 abbrev pub last_timer : ℕ → List Slot → ℕ → TimerRef
@@ -119,12 +128,23 @@ pub record AreFieldsFit (slots : List Slot) (keys : List (Option Key)) (free : F
   pub dests : (k : ℕ) (key : Key) → key_in keys k ≡ Some key → (slot_at slots k).dest < owners.homes
   pub chained : AreOwned slots keys owners armed
 
+-- a slot stands in a chain where that is noted
+abbrev pub AreJoined : List Stored → Rings → Type 0
+AreJoined values owners = (k : ℕ) (stored : Stored) → k < owners.slots → slice_get values k ≡ Some stored → is_joined stored ≡ true
+    → next_at owners.links k ≢ k
+
+-- and with what is stored of the slots
+pub record AreStoredFit (values : List Stored) (keys : List (Option Key)) (free : FreeSet) (owners : Rings) (armed expired orphaned : ℕ) : Type 0 where
+  pub fit : AreFieldsFit (all_slots values owners.slots) keys free owners armed expired orphaned
+  pub joined : AreJoined values owners
+
 -- more slots of a wheel are written, so many in all, and nothing was kept of them: so all is seen as it was
-pub record IsWritten (old new : Held Slot) (written : ℕ) : Type 0 where
+pub record IsWritten (old new : Held Stored) (written : ℕ) : Type 0 where
   pub more : old.owners.written ≤ written
   pub keys : new.keys ≡ old.keys
   pub owners : new.owners ≡ record old.owners { written = written }
   pub slots : (n : ℕ) → all_slots new.values n ≡ all_slots old.values n
+  pub joined : AreJoined old.values old.owners → AreJoined new.values new.owners
   pub passed : new.passed ≡ old.passed
 
 -- a timer whose row is held has this status: it is armed, or was cancelled by one who told the part nothing

@@ -1,6 +1,6 @@
 -- A timer that is given a new deadline.
 
-use Rattle.std.specs.Prelude.{◌≡◌, ◌<◌, ◌≤◌, ℕ, true, false, nat_lt, length, List, ◌++◌, Some, Result, Ok, Err}
+use Rattle.std.specs.Prelude.{◌≡◌, ◌<◌, ◌≤◌, ℕ, true, false, nat_lt, length, List, ◌++◌, Option, Some, None, Result, Ok, Err}
 use Rattle.std.specs.FinSet as set
 use Rattle.std.specs.Option.{IsSome}
 use Rattle.ert_defs.specs.Milliseconds.{natural, down, deadline_of}
@@ -62,6 +62,11 @@ pub record EndsAfter (g : Settings) (by wheel : ℕ) (timer : TimerRef) (start :
   pub ends : RestartEnds true by wheel timer start answer end
   pub full : IsFullFor g by wheel timer now answer s probes
   pub entries : es ≡ probes ++ end
+
+-- an answer in two parts: why there is no name, or the name
+abbrev pub answer_of : Option RestartErr → TimerRef → Result TimerRef RestartErr
+answer_of None named = Ok named
+answer_of (Some e) named = Err e
 
 -- a part holds no row of the timer that was restarted, where another was started
 abbrev pub HasLetGo : TimerRef → Result TimerRef RestartErr → Part → Type 0

@@ -1,6 +1,6 @@
 -- A look at how much room a wheel has: at the time, and then at every slot.
 
-use Rattle.std.specs.Prelude.{◌≡◌, ℕ, ◌+◌, ℤ, pos, ◌≤◌, List, [], ◌∷◌, length, Option}
+use Rattle.std.specs.Prelude.{◌≡◌, ℕ, ◌+◌, ℤ, pos, ◌≤◌, nat_lt, if◌then◌else◌, List, [], ◌∷◌, length, Option, Some, None}
 use Rattle.ert_defs.specs.Entries.{look_entry, probe_entry}
 use Rattle.ert_defs.specs.Milliseconds.{down, natural}
 use Rattle.ert_defs.specs.States.{State, state}
@@ -15,6 +15,7 @@ use Rattle.ert_table.specs.Takes.{Appends, TakesPlace}
 use Rattle.ert_table.specs.declared.view.View.{View}
 use Rattle.ert_timers.specs.Changes.{is_resting}
 use Rattle.ert_timers.specs.Parts.{Part, PartStands, slot_at}
+use Rattle.ert_timers.specs.Searching.{CanTake}
 use Rattle.ert_timers.specs.Starting.{probes_from}
 
 -- a slot was looked at, and what was known before became this
@@ -47,3 +48,13 @@ pub record SeesSome (g : Settings) (v : View) (by now : ℕ) (p : Part) (n : ℕ
   pub stands : PartStands g u.front p
   pub told : room ≡ room_after (state g v.front) now p.number 0 founds no_room
   pub few : room.free ≤ n
+
+-- the first slot that was found free, by the first before it, and how many were with it
+abbrev pub first_with : Option ℕ → ℕ → ℕ → Option ℕ
+first_with (Some k) slot free = Some k
+first_with None slot free = if nat_lt 0 free then Some slot else None
+
+-- the first slot that was found free can take a timer still; none was found where there is no such one
+abbrev pub FindsFree : Settings → State → Part → Room → Option ℕ → Type 0
+FindsFree g s p room (Some k) = CanTake g s p k
+FindsFree g s p room None = room.free ≡ 0

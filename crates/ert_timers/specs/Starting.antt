@@ -1,6 +1,6 @@
 -- A start of a part: the slots that are looked at, the arming, and what follows from an exit.
 
-use Rattle.std.specs.Prelude.{◌≡◌, ◌≢◌, ◌⊎◌, ℕ, ◌+◌, ◌<◌, ◌≤◌, Bool, true, false, List, [], ◌∷◌, ◌++◌, length, Option, Some, None, IfSome, Ok}
+use Rattle.std.specs.Prelude.{◌≡◌, ◌≢◌, ◌⊎◌, ℕ, ◌+◌, ◌<◌, ◌≤◌, Bool, true, false, cond, nat_eq, min, List, [], ◌∷◌, ◌++◌, length, Option, Some, None, IfSome, Ok}
 use Rattle.std.specs.FinSet as set
 use Rattle.ert_defs.specs.Entries.{probe_entry, arm_entry, mark_entry}
 use Rattle.ert_defs.specs.Milliseconds.{natural, down, deadline_of}
@@ -12,7 +12,7 @@ use Rattle.ert_defs.specs.declared.settings.Settings.{Settings}
 use Rattle.ert_defs.specs.declared.timer.Start.{Start}
 use Rattle.ert_defs.specs.declared.timer.Status.{Status}
 use Rattle.ert_defs.specs.declared.timer.TimerRef.{TimerRef}
-use Rattle.ert_effects.specs.TimerCalls.{AreProbes, Closes, Round}
+use Rattle.ert_effects.specs.TimerCalls.{AreProbes, Closes, IsInRound, Round}
 use Rattle.ert_effects.specs.WheelCalls.{orphans_by, IsSettled}
 use Rattle.ert_effects.specs.declared.answers.StartErr.{StartErr}
 use Rattle.ert_table.specs.Settlings.{ShownWord}
@@ -74,6 +74,10 @@ abbrev pub status_shown : Option ShownWord → Option Status
 status_shown None = None
 status_shown (Some shown) = Some shown.0
 
+-- the last timer of a slot takes it no more
+abbrev pub IsUntaken : Settings → View → Part → ℕ → Type 0
+IsUntaken g v p k = is_taken ((state g v.front).status (last_timer p.number p.slots k)) ≡ false
+
 -- a slot was looked at: where it was found not taken, and doesn't rest at a time of so many milliseconds, it is
 -- held free from then on, and no other slot is that wasn't
 pub record LooksAt (g : Settings) (v : View) (by now : ℕ) (p q : Part) (k : ℕ) (u : View) : Type 0 where
@@ -88,6 +92,10 @@ pub record LooksAt (g : Settings) (v : View) (by now : ℕ) (p q : Part) (k : �
   pub rested : set.contains q.free k ≡ true → is_resting (slot_at p.slots k) now ≡ false
   pub since : (j : ℕ) → (state g u.front).since p.number j ≡ (state g v.front).since p.number j
   pub loses : LosesRows p q
+  -- a slot that isn't taken stays so, and this one is held free where it wasn't before and doesn't rest
+  pub still : (j : ℕ) → IsUntaken g v p j → IsUntaken g u p j
+  pub meets : IsUntaken g v p k → is_resting (slot_at p.slots k) now ≡ false → set.contains q.free k ≡ true
+  pub next : q.next_look ≡ p.next_look
 
 -- the entries of looks at slots in order, from one on
 abbrev pub probes_from : ℕ → ℕ → ℕ → List (Option Status) → List Entry
@@ -115,6 +123,9 @@ pub record LooksAtSome (g : Settings) (v : View) (by now : ℕ) (p q : Part) (fr
   pub others : (j : ℕ) → (j < from) ⊎ (to ≤ j) → set.contains q.free j ≡ set.contains p.free j
   pub look : (state g u.front).looked (Caller by) ≡ (state g v.front).looked (Caller by)
   pub loses : LosesRows p q
+  pub still : (j : ℕ) → IsUntaken g v p j → IsUntaken g u p j
+  pub meets : (j : ℕ) → from ≤ j → j < to → IsUntaken g v p j → is_resting (slot_at p.slots j) now ≡ false → set.contains q.free j ≡ true
+  pub next : q.next_look ≡ p.next_look
 
 -- the slots of a round were found so
 pub record FindsRound (by now wheel : ℕ) (q : Part) {slots looks : ℕ} (round : Round slots looks) (probes : List Entry) : Type 0 where
@@ -125,6 +136,16 @@ pub record FindsRound (by now wheel : ℕ) (q : Part) {slots looks : ℕ} (round
   pub full_ahead : AreFull q now round.from ahead
   pub full_behind : AreFull q now 0 behind
   pub probes_are : probes ≡ probes_from by wheel round.from ahead ++ probes_from by wheel 0 behind
+
+-- the slot behind those of a round: there the next one begins
+abbrev pub end_of : {slots looks : ℕ} → Round slots looks → ℕ
+end_of round = cond (nat_eq round.behind 0) (round.from + round.ahead) round.behind
+
+-- a round begins where the last one ended, which is told as its end is
+pub record GoesOn (p q : Part) {slots looks : ℕ} (round : Round slots looks) : Type 0 where
+  pub from : round.from ≡ min p.next_look slots
+  pub some : p.next_look < slots → 1 ≤ round.ahead
+  pub next : q.next_look ≡ end_of round
 
 -- the slots of a round were looked at, where none was held free
 pub record LooksAround (g : Settings) (v : View) (by now : ℕ) (p q : Part) (u : View) : Type 0 where
@@ -140,12 +161,16 @@ pub record LooksAround (g : Settings) (v : View) (by now : ℕ) (p q : Part) (u 
   pub since : (j : ℕ) → (state g u.front).since p.number j ≡ (state g v.front).since p.number j
   pub look : (state g u.front).looked (Caller by) ≡ (state g v.front).looked (Caller by)
   pub loses : LosesRows p q
+  pub goes_on : GoesOn p q round
+  -- a slot among them that wasn't taken before and doesn't rest is held free
+  pub meets : (j : ℕ) → IsInRound round j → IsUntaken g v p j → is_resting (slot_at p.slots j) now ≡ false → set.contains q.free j ≡ true
 
 -- no slot is held free after looks at a round
 pub record FindsNone (looks by now : ℕ) (p q : Part) (probes : List Entry) : Type 0 where
   pub round : Round (length p.slots) looks
   pub finds : FindsRound by now p.number q round probes
   pub none : (j : ℕ) → set.contains q.free j ≡ false
+  pub goes_on : GoesOn p q round
 
 -- a slot that can take a timer is found, or none is after looks at a round
 abbrev pub FindsSlot : ℕ → ℕ → ℕ → Part → Part → Option ℕ → List Entry → Type 0
@@ -167,3 +192,5 @@ pub record TakesSlot (g : Settings) (v : View) (by now : ℕ) (p q : Part) (slot
   pub look : (state g u.front).looked (Caller by) ≡ (state g v.front).looked (Caller by)
   pub loses : LosesRows p q
   pub frees : TakesFree p q slot
+  -- one is found where that at which the looks begin wasn't taken before and doesn't rest
+  pub meets : p.next_look < length p.slots → IsUntaken g v p p.next_look → is_resting (slot_at p.slots p.next_look) now ≡ false → slot ≢ None

@@ -14,7 +14,8 @@ impl WheelPart {
     ghost use Rattle.ert_defs.specs.States.{state};
     ghost use Rattle.ert_defs.specs.declared.entry.Actor.TheVariants.{Sched};
     ghost use Rattle.ert_table.specs.Desks.{settings_of, view_of, front_of, Belongs};
-    ghost use Rattle.ert_timers.specs.Expiring.{Expires, ExpiresSome, IsReady, IsTried, IsAdvanced};
+    ghost use Rattle.ert_timers.specs.Expiring.{Expires, ExpiresSome, IsReady, IsTried, IsAdvanced, TriesHeld};
+    ghost use Rattle.ert_table.specs.Calls.{IsMade};
     ghost use Rattle.ert_timers.specs.Parts.{HoldsSched, PartStands, last_timer};
     ghost use Rattle.ert_timers.specs.Passed.{HasPassed, LosesRows};
     ghost use Rattle.ert_wheel.specs.Rows.{key_in, key_of, row_told, rows_told};
@@ -23,7 +24,7 @@ impl WheelPart {
     /// timers are added to `expired`, in order of deadline and then of start. The answer is that time, in whole
     /// milliseconds since the start time, rounded down.
     ///
-    /// A due timer that doesn't expire was settled by another. The row of each due timer goes, and then no row is held
+    /// A due timer that doesn't expire was settled by another. No timer is tried that has no row. The row of each due timer goes, and then no row is held
     /// that is due by that time. All memory is taken before the first timer expires:
     /// after NoMemory none has.
     #[inline(always)]
@@ -40,6 +41,7 @@ impl WheelPart {
         ensures number { self.new.number ≡ self.old.number }
         ensures stands { PartStands (settings_of desk.now) (front_of pass.new) self.new }
         ensures call { IsAdvanced (settings_of desk.now) (view_of pass.old) self.old.number result expired.old expired.new (view_of pass.new) }
+        ensures held { IfOk result (λ to. IsMade (settings_of desk.now) (view_of pass.old) (TriesHeld self.old to) (view_of pass.new)) }
         ensures passed { IfOk result (λ to. HasPassed self.new to) }
         ensures loses { LosesRows self.old self.new }
     {

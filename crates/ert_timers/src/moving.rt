@@ -1,15 +1,18 @@
 //! A timer that is given a new deadline in another slot than its own.
+ghost use Rattle.std.specs.Prelude.{◌≡◌};
+ghost use Rattle.ert_timers.specs.Restarting.{answer_of};
 
 use crate::looking::Ahead;
 use crate::part::{Use, WheelPart};
 use crate::starting::MOST_TIMERS;
-use ert_defs::{Actor, Start, TimerRef};
+use ert_defs::{Actor, Kind, Start, TimerRef, When};
 use ert_effects::RestartErr;
 use ert_table::{Desk, Pass, SlotPlace};
 
 impl WheelPart {
     ghost use Rattle.std.specs.Prelude.{◌≡◌, ◌≢◌, ◌<◌, ℕ, true, Some, Err, MatchResult};
     ghost use Rattle.ert_defs.specs.Legal.{names_timer};
+    ghost use Rattle.ert_defs.specs.Timers.{timer_at};
     ghost use Rattle.ert_defs.specs.declared.timer.Start.{Start as GivenStart};
     ghost use Rattle.ert_effects.specs.RestartCalls.{RestartEnds};
     ghost use Rattle.ert_effects.specs.declared.answers.RestartErr.TheVariants.{Full};
@@ -25,12 +28,69 @@ impl WheelPart {
     ghost use Rattle.ert_timers.specs.declared.part.Use.{Use as Coming};
     ghost use Rattle.ert_defs.specs.States.{State};
     ghost use Rattle.ert_defs.specs.declared.timer.Status.TheVariants.{Armed};
-    ghost use Rattle.ert_timers.specs.Restarting.{HasLooked, HasSlotFor, EndsAfter, HasLetGo};
+    ghost use Rattle.ert_timers.specs.Restarting.{HasLooked, HasSlotFor, EndsAfter, HasLetGo, answer_of};
 
-    /// Gives a timer a new deadline in another slot, or refuses for want of one, after the caller's look.
+    /// Gives a timer a new deadline in another slot, or refuses for want of one, after the caller's look. All comes in
+    /// parts, and goes in two: so a restart, which seldom gets here, needn't write or read it in memory.
     #[cold]
     #[inline(never)]
-    pub(crate) fn restart_elsewhere(
+    pub(crate) fn restart_in_parts(
+        &mut self,
+        desk: &Desk,
+        pass: &mut Pass,
+        by: u32,
+        wheel: u32,
+        slot: u32,
+        generation: u64,
+        when: When,
+        dest: u32,
+        msg: u64,
+        kind: Kind,
+        passed: u64,
+        up: u64,
+        deadline: u64,
+        place: SlotPlace,
+        named: &mut TimerRef,
+    ) -> Option<RestartErr>
+        requires belongs { Belongs desk.now pass.old }
+        requires holds { HoldsCaller (settings_of desk.now) (view_of pass.old) by self.old.number }
+        requires stands { PartStands (settings_of desk.now) (front_of pass.old) self.old }
+        requires dest { dest < (settings_of desk.now).processes }
+        requires in_range { names_timer (settings_of desk.now) (timer_at wheel slot generation) ≡ true }
+        requires place { IsPlaceOf (settings_of desk.now) wheel slot place }
+        requires looked { HasLooked (settings_of desk.now) (state_of desk.now pass.old) by (record { when = when; dest = dest; msg = msg; kind = kind }) (record { passed = passed; up = up; deadline = deadline }) }
+        ensures belongs { Belongs desk.now pass.new }
+        ensures number { self.new.number ≡ self.old.number }
+        ensures stands { PartStands (settings_of desk.now) (front_of pass.new) self.new }
+        ensures call { IsMade (settings_of desk.now) (view_of pass.old) (EndsAfter (settings_of desk.now) by self.old.number (timer_at wheel slot generation) (record { when = when; dest = dest; msg = msg; kind = kind }) (now_in (record { passed = passed; up = up; deadline = deadline })) (answer_of result named.new)) (view_of pass.new) }
+        ensures full { answer_of result named.new ≡ Err Full → IsUsedUp self.old self.new }
+        ensures frees { UsesFree self.old self.new (answer_of result named.new) }
+        ensures rows { GainsOne self.old self.new (answer_of result named.new) }
+        ensures gone { HasLetGo (timer_at wheel slot generation) (answer_of result named.new) self.new }
+    {
+        let timer = TimerRef {
+            wheel,
+            slot,
+            generation,
+        };
+        let start = Start {
+            when,
+            dest,
+            msg,
+            kind,
+        };
+        let ahead = Ahead {
+            passed,
+            up,
+            deadline,
+        };
+        let answer = self.restart_elsewhere(desk, pass, by, timer, start, ahead, place);
+        told(answer, named)
+    }
+
+    /// The same with all in one.
+    #[inline(always)]
+    fn restart_elsewhere(
         &mut self,
         desk: &Desk,
         pass: &mut Pass,
@@ -164,5 +224,30 @@ impl WheelPart {
             Some(_) => RestartErr::Full,
             None => RestartErr::NotArmed,
         }
+    }
+}
+
+/// An answer in two parts: the name is put into its place, and why there is none is told.
+#[inline(always)]
+pub(crate) fn told(answer: Result<TimerRef, RestartErr>, named: &mut TimerRef) -> Option<RestartErr>
+    ensures { answer_of result named.new ≡ answer }
+{
+    match answer {
+        Ok(next) => {
+            *named = next;
+            None
+        }
+        Err(refused) => Some(refused),
+    }
+}
+
+/// The answer of two parts.
+#[inline(always)]
+pub(crate) fn answer_of(refused: Option<RestartErr>, named: TimerRef) -> Result<TimerRef, RestartErr>
+    ensures { result ≡ answer_of refused named }
+{
+    match refused {
+        Some(refused) => Err(refused),
+        None => Ok(named),
     }
 }

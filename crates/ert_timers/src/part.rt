@@ -1,12 +1,13 @@
-ghost use Rattle.std.specs.Prelude.{◌≡◌, ◌↔◌, ◌<◌, ◌≤◌, ◌-◌, ℕ, IfOk, IsTrue, Option, option_map, replicate};
+ghost use Rattle.std.specs.Prelude.{◌≡◌, ◌↔◌, ◌<◌, ◌≤◌, ◌-◌, ℕ, IfOk, IsTrue, Option, option_map, replicate, true};
 ghost use Rattle.ert_timers.specs.Owners.{MayThin, FindsRow};
-ghost use Rattle.ert_timers.specs.Parts.{unused};
+ghost use Rattle.ert_timers.specs.Parts.{AreJoined, all_slots};
 ghost use Rattle.ert_wheel.specs.Rings.{Place, AreChains};
 ghost use Rattle.ert_wheel.specs.Rows.{row_told};
 
+use self::changes::part_from;
 use crate::expired_list::ExpiredList;
-use crate::slot::Slot;
-use ert_defs::{Kind, NoMemory, Settings, TimerRef, TimerRow};
+use crate::slot::Stored;
+use ert_defs::{NoMemory, Settings, TimerRef, TimerRow};
 use ert_wheel::{HeldRow, Wheel};
 use ert_words::FreeSlots;
 use std::alloc::Global;
@@ -38,7 +39,7 @@ pub struct WheelPart {
     next_look: u32,
     /// The timers that are held as armed, and for each process the chain of the slots whose timers go to it. A slot
     /// without such a timer stays in its chain until it is used for another process, or until the chain is swept.
-    wheel: Wheel<Slot>,
+    wheel: Wheel<Stored>,
     /// The slots that are known to be free.
     free: FreeSlots,
     /// How many timers were armed. That is also the order of the next one.
@@ -68,7 +69,7 @@ pub struct Tally {
 }
 
 impl Model for WheelPart {
-    ghost use Rattle.ert_timers.specs.Parts.{Part, part_code, all_slots, AreFieldsFit};
+    ghost use Rattle.ert_timers.specs.Parts.{Part, part_code, all_slots, AreStoredFit};
     ghost use Rattle.ert_words.specs.Free.{free_set};
 
     ghost Value = { Part };
@@ -85,17 +86,19 @@ impl Model for WheelPart {
       expires = p.expires;
       orphans = p.orphans;
       passed = p.wheel.passed;
+      next_look = p.next_look;
     } };
 
-    ghost invariant = { λ p. AreFieldsFit (all_slots p.wheel.values p.wheel.owners.slots) p.wheel.keys (free_set p.free) p.wheel.owners p.arms p.expires p.orphans };
+    ghost invariant = { λ p. AreStoredFit p.wheel.values p.wheel.keys (free_set p.free) p.wheel.owners p.arms p.expires p.orphans };
 }
 
 impl WheelPart {
     ghost use Rattle.std.specs.Option.{is_some};
-    ghost use Rattle.std.specs.Prelude.{◌≡◌, ◌<◌, ◌≤◌, IfOk, IfSome, ℕ, length, count_by, [], option_map};
+    ghost use Rattle.std.specs.Prelude.{◌≡◌, ◌<◌, ◌≤◌, IfOk, IfSome, ℕ, length, count_by, min, [], option_map};
     ghost use Rattle.ert_defs.specs.Settings.{IsChecked};
     ghost use Rattle.ert_timers.specs.Freeing.{IsInUse};
     ghost use Rattle.ert_timers.specs.Parts.{PartStands, held_row, slot_at};
+    ghost use Rattle.ert_timers.specs.Slots.{stored_slot};
     ghost use Rattle.ert_timers.specs.Expiring.{AreDue};
     ghost use Rattle.ert_timers.specs.Changes.{NextOf, gone_on};
     ghost use Rattle.ert_timers.specs.NextDue.{IsNextHeld};
@@ -163,25 +166,25 @@ impl WheelPart {
 
     /// From which slot on a start looks that knows of none that is free; one past the last means the first.
     pub(crate) fn next_look(&self) -> u32
-        ensures { result ≤ length self.now.slots }
+        ensures { result ≡ min self.now.next_look (length self.now.slots) }
     {
         self.next_look.min(self.slot_count())
     }
 
     /// Keeps from which slot on the next such start looks.
     pub(crate) fn set_next_look(&mut self, slot: u32)
-        ensures { self.new ≡ self.old }
+        ensures { self.new ≡ record self.old { next_look = slot } }
     {
         self.next_look = slot;
     }
 
     /// What is kept of a slot, whether it is written or not.
-    fn kept_of(&self, slot: u32) -> Slot
+    fn kept_of(&self, slot: u32) -> Stored
         requires { slot < length self.now.slots }
-        ensures { result ≡ slot_at self.now.slots slot }
+        ensures { stored_slot result ≡ slot_at self.now.slots slot }
     {
         if slot as usize >= self.wheel.written() {
-            return never_used();
+            return Stored::unused();
         }
         self.wheel.value(slot)
     }
@@ -283,19 +286,24 @@ pub(crate) fn is_long(now: u64, deadline: u64) -> bool
     deadline.saturating_sub(now) >= LONG_WAIT
 }
 
-/// What is kept of a slot that was never used.
-fn never_used() -> Slot
-    ensures { result ≡ unused }
+/// Whether it is certain that neither of two deadlines is a long wait away from a time, all in milliseconds after the start
+/// time. Most waits are short, and then one sum tells it of both.
+#[inline(always)]
+pub(crate) fn are_short(now: u64, first: u64, second: u64) -> bool
+    ensures first { result ≡ true → first - now < 4194304 }
+    ensures second { result ≡ true → second - now < 4194304 }
 {
-    Slot::new(0, 0, 0, 0, Kind::Wrapped)
+    let end = now.wrapping_add(LONG_WAIT);
+    first < end && second < end
 }
 
 /// A row of the chain of a process; None where it has none. Slots without a row that are met leave the chain.
-fn find_row(wheel: &mut Wheel<Slot>, process: u32) -> Option<HeldRow>
+fn find_row(wheel: &mut Wheel<Stored>, process: u32) -> Option<HeldRow>
     requires process { process < wheel.old.owners.homes }
     requires may { MayThin wheel.old.owners wheel.old.keys }
     ensures keys { wheel.new.keys ≡ wheel.old.keys }
-    ensures values { wheel.new.values ≡ wheel.old.values }
+    ensures stored { (n : ℕ) → all_slots wheel.new.values n ≡ all_slots wheel.old.values n }
+    ensures joined { AreJoined wheel.old.values wheel.old.owners → AreJoined wheel.new.values wheel.new.owners }
     ensures slots { wheel.new.owners.slots ≡ wheel.old.owners.slots }
     ensures homes { wheel.new.owners.homes ≡ wheel.old.owners.homes }
     ensures written { wheel.new.owners.written ≡ wheel.old.owners.written }
@@ -307,7 +315,7 @@ fn find_row(wheel: &mut Wheel<Slot>, process: u32) -> Option<HeldRow>
         if let Some(row) = wheel.row(slot) {
             return Some(row);
         }
-        wheel.disown(slot);
+        part_from(wheel, slot);
     }
     None
 }

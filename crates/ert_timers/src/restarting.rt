@@ -1,14 +1,16 @@
 //! A timer that is given a new deadline.
 
 use crate::looking::{Ahead, look_ahead};
+use crate::moving::{answer_of, told};
 use crate::part::{Use, WheelPart};
-use ert_defs::{Actor, Start, TimerRef};
+use ert_defs::{Actor, Kind, Start, TimerRef, USES_OF_ROUND, When};
 use ert_effects::RestartErr;
 use ert_table::{Desk, Pass, SlotPlace};
 
 impl WheelPart {
     ghost use Rattle.std.specs.Prelude.{◌≡◌, ◌≢◌, ◌<◌, true, Err};
     ghost use Rattle.ert_defs.specs.Legal.{names_timer};
+    ghost use Rattle.ert_defs.specs.Timers.{timer_at};
     ghost use Rattle.ert_effects.specs.RestartCalls.{Restarts, RestartEnds};
     ghost use Rattle.ert_effects.specs.declared.answers.RestartErr.TheVariants.{Full};
     ghost use Rattle.ert_table.specs.Calls.{IsMade};
@@ -17,7 +19,7 @@ impl WheelPart {
     ghost use Rattle.ert_timers.specs.Parts.{HoldsCaller, PartStands};
     ghost use Rattle.ert_timers.specs.Frees.{IsUsedUp, UsesFree};
     ghost use Rattle.ert_timers.specs.Passed.{GainsOne};
-    ghost use Rattle.ert_timers.specs.Restarting.{MayStay, HasLooked, HasLetGo};
+    ghost use Rattle.ert_timers.specs.Restarting.{MayStay, HasLooked, HasLetGo, answer_of};
 
     /// Gives an armed timer, of whatever wheel, a new deadline for a caller (as `uv_timer_again` of libuv), by the time that
     /// the call itself looks up: it is cancelled, and another is started on this wheel.
@@ -28,6 +30,96 @@ impl WheelPart {
     /// known to be free. It is taken before the timer is cancelled: so a timer is lost by no answer. No memory is taken.
     #[inline(always)]
     pub fn restart(
+        &mut self,
+        desk: &Desk,
+        pass: &mut Pass,
+        by: u32,
+        timer: TimerRef,
+        start: &Start,
+    ) -> Result<TimerRef, RestartErr>
+        requires belongs { Belongs desk.now pass.old }
+        requires holds { HoldsCaller (settings_of desk.now) (view_of pass.old) by self.old.number }
+        requires stands { PartStands (settings_of desk.now) (front_of pass.old) self.old }
+        requires dest { start.now.dest < (settings_of desk.now).processes }
+        ensures belongs { Belongs desk.now pass.new }
+        ensures number { self.new.number ≡ self.old.number }
+        ensures stands { PartStands (settings_of desk.now) (front_of pass.new) self.new }
+        ensures call { IsMade (settings_of desk.now) (view_of pass.old) (Restarts (settings_of desk.now) by self.old.number timer start.now result) (view_of pass.new) }
+        ensures full { result ≡ Err Full → IsUsedUp self.old self.new }
+        ensures frees { UsesFree self.old self.new result }
+        ensures rows { GainsOne self.old self.new result }
+        ensures gone { HasLetGo timer result self.new }
+    {
+        // Few timers are of a later round. Of all others the generation is the use of the round itself.
+        if timer.generation <= USES_OF_ROUND {
+            return self.restart_by_name(desk, pass, by, timer, start);
+        }
+        let mut named = timer;
+        let refused = self.restart_of_later_round(
+            desk,
+            pass,
+            by,
+            timer.wheel,
+            timer.slot,
+            timer.generation,
+            start.when,
+            start.dest,
+            start.msg,
+            start.kind,
+            &mut named,
+        );
+        answer_of(refused, named)
+    }
+
+    /// The same for a timer of a later round of its slot. Name and start come in parts, and the answer goes in
+    /// two: so a restart, which seldom gets here, needn't write or read them in memory.
+    #[cold]
+    #[inline(never)]
+    fn restart_of_later_round(
+        &mut self,
+        desk: &Desk,
+        pass: &mut Pass,
+        by: u32,
+        wheel: u32,
+        slot: u32,
+        generation: u64,
+        when: When,
+        dest: u32,
+        msg: u64,
+        kind: Kind,
+        named: &mut TimerRef,
+    ) -> Option<RestartErr>
+        requires belongs { Belongs desk.now pass.old }
+        requires holds { HoldsCaller (settings_of desk.now) (view_of pass.old) by self.old.number }
+        requires stands { PartStands (settings_of desk.now) (front_of pass.old) self.old }
+        requires dest { dest < (settings_of desk.now).processes }
+        ensures belongs { Belongs desk.now pass.new }
+        ensures number { self.new.number ≡ self.old.number }
+        ensures stands { PartStands (settings_of desk.now) (front_of pass.new) self.new }
+        ensures call { IsMade (settings_of desk.now) (view_of pass.old) (Restarts (settings_of desk.now) by self.old.number (timer_at wheel slot generation) (record { when = when; dest = dest; msg = msg; kind = kind }) (answer_of result named.new)) (view_of pass.new) }
+        ensures full { answer_of result named.new ≡ Err Full → IsUsedUp self.old self.new }
+        ensures frees { UsesFree self.old self.new (answer_of result named.new) }
+        ensures rows { GainsOne self.old self.new (answer_of result named.new) }
+        ensures gone { HasLetGo (timer_at wheel slot generation) (answer_of result named.new) self.new }
+    {
+        let timer = TimerRef {
+            wheel,
+            slot,
+            generation,
+        };
+        let start = Start {
+            when,
+            dest,
+            msg,
+            kind,
+        };
+        let answer = self.restart_by_name(desk, pass, by, timer, &start);
+        told(answer, named)
+    }
+
+    /// The same for any timer.
+    #[inline(always)]
+    fn restart_by_name(
         &mut self,
         desk: &Desk,
         pass: &mut Pass,
@@ -60,7 +152,25 @@ impl WheelPart {
             return Err(RestartErr::NotArmed);
         }
         if !self.may_stay(timer) || !self.suits(timer.slot, ahead.up, ahead.deadline) {
-            return self.restart_elsewhere(desk, pass, by, timer, *start, ahead, place);
+            let mut named = timer;
+            let refused = self.restart_in_parts(
+                desk,
+                pass,
+                by,
+                timer.wheel,
+                timer.slot,
+                timer.generation,
+                start.when,
+                start.dest,
+                start.msg,
+                start.kind,
+                ahead.passed,
+                ahead.up,
+                ahead.deadline,
+                place,
+                &mut named,
+            );
+            return answer_of(refused, named);
         }
         self.restart_here(desk, pass, by, timer, start, ahead, place)
     }

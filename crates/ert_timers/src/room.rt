@@ -1,6 +1,7 @@
 //! How much room a wheel has.
 ghost use Rattle.std.specs.Prelude.{◌≡◌};
 ghost use Rattle.ert_effects.specs.RoomCalls.{sooner};
+ghost use Rattle.ert_timers.specs.Rooms.{first_with};
 
 use crate::looking::look_down;
 use crate::part::WheelPart;
@@ -16,18 +17,19 @@ const NO_ROOM: Room = Room {
 };
 
 impl WheelPart {
-    ghost use Rattle.std.specs.Prelude.{◌≡◌, ◌<◌, ◌≤◌, ◌+◌, length};
+    ghost use Rattle.std.specs.Prelude.{◌≡◌, ◌<◌, ◌≤◌, ◌+◌, length, unwrap_or};
     ghost use Rattle.ert_effects.specs.RoomCalls.{TellsRoom};
     ghost use Rattle.ert_table.specs.Calls.{IsMade};
-    ghost use Rattle.ert_table.specs.Desks.{settings_of, view_of, front_of, Belongs};
+    ghost use Rattle.ert_table.specs.Desks.{settings_of, view_of, front_of, state_of, Belongs};
     ghost use Rattle.ert_timers.specs.Parts.{HoldsCaller, PartStands};
-    ghost use Rattle.ert_timers.specs.Rooms.{SeesSlot, SeesAll};
+    ghost use Rattle.ert_timers.specs.Rooms.{FindsFree, SeesSlot, SeesAll};
+    ghost use Rattle.ert_timers.specs.Searching.{IsOpen};
 
     /// Looks at the time and at every slot: how many slots can take a timer now, and from when on one more
     /// can that rests and isn't taken. A wheel that has had 2^53 timers takes no more.
     ///
     /// Each slot is looked at once, in order. The next start that finds none held free looks at the first of those that can
-    /// take a timer: so it isn't refused where there is one. No memory is taken.
+    /// take a timer: so it isn't `Full` where there is one. No memory is taken.
     pub fn room(&mut self, desk: &Desk, pass: &mut Pass, by: u32) -> Room
         requires belongs { Belongs desk.now pass.old }
         requires holds { HoldsCaller (settings_of desk.now) (view_of pass.old) by self.old.number }
@@ -35,7 +37,8 @@ impl WheelPart {
         ensures belongs { Belongs desk.now pass.new }
         ensures stands { PartStands (settings_of desk.now) (front_of pass.new) self.new }
         ensures call { IsMade (settings_of desk.now) (view_of pass.old) (TellsRoom (settings_of desk.now) by self.old.number result) (view_of pass.new) }
-        ensures part { self.new ≡ self.old }
+        ensures part { self.new ≡ record self.old { next_look = self.new.next_look } }
+        ensures ready { 1 ≤ result.free → IsOpen (settings_of desk.now) (state_of desk.now pass.new) self.new }
     {
         let (room, first) = self.see_slots(desk, pass, by);
         self.begin_next_look_at(first);
@@ -48,7 +51,7 @@ impl WheelPart {
 
     /// Lets the next look for a free slot begin at this one, where there is one.
     fn begin_next_look_at(&mut self, first: Option<u32>)
-        ensures { self.new ≡ self.old }
+        ensures { self.new ≡ record self.old { next_look = unwrap_or first self.old.next_look } }
     {
         if let Some(slot) = first {
             self.set_next_look(slot);
@@ -62,15 +65,14 @@ impl WheelPart {
         requires stands { PartStands (settings_of desk.now) (front_of pass.old) self.now }
         ensures belongs { Belongs desk.now pass.new }
         ensures call { SeesAll (settings_of desk.now) (view_of pass.old) by self.now result.0 (view_of pass.new) }
+        ensures first { FindsFree (settings_of desk.now) (state_of desk.now pass.new) self.now result.0 result.1 }
     {
         let now = look_down(desk, pass, Actor::Caller(by));
         let mut room = NO_ROOM;
         let mut first = None;
         for slot in 0..self.slot_count() {
             room = self.see_slot(desk, pass, by, slot, now, room);
-            if first.is_none() && room.free > 0 {
-                first = Some(slot);
-            }
+            first = first_with(first, slot, room.free);
         }
         (room, first)
     }
@@ -110,6 +112,17 @@ impl WheelPart {
             free: before.free + 1,
             ready: before.ready,
         }
+    }
+}
+
+/// The first slot that was found free, by the first before it, and how many were with it.
+fn first_with(first: Option<u32>, slot: u32, free: u32) -> Option<u32>
+    ensures { result ≡ first_with first slot free }
+{
+    if first.is_none() && free > 0 {
+        Some(slot)
+    } else {
+        first
     }
 }
 

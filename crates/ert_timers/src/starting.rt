@@ -1,5 +1,5 @@
 //! Timers that are started.
-ghost use Rattle.std.specs.Prelude.{◌≡◌, ◌+◌, ◌≤◌};
+ghost use Rattle.std.specs.Prelude.{◌≡◌, ◌+◌, ◌<◌, ◌≤◌, cond, nat_eq};
 ghost use Rattle.ert_defs.specs.Timers as timers;
 ghost use Rattle.ert_timers.specs.Starting.{status_shown};
 
@@ -25,6 +25,7 @@ impl WheelPart {
     ghost use Rattle.ert_timers.specs.Looking.{now_in};
     ghost use Rattle.ert_timers.specs.Parts.{HoldsCaller, PartStands, slot_at, last_timer};
     ghost use Rattle.ert_timers.specs.Frees.{IsUsedUp, UsesFree};
+    ghost use Rattle.ert_timers.specs.Searching.{IsOpen, Searches};
     ghost use Rattle.ert_timers.specs.Passed.{GainsOne};
     ghost use Rattle.ert_timers.specs.Starting.{HoldsTimer, IsUseFor, Orphans, Arms, Ends, LooksAt, LooksAtSome, LooksAround, TakesSlot};
 
@@ -56,6 +57,8 @@ impl WheelPart {
         ensures call { IsMade (settings_of desk.now) (view_of pass.old) (Starts (settings_of desk.now) by self.old.number start.now result) (view_of pass.new) }
         ensures memory { result ≢ Err NoMemory }
         ensures full { result ≡ Err Full → IsUsedUp self.old self.new }
+        ensures searched { result ≡ Err Full → self.old.arms < 9007199254740992 → IsMade (settings_of desk.now) (view_of pass.old) (Searches (settings_of desk.now) by self.old self.new) (view_of pass.new) }
+        ensures ready { IsOpen (settings_of desk.now) (state_of desk.now pass.old) self.old → result ≢ Err Full }
         ensures frees { UsesFree self.old self.new result }
         ensures rows { GainsOne self.old self.new result }
     {
@@ -112,9 +115,9 @@ impl WheelPart {
     {
         let from = self.next_look();
         let (ahead, behind) = round(self.slot_count(), from, desk.settings().looks);
+        self.set_next_look(end_of(from, ahead, behind));
         self.look_at_some(desk, pass, by, now, from, from + ahead);
         self.look_at_some(desk, pass, by, now, 0, behind);
-        self.set_next_look(if behind == 0 { from + ahead } else { behind });
     }
 
     /// Looks at the slots from one on, up to another, where none of them is held free, and holds those free that can
@@ -274,6 +277,7 @@ fn round(slots: u32, from: u32, looks: u32) -> (u32, u32)
     ensures apart { result.1 ≤ from }
     ensures all { slots ≤ looks → result.0 + result.1 ≡ slots }
     ensures many { looks ≤ slots → result.0 + result.1 ≡ looks }
+    ensures some { 1 ≤ looks → from < slots → 1 ≤ result.0 }
 {
     let count = if slots <= looks { slots } else { looks };
     let left = slots - from;
@@ -282,6 +286,14 @@ fn round(slots: u32, from: u32, looks: u32) -> (u32, u32)
     } else {
         (left, count - left)
     }
+}
+
+/// The slot behind those of a round.
+fn end_of(from: u32, ahead: u32, behind: u32) -> u32
+    requires { from + ahead < 4294967296 }
+    ensures { result ≡ cond (nat_eq behind 0) (from + ahead) behind }
+{
+    if behind == 0 { from + ahead } else { behind }
 }
 
 /// Whether the last timer of a slot takes it, by what the slot shows.

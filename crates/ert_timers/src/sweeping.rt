@@ -14,6 +14,7 @@ impl WheelPart {
     ghost use Rattle.ert_timers.specs.Freeing.{IsHeld, IsLast, IsLetGo};
     ghost use Rattle.ert_timers.specs.Parts.{HoldsCaller, PartStands};
     ghost use Rattle.ert_timers.specs.Passed.{LosesRows};
+    ghost use Rattle.ert_timers.specs.Sweeping.{SweepsHeld};
     ghost use Rattle.ert_defs.specs.declared.settings.Settings.{Settings};
     ghost use Rattle.ert_defs.specs.declared.timer.Status.TheVariants.{Armed};
 
@@ -32,6 +33,7 @@ impl WheelPart {
         ensures number { self.new.number ≡ self.old.number }
         ensures stands { PartStands (settings_of desk.now) (front_of pass.new) self.new }
         ensures call { IsMade (settings_of desk.now) (view_of pass.old) (Sweeps (settings_of desk.now) by self.old.number process) (view_of pass.new) }
+        ensures held { IsMade (settings_of desk.now) (view_of pass.old) (SweepsHeld by self.old) (view_of pass.new) }
         ensures loses { LosesRows self.old self.new }
         ensures swept { IsSwept (state (settings_of desk.now) (front_of pass.new)) self.old.number process }
     {

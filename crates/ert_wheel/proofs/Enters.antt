@@ -21,7 +21,7 @@ least_fits next l t least = record {
 }
 
 -- a time that may stand below a level is in the window of the next time there, or in the one after it
-near_top : (next k l t : ℕ) → MayStand next 1 k t → k < l → t / 512 ^ l ≤ next / 512 ^ l + 1
+pub near_top : (next k l t : ℕ) → MayStand next 1 k t → k < l → t / 512 ^ l ≤ next / 512 ^ l + 1
 near_top next k l t fits less =
     let e : l - suc k + suc k ≡ l = omega arith in
     subst (λ (n : ℕ). t / 512 ^ n ≤ next / 512 ^ n + 1) e

@@ -1,10 +1,10 @@
 -- A row that stays where it is, when another takes its place.
 
-use Rattle.std.proofs.Common.{◌≡◌, ◌≢◌, ℕ, ◌+◌, ◌*◌, ◌/◌, ◌%◌, ◌^◌, ◌<◌, ◌≤◌, max, List, Option, Some, None, length, set, sym, subst, ◌∙◌, ap, inl, inr, refl, arith, get_or-set_same, get_or-set_other}
-use Rattle.std.proofs.lemmas.Bool.{cases_eq}
+use Rattle.std.proofs.Common.{◌≡◌, ◌≢◌, ℕ, ◌+◌, ◌-◌, ◌*◌, ◌/◌, ◌%◌, ◌^◌, ◌<◌, ◌≤◌, max, List, Option, Some, None, length, set, sym, subst, ◌∙◌, ap, inl, inr, refl, arith, get_or-set_same, get_or-set_other}
+use Rattle.std.proofs.lemmas.Bool.{cases_eq, cases_lt}
 use Rattle.ert_wheel.proofs.Falls.{given, given_here, given_there}
-use Rattle.ert_wheel.proofs.MovesOn.{same_window}
-use Rattle.ert_wheel.proofs.Times.{lowest}
+use Rattle.ert_wheel.proofs.Enters.{near_top}
+use Rattle.ert_wheel.proofs.Times.{later, one_above}
 use Rattle.ert_wheel.proofs.Views.{key_set}
 use Rattle.ert_wheel.specs.Levels.{bucket_on, MayStand, StaysPut}
 use Rattle.ert_wheel.specs.Rings.{Rings, Place, AreChains}
@@ -33,31 +33,32 @@ module _ {next : ℕ} {keys : List (Option Key)} {slot : ℕ} {old key : Key} {l
 
   -- the old row isn't late, and it stands above the lowest level
   not_late_old : max old.deadline next ≡ old.deadline
-  not_late_old = omega (arith, s.put.far)
-
-  above : 1 ≤ level old
-  above =
-      let fit = a.fit slot old s.has in
-      elim (cases_eq (level old) 0) [
-        | inl e ↦
-            let t : ℕ = max old.deadline next in
-            absurd (omega (
-              arith,
-              fit.near,
-              ap (λ l. t / 512 ^ l / 512) e,
-              ap (λ l. next / 512 ^ l / 512) e,
-              ap (λ n. n / 512) (lowest t),
-              ap (λ n. n / 512) (lowest next),
-              ap (λ n. n / 512) not_late_old,
-              s.put.far,
-            ))
-        | inr ne ↦ omega (arith, ne)
+  not_late_old =
+      elim (cases_lt next old.deadline) [
+        | inl less ↦ omega (arith, less)
+        | inr more ↦ absurd (omega (arith, later s.put.level old.deadline next more, s.put.far))
       ]
 
-  -- both have one window on each level above that
-  one_window_each : (l : ℕ) → 1 ≤ l → max key.deadline next / 512 ^ l ≡ max old.deadline next / 512 ^ l
-  one_window_each l some =
-      sym (same_window l (max old.deadline next) (max key.deadline next) some (ap (λ n. n / 512) not_late_old ∙ s.put.same))
+  above : s.put.level ≤ level old
+  above =
+      elim (cases_lt (level old) s.put.level) [
+        | inl less ↦
+            absurd (omega (
+              arith,
+              near_top next (level old) s.put.level (max old.deadline next) (a.fit slot old s.has) less,
+              ap (λ d. d / 512 ^ s.put.level) not_late_old,
+              s.put.far,
+            ))
+        | inr more ↦ more
+      ]
+
+  -- both have one window on each level from that on
+  one_window_each : (l : ℕ) → s.put.level ≤ l → max key.deadline next / 512 ^ l ≡ max old.deadline next / 512 ^ l
+  one_window_each l up =
+      let e : l - s.put.level + s.put.level ≡ l = omega (arith, up) in
+      subst (λ (n : ℕ). max key.deadline next / 512 ^ n ≡ max old.deadline next / 512 ^ n) e
+      (one_above s.put.level (l - s.put.level) (max key.deadline next) (max old.deadline next)
+      (sym s.put.same ∙ ap (λ d. d / 512 ^ s.put.level) (sym not_late_old)))
 
   new_fits : MayStand next 1 (level old) (max key.deadline next)
   new_fits =
@@ -117,7 +118,7 @@ module _ {next : ℕ} {keys : List (Option Key)} {slot : ℕ} {old key : Key} {l
             | inl (at', is') ↦
                 let y_is : key ≡ y = cc in
                 let y_at : new_level y ≡ level old = here_level y y_is in
-                let some : 1 ≤ level x = omega (arith, less, x_at) in
+                let some : s.put.level ≤ level x = omega (arith, less, x_at, y_at, above) in
                 let to_old : u / 512 ^ level x ≡ max old.deadline next / 512 ^ level x =
                 old_one ∙ sym (ap (λ (k : Key). max k.deadline next / 512 ^ level x) y_is) ∙ one_window_each (level x) some in
                 let newer : rank x < rank old = a.falls i slot x old was s.has (omega (arith, less, x_at, y_at)) to_old in
@@ -170,7 +171,7 @@ module _ {next : ℕ} {keys : List (Option Key)} {slot : ℕ} {old key : Key} {l
     exact = λ j y has lowest_level. elim (key_set keys slot (Some key) j y s.low has) [
       | inl (at, is) ↦
           let y_is : key ≡ y = cc in
-          absurd (omega (arith, above, lowest_level, here_level y y_is))
+          absurd (omega (arith, above, s.put.some, lowest_level, here_level y y_is))
       | inr (ne, was) ↦
           omega (arith, there_rank j y was, a.exact j y was (omega (arith, lowest_level, there_level j y was)))
     ];

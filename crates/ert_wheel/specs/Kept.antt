@@ -1,8 +1,7 @@
--- What is kept of the slots that are written: by slot the key of its last row, and a value.
+-- What is kept of the slots that are written: by slot a value, and the key of its last row.
 
 use Rattle.std.specs.Prelude.{◌≡◌, ℕ, ◌≤◌, List, length}
 use Rattle.ert_wheel.specs.Rings.{Rings}
-use Rattle.ert_wheel.specs.declared.kept.Record.{Record}
 use Rattle.ert_wheel.specs.declared.row.Key.{Key}
 
 -- keys and values by slot, and for how many slots there is room
@@ -10,14 +9,6 @@ pub record KeptSlots (T : Type 0) : Type 0 where
   pub keys : List Key
   pub values : List T
   pub room : ℕ
-
--- the key of a record
-abbrev pub record_key : {T : Type 0} → Record T → Key
-record_key r = r.key
-
--- the value of a record
-abbrev pub record_value : {T : Type 0} → Record T → T
-record_value r = r.value
 
 -- as many slots have a record as links among the buckets and among the owners, and there is room for all
 pub record AreAlike {T : Type 0} (kept : KeptSlots T) (buckets owners : Rings) : Type 0 where

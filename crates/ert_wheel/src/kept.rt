@@ -1,43 +1,28 @@
-use crate::row::{Key, Row};
+use crate::keyed::Keyed;
 use ert_defs::NoMemory;
 use std::alloc::Global;
 use std::marker::Model;
 
-/// What is kept of a slot: the key of its last row, and the value beside it.
-#[derive(Clone, Copy)]
-struct Record<T> {
-    key: Key,
-    value: T,
-}
-
-// Beside a value of 24 bytes.
-const _: () = prove!(size_of::<Record<[u64; 3]>>() == 40);
-
-/// The key of each slot's last row, and a value of each slot.
+/// A value of each slot, with the key of the slot's last row in it.
 ///
 /// There is room for all slots from the beginning, and the slots below a number are written.
 #[derive(Drop)]
-pub struct Kept<T> {
-    records: Vec<Record<T>>,
+pub struct Kept<T: Keyed> {
+    values: Vec<T>,
 }
 
-impl<T> Model for Kept<T> {
+impl<T: Keyed> Model for Kept<T> {
     ghost use Rattle.std.specs.Prelude.{map, vec_capacity};
-    ghost use Rattle.ert_wheel.specs.Kept.{KeptSlots, record_key, record_value};
+    ghost use Rattle.ert_wheel.specs.Kept.{KeptSlots};
 
     ghost Value = { KeptSlots T };
 
-    ghost view = { λ k. record {
-      keys = map record_key k.records.items;
-      values = map record_value k.records.items;
-      room = vec_capacity k.records;
-    } };
+    ghost view = { λ k. record { keys = map T.key k.values.items; values = k.values.items; room = vec_capacity k.values } };
 }
 
-impl<T: Copy> Kept<T> {
-    ghost use Rattle.std.specs.Prelude.{◌≡◌, ◌-◌, ◌<◌, ◌≤◌, [], ◌++◌, IfOk, Some, length, replicate, slice_index_or, slice_set};
+impl<T: Keyed> Kept<T> {
+    ghost use Rattle.std.specs.Prelude.{◌≡◌, ◌-◌, ◌<◌, ◌≤◌, [], ◌++◌, IfOk, IfSome, Some, length, replicate, slice_index_or, slice_set};
     ghost use Rattle.std.specs.List.{slice_get};
-    ghost use Rattle.ert_wheel.specs.Rows.{key_of};
     ghost use Rattle.ert_wheel.specs.Walks.{stored_order};
     ghost use Rattle.ert_wheel.specs.Wheels.{no_key};
 
@@ -47,8 +32,8 @@ impl<T: Copy> Kept<T> {
         ensures values { IfOk result (λ kept. kept.values ≡ []) }
         ensures room { IfOk result (λ kept. slots ≤ kept.room) }
     {
-        let records = Vec::with_capacity(alloc, slots as usize)?;
-        Ok(Kept { records })
+        let values = Vec::with_capacity(alloc, slots as usize)?;
+        Ok(Kept { values })
     }
 
     /// How many slots are written.
@@ -57,28 +42,21 @@ impl<T: Copy> Kept<T> {
         ensures keys { result ≡ length self.now.keys }
         ensures values { result ≡ length self.now.values }
     {
-        self.records.len()
+        self.values.len()
     }
 
-    /// Writes slots up to so many, each with this value and without a row.
+    /// Writes slots up to so many, each with this value.
     #[cold]
     #[inline(never)]
     pub fn write_up_to(&mut self, count: u32, value: T)
         requires more { length self.old.keys ≤ count }
         requires room { count ≤ self.old.room }
-        ensures keys { self.new.keys ≡ self.old.keys ++ replicate (count - length self.old.keys) no_key }
+        ensures keys { self.new.keys ≡ self.old.keys ++ replicate (count - length self.old.keys) (T.key value) }
         ensures values { self.new.values ≡ self.old.values ++ replicate (count - length self.old.keys) value }
         ensures room { self.old.room ≤ self.new.room }
     {
-        let none = Record {
-            key: Key {
-                deadline: 0,
-                order: 0,
-            },
-            value,
-        };
         // There is room for them.
-        let _ = self.records.resize(count as usize, none);
+        let _ = self.values.resize(count as usize, value);
     }
 
     /// The deadline of a slot's last row.
@@ -87,7 +65,7 @@ impl<T: Copy> Kept<T> {
         requires { slot < length self.now.keys }
         ensures { result ≡ (slice_index_or self.now.keys slot no_key).deadline }
     {
-        self.records[slot as usize].key.deadline
+        self.values[slot as usize].deadline()
     }
 
     /// The order of a slot's last row.
@@ -96,7 +74,7 @@ impl<T: Copy> Kept<T> {
         requires { slot < length self.now.keys }
         ensures { result ≡ (slice_index_or self.now.keys slot no_key).order }
     {
-        self.records[slot as usize].key.order
+        self.values[slot as usize].order()
     }
 
     /// The order of a slot's last row; 0 where the slot isn't written.
@@ -104,8 +82,8 @@ impl<T: Copy> Kept<T> {
     pub fn order_if_any(&self, slot: u32) -> u64
         ensures { result ≡ stored_order self.now.keys slot }
     {
-        match self.records.get(slot as usize) {
-            Some(record) => record.key.order,
+        match self.values.get(slot as usize) {
+            Some(value) => value.order(),
             None => 0,
         }
     }
@@ -116,20 +94,18 @@ impl<T: Copy> Kept<T> {
         requires { slot < length self.now.keys }
         ensures { slice_get self.now.values slot ≡ Some result }
     {
-        self.records[slot as usize].value
+        self.values[slot as usize]
     }
 
-    /// Gives a slot another row and another value.
+    /// Gives a slot another value, with another key in it or the same.
     #[inline]
-    pub fn set(&mut self, row: Row, value: T)
-        requires { row.slot < length self.old.keys }
-        ensures keys { self.new.keys ≡ slice_set self.old.keys row.slot (key_of row) }
-        ensures values { self.new.values ≡ slice_set self.old.values row.slot value }
+    pub fn set(&mut self, slot: u32, value: T)
+        requires { slot < length self.old.keys }
+        ensures keys { self.new.keys ≡ slice_set self.old.keys slot (T.key value) }
+        ensures same { IfSome (slice_get self.old.values slot) (λ old. T.key value ≡ T.key old) → self.new.keys ≡ self.old.keys }
+        ensures values { self.new.values ≡ slice_set self.old.values slot value }
         ensures room { self.new.room ≡ self.old.room }
     {
-        self.records[row.slot as usize] = Record {
-            key: row.key(),
-            value,
-        };
+        self.values[slot as usize] = value;
     }
 }

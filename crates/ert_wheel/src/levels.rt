@@ -8,13 +8,14 @@ ghost use Rattle.ert_wheel.specs.declared.row.Key.{Key};
 ghost use Rattle.ert_wheel.specs.declared.row.TheConstants.{NEVER};
 
 use crate::kept::Kept;
+use crate::keyed::Keyed;
 use crate::marked::MarkedChains;
 use crate::row::{HeldRow, LAST};
 use crate::walk::{collect, early_in};
 use crate::windows::{begin_of, bucket_of_window, window_on, windows_end};
 
 /// Adds the due rows of a level, where those of the levels above are there.
-pub fn collect_level<T: Copy>(
+pub fn collect_level<T: Keyed>(
     chains: &MarkedChains,
     kept: &Kept<T>,
     level: u32,
@@ -44,7 +45,12 @@ pub fn collect_level<T: Copy>(
 }
 
 /// The earlier of a time and of how early a row above the lowest level may be due.
-pub fn early_above<T: Copy>(chains: &MarkedChains, kept: &Kept<T>, next_time: u64, near: u64) -> u64
+pub fn early_above<T: Keyed>(
+    chains: &MarkedChains,
+    kept: &Kept<T>,
+    next_time: u64,
+    near: u64,
+) -> u64
     requires may { MayLookAbove next_time chains.now (held_keys chains.now kept.now.keys) near }
     requires kept { length kept.now.keys ≡ chains.now.written }
     ensures none_before { NoneBefore (held_keys chains.now kept.now.keys) result }
@@ -64,7 +70,7 @@ pub fn early_above<T: Copy>(chains: &MarkedChains, kept: &Kept<T>, next_time: u6
 }
 
 /// The earlier of a time and of how early a row of a level above the lowest may be due.
-fn early_on<T: Copy>(
+fn early_on<T: Keyed>(
     chains: &MarkedChains,
     kept: &Kept<T>,
     level: u32,

@@ -22,9 +22,10 @@
 //! why a slot belongs to a home is the wheel's or its user's to know, and a contract speaks of every assignment of
 //! places that fits.
 //!
-//! **Records** (`Kept`). A row's key, its deadline and its order, stands beside the value that the wheel's user keeps of its
-//! slot, in one record. So a start writes one place for both, and where a row moves to a lower level, what its expiry will
-//! read comes into the caches. A row's order is its rank among all rows that were put in, as its user counts them.
+//! **Records** (`Kept`). The value that the wheel's user keeps of a slot has the key of the slot's last row in it, a deadline
+//! and an order, and tells them (`Keyed`). So a start writes one place for all, the user packs them as it likes, and where a row
+//! moves to a lower level, what its expiry will read comes into the caches. A row's order is its rank among all rows that were
+//! put in, as the user counts them.
 //!
 //! **Another row of a slot** (`replace`) takes the place of the one before it. Where the slot is the newest of the bucket
 //! to which the new row belongs, as where a timer is moved on again and again, no link is written.
@@ -92,7 +93,7 @@
 //! **Owners.** `own` puts a slot into the chain of an owner as its newest, `disown` takes it out, `is_owned` tells whether
 //! it is in one, and `newest_owned` tells the newest of an owner. This hangs on no row: a slot may have an owner without a row, and a row without an owner.
 //!
-//! **At rest** a slot takes 32 bytes and its value: 16 of its key and 16 of links; an owner 8 bytes for its head; and a wheel
+//! **At rest** a slot takes its value and 16 bytes of links; an owner 8 bytes for its head; and a wheel
 //! 33.5 KiB for the heads of its buckets, and 544 bytes for the marks. All is taken when the wheel is made, and no call
 //! takes memory after that; what is written then are the heads and the marks.
 //!
@@ -105,6 +106,7 @@
 mod chains;
 mod falling;
 mod kept;
+mod keyed;
 mod laws;
 mod levels;
 mod links;
@@ -118,6 +120,7 @@ mod walk;
 mod wheel;
 mod windows;
 
+pub use keyed::Keyed;
 pub use laws::answers_come_closer;
 pub use row::{BUCKETS, FirstDue, HeldRow, Key, Row};
 pub use wheel::Wheel;

@@ -10,13 +10,14 @@ ghost use Rattle.ert_wheel.specs.declared.row.Key.{Key};
 ghost use Rattle.ert_wheel.specs.declared.row.TheConstants.{BUCKETS};
 
 use crate::kept::Kept;
+use crate::keyed::Keyed;
 use crate::marked::MarkedChains;
 use crate::row::HeldRow;
 
 /// The oldest row of a bucket with a deadline at most `to`; None where it has none.
 ///
 /// It looks at the older rows of the bucket, whose deadlines are later.
-pub fn oldest_due<T: Copy>(
+pub fn oldest_due<T: Keyed>(
     chains: &MarkedChains,
     kept: &Kept<T>,
     bucket: u32,

@@ -1,3 +1,5 @@
+use crate::keyed::Keyed;
+
 /// No row has this deadline, or a later one.
 pub const NEVER: u64 = 192 << 36;
 
@@ -7,7 +9,7 @@ pub const LAST: u64 = NEVER - 1;
 /// How many buckets a wheel has: 1,024 on each of four levels, and 192 on the highest.
 pub const BUCKETS: u32 = 4_288;
 
-/// What a wheel keeps of a slot's last row.
+/// The deadline and the order of a row.
 #[derive(Clone, Copy, Debug, PartialEq, Eq)]
 pub struct Key {
     /// When the row is due, in milliseconds. At most [`LAST`].
@@ -16,31 +18,28 @@ pub struct Key {
     pub order: u64,
 }
 
+/// A wheel may keep no more of a slot than the key.
+impl Keyed for Key {
+    ghost key = { λ key. key };
+
+    fn deadline(self) -> u64 {
+        self.deadline
+    }
+
+    fn order(self) -> u64 {
+        self.order
+    }
+}
+
 /// A row that is put into a wheel.
 #[derive(Clone, Copy, Debug, PartialEq, Eq)]
 pub struct Row {
     /// When the row is due, in milliseconds. At most [`LAST`].
     pub deadline: u64,
-    /// Its rank among all rows that were put in: later ones have greater orders. It is stored beside the deadline.
+    /// Its rank among all rows that were put in: later ones have greater orders.
     pub order: u64,
     /// The slot whose row it is.
     pub slot: u32,
-}
-
-impl Row {
-    ghost use Rattle.std.specs.Prelude.{◌≡◌};
-    ghost use Rattle.ert_wheel.specs.Rows.{key_of};
-
-    /// The row without its slot.
-    #[inline(always)]
-    pub(crate) fn key(self) -> Key
-        ensures { result ≡ key_of self }
-    {
-        Key {
-            deadline: self.deadline,
-            order: self.order,
-        }
-    }
 }
 
 /// A row that a wheel holds, as it is told.

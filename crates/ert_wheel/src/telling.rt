@@ -6,6 +6,7 @@ ghost use Rattle.ert_wheel.specs.NextDue.{Tells, IsToldBy};
 ghost use Rattle.ert_wheel.specs.declared.row.TheConstants.{NEVER, BUCKETS};
 
 use crate::kept::Kept;
+use crate::keyed::Keyed;
 use crate::marked::MarkedChains;
 use crate::windows::{bucket_on, window_begin};
 
@@ -51,7 +52,7 @@ fn begins(level: u32, time: u64, deadline: u64) -> bool
 }
 
 /// A slot whose row tells a time, as far as a look at few rows finds one; else any slot.
-pub fn find_teller<T: Copy>(chains: &MarkedChains, kept: &Kept<T>, time: u64) -> u32
+pub fn find_teller<T: Keyed>(chains: &MarkedChains, kept: &Kept<T>, time: u64) -> u32
     requires time { time < NEVER }
     requires kept { length kept.now.keys ≡ chains.now.written }
 {
@@ -64,7 +65,7 @@ pub fn find_teller<T: Copy>(chains: &MarkedChains, kept: &Kept<T>, time: u64) ->
 }
 
 /// And of the rows of a bucket.
-fn teller_in<T: Copy>(chains: &MarkedChains, kept: &Kept<T>, bucket: u32, time: u64) -> Option<u32>
+fn teller_in<T: Keyed>(chains: &MarkedChains, kept: &Kept<T>, bucket: u32, time: u64) -> Option<u32>
     requires bucket { bucket < BUCKETS }
     requires kept { length kept.now.keys ≡ chains.now.written }
 {

@@ -3,6 +3,7 @@ ghost use Rattle.std.specs.Prelude.{◌≡◌, min};
 use crate::chains::Chains;
 use crate::falling::move_on;
 use crate::kept::Kept;
+use crate::keyed::Keyed;
 use crate::marked::MarkedChains;
 use crate::row::{HeldRow, LAST, Row};
 use crate::windows::bucket;
@@ -28,11 +29,11 @@ mod replacing;
 ///
 ///     let mut wheel = Wheel::new(alloc, 64, 1)?;
 ///     let mut due = Vec::with_capacity(alloc, 64)?;
-///     wheel.write_up_to(4, 0u64);
-///     wheel.insert(Row { deadline: 20, order: 0, slot: 3 }, 7);
+///     wheel.write_up_to(4, Key { deadline: 0, order: 0 });
+///     wheel.insert(Row { deadline: 20, order: 0, slot: 3 }, Key { deadline: 20, order: 0 });
 ///     wheel.advance(20, &mut due);        // gives that row, and takes it out
 #[derive(Drop)]
-pub struct Wheel<T> {
+pub struct Wheel<T: Keyed> {
     // The next time: the first that wasn't passed.
     next_time: u64,
     // No row has an earlier deadline. It is the next time, or later where it was told as when the next row is due, unless a
@@ -48,7 +49,7 @@ pub struct Wheel<T> {
     owners: Chains,
 }
 
-impl<T> Model for Wheel<T> {
+impl<T: Keyed> Model for Wheel<T> {
     ghost use Rattle.ert_wheel.specs.Rows.{Held};
     ghost use Rattle.ert_wheel.specs.Wheels.{held_keys, IsWheelAlike};
 
@@ -64,7 +65,7 @@ impl<T> Model for Wheel<T> {
     ghost invariant = { λ w. IsWheelAlike w.next_time w.len w.floor w.kept w.buckets w.owners };
 }
 
-impl<T: Copy> Wheel<T> {
+impl<T: Keyed> Wheel<T> {
     ghost use Rattle.std.specs.Prelude.{◌≡◌, ◌↔◌, ◌+◌, ◌-◌, ◌<◌, ◌≤◌, ◌^◌, ℕ, Option, Some, None, IsTrue, IsSome, IfSome, IfOk, MatchOption, All};
     ghost use Rattle.std.specs.Prelude.{[], ◌++◌, count_by, length, map, max, min, option_map, replicate, slice_set, vec_capacity};
     ghost use Rattle.std.specs.List.{slice_get};
@@ -173,8 +174,21 @@ impl<T: Copy> Wheel<T> {
         self.kept.value(slot)
     }
 
-    /// Puts a row in, with a value of its slot. The slot has no row, and the order is above that of every row that is
-    /// held.
+    /// Gives a slot another value, with the same key in it.
+    #[inline]
+    pub fn change(&mut self, slot: u32, value: T)
+        requires written { slot < self.old.owners.written }
+        requires same { IfSome (slice_get self.old.values slot) (λ old. T.key value ≡ T.key old) }
+        ensures keys { self.new.keys ≡ self.old.keys }
+        ensures owners { self.new.owners ≡ self.old.owners }
+        ensures values { self.new.values ≡ slice_set self.old.values slot value }
+        ensures passed { self.new.passed ≡ self.old.passed }
+    {
+        self.kept.set(slot, value);
+    }
+
+    /// Puts a row in, with a value of its slot that has the row's key in it. The slot has no row, and the order is above that of
+    /// every row that is held.
     ///
     /// A row whose deadline was passed already is given by the next advance. A deadline is at most `LAST`.
     #[inline]
@@ -183,6 +197,7 @@ impl<T: Copy> Wheel<T> {
         requires vacant { key_in self.old.keys row.slot ≡ None }
         requires deadline { row.deadline < NEVER }
         requires newest { (slot : ℕ) → IfSome (key_in self.old.keys slot) (λ key. key.order < row.order) }
+        requires key { T.key value ≡ key_of row }
         ensures keys { self.new.keys ≡ slice_set self.old.keys row.slot (Some (key_of row)) }
         ensures owners { self.new.owners ≡ self.old.owners }
         ensures values { self.new.values ≡ slice_set self.old.values row.slot value }
@@ -190,7 +205,7 @@ impl<T: Copy> Wheel<T> {
     {
         let home = bucket(self.next_time, row.deadline.max(self.next_time));
         self.buckets.put(row.slot, home);
-        self.kept.set(row, value);
+        self.kept.set(row.slot, value);
         lower(&mut self.floor, &mut self.teller, row);
         self.len += 1;
     }

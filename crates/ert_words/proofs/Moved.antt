@@ -1,15 +1,14 @@
 -- The first of the slots that are held comes and goes as the last one does.
 
-use Rattle.std.proofs.Common.{Option, Some, None, IfNone, IfSome, option_to_list, ◌≡◌, ℕ, ◌<◌, ◌≤◌, false, List, [], ◌∷◌, ◌++◌, nat_eq, refl, sym, ap, ◌∙◌, subst}
+use Rattle.std.proofs.Common.{Option, Some, None, IfNone, IfSome, option_to_list, ◌≡◌, ℕ, List, [], ◌∷◌, ◌++◌, nat_eq, refl, sym, ap, ◌∙◌, subst}
 use Rattle.std.proofs.lemmas.List.Sorted.{IsPermutation-to_front, IsPermutation-sym, list_any-IsPermutation}
 use Rattle.std.proofs.lemmas.Map.Keys.{IsDistinct-IsPermutation}
 use Rattle.std.specs.Cmp.{nat_cmp_total, nat_eq_equiv}
 use Rattle.std.specs.FinSet as set
 use Rattle.std.specs.List.Sorted.{IsPermutation}
-use Rattle.std.specs.List.{list_any}
 use Rattle.std.specs.Ordering.{nat_cmp}
 use Rattle.ert_words.specs.Free.{FreeSet, HasRoom}
-use Rattle.ert_words.proofs.Held.{Picks, contains-from_list, free_of, free_of-push, picks, popped, pushed}
+use Rattle.ert_words.proofs.Held.{Picks, contains-from_list, free_of, picks, popped}
 
 -- where slots lie in another order, there is as much room
 moved : (slots capacity : ℕ) (xs ys : List ℕ) → IsPermutation xs ys → HasRoom slots xs capacity → HasRoom slots ys capacity

@@ -1,6 +1,6 @@
 -- Which values have a word, and which numbers are words.
 
-use Rattle.std.specs.Prelude.{◌≡◌, ◌⊎◌, ℕ, ℤ, pos, ◌<◌, ◌≤◌, ◌%◌, ◌+ℤ◌, ◌≤ℤ◌, Bool, Option, Some, IfSome, FitsSigned}
+use Rattle.std.specs.Prelude.{◌≡◌, ◌⊎◌, ℕ, ℤ, pos, ◌<◌, ◌≤◌, ◌/◌, ◌%◌, ◌+ℤ◌, ◌≤ℤ◌, Bool, cond, nat_eq, Option, Some, IfSome, FitsSigned}
 use Rattle.std.specs.Int.{w64}
 use Rattle.ert_defs.specs.Lines.{IsOffset}
 use Rattle.ert_defs.specs.Timers.{use_of}
@@ -48,6 +48,14 @@ pub record IsUsedWord (word : ℕ) : Type 0 where
   pub generation : ℕ
   pub in_range : IsTimer deadline generation
   pub stands : word ≡ timer_word status deadline generation
+
+-- the deadline in the word of a timer, and 0 in that of a slot that was never used
+abbrev pub word_deadline : ℕ → ℕ
+word_deadline word = (word / 8) % 8796093022208
+
+-- what the word shows of the generation (`shown_generation`), and 0 in that of a slot that was never used
+abbrev pub word_generation : ℕ → ℕ
+word_generation word = cond (nat_eq (word % 8) 7) (word / 8) (word / 70368744177664)
 
 -- the word of a slot, used or not
 abbrev pub IsTimerWord : ℕ → Type 0

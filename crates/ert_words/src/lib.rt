@@ -16,5 +16,7 @@ mod turns;
 pub use clock_words::{offset_of, offset_word, time_of, time_word};
 pub use free_slots::FreeSlots;
 pub use laws::{offsets_have_words, timers_have_words, times_have_words};
-pub use timer_words::{armed_deadline, armed_word, timer_of, timer_word, word_after};
+pub use timer_words::{
+    armed_deadline, armed_word, timer_of, timer_word, word_after, word_deadline, word_generation,
+};
 pub use turns::Turns;

@@ -4,6 +4,7 @@ ghost use Rattle.ert_defs.specs.declared.timer.Status.{Status};
 ghost use Rattle.ert_defs.specs.declared.timer.Status.TheVariants.{Armed};
 ghost use Rattle.ert_words.specs.Ranges.{IsTimer, IsTimerWord, TellsArmed, shown_generation};
 ghost use Rattle.ert_defs.specs.Words as words;
+ghost use Rattle.ert_words.specs.Ranges as ranges;
 
 use ert_defs::{FIRST_LATER_GENERATION, Status, USES_OF_ROUND, use_of};
 
@@ -107,6 +108,26 @@ fn deadline_of_later(word: u64, generation: u64) -> Option<u64>
         Some(generation % FIRST_LATER_GENERATION)
     } else {
         None
+    }
+}
+
+/// The deadline in the word of an armed timer, in milliseconds after the start; 0 in that of a slot that was never used.
+#[inline(always)]
+pub fn word_deadline(word: u64) -> u64
+    ensures { result ≡ ranges.word_deadline word }
+{
+    word / DEADLINE % (GENERATION / DEADLINE)
+}
+
+/// The generation in the word of an armed timer; 0 in that of a slot that was never used.
+#[inline(always)]
+pub fn word_generation(word: u64) -> u64
+    ensures { result ≡ ranges.word_generation word }
+{
+    if word % DEADLINE == ARMED_LATER {
+        word / DEADLINE
+    } else {
+        word / GENERATION
     }
 }
 

@@ -115,23 +115,22 @@ starts_arm : (g : Settings) (by w : ℕ) (start : Start) (timer : TimerRef) (s :
 starts_arm g by w start timer s es starts =
     subst (HasOne (IsArm timer)) (sym starts.entries) (inr (has_later (IsArm timer) starts.probes _ (inl (by, start, refl))))
 
-legal_piece : (a : Seen) (h : List Entry) (piece : List Entry) → Legal a.settings h → h ≡ a.history ++ piece → LegalFrom a.settings (state a.settings a.history) piece
-legal_piece a h piece legal grown =
-    legal_then a.settings (opening a.settings) a.history piece (subst (Legal a.settings) grown legal)
+-- so it gives no name that was given before, whichever entries of others stand beside its own
+pub name_is_new : (g : Settings) (test : Entry → Bool) (h new piece : List Entry) (by w : ℕ) (start : Start) (timer : TimerRef) → Legal g h → Legal g new
+    → new ≡ h ++ piece → Starts g by w start (Ok timer) (state g h) (filter test piece) → (state g h).status timer ≢ None → ⊥
+name_is_new g test h new piece by w start timer legal after grown starts some =
+    never_again g test timer (state g h) piece (ordered g h legal) some (legal_then g (opening g) h piece (subst (Legal g) grown after))
+    (starts_arm g by w start timer (state g h) (filter test piece) starts)
 
--- a start gives no name that was given before
+-- a start of a world gives no name that was given before
 new_name : (a c : Seen) (w : ℕ) (start : Start) (timer : TimerRef) → Legal a.settings a.history → Goes a (By a (λ g. Starts g 0 w start (Ok timer))) c
     → (state a.settings a.history).status timer ≢ None → ⊥
 new_name a c w start timer legal goes some =
-    let g : Settings = a.settings in
-    let s : State = state g a.history in
-    let test = is_unseated a.next in
-    never_again g test timer s goes.grows.piece (ordered g a.history legal) some
-    (legal_piece a c.history goes.grows.piece (subst (λ (x : Settings). Legal x c.history) goes.settings goes.legal) goes.grows.grown)
-    (starts_arm g 0 w start timer s (filter test goes.grows.piece) goes.grows.made)
+    name_is_new a.settings (is_unseated a.next) a.history c.history goes.grows.piece 0 w start timer legal
+    (subst (λ (x : Settings). Legal x c.history) goes.settings goes.legal) goes.grows.grown goes.grows.made some
 
 -- a row that is held after a start was held before, or is of the timer that was started
-row_from : (g : Settings) (h : List Entry) (old new : Part) (answer : Result TimerRef StartErr) (timer : TimerRef) → WheelStands g h old → GainsOne old new answer
+pub row_from : (g : Settings) (h : List Entry) (old new : Part) (answer : Result TimerRef StartErr) (timer : TimerRef) → WheelStands g h old → GainsOne old new answer
     → IsHeld new timer → IsHeld old timer ⊎ (answer ≡ Ok timer)
 row_from g h old new answer timer stands gains held = at (key_in new.keys timer.slot) refl
   where

@@ -1,9 +1,11 @@
--- What a start leaves of the slots that the wheels of a world hold free.
+-- What a start leaves of the slots that the wheels of a world hold free, and where it finds one.
 
 use Rattle.std.specs.Prelude.{ℕ, Result, slice_index_or}
 use Rattle.ert_defs.specs.declared.timer.TimerRef.{TimerRef}
 use Rattle.ert_timers.specs.Frees.{IsUsedUp, UsesFree}
 use Rattle.ert_timers.specs.Parts.{Part}
+use Rattle.ert_timers.specs.Searching.{IsOpen}
+use Rattle.ert_defs.specs.States.{state}
 use Rattle.ert_world.specs.Worlds.{Seen}
 
 -- there is a reason to refuse a timer on a wheel: it has had 2^53 timers before, or it holds no slot free afterwards
@@ -13,3 +15,7 @@ IsUsedUpAt old new i = (d : Part) → IsUsedUp (slice_index_or old.wheels i d) (
 -- each slot that a wheel held free is so still, but that of the timer that was started
 abbrev pub UsesFreeAt : {E : Type 0} → Seen → Seen → ℕ → Result TimerRef E → Type 0
 UsesFreeAt old new i answer = (d : Part) → UsesFree (slice_index_or old.wheels i d) (slice_index_or new.wheels i d) answer
+
+-- the slot of a wheel at which the next looks begin can take a timer now, and the wheel can have more timers
+abbrev pub IsOpenAt : Seen → ℕ → Type 0
+IsOpenAt w i = (d : Part) → IsOpen w.settings (state w.settings w.history) (slice_index_or w.wheels i d)

@@ -8,7 +8,7 @@ use ert_effects::Room;
 use ert_timers::StartErr;
 
 impl World {
-    ghost use Rattle.std.specs.Prelude.{◌≡◌, ◌≢◌, ◌<◌, true, false, Err, OnSome};
+    ghost use Rattle.std.specs.Prelude.{◌≡◌, ◌≢◌, ◌<◌, ◌≤◌, true, false, Err, OnSome};
     ghost use Rattle.ert_effects.specs.Chains.{Exits};
     ghost use Rattle.ert_effects.specs.RoomCalls.{TellsRoom};
     ghost use Rattle.ert_effects.specs.TimerCalls.{Reads, Cancels, Starts};
@@ -16,8 +16,8 @@ impl World {
     ghost use Rattle.ert_effects.specs.declared.answers.StartErr.TheVariants.{BadArg, Full, NoMemory};
     ghost use Rattle.ert_defs.specs.declared.entry.Actor.TheVariants.{Caller};
     ghost use Rattle.ert_defs.specs.States.{state};
-    ghost use Rattle.ert_defs.specs.Timers.{is_taken};
-    ghost use Rattle.ert_world.specs.Frees.{IsUsedUpAt, UsesFreeAt};
+    ghost use Rattle.ert_defs.specs.Timers.{is_taken, timer_at};
+    ghost use Rattle.ert_world.specs.Frees.{IsUsedUpAt, IsOpenAt, UsesFreeAt};
     ghost use Rattle.ert_world.specs.Restarts.{HasNoDeadline};
     ghost use Rattle.ert_world.specs.Stepping.{Stays};
     ghost use Rattle.ert_world.specs.Worlds.{Goes, HasForgotten, StayForgotten, By, HasProcessExited, IsLetGoIn, KeepRows};
@@ -25,8 +25,9 @@ impl World {
     /// Starts a timer on a wheel (`erlang` module reference, `start_timer` and `send_after`).
     ///
     /// BadArg comes where the start has no deadline at the time of the call, and Full where each slot of the
-    /// wheel that was looked at is taken or rests (`Settings::looks`), or the wheel has had 2^53 timers. A timer for a
-    /// process that has exited is started and cancelled at once. No memory is taken.
+    /// wheel that was looked at is taken or rests (`Settings::looks`), or the wheel has had 2^53 timers. Right after a look
+    /// at the room that found some it isn't Full. A timer for a process that has exited is started and cancelled at once. No
+    /// memory is taken.
     #[inline(always)]
     pub fn start(&mut self, wheel: u32, start: &Start) -> Result<TimerRef, StartErr>
         requires wheel { wheel < self.old.settings.schedulers }
@@ -35,6 +36,7 @@ impl World {
         ensures time { result ≡ Err BadArg → HasNoDeadline self.old start.now }
         ensures memory { result ≢ Err NoMemory }
         ensures full { result ≡ Err Full → IsUsedUpAt self.old self.new wheel }
+        ensures ready { IsOpenAt self.old wheel → result ≢ Err Full }
         ensures frees { UsesFreeAt self.old self.new wheel result }
         ensures forgotten { StayForgotten self.old self.new }
     {
@@ -52,18 +54,23 @@ impl World {
         if timer.generation <= USES_OF_ROUND {
             self.cancel_by_name(timer)
         } else {
-            self.cancel_of_later_round(timer)
+            self.cancel_of_later_round(timer.wheel, timer.slot, timer.generation)
         }
     }
 
-    /// The same for a timer of a later round of its slot.
+    /// The same for a timer of a later round of its slot. Its name comes in parts: so a cancel, which seldom gets here,
+    /// needn't write it to memory.
     #[cold]
     #[inline(never)]
-    fn cancel_of_later_round(&mut self, timer: TimerRef) -> Option<u64>
-        ensures call { Goes self.old (By self.old (λ g. Cancels g (Caller 0) timer result)) self.new }
-        ensures forgotten { OnSome result (HasForgotten self.new timer) }
+    fn cancel_of_later_round(&mut self, wheel: u32, slot: u32, generation: u64) -> Option<u64>
+        ensures call { Goes self.old (By self.old (λ g. Cancels g (Caller 0) (timer_at wheel slot generation) result)) self.new }
+        ensures forgotten { OnSome result (HasForgotten self.new (timer_at wheel slot generation)) }
     {
-        self.cancel_by_name(timer)
+        self.cancel_by_name(TimerRef {
+            wheel,
+            slot,
+            generation,
+        })
     }
 
     /// The same for any timer.
@@ -102,11 +109,12 @@ impl World {
     /// rests once it was used 262,143 times in its round, until the deadlines of all its timers have passed.
     ///
     /// By it an embedder sees a full wheel coming, and knows how long to wait then. Where one can take a timer, the next
-    /// start on the wheel isn't refused. The caller looks at the time and at each slot, so it isn't meant for each start. No
+    /// start on the wheel isn't refused for want of a slot (`Full`). The caller looks at the time and at each slot, so it isn't meant for each start. No
     /// memory is taken.
     pub fn room(&mut self, wheel: u32) -> Room
         requires { wheel < self.old.settings.schedulers }
         ensures call { Goes self.old (By self.old (λ g. TellsRoom g 0 wheel result)) self.new }
+        ensures ready { 1 ≤ result.free → IsOpenAt self.new wheel }
     {
         self.wheels[wheel as usize].room(&self.desk, &mut self.pass, CALLER)
     }

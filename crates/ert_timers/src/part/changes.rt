@@ -4,12 +4,14 @@ ghost use Rattle.std.specs.Prelude.{◌≡◌, ◌≤◌, ◌<◌, ℕ, Option, 
 ghost use Rattle.ert_defs.specs.Timers as timers;
 ghost use Rattle.ert_timers.specs.Changes as changes;
 ghost use Rattle.ert_timers.specs.Owners.{MayJoin, Joins};
-ghost use Rattle.ert_timers.specs.Parts.{IsWritten};
-ghost use Rattle.ert_wheel.specs.Rings.{Place, AreChains, MayTake, GivesUpPlace, StandsIn};
+ghost use Rattle.ert_timers.specs.Parts.{AreJoined, IsWritten, all_slots};
+ghost use Rattle.ert_timers.specs.Slots.{stored_slot, stored_key};
+ghost use Rattle.ert_wheel.specs.Rings.{Place, AreChains, MayTake, GivesUpPlace};
 ghost use Rattle.ert_words.specs.Free.{free_set, with_short, with_long, TakesLong, TakesNextSlot};
+ghost use Rattle.ert_words.specs.Ranges.{IsTimer};
 
-use super::{Use, WheelPart, is_long, never_used};
-use crate::slot::Slot;
+use super::{Use, WheelPart, are_short, is_long};
+use crate::slot::Stored;
 use ert_defs::{FIRST_LATER_GENERATION, Start, TimerRef, USES_OF_ROUND, use_of};
 use ert_wheel::{Row, Wheel};
 use ert_words::FreeSlots;
@@ -17,29 +19,39 @@ use ert_words::FreeSlots;
 /// How many slots are written at once, at the first use of the first of them: 3 KiB.
 const WRITTEN_AT_ONCE: u32 = 64;
 
-impl Slot {
+impl Stored {
     /// Whether it was used less often than a round allows.
     fn has_uses(self) -> bool
-        ensures { result ≡ changes.has_uses self }
+        ensures { result ≡ changes.has_uses (stored_slot self) }
     {
         has_uses(self.generation())
     }
 
-    /// What is kept of it with the timer of a start.
+    /// What is stored of it with the timer of a start, which is the next one of this order.
     #[inline]
-    pub(super) fn used(self, start: &Start, next: Use) -> Slot
-        requires deadline { next.deadline ≤ 8796093022207 }
+    pub(super) fn used(self, start: &Start, next: Use, order: u64) -> Stored
+        requires timer { IsTimer next.deadline next.generation }
+        requires order { order ≤ 9007199254740992 }
         requires dest { start.now.dest < 524288 }
-        ensures { result ≡ changes.slot_for next self.above start.now }
+        ensures slot { stored_slot result ≡ changes.slot_for next (stored_slot self).above start.now }
+        ensures key { stored_key result ≡ record { deadline = next.deadline; order = order } }
     {
         let above = self.above().max(next.deadline + 1);
-        Slot::new(next.generation, above, start.dest, start.msg, start.kind)
+        Stored::new(
+            next.deadline,
+            next.generation,
+            order,
+            above,
+            start.dest,
+            start.msg,
+            start.kind,
+        )
     }
 
     /// Whether it rests at a time in milliseconds after the start time: its round has no use left, and the
     /// deadline of one of its timers hasn't passed.
     fn is_resting(self, now: u64) -> bool
-        ensures { result ≡ changes.is_resting self now }
+        ensures { result ≡ changes.is_resting (stored_slot self) now }
     {
         !self.has_uses() && now < self.above()
     }
@@ -52,7 +64,7 @@ impl Slot {
     fn next_use(self, now: u64, deadline: u64) -> Use
         requires now { now ≤ 8796093022207 }
         requires deadline { deadline ≤ 8796093022207 }
-        ensures { result ≡ changes.next_use self.generation now deadline }
+        ensures { result ≡ changes.next_use (stored_slot self).generation now deadline }
     {
         Use::after(self.generation(), now, deadline)
     }
@@ -107,8 +119,7 @@ impl WheelPart {
         let slot = self.free.pick()?;
         write(&mut self.wheel, slot);
         let above = self.wheel.value(slot).above();
-        // Most waits are short, and one test tells that neither of both is long.
-        if !is_long(now, above.max(deadline)) {
+        if are_short(now, above, deadline) {
             return Some(slot);
         }
         let long = is_long(now, deadline);
@@ -190,7 +201,7 @@ impl WheelPart {
         requires away { set.contains self.old.free slot ≡ false }
         ensures { self.new ≡ self.old }
     {
-        self.wheel.disown(slot);
+        part_from(&mut self.wheel, slot);
     }
 
     /// Drops the row of a timer that has been settled but hasn't expired, counts whether it was cancelled
@@ -223,20 +234,20 @@ impl WheelPart {
     pub(crate) fn keep(&mut self, slot: u32, start: &Start, next: Use) -> TimerRef
         requires free { MayBecomeFree self.old slot }
         requires dest { start.now.dest < self.old.processes }
-        requires deadline { next.deadline ≤ 8796093022207 }
+        requires timer { IsTimer next.deadline next.generation }
         requires few { self.old.arms < 9007199254740992 }
         ensures kept { self.new ≡ kept self.old slot start.now next }
         ensures timer { result ≡ last_timer self.new.number self.new.slots slot }
     {
         let last = self.wheel.value(slot);
-        let stays = is_with(&self.wheel, slot, last, start.dest);
+        let stays = last.is_with(start.dest);
         let row = Row {
             deadline: next.deadline,
             order: self.arms,
             slot,
         };
         self.arms += 1;
-        self.wheel.insert(row, last.used(start, next));
+        self.wheel.insert(row, last.used(start, next, row.order));
         join(&mut self.wheel, slot, start.dest, stays);
         TimerRef {
             wheel: self.number,
@@ -255,7 +266,7 @@ pub(super) fn has_uses(generation: u64) -> bool
 
 /// Writes what is kept of a slot where that isn't written yet: so it is with one that is taken for the first time.
 #[inline(always)]
-fn write(wheel: &mut Wheel<Slot>, slot: u32)
+fn write(wheel: &mut Wheel<Stored>, slot: u32)
     requires low { slot < length wheel.old.keys }
     requires same { length wheel.old.keys ≡ wheel.old.owners.slots }
     ensures written { slot < wheel.new.owners.written }
@@ -269,7 +280,7 @@ fn write(wheel: &mut Wheel<Slot>, slot: u32)
 /// Writes a slot that isn't written, those below it, and some of those that come next.
 #[cold]
 #[inline(never)]
-fn write_more(wheel: &mut Wheel<Slot>, slot: u32)
+fn write_more(wheel: &mut Wheel<Stored>, slot: u32)
     requires low { slot < length wheel.old.keys }
     requires same { length wheel.old.keys ≡ wheel.old.owners.slots }
     requires high { wheel.old.owners.written ≤ slot }
@@ -277,23 +288,12 @@ fn write_more(wheel: &mut Wheel<Slot>, slot: u32)
     ensures more { IsWritten wheel.old wheel.new wheel.new.owners.written }
 {
     let count = slot.saturating_add(WRITTEN_AT_ONCE).min(wheel.slots());
-    wheel.write_up_to(count, never_used());
-}
-
-/// Whether a slot stands in the chain of a process, by what is kept of its last timer.
-#[inline]
-fn is_with(wheel: &Wheel<Slot>, slot: u32, last: Slot, process: u32) -> bool
-    requires { slot < wheel.now.owners.written }
-    ensures { (places : ℕ → Option Place) → AreChains wheel.now.owners places
-        → ((place : Place) → places slot ≡ Some place → place.home ≡ last.dest)
-        → result ≡ true → StandsIn places process slot }
-{
-    last.dest() == process && wheel.is_owned(slot)
+    wheel.write_up_to(count, Stored::unused());
 }
 
 /// Puts a slot into the chain of a process, where it doesn't stay in it.
 #[inline]
-pub(super) fn join(wheel: &mut Wheel<Slot>, slot: u32, process: u32, stays: bool)
+pub(super) fn join(wheel: &mut Wheel<Stored>, slot: u32, process: u32, stays: bool)
     requires process { process < wheel.old.owners.homes }
     requires may { MayTake wheel.old.owners slot }
     requires written { slot < wheel.old.owners.written }
@@ -313,9 +313,67 @@ pub(super) fn join(wheel: &mut Wheel<Slot>, slot: u32, process: u32, stays: bool
     wheel.own(slot, process);
 }
 
+/// The same where it mostly stays.
+#[inline(always)]
+pub(super) fn join_seldom(wheel: &mut Wheel<Stored>, slot: u32, process: u32, stays: bool)
+    requires process { process < wheel.old.owners.homes }
+    requires may { MayTake wheel.old.owners slot }
+    requires written { slot < wheel.old.owners.written }
+    ensures keys { wheel.new.keys ≡ wheel.old.keys }
+    ensures values { wheel.new.values ≡ wheel.old.values }
+    ensures passed { wheel.new.passed ≡ wheel.old.passed }
+    ensures slots { wheel.new.owners.slots ≡ wheel.old.owners.slots }
+    ensures homes { wheel.new.owners.homes ≡ wheel.old.owners.homes }
+    ensures written { wheel.new.owners.written ≡ wheel.old.owners.written }
+    ensures joins { (places : ℕ → Option Place) (bound : ℕ) → AreChains wheel.old.owners places
+        → MayJoin places slot process bound stays → Joins wheel.new.owners places slot process bound }
+{
+    if stays {
+        return;
+    }
+    join_anew(wheel, slot, process);
+}
+
+/// The same where it doesn't stay.
+#[cold]
+#[inline(never)]
+fn join_anew(wheel: &mut Wheel<Stored>, slot: u32, process: u32)
+    requires process { process < wheel.old.owners.homes }
+    requires may { MayTake wheel.old.owners slot }
+    requires written { slot < wheel.old.owners.written }
+    ensures keys { wheel.new.keys ≡ wheel.old.keys }
+    ensures values { wheel.new.values ≡ wheel.old.values }
+    ensures passed { wheel.new.passed ≡ wheel.old.passed }
+    ensures slots { wheel.new.owners.slots ≡ wheel.old.owners.slots }
+    ensures homes { wheel.new.owners.homes ≡ wheel.old.owners.homes }
+    ensures written { wheel.new.owners.written ≡ wheel.old.owners.written }
+    ensures joins { (places : ℕ → Option Place) (bound : ℕ) → AreChains wheel.old.owners places
+        → MayJoin places slot process bound false → Joins wheel.new.owners places slot process bound }
+{
+    join(wheel, slot, process, false);
+}
+
+/// Takes a slot out of the chain of its process, where it is in one, with the note that it stands there.
+pub(super) fn part_from(wheel: &mut Wheel<Stored>, slot: u32)
+    requires may { MayTake wheel.old.owners slot }
+    requires written { slot < wheel.old.owners.written }
+    ensures keys { wheel.new.keys ≡ wheel.old.keys }
+    ensures stored { (n : ℕ) → all_slots wheel.new.values n ≡ all_slots wheel.old.values n }
+    ensures passed { wheel.new.passed ≡ wheel.old.passed }
+    ensures slots { wheel.new.owners.slots ≡ wheel.old.owners.slots }
+    ensures homes { wheel.new.owners.homes ≡ wheel.old.owners.homes }
+    ensures written { wheel.new.owners.written ≡ wheel.old.owners.written }
+    ensures parted { GivesUpPlace wheel.old.owners wheel.new.owners slot }
+    ensures joined { AreJoined wheel.old.values wheel.old.owners → AreJoined wheel.new.values wheel.new.owners }
+{
+    let stored = wheel.value(slot);
+    wheel.change(slot, stored.apart());
+    wheel.disown(slot);
+}
+
 /// Takes a slot out of its chain, where it is in one. In a slot's first use it isn't, and then nothing is written.
 #[inline]
-fn take_out(wheel: &mut Wheel<Slot>, slot: u32)
+fn take_out(wheel: &mut Wheel<Stored>, slot: u32)
     requires may { MayTake wheel.old.owners slot }
     requires written { slot < wheel.old.owners.written }
     ensures keys { wheel.new.keys ≡ wheel.old.keys }

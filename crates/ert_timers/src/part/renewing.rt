@@ -1,6 +1,6 @@
 //! A slot that has the row of a timer that was settled, and takes the next one at once.
-use super::changes::{has_uses, join};
-use super::{Use, WheelPart, is_long};
+use super::changes::{has_uses, join_seldom};
+use super::{Use, WheelPart, are_short, is_long};
 use crate::starting::MOST_TIMERS;
 use ert_defs::{Start, TimerRef};
 use ert_wheel::Row;
@@ -11,6 +11,7 @@ impl WheelPart {
     ghost use Rattle.ert_effects.specs.RestartCalls.{NeedsSlot};
     ghost use Rattle.ert_timers.specs.Parts.{last_timer, slot_at};
     ghost use Rattle.ert_timers.specs.Restarting.{CanRenew, MayStay};
+    ghost use Rattle.ert_words.specs.Ranges.{IsTimer};
 
     /// Puts in the timer of a start, in the slot of one that has a row still, whose place the new one takes. Where both
     /// go to the same process no chain of a process is read or written.
@@ -18,7 +19,7 @@ impl WheelPart {
     pub(crate) fn renew(&mut self, slot: u32, start: &Start, next: Use) -> TimerRef
         requires can { CanRenew self.old slot }
         requires dest { start.now.dest < self.old.processes }
-        requires deadline { next.deadline ≤ 8796093022207 }
+        requires timer { IsTimer next.deadline next.generation }
         ensures kept { self.new ≡ kept self.old slot start.now next }
         ensures timer { result ≡ last_timer self.new.number self.new.slots slot }
     {
@@ -29,9 +30,9 @@ impl WheelPart {
             slot,
         };
         self.arms += 1;
-        self.wheel.replace(row, last.used(start, next));
+        self.wheel.replace(row, last.used(start, next, row.order));
         let stays = last.dest() == start.dest;
-        join(&mut self.wheel, slot, start.dest, stays);
+        join_seldom(&mut self.wheel, slot, start.dest, stays);
         TimerRef {
             wheel: self.number,
             slot,
@@ -56,7 +57,6 @@ impl WheelPart {
         ensures { IsTrue result ↔ ((4194304 ≤ (slot_at self.now.slots slot).above - now) ↔ (4194304 ≤ deadline - now)) }
     {
         let above = self.kept_of(slot).above();
-        // Most waits are short, and one test tells that neither of both is long.
-        !is_long(now, above.max(deadline)) || is_long(now, above) == is_long(now, deadline)
+        are_short(now, above, deadline) || is_long(now, above) == is_long(now, deadline)
     }
 }

@@ -1,10 +1,11 @@
 //! The rows that are due, in order.
 use super::Wheel;
+use crate::keyed::Keyed;
 use crate::levels::collect_level;
 use crate::row::HeldRow;
 use crate::sorting::sort_told;
 
-impl<T: Copy> Wheel<T> {
+impl<T: Keyed> Wheel<T> {
     ghost use Rattle.std.specs.Prelude.{◌≡◌, ◌<◌, ◌≤◌, ℕ, All, length, vec_capacity};
     ghost use Rattle.std.specs.List.Sorted.{IsSortedBy};
     ghost use Rattle.ert_wheel.specs.Rows.{key_in, key_of, rows_told, times, due_count, comes_before};

@@ -3,11 +3,12 @@ ghost use Rattle.std.specs.Prelude.{◌≡◌};
 
 use super::Wheel;
 use crate::falling::{fall_before, fall_on};
+use crate::keyed::Keyed;
 use crate::oldest::oldest_due;
 use crate::row::{FirstDue, HeldRow, LAST};
 use crate::windows::{begin_of, bucket_of_window, window_on};
 
-impl<T: Copy> Wheel<T> {
+impl<T: Keyed> Wheel<T> {
     ghost use Rattle.std.specs.Bool.{OnTrue};
     ghost use Rattle.std.specs.Prelude.{◌≡◌, ◌+◌, ◌-◌, ◌<◌, ◌≤◌, ℕ, IfSome, MatchBool, MatchOption, max, min};
     ghost use Rattle.ert_wheel.specs.FirstDue.{NoRowDue, HasToMove, IsFirstRowDue, IsFirstTold, IsNextStop, IsReached, MayBeDue, SomeRowDue};

@@ -1,12 +1,13 @@
 //! When the next row is due.
 use super::Wheel;
+use crate::keyed::Keyed;
 use crate::levels::early_above;
 use crate::row::NEVER;
 use crate::telling::{find_teller, is_told_by, tells};
 use crate::walk::least_in;
 use crate::windows::{bucket_of_window, windows_end};
 
-impl<T: Copy> Wheel<T> {
+impl<T: Keyed> Wheel<T> {
     ghost use Rattle.std.specs.Bool.{OnTrue};
     ghost use Rattle.std.specs.Prelude.{◌≡◌, ◌↔◌, ◌<◌, ◌≤◌, ℕ, IfNone, IfSome, IsSome, IsTrue, MatchOption};
     ghost use Rattle.ert_wheel.specs.FirstDue.{SomeRowDue};

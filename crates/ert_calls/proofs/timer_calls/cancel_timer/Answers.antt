@@ -2,22 +2,13 @@ use Rattle.std.proofs.Common.{◌≡◌, ◌∙◌, ℕ, Some, None, option_map,
 use Rattle.ert_defs.specs.Milliseconds.{left, up}
 use Rattle.ert_defs.specs.declared.settings.Settings.{Settings}
 use Rattle.ert_table.specs.Desks.{settings_of, view_of}
-use Rattle.ert_calls.proofs.Named.{names_no_slot, names_no_generation, names_both}
 use Rattle.ert_calls.proofs.Timings.{cancels_none, cancels_all, natural_sub}
 use Rattle.ert_calls.proofs.timer_calls.cancel_timer.Goals as goal
 
-pub returns-then-not-has_slot-clause-call : goal.returns-then-not-has_slot-clause-call
-returns-then-not-has_slot-clause-call c =
+pub returns-then-not-is_in_range-clause-call : goal.returns-then-not-is_in_range-clause-call
+returns-then-not-is_in_range-clause-call c =
     cancels_none (settings_of c.args.desk.now) (view_of c.args.pass.now) c.args.by c.args.timer c.look-now.result (view_of c.look-now.new.pass)
-    (names_no_slot (settings_of c.args.desk.now) c.args.timer (search rules)) c.look-now.ensures.step
-
-pub returns-then-not-has_generation-clause-call : goal.returns-then-not-has_generation-clause-call
-returns-then-not-has_generation-clause-call c =
-    cancels_none (settings_of c.args.desk.now) (view_of c.args.pass.now) c.args.by c.args.timer c.look-now.result (view_of c.look-now.new.pass)
-    (names_no_generation (settings_of c.args.desk.now) c.args.timer (search rules)) c.look-now.ensures.step
-
-pub cancel-requires-clause-in_range : goal.cancel-requires-clause-in_range
-cancel-requires-clause-in_range c = names_both (settings_of c.args.desk.now) c.args.timer (search rules) (search rules)
+    (search rules) c.look-now.ensures.step
 
 pub returns-in_err-deadline-clause-call : goal.returns-in_err-deadline-clause-call
 returns-in_err-deadline-clause-call c =

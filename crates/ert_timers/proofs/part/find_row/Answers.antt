@@ -9,7 +9,8 @@ use Rattle.ert_wheel.specs.declared.row.Key.{Key}
 pub loop-slot-init : goal.loop-slot-init
 loop-slot-init c = record {
   keys_stay = refl;
-  values_stay = refl;
+  stored_stays = λ n. refl;
+  joined_stays = λ joined. joined;
   slots_stay = refl;
   homes_stay = refl;
   passed_stays = refl;
@@ -23,19 +24,20 @@ newest_owned-requires c = omega (arith, c.requires.process, c.loop-slot.invarian
 pub row-requires : goal.row-requires
 row-requires c = c.in-Some.ensures.written
 
-pub disown-requires-clause-may : goal.disown-requires-clause-may
-disown-requires-clause-may c =
+pub part_from-requires-clause-may : goal.part_from-requires-clause-may
+part_from-requires-clause-may c =
     let t = c.loop-slot.invariant.thins c.requires.may.places c.requires.may.are in
     record { places = t.0; are = t.1.are; low = (c.in-Some.ensures.finds t.0 t.1.are).stands.0 }
 
 pub loop-slot-preserved : goal.loop-slot-preserved
 loop-slot-preserved c = record {
-  keys_stay = c.disown.ensures.keys ∙ c.loop-slot.invariant.keys_stay;
-  values_stay = c.disown.ensures.values ∙ c.loop-slot.invariant.values_stay;
-  slots_stay = c.disown.ensures.slots ∙ c.loop-slot.invariant.slots_stay;
-  homes_stay = c.disown.ensures.homes ∙ c.loop-slot.invariant.homes_stay;
-  passed_stays = c.disown.ensures.passed ∙ c.loop-slot.invariant.passed_stays;
-  written_stays = c.disown.ensures.written ∙ c.loop-slot.invariant.written_stays;
+  keys_stay = c.part_from.ensures.keys ∙ c.loop-slot.invariant.keys_stay;
+  stored_stays = λ n. c.part_from.ensures.stored n ∙ c.loop-slot.invariant.stored_stays n;
+  joined_stays = λ joined. c.part_from.ensures.joined (c.loop-slot.invariant.joined_stays joined);
+  slots_stay = c.part_from.ensures.slots ∙ c.loop-slot.invariant.slots_stay;
+  homes_stay = c.part_from.ensures.homes ∙ c.loop-slot.invariant.homes_stay;
+  passed_stays = c.part_from.ensures.passed ∙ c.loop-slot.invariant.passed_stays;
+  written_stays = c.part_from.ensures.written ∙ c.loop-slot.invariant.written_stays;
   thins = λ places are.
       let t = c.loop-slot.invariant.thins places are in
       let keys = c.loop-slot.wheel.keys in
@@ -44,8 +46,8 @@ loop-slot-preserved c = record {
       (ap (option_map (row_told keys)) c.in_default-row.is) in
       let left = with_place t.0 c.in-Some.slot None in (
         left,
-        subst (λ ks. Thinned c.disown.new.self.owners ks places left) (sym c.disown.ensures.keys)
-            (thinned_more c.loop-slot.wheel.owners c.disown.new.self.owners keys places t.0 c.in-Some.slot t.1 none c.disown.ensures.disowned),
+        subst (λ ks. Thinned c.part_from.new.wheel.owners ks places left) (sym c.part_from.ensures.keys)
+            (thinned_more c.loop-slot.wheel.owners c.part_from.new.wheel.owners keys places t.0 c.in-Some.slot t.1 none c.part_from.ensures.parted),
       );
 }
 
@@ -53,8 +55,8 @@ pub loop-slot-smaller : goal.loop-slot-smaller
 loop-slot-smaller c =
     let t = c.loop-slot.invariant.thins c.requires.may.places c.requires.may.are in
     let found = c.in-Some.ensures.finds t.0 t.1.are in
-    linked_falls c.loop-slot.wheel.owners c.disown.new.self.owners t.0 c.in-Some.slot found.stands.1.place t.1.are
-    (c.disown.ensures.disowned t.0 t.1.are) c.disown.ensures.slots found.stands.0 found.stands.1.has
+    linked_falls c.loop-slot.wheel.owners c.part_from.new.wheel.owners t.0 c.in-Some.slot found.stands.1.place t.1.are
+    (c.part_from.ensures.parted t.0 t.1.are) c.part_from.ensures.slots found.stands.0 found.stands.1.has
 
 pub returns-in-Some-row-clause-finds : goal.returns-in-Some-row-clause-finds
 returns-in-Some-row-clause-finds c = λ places are.
@@ -74,5 +76,5 @@ returns-clause-finds c = λ places are.
     (ap (λ (ks : List (Option Key)). length ks) keys ∙ (c.requires.may.wide ∙ sym c.loop-slot.invariant.slots_stay)) t.1
     (c.in_default.ensures.finds t.0 t.1.are))
 
-pub disown-requires-clause-written : goal.disown-requires-clause-written
-disown-requires-clause-written c = c.in-Some.ensures.written
+pub part_from-requires-clause-written : goal.part_from-requires-clause-written
+part_from-requires-clause-written c = c.in-Some.ensures.written

@@ -1,14 +1,17 @@
 use Rattle.std.proofs.Common.{◌≡◌, ℕ, Option}
 use Rattle.ert_timers.specs.Owners.{Thinned}
+use Rattle.ert_timers.specs.Parts.{AreJoined, all_slots}
+use Rattle.ert_timers.specs.declared.slot.Stored.{Stored}
 use Rattle.ert_timers.proofs.Owners.{linked}
 use Rattle.ert_timers.proofs.part.find_row.Given as goal
 use Rattle.ert_wheel.specs.Rings.{Place, AreChains}
 use Rattle.ert_wheel.specs.Rows.{Held}
 
 -- what stays, and which slots have left
-pub record Keeps {T : Type 0} (old new : Held T) : Type 0 where
+pub record Keeps (old new : Held Stored) : Type 0 where
   pub keys_stay : new.keys ≡ old.keys
-  pub values_stay : new.values ≡ old.values
+  pub stored_stays : (n : ℕ) → all_slots new.values n ≡ all_slots old.values n
+  pub joined_stays : AreJoined old.values old.owners → AreJoined new.values new.owners
   pub slots_stay : new.owners.slots ≡ old.owners.slots
   pub homes_stay : new.owners.homes ≡ old.owners.homes
   pub passed_stays : new.passed ≡ old.passed

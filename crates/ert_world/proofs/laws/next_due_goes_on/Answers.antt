@@ -16,6 +16,7 @@ nothing = record {
   expires = 0;
   orphans = 0;
   passed = 0;
+  next_look = 0;
 }
 
 pub returns : goal.returns

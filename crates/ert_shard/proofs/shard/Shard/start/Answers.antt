@@ -1,9 +1,16 @@
-use Rattle.std.proofs.Common.{◌+◌, sym, subst}
+use Rattle.std.proofs.Common.{◌+◌, refl, sym, subst}
 use Rattle.ert_effects.specs.TimerCalls.{Starts}
 use Rattle.ert_shard.proofs.Called.{wheel_stepped}
+use Rattle.ert_shard.proofs.Forgets.{shard_forgotten}
 use Rattle.ert_shard.proofs.Home.{starts_home}
 use Rattle.ert_shard.specs.Shards.{Owned, IsHome, share_of, shard_parts_of}
-use Rattle.ert_table.specs.Desks.{settings_of}
+use Rattle.ert_defs.specs.Legal.{Legal}
+use Rattle.ert_defs.specs.States.{state}
+use Rattle.ert_timers.specs.Parts.{PartStands}
+use Rattle.ert_timers.specs.Passed.{GainsOne}
+use Rattle.ert_table.specs.Desks.{settings_of, front_of}
+use Rattle.ert_table.specs.declared.desk.Desk.{Desk}
+use Rattle.ert_timers.specs.Searching.{IsOpen}
 use Rattle.ert_timers.specs.Frees.{IsUsedUp, UsesFree}
 use Rattle.ert_timers.proofs.LawsHold.{starts_only}
 use Rattle.ert_shard.proofs.shard.Shard.start.Goals as goal
@@ -31,3 +38,15 @@ returns-clause-full c = λ is. subst (λ (o : Owned). IsUsedUp o.wheel c.start.n
 
 pub returns-clause-frees : goal.returns-clause-frees
 returns-clause-frees c = subst (λ (o : Owned). UsesFree o.wheel c.start.new.self c.start.result) c.self.view_is c.start.ensures.frees
+
+pub returns-clause-ready : goal.returns-clause-ready
+returns-clause-ready c = λ is.
+    let is_open = subst (λ (o : Owned). IsOpen o.settings (state o.settings o.history) o.wheel) (sym c.self.view_is) is in
+    c.start.ensures.ready (subst (λ (d : Desk). IsOpen (settings_of d) (state (settings_of d) (front_of c.self.inside.pass)) c.self.inside.wheel) (sym c.deref.ensures) is_open)
+
+pub returns-clause-forgotten : goal.returns-clause-forgotten
+returns-clause-forgotten c =
+    shard_forgotten c.args.self.now _ c.args.start.now c.start.result
+    (subst (λ (o : Owned). Legal o.settings o.history) c.self.view_is c.self.invariant.stand.legal)
+    (subst (λ (o : Owned). PartStands o.settings o.history o.wheel) c.self.view_is (c.self.invariant.stand.wheel refl))
+    (subst (λ (o : Owned). GainsOne o.wheel c.start.new.self c.start.result) c.self.view_is c.start.ensures.rows) (returns-clause-call c)

@@ -10,11 +10,11 @@ use Rattle.ert_defs.specs.declared.timer.Status.TheVariants.{Armed}
 use Rattle.ert_table.specs.Acts.{ActsAll}
 use Rattle.ert_table.specs.Places.{slot_place}
 use Rattle.ert_table.specs.Renewals.{renewal}
-use Rattle.ert_table.specs.Settlings.{word_deadline}
 use Rattle.ert_table.proofs.OneStep.{may_compare_all_at, finds_all_as}
 use Rattle.ert_table.proofs.RenewActs.{renew_acts, renewed_is}
 use Rattle.ert_table.proofs.WordPlaces.{slot_place-high}
 use Rattle.ert_table.proofs.desk.Pass.renew_as.Goals as goal
+use Rattle.ert_words.specs.Ranges.{word_deadline}
 
 pub armed_word-new-requires : goal.armed_word-new-requires
 armed_word-new-requires g c =

@@ -1,6 +1,6 @@
 use Rattle.std.proofs.Common.{[], refl, sym, ◌∙◌}
 use Rattle.ert_table.specs.Desks.{settings_of, view_of}
-use Rattle.ert_timers.proofs.Trials.{still_held, stands_ended, may_end, has_expired}
+use Rattle.ert_timers.proofs.Trials.{still_held, stands_ended, may_end, has_expired, tries_held}
 use Rattle.ert_timers.proofs.Dues.{none_left}
 use Rattle.ert_timers.proofs.Passing.{passed}
 use Rattle.ert_timers.proofs.part.WheelPart.advance.Goals as goal
@@ -35,3 +35,10 @@ returns-clause-passed c = passed c.try_due.new.self c.in_ok-to.to (none_left c.t
 
 pub returns-clause-loses : goal.returns-clause-loses
 returns-clause-loses c = c.in_ok-to.ensures.call.loses
+
+pub returns-clause-held : goal.returns-clause-held
+returns-clause-held c =
+    let tried = c.in_ok-to.ensures.call in
+    tries_held (settings_of c.args.desk.now) (view_of c.args.pass.now) c.args.self.now c.try_due.new.self c.number.result c.in_ok-to.to
+    c.args.expired.now c.try_due.new.expired (view_of c.try_due.new.pass) (view_of c.load_time.new.self) (c.number.ensures ∙ tried.number) tried
+    c.load_time.ensures.step

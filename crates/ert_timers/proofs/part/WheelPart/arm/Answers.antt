@@ -4,7 +4,7 @@ use Rattle.ert_table.specs.Desks.{settings_of, view_of, front_of}
 use Rattle.ert_table.specs.Places.{IsPlaceOf}
 use Rattle.ert_timers.specs.Parts.{Part}
 use Rattle.ert_timers.proofs.Armings.{arms, may_arm}
-use Rattle.ert_timers.proofs.NextUses.{deadline_is}
+use Rattle.ert_timers.proofs.NextUses.{deadline_is, has_word}
 use Rattle.ert_timers.proofs.part.WheelPart.arm.Goals as goal
 
 pub touch-place-requires : goal.touch-place-requires
@@ -16,8 +16,10 @@ pub keep-timer-requires-clause-dest : goal.keep-timer-requires-clause-dest
 keep-timer-requires-clause-dest c =
     subst (λ n. c.args.start.now.dest < n) (sym c.requires.stands.holds.processes) c.requires.dest
 
-pub keep-timer-requires-clause-deadline : goal.keep-timer-requires-clause-deadline
-keep-timer-requires-clause-deadline c = omega (arith, c.requires.next.deadline, c.requires.next.can.within)
+pub keep-timer-requires-clause-timer : goal.keep-timer-requires-clause-timer
+keep-timer-requires-clause-timer c =
+    has_word (settings_of c.args.desk.now) (front_of c.args.pass.now) c.args.by c.args.self.now.number c.args.slot c.args.start.now c.args.next
+    c.requires.stands.legal c.requires.next
 
 pub arm_at-requires-clause-deadline : goal.arm_at-requires-clause-deadline
 arm_at-requires-clause-deadline c =

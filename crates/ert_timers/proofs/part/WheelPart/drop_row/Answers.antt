@@ -1,5 +1,6 @@
 use Rattle.std.proofs.Common.{◌≡◌, ◌<◌, length, refl, sym, ap, subst, ◌∙◌}
 use Rattle.std.specs.Bool.{OnTrue}
+use Rattle.ert_timers.proofs.Joined.{joined_same}
 use Rattle.ert_timers.specs.Changes.{LostRow, dropped}
 use Rattle.ert_timers.specs.Freeing.{IsInUse}
 use Rattle.ert_timers.specs.Parts.{Part, all_slots}
@@ -13,7 +14,7 @@ use Rattle.ert_wheel.specs.Rows.{key_in}
 
 pub remove-requires : goal.remove-requires
 remove-requires c =
-    (written_used (the_view c.self.inside) (free_set c.self.inside.free) c.self.inside.wheel.owners c.args.slot c.self.invariant refl
+    (written_used (the_view c.self.inside) (free_set c.self.inside.free) c.self.inside.wheel.owners c.args.slot c.self.invariant.fit refl
     (subst (λ (q : Part). c.args.slot < length q.slots) (sym c.self.view_is) c.requires.low) (subst (λ (q : Part). IsInUse q c.args.slot) (sym c.self.view_is) c.requires.used))
 
 -- the part is as it was but for the row
@@ -34,9 +35,13 @@ pub invariant_of-self : goal.invariant_of-self
 invariant_of-self c =
     let p = c.self.inside in
     let new = c.remove.new.self in
-    fit_same (λ i. all_slots (c.remove.ensures.values i) (c.remove.ensures.owners i).slots) refl refl
-    (fit_removed (all_slots p.wheel.values p.wheel.owners.slots) p.wheel.keys new.keys (free_set p.free) p.wheel.owners new.owners p.arms p.expires p.orphans
-    c.args.slot c.self.invariant c.remove.ensures.left c.remove.ensures.owners)
+    record {
+      fit =
+          fit_same (λ i. all_slots (c.remove.ensures.values i) (c.remove.ensures.owners i).slots) refl refl
+          (fit_removed (all_slots p.wheel.values p.wheel.owners.slots) p.wheel.keys new.keys (free_set p.free) p.wheel.owners new.owners p.arms p.expires p.orphans
+          c.args.slot c.self.invariant.fit c.remove.ensures.left c.remove.ensures.owners);
+      joined = joined_same p.wheel.values new.values p.wheel.owners new.owners c.remove.ensures.values c.remove.ensures.owners c.self.invariant.joined;
+    }
 
 pub returns-clause-left : goal.returns-clause-left
 returns-clause-left c = left c ∙ ap (λ (p : Part). dropped p c.args.slot) c.self.view_is
@@ -47,4 +52,4 @@ returns-clause-lost c =
     subst (λ (q : Part). OnTrue c.remove.result (LostRow q c.args.slot)) (sym (left c))
     (on_if c.remove.result (LostRow (dropped (the_view p) c.args.slot) c.args.slot) (λ hit.
     let has = some_key (key_in p.wheel.keys c.args.slot) (c.remove.ensures.found.0 hit) in
-    fit_lost (the_view p) p.wheel.owners (free_set p.free) c.args.slot has.0 c.self.invariant refl has.1))
+    fit_lost (the_view p) p.wheel.owners (free_set p.free) c.args.slot has.0 c.self.invariant.fit refl has.1))

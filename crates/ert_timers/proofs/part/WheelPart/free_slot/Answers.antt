@@ -10,7 +10,7 @@ pub value-requires : goal.value-requires
 value-requires c =
     let p = c.self.inside in
     let k = c.args.slot in
-    written_away (all_slots p.wheel.values p.wheel.owners.slots) p.wheel.keys (free_set p.free) p.wheel.owners p.arms p.expires p.orphans k c.self.invariant
+    written_away (all_slots p.wheel.values p.wheel.owners.slots) p.wheel.keys (free_set p.free) p.wheel.owners p.arms p.expires p.orphans k c.self.invariant.fit
     (subst (λ (q : Part). k < length q.slots) (sym c.self.view_is) c.requires.low)
     (subst (λ (q : Part). sets.contains q.free k ≡ false) (sym c.self.view_is) c.requires.away)
 
@@ -18,6 +18,10 @@ pub invariant_of-self : goal.invariant_of-self
 invariant_of-self c =
     let p = c.self.inside in
     let k = c.args.slot in
-    fit_put (all_slots p.wheel.values p.wheel.owners.slots) p.wheel.keys (free_set p.free) (free_set c.put.new.free) p.wheel.owners p.arms p.expires p.orphans k c.self.invariant c.put.ensures.held
-    (subst (λ (q : Part). k < length q.slots) (sym c.self.view_is) c.requires.low)
-    (subst (λ (q : Part). key_in q.keys k ≡ None) (sym c.self.view_is) c.requires.vacant)
+    record {
+      fit =
+          fit_put (all_slots p.wheel.values p.wheel.owners.slots) p.wheel.keys (free_set p.free) (free_set c.put.new.free) p.wheel.owners p.arms p.expires p.orphans k c.self.invariant.fit c.put.ensures.held
+          (subst (λ (q : Part). k < length q.slots) (sym c.self.view_is) c.requires.low)
+          (subst (λ (q : Part). key_in q.keys k ≡ None) (sym c.self.view_is) c.requires.vacant);
+      joined = c.self.invariant.joined;
+    }

@@ -18,8 +18,12 @@ invariant_of-self c =
     let lost =
     lost_seen _ c.drop_row.new.self c.args.timer.slot c.drop_row.result (c.self.view_is ∙ c.leave.ensures) (c.drop_row.ensures.found.1 (some_held _ c.requires.row))
     c.drop_row.ensures.lost in
-    fit_counted (all_slots p.wheel.values p.wheel.owners.slots) p.wheel.keys (free_set p.free) p.wheel.owners p.arms p.expires p.orphans p.expires (p.orphans + c.from.result) c.self.invariant
-    (omega (arith, lost.room, byte_low c.args.orphaned c.from.result c.from.ensures))
+    record {
+      fit =
+          fit_counted (all_slots p.wheel.values p.wheel.owners.slots) p.wheel.keys (free_set p.free) p.wheel.owners p.arms p.expires p.orphans p.expires (p.orphans + c.from.result) c.self.invariant.fit
+          (omega (arith, lost.room, byte_low c.args.orphaned c.from.result c.from.ensures));
+      joined = c.self.invariant.joined;
+    }
 
 pub leave-requires-clause-low : goal.leave-requires-clause-low
 leave-requires-clause-low c =

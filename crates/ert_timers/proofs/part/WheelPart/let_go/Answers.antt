@@ -16,8 +16,12 @@ invariant_of-self c =
     let p = c.self.inside in
     let lost =
     lost_seen _ c.drop_row.new.self c.args.slot c.drop_row.result c.self.view_is (c.drop_row.ensures.found.1 c.requires.held) c.drop_row.ensures.lost in
-    fit_counted (all_slots p.wheel.values p.wheel.owners.slots) p.wheel.keys (free_set p.free) p.wheel.owners p.arms p.expires p.orphans (p.expires + c.from.result) p.orphans
-    c.self.invariant (omega (arith, lost.room, byte_low c.args.expired c.from.result c.from.ensures))
+    record {
+      fit =
+          fit_counted (all_slots p.wheel.values p.wheel.owners.slots) p.wheel.keys (free_set p.free) p.wheel.owners p.arms p.expires p.orphans (p.expires + c.from.result) p.orphans
+          c.self.invariant.fit (omega (arith, lost.room, byte_low c.args.expired c.from.result c.from.ensures));
+      joined = c.self.invariant.joined;
+    }
 
 pub drop_row-requires-clause-used : goal.drop_row-requires-clause-used
 drop_row-requires-clause-used c =

@@ -13,7 +13,7 @@ returns-then-is_taken-clause-call c =
     let v = view_of c.args.pass.now in
     let u = view_of c.load_timer-shown.new.self in
     looks_taken g v c.args.by c.args.now c.args.self.now c.args.slot (status_shown c.load_timer-shown.result) u c.requires.stands c.requires.holds
-    c.requires.away
+    (subst (λ n. c.args.slot < n) c.requires.stands.holds.many c.requires.low) c.requires.away
     (probe_is g v c.args.by c.args.self.now.number c.number-wheel.result c.args.slot c.load_timer-shown.result u c.number-wheel.ensures
     c.load_timer-shown.ensures.step)
     (sym c.is_taken.ensures ∙ c.if-is_taken.true)

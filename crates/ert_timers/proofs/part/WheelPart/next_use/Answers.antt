@@ -11,7 +11,7 @@ use Rattle.ert_timers.proofs.part.WheelPart.next_use.Goals as goal
 
 pub value-requires : goal.value-requires
 value-requires c =
-    (written_used (the_view c.self.inside) (free_set c.self.inside.free) c.self.inside.wheel.owners c.args.slot c.self.invariant refl
+    (written_used (the_view c.self.inside) (free_set c.self.inside.free) c.self.inside.wheel.owners c.args.slot c.self.invariant.fit refl
     (subst (λ (q : Part). c.args.slot < length q.slots) (sym c.self.view_is) c.requires.low) (subst (λ (q : Part). IsInUse q c.args.slot) (sym c.self.view_is) c.requires.used))
 
 pub returns : goal.returns

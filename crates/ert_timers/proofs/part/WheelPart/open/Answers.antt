@@ -1,4 +1,5 @@
 use Rattle.std.proofs.Common.{◌∙◌, refl, arith}
+use Rattle.ert_timers.proofs.Joined.{none_joined}
 use Rattle.ert_timers.specs.Parts.{all_slots}
 use Rattle.ert_timers.proofs.AllSlots.{all_unused}
 use Rattle.ert_timers.proofs.Openings.{fit_open, stands_open}
@@ -11,9 +12,13 @@ invariant_of-result c =
     let counts = c.requires.checked.counts in
     let timers = c.in_ok-timers in
     let none = (λ i. all_slots (timers.ensures.values i) (timers.ensures.slots i)) ∙ all_unused g.slots in
-    fit_open g.slots (all_slots timers.timers.values timers.timers.owners.slots) timers.timers.keys (free_set c.in_ok-free.free) timers.timers.owners counts.slots_high
-    (omega (arith, counts.processes_high, timers.ensures.homes)) none timers.ensures.keys c.in_ok-free.ensures.slots c.in_ok-free.ensures.every
-    timers.ensures.slots timers.ensures.unowned
+    record {
+      fit =
+          fit_open g.slots (all_slots timers.timers.values timers.timers.owners.slots) timers.timers.keys (free_set c.in_ok-free.free) timers.timers.owners counts.slots_high
+          (omega (arith, counts.processes_high, timers.ensures.homes)) none timers.ensures.keys c.in_ok-free.ensures.slots c.in_ok-free.ensures.every
+          timers.ensures.slots timers.ensures.unowned;
+      joined = none_joined timers.timers.values timers.timers.owners timers.ensures.values;
+    }
 
 pub returns-clause-stands : goal.returns-clause-stands
 returns-clause-stands c =

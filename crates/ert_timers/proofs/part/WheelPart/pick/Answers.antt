@@ -15,36 +15,44 @@ returns-in_err-slot-clause-none c =
     (pick_none (free_set c.self.inside.free).held c.from_residual.result (λ none. ap (λ xs. sets.from_list xs) (c.in_err-slot.ensures.none.0 refl)))
 
 pub write-requires-clause-low : goal.write-requires-clause-low
-write-requires-clause-low c = omega (arith, c.self.invariant.wide, c.self.invariant.below c.in_ok-slot.slot c.in_ok-slot.ensures.held)
+write-requires-clause-low c = omega (arith, c.self.invariant.fit.wide, c.self.invariant.fit.below c.in_ok-slot.slot c.in_ok-slot.ensures.held)
 
 pub write-requires-clause-same : goal.write-requires-clause-same
-write-requires-clause-same c = c.self.invariant.wide ∙ sym c.self.invariant.owned
+write-requires-clause-same c = c.self.invariant.fit.wide ∙ sym c.self.invariant.fit.owned
 
 pub value-requires : goal.value-requires
 value-requires c = c.write.ensures.written
 
-pub invariant_of-self-then-not-is_long : goal.invariant_of-self-then-not-is_long
-invariant_of-self-then-not-is_long c =
-    fit_written c.self.inside.wheel c.write.new.wheel (free_set c.self.inside.free) (free_set c.pick.new.self) c.self.inside.arms c.self.inside.expires c.self.inside.orphans c.in_ok-slot.slot c.write.new.wheel.owners.written
-    c.self.invariant c.in_ok-slot.ensures.taken c.write.ensures.more c.write.ensures.written
+pub invariant_of-self-then-are_short : goal.invariant_of-self-then-are_short
+invariant_of-self-then-are_short c =
+    record {
+      fit =
+          fit_written c.self.inside.wheel c.write.new.wheel (free_set c.self.inside.free) (free_set c.pick.new.self) c.self.inside.arms c.self.inside.expires c.self.inside.orphans c.in_ok-slot.slot c.write.new.wheel.owners.written
+          c.self.invariant.fit c.in_ok-slot.ensures.taken c.write.ensures.more c.write.ensures.written;
+      joined = c.write.ensures.more.joined c.self.invariant.joined;
+    }
 
-pub returns-then-not-is_long-clause-picked : goal.returns-then-not-is_long-clause-picked
-returns-then-not-is_long-clause-picked c =
+pub returns-then-are_short-clause-picked : goal.returns-then-are_short-clause-picked
+returns-then-are_short-clause-picked c =
     (seen_written (the_view c.self.inside) c.self.inside.wheel c.write.new.wheel (free_set c.pick.new.self).held c.write.new.wheel.owners.written c.write.ensures.more refl refl refl refl)
     ∙ (pick_taken (the_view c.self.inside) (free_set c.self.inside.free) (free_set c.pick.new.self) (Some c.in_ok-slot.slot) refl c.in_ok-slot.ensures.taken
     ∙ ap (λ (p : Part). picked p c.in_ok-slot.slot) c.self.view_is)
 
-pub returns-then-not-is_long-clause-usable : goal.returns-then-not-is_long-clause-usable
-returns-then-not-is_long-clause-usable c =
+pub returns-then-are_short-clause-usable : goal.returns-then-are_short-clause-usable
+returns-then-are_short-clause-usable c =
     subst (λ (q : Part). MayBecomeFree q c.in_ok-slot.slot)
     (sym (seen_written (the_view c.self.inside) c.self.inside.wheel c.write.new.wheel (free_set c.pick.new.self).held c.write.new.wheel.owners.written c.write.ensures.more refl refl refl refl))
-    (pick_usable (the_view c.self.inside) (free_set c.self.inside.free) (free_set c.pick.new.self) c.self.inside.wheel.owners (Some c.in_ok-slot.slot) c.self.invariant refl c.in_ok-slot.ensures.held
+    (pick_usable (the_view c.self.inside) (free_set c.self.inside.free) (free_set c.pick.new.self) c.self.inside.wheel.owners (Some c.in_ok-slot.slot) c.self.invariant.fit refl c.in_ok-slot.ensures.held
     c.in_ok-slot.ensures.taken)
 
 pub invariant_of-self-then-is_long-long : goal.invariant_of-self-then-is_long-long
 invariant_of-self-then-is_long-long c =
-    fit_written c.self.inside.wheel c.write.new.wheel (free_set c.self.inside.free) (free_set c.pick.new.self) c.self.inside.arms c.self.inside.expires c.self.inside.orphans c.in_ok-slot.slot c.write.new.wheel.owners.written
-    c.self.invariant c.in_ok-slot.ensures.taken c.write.ensures.more c.write.ensures.written
+    record {
+      fit =
+          fit_written c.self.inside.wheel c.write.new.wheel (free_set c.self.inside.free) (free_set c.pick.new.self) c.self.inside.arms c.self.inside.expires c.self.inside.orphans c.in_ok-slot.slot c.write.new.wheel.owners.written
+          c.self.invariant.fit c.in_ok-slot.ensures.taken c.write.ensures.more c.write.ensures.written;
+      joined = c.write.ensures.more.joined c.self.invariant.joined;
+    }
 
 pub returns-then-is_long-long-clause-picked : goal.returns-then-is_long-long-clause-picked
 returns-then-is_long-long-clause-picked c =
@@ -56,7 +64,7 @@ pub returns-then-is_long-long-clause-usable : goal.returns-then-is_long-long-cla
 returns-then-is_long-long-clause-usable c =
     subst (λ (q : Part). MayBecomeFree q c.in_ok-slot.slot)
     (sym (seen_written (the_view c.self.inside) c.self.inside.wheel c.write.new.wheel (free_set c.pick.new.self).held c.write.new.wheel.owners.written c.write.ensures.more refl refl refl refl))
-    (pick_usable (the_view c.self.inside) (free_set c.self.inside.free) (free_set c.pick.new.self) c.self.inside.wheel.owners (Some c.in_ok-slot.slot) c.self.invariant refl c.in_ok-slot.ensures.held
+    (pick_usable (the_view c.self.inside) (free_set c.self.inside.free) (free_set c.pick.new.self) c.self.inside.wheel.owners (Some c.in_ok-slot.slot) c.self.invariant.fit refl c.in_ok-slot.ensures.held
     c.in_ok-slot.ensures.taken)
 
 pub exchange-requires-clause-away : goal.exchange-requires-clause-away
@@ -67,18 +75,22 @@ pub write-requires-2-clause-low : goal.write-requires-2-clause-low
 write-requires-2-clause-low c =
     let held = (exchanged (free_set c.self.inside.free) (free_set c.pick.new.self) (free_set c.exchange.new.free) c.in_ok-slot.slot (Some c.in_ok-other.other) c.in_ok-slot.ensures.held
     c.in_ok-slot.ensures.taken c.in_ok-other.ensures.held c.in_ok-other.ensures.taken).held in
-    omega (arith, ap length c.write.ensures.more.keys, c.self.invariant.wide, c.self.invariant.below c.in_ok-other.other held)
+    omega (arith, ap length c.write.ensures.more.keys, c.self.invariant.fit.wide, c.self.invariant.fit.below c.in_ok-other.other held)
 
 pub write-requires-2-clause-same : goal.write-requires-2-clause-same
 write-requires-2-clause-same c =
-    ap length c.write.ensures.more.keys ∙ ((c.self.invariant.wide ∙ sym c.self.invariant.owned) ∙ sym (ap (λ (r : Rings). r.slots) c.write.ensures.more.owners))
+    ap length c.write.ensures.more.keys ∙ ((c.self.invariant.fit.wide ∙ sym c.self.invariant.fit.owned) ∙ sym (ap (λ (r : Rings). r.slots) c.write.ensures.more.owners))
 
 pub invariant_of-self-2 : goal.invariant_of-self-2
 invariant_of-self-2 c =
-    fit_written c.self.inside.wheel c.write-2.new.wheel (free_set c.self.inside.free) (free_set c.exchange.new.free) c.self.inside.arms c.self.inside.expires c.self.inside.orphans c.in_ok-other.other c.write-2.new.wheel.owners.written
-    c.self.invariant (exchanged (free_set c.self.inside.free) (free_set c.pick.new.self) (free_set c.exchange.new.free) c.in_ok-slot.slot (Some c.in_ok-other.other) c.in_ok-slot.ensures.held
-    c.in_ok-slot.ensures.taken c.in_ok-other.ensures.held c.in_ok-other.ensures.taken).taken
-    (written_twice c.self.inside.wheel c.write.new.wheel c.write-2.new.wheel c.write.new.wheel.owners.written c.write-2.new.wheel.owners.written c.write.ensures.more c.write-2.ensures.more) c.write-2.ensures.written
+    record {
+      fit =
+          fit_written c.self.inside.wheel c.write-2.new.wheel (free_set c.self.inside.free) (free_set c.exchange.new.free) c.self.inside.arms c.self.inside.expires c.self.inside.orphans c.in_ok-other.other c.write-2.new.wheel.owners.written
+          c.self.invariant.fit (exchanged (free_set c.self.inside.free) (free_set c.pick.new.self) (free_set c.exchange.new.free) c.in_ok-slot.slot (Some c.in_ok-other.other) c.in_ok-slot.ensures.held
+          c.in_ok-slot.ensures.taken c.in_ok-other.ensures.held c.in_ok-other.ensures.taken).taken
+          (written_twice c.self.inside.wheel c.write.new.wheel c.write-2.new.wheel c.write.new.wheel.owners.written c.write-2.new.wheel.owners.written c.write.ensures.more c.write-2.ensures.more) c.write-2.ensures.written;
+      joined = c.write-2.ensures.more.joined (c.write.ensures.more.joined c.self.invariant.joined);
+    }
 
 pub returns-clause-held : goal.returns-clause-held
 returns-clause-held c =
@@ -98,7 +110,7 @@ pub returns-clause-usable : goal.returns-clause-usable
 returns-clause-usable c =
     subst (λ (q : Part). MayBecomeFree q c.in_ok-other.other)
     (sym (seen_written (the_view c.self.inside) c.self.inside.wheel c.write-2.new.wheel (free_set c.exchange.new.free).held c.write-2.new.wheel.owners.written (written_twice c.self.inside.wheel c.write.new.wheel c.write-2.new.wheel c.write.new.wheel.owners.written c.write-2.new.wheel.owners.written c.write.ensures.more c.write-2.ensures.more) refl refl refl refl))
-    (pick_usable (the_view c.self.inside) (free_set c.self.inside.free) (free_set c.exchange.new.free) c.self.inside.wheel.owners (Some c.in_ok-other.other) c.self.invariant refl
+    (pick_usable (the_view c.self.inside) (free_set c.self.inside.free) (free_set c.exchange.new.free) c.self.inside.wheel.owners (Some c.in_ok-other.other) c.self.invariant.fit refl
     (exchanged (free_set c.self.inside.free) (free_set c.pick.new.self) (free_set c.exchange.new.free) c.in_ok-slot.slot (Some c.in_ok-other.other) c.in_ok-slot.ensures.held
     c.in_ok-slot.ensures.taken c.in_ok-other.ensures.held c.in_ok-other.ensures.taken).held
     (exchanged (free_set c.self.inside.free) (free_set c.pick.new.self) (free_set c.exchange.new.free) c.in_ok-slot.slot (Some c.in_ok-other.other) c.in_ok-slot.ensures.held

@@ -3,8 +3,9 @@ use Rattle.std.specs.FinSet as sets
 use Rattle.ert_defs.specs.Timers.{timer_at}
 use Rattle.ert_table.specs.Desks.{settings_of, view_of}
 use Rattle.ert_timers.proofs.Freed.{keeps_uses}
+use Rattle.ert_timers.proofs.NextUses.{has_word, told_deadline}
 use Rattle.ert_timers.proofs.Orphaned.{still_caller}
-use Rattle.ert_timers.proofs.Renewed.{cancel_calm, gains_renewed, gone_renewed, is_ready, may_renew, missed_at, missed_then, not_read, peek_calm, renew_hit, renew_missed, renewed, stays_can, told_deadline}
+use Rattle.ert_timers.proofs.Renewed.{cancel_calm, gains_renewed, gone_renewed, is_ready, may_renew, missed_at, missed_then, not_read, peek_calm, renew_hit, renew_missed, renewed, stays_can}
 use Rattle.ert_timers.specs.Parts.{Part}
 use Rattle.ert_timers.proofs.part.WheelPart.restart_here.Goals as goal
 
@@ -69,6 +70,14 @@ renew-named-requires-clause-can c =
     c.args.start.now c.args.ahead c.peek_word.result c.in-Some.read c.after-next.result c.in-Some.is c.peek_word.ensures.step c.requires.stands c.requires.holds
     c.requires.looked c.requires.stays c.rounded_down-now.ensures c.after-next.ensures in
     stays_can c.args.self.now c.args.timer c.requires.stays ready.standing
+
+pub renew-named-requires-clause-timer : goal.renew-named-requires-clause-timer
+renew-named-requires-clause-timer c =
+    let ready = is_ready (settings_of c.args.desk.now) (view_of c.args.pass.now) (view_of c.peek_word.new.self) c.args.by c.rounded_down-now.result c.args.self.now c.args.timer
+    c.args.start.now c.args.ahead c.peek_word.result c.in-Some.read c.after-next.result c.in-Some.is c.peek_word.ensures.step c.requires.stands c.requires.holds
+    c.requires.looked c.requires.stays c.rounded_down-now.ensures c.after-next.ensures in
+    has_word (settings_of c.args.desk.now) (view_of c.peek_word.new.self).front c.args.by c.args.self.now.number c.args.timer.slot c.args.start.now
+    c.after-next.result ready.read.stands.legal ready.coming
 
 pub end-requires-clause-holds : goal.end-requires-clause-holds
 end-requires-clause-holds c =

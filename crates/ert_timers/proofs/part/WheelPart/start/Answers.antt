@@ -4,9 +4,10 @@ use Rattle.ert_timers.specs.Changes.{next_use}
 use Rattle.ert_timers.specs.Looking.{now_in}
 use Rattle.ert_timers.specs.Parts.{Part, slot_at}
 use Rattle.ert_timers.proofs.Orphaned.{still_caller}
-use Rattle.ert_timers.proofs.Starts.{bad_arg, ahead_stands, now_is, use_ahead, is_at_end, is_full, is_started, gains_none, gains_started}
+use Rattle.ert_timers.proofs.Starts.{bad_arg, ahead_stands, now_is, use_ahead, is_at_end, is_full, is_started, gains_none, gains_started, searches}
 use Rattle.ert_timers.proofs.Freed.{found_none, keeps_uses, none_uses, started_uses}
 use Rattle.ert_timers.proofs.Passing.{loses_none}
+use Rattle.ert_timers.proofs.Searched.{finds_open}
 use Rattle.ert_timers.proofs.part.WheelPart.start.Goals as goal
 
 pub take_slot-requires-clause-holds : goal.take_slot-requires-clause-holds
@@ -153,3 +154,21 @@ returns-clause-frees c =
     started_uses (settings_of c.args.desk.now) c.args.by c.args.self.now c.take_slot.new.self c.arm-timer.new.self c.end.new.self c.take_slot.result
     c.in-Some-take_slot.slot c.next_use-next.result c.args.start.now c.arm-timer.result (view_of c.take_slot.new.pass) (view_of c.arm-timer.new.pass)
     (view_of c.end.new.pass) c.in-Some-take_slot.is c.take_slot.ensures.call.frees c.arm-timer.ensures.call c.end.ensures.call
+
+pub returns-in_default-take_slot-clause-searched : goal.returns-in_default-take_slot-clause-searched
+returns-in_default-take_slot-clause-searched c = λ is few.
+    searches (settings_of c.args.desk.now) (view_of c.args.pass.now) c.args.by c.args.self.now c.take_slot.new.self c.args.start.now
+    c.look_ahead.result c.in-Some.ahead c.take_slot.result (view_of c.look_ahead.new.pass) (view_of c.take_slot.new.pass) c.requires.stands
+    c.in-Some.is c.in_default-take_slot.is c.look_ahead.ensures.looks c.take_slot.ensures.call
+
+pub returns-in_default-take_slot-clause-ready : goal.returns-in_default-take_slot-clause-ready
+returns-in_default-take_slot-clause-ready c = λ is full.
+    finds_open (settings_of c.args.desk.now) (view_of c.args.pass.now) c.args.by c.args.self.now c.take_slot.new.self c.args.start.now
+    c.look_ahead.result c.in-Some.ahead c.take_slot.result (view_of c.look_ahead.new.pass) (view_of c.take_slot.new.pass) c.requires.stands
+    c.requires.holds c.in-Some.is c.look_ahead.ensures.looks c.take_slot.ensures.call is c.in_default-take_slot.is
+
+pub returns-then-arms-ge-MOST_TIMERS-clause-searched : goal.returns-then-arms-ge-MOST_TIMERS-clause-searched
+returns-then-arms-ge-MOST_TIMERS-clause-searched c = λ is few. absurd (omega (arith, few, c.arms.ensures, c.if-arms-ge-MOST_TIMERS.true))
+
+pub returns-then-arms-ge-MOST_TIMERS-clause-ready : goal.returns-then-arms-ge-MOST_TIMERS-clause-ready
+returns-then-arms-ge-MOST_TIMERS-clause-ready c = λ is full. absurd (omega (arith, is.few, c.arms.ensures, c.if-arms-ge-MOST_TIMERS.true))

@@ -5,7 +5,7 @@ use Rattle.ert_defs.specs.States.{state}
 use Rattle.ert_defs.specs.Timers.{Row}
 use Rattle.ert_timers.specs.Parts.{HoldsCaller, Part, slot_at}
 use Rattle.ert_timers.proofs.Orphaned.{still_caller}
-use Rattle.ert_timers.proofs.Swept.{sweeps_none, sweeps_same, sweeps_more, all_swept, sweeps_all, next_held, fewer}
+use Rattle.ert_timers.proofs.Swept.{sweeps_none, sweeps_same, sweeps_more, all_swept, sweeps_all, sweeps_held, next_held, fewer}
 use Rattle.ert_timers.proofs.part.WheelPart.sweep.Goals as goal
 use Rattle.ert_wheel.specs.Rows.{key_of, row_told}
 
@@ -87,3 +87,8 @@ returns-clause-loses c =
 
 pub timer-timer-requires-clause-used : goal.timer-timer-requires-clause-used
 timer-timer-requires-clause-used c = inr (λ none. let no : Some (key_of (row_told c.newest_of.new.self.keys c.in-Some.row)) ≡ None = sym c.in-Some.ensures.row.1 ∙ none in cc)
+
+pub returns-clause-held : goal.returns-clause-held
+returns-clause-held c =
+    sweeps_held (settings_of c.args.desk.now) (view_of c.args.pass.now) c.args.by c.args.process c.args.self.now c.loop-row.self
+    (view_of c.loop-row.pass) c.loop-row.invariant.call

@@ -9,7 +9,7 @@ use Rattle.ert_timers.proofs.part.WheelPart.timer.Goals as goal
 
 pub value-last-requires : goal.value-last-requires
 value-last-requires c =
-    (written_used (the_view c.self.inside) (free_set c.self.inside.free) c.self.inside.wheel.owners c.args.row.slot c.self.invariant refl
+    (written_used (the_view c.self.inside) (free_set c.self.inside.free) c.self.inside.wheel.owners c.args.row.slot c.self.invariant.fit refl
     (subst (λ (q : Part). c.args.row.slot < length q.slots) (sym c.self.view_is) c.requires.low) (subst (λ (q : Part). IsInUse q c.args.row.slot) (sym c.self.view_is) c.requires.used))
 
 pub returns : goal.returns

@@ -1,6 +1,7 @@
-use Rattle.std.proofs.Common.{◌-◌, ◌++◌, replicate, ap, ◌∙◌, sym, arith}
-use Rattle.ert_timers.specs.Parts.{all_slots}
+use Rattle.std.proofs.Common.{◌-◌, ◌++◌, replicate, ap, subst₂, ◌∙◌, sym, arith}
+use Rattle.ert_timers.specs.Parts.{AreJoined, all_slots}
 use Rattle.ert_timers.proofs.AllSlots.{all_more}
+use Rattle.ert_timers.proofs.Joined.{joined_more}
 use Rattle.ert_timers.proofs.part.changes.write_more.Goals as goal
 use Rattle.ert_wheel.specs.Rings.{Rings}
 
@@ -27,7 +28,11 @@ returns-clause-more c =
       keys = c.write_up_to.ensures.keys;
       owners = c.write_up_to.ensures.owners ∙ ap (λ n. let r : Rings = record old.owners { written = n } in r) (sym written);
       slots = λ n.
-          ap (λ vs. all_slots vs n) (c.write_up_to.ensures.values ∙ ap (λ u. old.values ++ replicate (c.min-count.result - old.owners.written) u) c.never_used.ensures)
+          ap (λ vs. all_slots vs n) (c.write_up_to.ensures.values ∙ ap (λ u. old.values ++ replicate (c.min-count.result - old.owners.written) u) c.unused.ensures)
           ∙ all_more old.values (c.min-count.result - old.owners.written) n;
+      joined = λ joined.
+          subst₂ (λ vs r. AreJoined vs r)
+          (sym (c.write_up_to.ensures.values ∙ ap (λ u. old.values ++ replicate (c.min-count.result - old.owners.written) u) c.unused.ensures)) (sym c.write_up_to.ensures.owners)
+          (joined_more old.values (c.min-count.result - old.owners.written) old.owners c.min-count.result joined);
       passed = c.write_up_to.ensures.passed;
     }

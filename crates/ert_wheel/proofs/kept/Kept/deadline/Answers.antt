@@ -1,12 +1,12 @@
-use Rattle.std.proofs.Common.{◌<◌, ap, length, arith}
+use Rattle.std.proofs.Common.{◌<◌, ◌∙◌, ap, length, arith}
 use Rattle.ert_wheel.proofs.KeptSlots.{kept_len, key_read}
 use Rattle.ert_wheel.proofs.kept.Kept.deadline.Goals as goal
 use Rattle.ert_wheel.specs.declared.row.Key.{Key}
 
 pub index-requires : goal.index-requires
-index-requires g c = omega (arith, c.requires, c.self.inside.records.ok.0, kept_len _ _ _ c.self.view_is)
+index-requires g c = omega (arith, c.requires, c.self.inside.values.ok.0, kept_len _ _ _ _ c.self.view_is)
 
 pub returns : goal.returns
 returns g c =
-    let low : c.args.slot < length c.self.inside.records.items = omega (arith, c.requires, kept_len _ _ _ c.self.view_is) in
-    ap (λ (key : Key). key.deadline) (key_read _ _ _ _ _ c.self.view_is low c.index.ensures)
+    let low : c.args.slot < length c.self.inside.values.items = omega (arith, c.requires, kept_len _ _ _ _ c.self.view_is) in
+    c.deadline.ensures ∙ ap (λ (key : Key). key.deadline) (key_read _ _ _ _ _ _ c.self.view_is low c.index.ensures)

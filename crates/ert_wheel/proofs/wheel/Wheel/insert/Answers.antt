@@ -1,4 +1,4 @@
-use Rattle.std.proofs.Common.{ℕ, ap, subst, ◌∙◌, length, rules, arith, refl}
+use Rattle.std.proofs.Common.{ℕ, ap, set, subst, ◌∙◌, length, rules, arith, refl}
 use Rattle.std.proofs.lemmas.List.{length-set}
 use Rattle.ert_wheel.proofs.Writes.{sees, low_in, alike_after, is_held, is_kept, may_put, count_fits, stored_as, inserted}
 use Rattle.ert_wheel.proofs.wheel.Wheel.insert.Goals as goal
@@ -22,7 +22,7 @@ overflow_add-self g c =
 
 pub invariant_of-self : goal.invariant_of-self
 invariant_of-self g c = record {
-  rows = is_kept (stored_as c.set.ensures.keys (inserted (sees c.self.invariant.rows c.self.view_is)
+  rows = is_kept (stored_as (c.set.ensures.keys ∙ ap (λ key. set c.self.inside.kept.keys c.args.row.slot key) c.requires.key) (inserted (sees c.self.invariant.rows c.self.view_is)
       (record {
         low = (low_in c.args.row.slot c.self.invariant c.self.view_is c.requires.slot).low_key;
         deadline = c.requires.deadline;
@@ -36,7 +36,7 @@ invariant_of-self g c = record {
 
 pub returns-clause-keys : goal.returns-clause-keys
 returns-clause-keys g c =
-    is_held (stored_as c.set.ensures.keys (inserted (sees c.self.invariant.rows c.self.view_is)
+    is_held (stored_as (c.set.ensures.keys ∙ ap (λ key. set c.self.inside.kept.keys c.args.row.slot key) c.requires.key) (inserted (sees c.self.invariant.rows c.self.view_is)
     (record {
       low = (low_in c.args.row.slot c.self.invariant c.self.view_is c.requires.slot).low_key;
       deadline = c.requires.deadline;

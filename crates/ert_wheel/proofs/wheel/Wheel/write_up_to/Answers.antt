@@ -4,13 +4,12 @@ use Rattle.ert_wheel.proofs.Writes.{Sees, grown, is_held, is_kept, sees, stored_
 use Rattle.ert_wheel.proofs.wheel.Wheel.write_up_to.Goals as goal
 use Rattle.ert_wheel.specs.Rings.{Rings}
 use Rattle.ert_wheel.specs.Rows.{Held}
-use Rattle.ert_wheel.specs.Wheels.{no_key}
 
 pub invariant_of-self : goal.invariant_of-self
 invariant_of-self g c =
     let w = c.self.inside in
     let a = c.self.invariant.alike in
-    let more = replicate (c.args.count - length w.kept.keys) no_key in
+    let more = replicate (c.args.count - length w.kept.keys) (g.T.Keyed.key c.args.value) in
     let s = sees c.self.invariant.rows c.self.view_is in
     let owned = ap (λ (h : Held _). h.owners.written) c.self.view_is in
     let slots = ap (λ (h : Held _). h.owners.slots) c.self.view_is in
@@ -24,7 +23,7 @@ invariant_of-self g c =
           (subst (λ (r : Rings). Sees w.next_time w.len w.floor (w.kept.keys ++ more) c.args.self.now.keys r) (sym c.write_up_to-2.ensures)
           (grown more c.args.count s)));
       alike = record {
-        records = omega (arith, kept, buckets, length-append w.kept.keys more, length-replicate (c.args.count - length w.kept.keys) no_key, a.records, a.owned, owned, c.requires.more);
+        records = omega (arith, kept, buckets, length-append w.kept.keys more, length-replicate (c.args.count - length w.kept.keys) (g.T.Keyed.key c.args.value), a.records, a.owned, owned, c.requires.more);
         owned = omega (arith, buckets, owners);
         most = omega (arith, buckets, many, s.wheel.slots, c.requires.most);
         most_owned = omega (arith, owners, owners_many, slots, c.requires.owned);
@@ -35,7 +34,7 @@ invariant_of-self g c =
 pub returns-clause-keys : goal.returns-clause-keys
 returns-clause-keys g c =
     let w = c.self.inside in
-    let more = replicate (c.args.count - length w.kept.keys) no_key in
+    let more = replicate (c.args.count - length w.kept.keys) (g.T.Keyed.key c.args.value) in
     is_held (stored_as c.write_up_to.ensures.keys
     (subst (λ (r : Rings). Sees w.next_time w.len w.floor (w.kept.keys ++ more) c.args.self.now.keys r) (sym c.write_up_to-2.ensures)
     (grown more c.args.count (sees c.self.invariant.rows c.self.view_is))))

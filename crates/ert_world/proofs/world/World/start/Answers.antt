@@ -7,6 +7,7 @@ use Rattle.ert_timers.specs.Frees.{IsUsedUp, UsesFree}
 use Rattle.ert_world.proofs.Calls.{has_at}
 use Rattle.ert_world.proofs.Listed.{kept_by}
 use Rattle.ert_world.proofs.Replaced.{replaced_by}
+use Rattle.ert_world.proofs.Rooms.{open_at}
 use Rattle.ert_world.proofs.Started.{forgotten_start}
 use Rattle.ert_world.proofs.Values.{refused_value}
 use Rattle.ert_world.proofs.WheelCalls.{wheel_stepped, starts_calm, started_hold}
@@ -52,3 +53,9 @@ pub returns-clause-frees : goal.returns-clause-frees
 returns-clause-frees c =
     replaced_by (λ p q. UsesFree p q c.start.result) c.args.self.now c.self.inside c.deref.result.now c.args.wheel c.index_mut.result.now c.start.new.self
     (has_at c.deref.ensures c.self.view_is c.self.invariant.sound) c.requires.wheel c.index_mut.ensures.value c.start.ensures.frees
+
+pub returns-clause-ready : goal.returns-clause-ready
+returns-clause-ready c = λ is.
+    c.start.ensures.ready
+    (open_at c.args.self.now c.self.inside c.deref.result.now c.args.wheel c.index_mut.result.now (has_at c.deref.ensures c.self.view_is c.self.invariant.sound)
+    c.index_mut.ensures.value is)
