@@ -1,6 +1,6 @@
 -- The rows of one bucket are looked at, from the oldest to the newest.
 
-use Rattle.std.proofs.Common.{◌≡◌, ◌≢◌, ℕ, ◌+◌, ◌-◌, ◌<◌, ◌≤◌, ◌^◌, List, Option, Some, None, IfSome, length, get_or, sym, subst, ◌∙◌, ap, inl, inr, refl, arith}
+use Rattle.std.proofs.Common.{◌≡◌, ◌≢◌, ℕ, ◌+◌, ◌<◌, ◌≤◌, List, Option, Some, None, IfSome, length, get_or, sym, subst, ◌∙◌, ap, inl, inr, refl, arith}
 use Rattle.std.proofs.lemmas.Bool.{cases_lt}
 use Rattle.ert_wheel.proofs.Looking.{InBucket, key_low, told_alone}
 use Rattle.ert_wheel.proofs.Steps.{left_newer, newer_falls}

@@ -16,7 +16,7 @@ use Rattle.ert_wheel.specs.NextDue.{NoneBefore}
 use Rattle.ert_wheel.specs.Rings.{Rings, Place, AreChains, StandsIn, Finds}
 use Rattle.ert_wheel.specs.Rows.{key_in, key_of, row_at, row_told, comes_before}
 use Rattle.ert_wheel.specs.Walks.{StandOnLevels}
-use Rattle.ert_wheel.specs.Wheels.{held_keys, home_on, stand_on, place_of, places}
+use Rattle.ert_wheel.specs.Wheels.{held_keys, stand_on, place_of, places}
 use Rattle.ert_wheel.specs.declared.row.HeldRow.{HeldRow}
 use Rattle.ert_wheel.specs.declared.row.Key.{Key}
 use Rattle.ert_wheel.specs.declared.row.Row.{Row}

@@ -1,6 +1,6 @@
 -- A slot is put into a chain behind another slot.
 
-use Rattle.std.proofs.Common.{◌≡◌, ◌≢◌, ℕ, ◌+◌, ◌-◌, ◌<◌, ◌≤◌, true, List, Option, Some, None, length, sym, subst, ◌∙◌, ap, inl, inr, arith}
+use Rattle.std.proofs.Common.{◌≡◌, ◌≢◌, ℕ, ◌+◌, ◌-◌, ◌<◌, true, List, Option, Some, None, length, sym, subst, ◌∙◌, ap, inl, inr, arith}
 use Rattle.std.proofs.lemmas.Bool.{cases_lt}
 use Rattle.ert_wheel.proofs.Parts.{CanPutBehind, slot_is, node_is, put_chains}
 use Rattle.ert_wheel.proofs.Stored.{back, node_low, node_of_slot, read_next, spliced_behind, stored_low, written_spliced}

@@ -17,7 +17,7 @@ use Rattle.ert_wheel.specs.Kept.{KeptSlots, AreAlike}
 use Rattle.ert_wheel.specs.Levels.{IsLeastLevel, IsLeastBucket, StaysPut}
 use Rattle.ert_wheel.specs.Links.{next_at}
 use Rattle.ert_wheel.specs.Replacing.{MovesOrStays}
-use Rattle.ert_wheel.specs.Rings.{Rings, Place, AreChains, with_place, MayPut, Puts, MayTake, GivesUpPlace, MovesSlot}
+use Rattle.ert_wheel.specs.Rings.{Rings, Place, AreChains, with_place, MayPut, Puts, MayTake, GivesUpPlace}
 use Rattle.ert_wheel.specs.Rows.{Held, key_in, times, due_count, left_at}
 use Rattle.ert_wheel.specs.Falling.{MayMoveOn}
 use Rattle.ert_wheel.specs.Wheels.{no_key, held_keys, stand_on, place_of, places, AreLevelled, AreLevelChains, IsWheel, IsWheelKept, IsWheelAlike}
