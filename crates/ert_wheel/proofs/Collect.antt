@@ -1,10 +1,9 @@
 -- The rows of one chain are collected, from the oldest to the newest.
 
-use Rattle.std.proofs.Common.{◌≡◌, ◌≢◌, ℕ, ◌+◌, ◌-◌, ◌<◌, ◌≤◌, ◌^◌, Bool, true, false, ◌&&◌, cond, nat_eq, nat_le, nat_lt, List, Option, Some, None, IfSome, [], ◌∷◌, ◌++◌, length, get_or, sym, subst, ◌∙◌, ap, inl, inr, refl, arith}
+use Rattle.std.proofs.Common.{◌≡◌, ◌≢◌, ℕ, ◌+◌, ◌<◌, ◌≤◌, ◌^◌, Bool, true, false, ◌&&◌, cond, nat_eq, nat_le, nat_lt, List, Option, Some, None, IfSome, [], ◌∷◌, ◌++◌, length, get_or, sym, subst, ◌∙◌, ap, inl, inr, refl, arith}
 use Rattle.std.proofs.lemmas.Bool.{cases_eq, cases_lt, eq-eqb, ne_eqb, and_right, lt-ltb, le-ltb}
 use Rattle.std.proofs.lemmas.Bool.Decides.{eqb_tells}
 use Rattle.std.proofs.lemmas.List.Sums.{sum_by_push}
-use Rattle.ert_wheel.proofs.Orders.{orders_left}
 use Rattle.ert_wheel.proofs.Looking.{InBucket, key_low}
 use Rattle.ert_wheel.proofs.Views.{place_is, held_in}
 use Rattle.ert_wheel.specs.Rings.{Rings, Place, AreChains, StandsIn, order_of, FindsOldest}
@@ -15,8 +14,8 @@ use Rattle.ert_wheel.specs.declared.row.Key.{Key}
 use Rattle.ert_wheel.specs.declared.row.Row.{Row}
 
 -- the due keys of the bucket whose orders are below a bound
-abbrev pub is_due_below : (Key → ℕ) → ℕ → ℕ → ℕ → Key → Bool
-is_due_below home bucket to bound key = is_due_in home bucket to key && nat_lt key.order bound
+abbrev pub is_due_below : (Key → Place) → ℕ → ℕ → ℕ → Key → Bool
+is_due_below spot bucket to bound key = is_due_in spot bucket to key && nat_lt (spot key).order bound
 
 -- the order of the slot that comes next, and one above all orders where none does
 abbrev pub order_next : (ℕ → Option Place) → Option ℕ → ℕ
@@ -24,19 +23,19 @@ order_next places None = 2 ^ 64
 order_next places (Some slot) = order_of (places slot)
 
 -- the chain was walked up to the slot that comes next
-pub record IsWalked (keys : List (Option Key)) (home : Key → ℕ) (bucket to : ℕ) (next : Option ℕ) (old now : List Row) : Type 0 where
+pub record IsWalked (keys : List (Option Key)) (spot : Key → Place) (bucket to : ℕ) (next : Option ℕ) (old now : List Row) : Type 0 where
   pub each : (j : ℕ)
-      → times j now ≡ times j old + passing (is_due_below home bucket to (order_next (places home keys) next)) (key_in keys j)
+      → times j now ≡ times j old + passing (is_due_below spot bucket to (order_next (places spot keys) next)) (key_in keys j)
   pub are_rows : AreRows keys now
-  pub stands : IfSome next (InBucket keys home bucket)
+  pub stands : IfSome next (InBucket keys spot bucket)
 
 -- what a look found is a slot of the bucket
-found : (chains : Rings) (keys : List (Option Key)) (home : Key → ℕ) (bucket bound : ℕ) (next : Option ℕ)
-    → FindsOldest chains (places home keys) bucket bound next → IfSome next (InBucket keys home bucket)
-found chains keys home bucket bound None f = tt
-found chains keys home bucket bound (Some slot) f =
-    let s : StandsIn (places home keys) bucket slot = f.stands.1 in
-    let k = place_is home (key_in keys slot) s.place s.has in
+found : (chains : Rings) (keys : List (Option Key)) (spot : Key → Place) (bucket bound : ℕ) (next : Option ℕ)
+    → FindsOldest chains (places spot keys) bucket bound next → IfSome next (InBucket keys spot bucket)
+found chains keys spot bucket bound None f = tt
+found chains keys spot bucket bound (Some slot) f =
+    let s : StandsIn (places spot keys) bucket slot = f.stands.1 in
+    let k = place_is spot (key_in keys slot) s.place s.has in
     record { key = k.0; has = k.1; at_home = ap (λ (p : Place). p.home) k.2 ∙ s.at_home }
 
 -- no key passes a test that is false at it
@@ -58,37 +57,37 @@ below_first due h b o first above =
     ]
 
 -- a key of the bucket from a bound on is no older than what was found from there on
-found_low : (chains : Rings) (keys : List (Option Key)) (home : Key → ℕ) (bucket bound : ℕ) (next : Option ℕ) (j : ℕ) (key : Key)
-    → FindsOldest chains (places home keys) bucket bound next → length keys ≡ chains.slots → key_in keys j ≡ Some key
-    → home key ≡ bucket → bound ≤ key.order → order_next (places home keys) next ≤ key.order
-found_low chains keys home bucket bound None j key f slots has at high =
+found_low : (chains : Rings) (keys : List (Option Key)) (spot : Key → Place) (bucket bound : ℕ) (next : Option ℕ) (j : ℕ) (key : Key)
+    → FindsOldest chains (places spot keys) bucket bound next → length keys ≡ chains.slots → key_in keys j ≡ Some key
+    → (spot key).home ≡ bucket → bound ≤ (spot key).order → order_next (places spot keys) next ≤ (spot key).order
+found_low chains keys spot bucket bound None j key f slots has at high =
     absurd (omega (
       arith,
-      f.none refl j (record { home = home key; order = key.order }) (omega (arith, slots, key_low keys j key has)) (ap (place_of home) has) at,
+      f.none refl j (spot key) (omega (arith, slots, key_low keys j key has)) (ap (place_of spot) has) at,
     ))
-found_low chains keys home bucket bound (Some slot) j key f slots has at high =
-    f.least j (record { home = home key; order = key.order }) (omega (arith, slots, key_low keys j key has)) (ap (place_of home) has) at high
+found_low chains keys spot bucket bound (Some slot) j key f slots has at high =
+    f.least j (spot key) (omega (arith, slots, key_low keys j key has)) (ap (place_of spot) has) at high
 
 -- what was found from a bound on is no older
-found_high : (chains : Rings) (keys : List (Option Key)) (home : Key → ℕ) (bucket bound : ℕ) (next : Option ℕ)
-    → FindsOldest chains (places home keys) bucket bound next → bound ≤ 2 ^ 64 → bound ≤ order_next (places home keys) next
-found_high chains keys home bucket bound None f fits = fits
-found_high chains keys home bucket bound (Some slot) f fits = f.up
+found_high : (chains : Rings) (keys : List (Option Key)) (spot : Key → Place) (bucket bound : ℕ) (next : Option ℕ)
+    → FindsOldest chains (places spot keys) bucket bound next → bound ≤ 2 ^ 64 → bound ≤ order_next (places spot keys) next
+found_high chains keys spot bucket bound None f fits = fits
+found_high chains keys spot bucket bound (Some slot) f fits = f.up
 
 -- the walk begins at the oldest
-pub walk_starts : (chains : Rings) (keys : List (Option Key)) (home : Key → ℕ) (bucket to : ℕ) (next : Option ℕ) (old : List Row)
-    → length keys ≡ chains.slots → AreRows keys old → FindsOldest chains (places home keys) bucket 0 next
-    → IsWalked keys home bucket to next old old
-walk_starts chains keys home bucket to next old slots rows f = record {
+pub walk_starts : (chains : Rings) (keys : List (Option Key)) (spot : Key → Place) (bucket to : ℕ) (next : Option ℕ) (old : List Row)
+    → length keys ≡ chains.slots → AreRows keys old → FindsOldest chains (places spot keys) bucket 0 next
+    → IsWalked keys spot bucket to next old old
+walk_starts chains keys spot bucket to next old slots rows f = record {
   each = λ j.
-      let first : ℕ = order_next (places home keys) next in
-      let none : passing (is_due_below home bucket to first) (key_in keys j) ≡ 0 =
-      passing_none (is_due_below home bucket to first) (key_in keys j) (λ k has.
-      below_first (nat_le k.deadline to) (home k) bucket k.order first (λ e.
-      found_low chains keys home bucket 0 next j k f slots has e (omega arith))) in
+      let first : ℕ = order_next (places spot keys) next in
+      let none : passing (is_due_below spot bucket to first) (key_in keys j) ≡ 0 =
+      passing_none (is_due_below spot bucket to first) (key_in keys j) (λ k has.
+      below_first (nat_le k.deadline to) (spot k).home bucket (spot k).order first (λ e.
+      found_low chains keys spot bucket 0 next j k f slots has e (omega arith))) in
       omega (arith, none);
   are_rows = rows;
-  stands = found chains keys home bucket 0 next f;
+  stands = found chains keys spot bucket 0 next f;
 }
 
 -- a test with the order of a key, and one with that of the next: the same but at the key itself
@@ -123,70 +122,70 @@ here_test true h b k next up e =
 here_test false h b k next up e = refl
 
 -- one step of the walk, as a slot sees it
-step_at : (keys : List (Option Key)) (home : Key → ℕ) (bucket to next slot j : ℕ) (key : Key) (o : Option Key)
-    → key_in keys slot ≡ Some key → home key ≡ bucket → key.order < next → key_in keys j ≡ o
-    → ((k : Key) → o ≡ Some k → k.order ≡ key.order → j ≡ slot)
-    → ((k : Key) → o ≡ Some k → home k ≡ bucket → key.order < k.order → next ≤ k.order)
-    → passing (is_due_below home bucket to key.order) o + cond (nat_eq slot j && nat_le key.deadline to) 1 0
-    ≡ passing (is_due_below home bucket to next) o
-step_at keys home bucket to next slot j key None has at_home up is once least =
+step_at : (keys : List (Option Key)) (spot : Key → Place) (bucket to next slot j : ℕ) (key : Key) (o : Option Key)
+    → key_in keys slot ≡ Some key → (spot key).home ≡ bucket → (spot key).order < next → key_in keys j ≡ o
+    → ((k : Key) → o ≡ Some k → (spot k).order ≡ (spot key).order → j ≡ slot)
+    → ((k : Key) → o ≡ Some k → (spot k).home ≡ bucket → (spot key).order < (spot k).order → next ≤ (spot k).order)
+    → passing (is_due_below spot bucket to (spot key).order) o + cond (nat_eq slot j && nat_le key.deadline to) 1 0
+    ≡ passing (is_due_below spot bucket to next) o
+step_at keys spot bucket to next slot j key None has at_home up is once least =
     let ne : slot ≢ j = λ e. (let none : Some key ≡ None = sym has ∙ ap (key_in keys) e ∙ is in cc) in
     let x : ◌≡◌ {A = ℕ} (cond (nat_eq slot j && nat_le key.deadline to) 1 0) 0 =
     ap (λ c. cond (c && nat_le key.deadline to) 1 0) (ne_eqb slot j ne) in
     omega (arith, x)
-step_at keys home bucket to next slot j key (Some k) has at_home up is once least =
+step_at keys spot bucket to next slot j key (Some k) has at_home up is once least =
     elim (cases_eq slot j) [
       | inl e ↦
           let some : Some key ≡ Some k = sym has ∙ ap (key_in keys) e ∙ is in
           let same : key ≡ k = cc in
           let x : ◌≡◌ {A = ℕ} (cond (nat_eq slot j && nat_le key.deadline to) 1 0) (cond (nat_le key.deadline to) 1 0) =
           ap (λ c. cond (c && nat_le key.deadline to) 1 0) (eq-eqb slot j e) in
-          let y = here_test (nat_le key.deadline to) (home key) bucket key.order next up at_home in
-          subst (λ (l : Key). passing (is_due_below home bucket to key.order) (Some l) + cond (nat_eq slot j && nat_le key.deadline to) 1 0
-          ≡ passing (is_due_below home bucket to next) (Some l)) same (omega (arith, x, y))
+          let y = here_test (nat_le key.deadline to) (spot key).home bucket (spot key).order next up at_home in
+          subst (λ (l : Key). passing (is_due_below spot bucket to (spot key).order) (Some l) + cond (nat_eq slot j && nat_le key.deadline to) 1 0
+          ≡ passing (is_due_below spot bucket to next) (Some l)) same (omega (arith, x, y))
       | inr ne ↦
           let x : ◌≡◌ {A = ℕ} (cond (nat_eq slot j && nat_le key.deadline to) 1 0) 0 =
           ap (λ c. cond (c && nat_le key.deadline to) 1 0) (ne_eqb slot j ne) in
-          let other : k.order ≢ key.order = λ e. ne (sym (once k refl e)) in
-          let y : ◌≡◌ {A = ℕ} (cond (is_due_below home bucket to key.order k) 1 0) (cond (is_due_below home bucket to next k) 1 0) =
-          ap (λ c. cond c 1 0) (same_test (nat_le k.deadline to) (home k) bucket k.order key.order next up other (least k refl)) in
+          let other : (spot k).order ≢ (spot key).order = λ e. ne (sym (once k refl e)) in
+          let y : ◌≡◌ {A = ℕ} (cond (is_due_below spot bucket to (spot key).order k) 1 0) (cond (is_due_below spot bucket to next k) 1 0) =
+          ap (λ c. cond c 1 0) (same_test (nat_le k.deadline to) (spot k).home bucket (spot k).order (spot key).order next up other (least k refl)) in
           omega (arith, x, y)
     ]
 
 -- what a turn of the walk meets: the key of the slot that came next, and what comes after it
-pub record Meets (chains : Rings) (keys : List (Option Key)) (home : Key → ℕ) (bucket slot : ℕ) (key : Key) (next : Option ℕ) : Type 0 where
+pub record Meets (chains : Rings) (keys : List (Option Key)) (spot : Key → Place) (bucket slot : ℕ) (key : Key) (next : Option ℕ) : Type 0 where
   pub slots : length keys ≡ chains.slots
-  pub are : AreChains chains (places home keys)
+  pub are : AreChains chains (places spot keys)
   pub has : key_in keys slot ≡ Some key
-  pub at_home : home key ≡ bucket
-  pub follows : FindsOldest chains (places home keys) bucket (key.order + 1) next
+  pub at_home : (spot key).home ≡ bucket
+  pub follows : FindsOldest chains (places spot keys) bucket ((spot key).order + 1) next
 
 -- the orders rise
-pub order_rises : (chains : Rings) (keys : List (Option Key)) (home : Key → ℕ) (bucket slot : ℕ) (key : Key) (next : Option ℕ)
-    → Meets chains keys home bucket slot key next → key.order < order_next (places home keys) next
-order_rises chains keys home bucket slot key next m =
-    let fits : key.order < 2 ^ 64 = m.are.orders slot (record { home = home key; order = key.order }) (ap (place_of home) m.has) in
-    omega (arith, found_high chains keys home bucket (key.order + 1) next m.follows (omega (arith, fits)))
+pub order_rises : (chains : Rings) (keys : List (Option Key)) (spot : Key → Place) (bucket slot : ℕ) (key : Key) (next : Option ℕ)
+    → Meets chains keys spot bucket slot key next → (spot key).order < order_next (places spot keys) next
+order_rises chains keys spot bucket slot key next m =
+    let fits : (spot key).order < 2 ^ 64 = m.are.orders slot (spot key) (ap (place_of spot) m.has) in
+    omega (arith, found_high chains keys spot bucket ((spot key).order + 1) next m.follows (omega (arith, fits)))
 
 -- one step of the walk: the row of the slot is added where it is due
-pub walk_steps : (chains : Rings) (keys : List (Option Key)) (home : Key → ℕ) (bucket to slot : ℕ) (key : Key) (next : Option ℕ)
-    (old now new : List Row) → Meets chains keys home bucket slot key next → IsWalked keys home bucket to (Some slot) old now
+pub walk_steps : (chains : Rings) (keys : List (Option Key)) (spot : Key → Place) (bucket to slot : ℕ) (key : Key) (next : Option ℕ)
+    (old now new : List Row) → Meets chains keys spot bucket slot key next → IsWalked keys spot bucket to (Some slot) old now
     → ((j : ℕ) → times j new ≡ times j now + cond (nat_eq slot j && nat_le key.deadline to) 1 0) → AreRows keys new
-    → IsWalked keys home bucket to next old new
-walk_steps chains keys home bucket to slot key next old now new m w more rows =
-    let after : ℕ = order_next (places home keys) next in
-    let here : order_next (places home keys) (Some slot) ≡ key.order = ap (λ (o : Option Key). order_of (place_of home o)) m.has in
+    → IsWalked keys spot bucket to next old new
+walk_steps chains keys spot bucket to slot key next old now new m w more rows =
+    let after : ℕ = order_next (places spot keys) next in
+    let here : order_next (places spot keys) (Some slot) ≡ (spot key).order = ap (λ (o : Option Key). order_of (place_of spot o)) m.has in
     record {
       each = λ j.
-          let was : times j now ≡ times j old + passing (is_due_below home bucket to key.order) (key_in keys j) =
-          subst (λ (b : ℕ). times j now ≡ times j old + passing (is_due_below home bucket to b) (key_in keys j)) here (w.each j) in
-          let step = step_at keys home bucket to after slot j key (key_in keys j) m.has m.at_home (order_rises chains keys home bucket slot key next m) refl
-          (λ k is e. m.are.once j slot (record { home = home k; order = k.order }) (record { home = home key; order = key.order })
-          (ap (place_of home) is) (ap (place_of home) m.has) e)
-          (λ k is at less. found_low chains keys home bucket (key.order + 1) next j k m.follows m.slots is at (omega (arith, less))) in
+          let was : times j now ≡ times j old + passing (is_due_below spot bucket to (spot key).order) (key_in keys j) =
+          subst (λ (b : ℕ). times j now ≡ times j old + passing (is_due_below spot bucket to b) (key_in keys j)) here (w.each j) in
+          let step = step_at keys spot bucket to after slot j key (key_in keys j) m.has m.at_home (order_rises chains keys spot bucket slot key next m) refl
+          (λ k is e. m.are.once j slot (spot k) (spot key)
+          (ap (place_of spot) is) (ap (place_of spot) m.has) e)
+          (λ k is at less. found_low chains keys spot bucket ((spot key).order + 1) next j k m.follows m.slots is at (omega (arith, less))) in
           omega (arith, was, step, more j);
       are_rows = rows;
-      stands = found chains keys home bucket (key.order + 1) next m.follows;
+      stands = found chains keys spot bucket ((spot key).order + 1) next m.follows;
     }
 
 -- a row that is added stands once more
@@ -199,48 +198,31 @@ and_true true = refl
 and_true false = refl
 
 -- the walk ends where nothing comes next
-pub walk_ends : (chains : Rings) (keys : List (Option Key)) (home : Key → ℕ) (bucket to : ℕ) (old now : List Row)
-    → AreChains chains (places home keys) → IsWalked keys home bucket to None old now
-    → (j : ℕ) → times j now ≡ times j old + passing (is_due_in home bucket to) (key_in keys j)
-walk_ends chains keys home bucket to old now are w j =
+pub walk_ends : (chains : Rings) (keys : List (Option Key)) (spot : Key → Place) (bucket to : ℕ) (old now : List Row)
+    → AreChains chains (places spot keys) → IsWalked keys spot bucket to None old now
+    → (j : ℕ) → times j now ≡ times j old + passing (is_due_in spot bucket to) (key_in keys j)
+walk_ends chains keys spot bucket to old now are w j =
     w.each j ∙ ap (λ n. times j old + n)
-    (passing_same (is_due_below home bucket to (2 ^ 64)) (is_due_in home bucket to) (key_in keys j) (λ k is.
-    ap (λ b. is_due_in home bucket to k && b)
-    (lt-ltb k.order (2 ^ 64) (are.orders j (record { home = home k; order = k.order }) (ap (place_of home) is)))
-    ∙ and_true (is_due_in home bucket to k)))
-
--- each turn leaves fewer orders
-pub walk_falls : (chains : Rings) (keys : List (Option Key)) (home : Key → ℕ) (bucket slot : ℕ) (key : Key) (here next : Option ℕ)
-    → here ≡ Some slot → Meets chains keys home bucket slot key next → orders_left keys next < orders_left keys here
-walk_falls chains keys home bucket slot key here next is m =
-    let here_is : orders_left keys here ≡ 2 ^ 64 - key.order =
-    ap (orders_left keys) is ∙ ap (λ (o : Option Key). 2 ^ 64 - order_of (place_of (λ _. 0) o)) m.has in
-    let fits : key.order < 2 ^ 64 = m.are.orders slot (record { home = home key; order = key.order }) (ap (place_of home) m.has) in
-    omega (arith, here_is, fits, left next m.follows)
-  where
-    left : (next : Option ℕ) → FindsOldest chains (places home keys) bucket (key.order + 1) next → orders_left keys next ≤ 2 ^ 64 - (key.order + 1)
-    left None f = omega arith
-    left (Some n) f =
-        let s : InBucket keys home bucket n = found chains keys home bucket (key.order + 1) (Some n) f in
-        let one : order_of (places home keys n) ≡ s.key.order = ap (λ (o : Option Key). order_of (place_of home o)) s.has in
-        let other : order_of (places (λ _. 0) keys n) ≡ s.key.order = ap (λ (o : Option Key). order_of (place_of (λ _. 0) o)) s.has in
-        omega (arith, one, other, f.up)
+    (passing_same (is_due_below spot bucket to (2 ^ 64)) (is_due_in spot bucket to) (key_in keys j) (λ k is.
+    ap (λ b. is_due_in spot bucket to k && b)
+    (lt-ltb (spot k).order (2 ^ 64) (are.orders j (spot k) (ap (place_of spot) is)))
+    ∙ and_true (is_due_in spot bucket to k)))
 
 -- the key that is read at the slot that came next
-pub record ReadsHere (stored : List Key) (keys : List (Option Key)) (home : Key → ℕ) (bucket slot : ℕ) (key : Key) : Type 0 where
+pub record ReadsHere (stored : List Key) (keys : List (Option Key)) (spot : Key → Place) (bucket slot : ℕ) (key : Key) : Type 0 where
   pub low : slot < length stored
   pub has : key_in keys slot ≡ Some key
-  pub at_home : home key ≡ bucket
+  pub at_home : (spot key).home ≡ bucket
 
-pub reads_here : (chains : Rings) (stored : List Key) (home : Key → ℕ) (bucket slot : ℕ) (here : Option ℕ) (d : Key)
-    → IfSome here (InBucket (held_keys chains stored) home bucket) → here ≡ Some slot
-    → ReadsHere stored (held_keys chains stored) home bucket slot (get_or stored slot d)
-reads_here chains stored home bucket slot here d stands is =
+pub reads_here : (chains : Rings) (stored : List Key) (spot : Key → Place) (bucket slot : ℕ) (here : Option ℕ) (d : Key)
+    → IfSome here (InBucket (held_keys chains stored) spot bucket) → here ≡ Some slot
+    → ReadsHere stored (held_keys chains stored) spot bucket slot (get_or stored slot d)
+reads_here chains stored spot bucket slot here d stands is =
     let keys : List (Option Key) = held_keys chains stored in
-    let s : InBucket keys home bucket slot = subst (λ (o : Option ℕ). IfSome o (InBucket keys home bucket)) is stands in
+    let s : InBucket keys spot bucket slot = subst (λ (o : Option ℕ). IfSome o (InBucket keys spot bucket)) is stands in
     let same : s.key ≡ get_or stored slot d = (held_in chains stored slot d s.key s.has).1 in
     record {
       low = (held_in chains stored slot d s.key s.has).0;
       has = s.has ∙ ap (λ (k : Key). Some k) same;
-      at_home = ap home (sym same) ∙ s.at_home;
+      at_home = ap (λ (x : Key). (spot x).home) (sym same) ∙ s.at_home;
     }

@@ -30,57 +30,57 @@ has_row (None ∷ keys) some =
     record { slot = suc row.slot; key = row.key; has = row.has }
 
 -- the chain was walked down to the slot that comes next
-pub record IsPassed (keys : List (Option Key)) (home : Key → ℕ) (bucket bound : ℕ) (next : Option ℕ) (least : ℕ) : Type 0 where
+pub record IsPassed (keys : List (Option Key)) (spot : Key → Place) (bucket bound : ℕ) (next : Option ℕ) (least : ℕ) : Type 0 where
   pub low : least ≤ bound
-  pub passed : (j : ℕ) (key : Key) → key_in keys j ≡ Some key → home key ≡ bucket
-      → bound_of (places home keys) next ≤ key.order → least ≤ key.deadline
-  pub near : IsDueIn keys home bucket least ⊎ (least ≡ bound)
-  pub stands : IfSome next (InBucket keys home bucket)
+  pub passed : (j : ℕ) (key : Key) → key_in keys j ≡ Some key → (spot key).home ≡ bucket
+      → bound_of (places spot keys) next ≤ (spot key).order → least ≤ key.deadline
+  pub near : IsDueIn keys spot bucket least ⊎ (least ≡ bound)
+  pub stands : IfSome next (InBucket keys spot bucket)
 
 -- the slot of a key has this place
-pub at_place : (keys : List (Option Key)) (home : Key → ℕ) (j : ℕ) (key : Key) → key_in keys j ≡ Some key
-    → places home keys j ≡ Some (record { home = home key; order = key.order })
-at_place keys home j key has = ap (place_of home) has
+pub at_place : (keys : List (Option Key)) (spot : Key → Place) (j : ℕ) (key : Key) → key_in keys j ≡ Some key
+    → places spot keys j ≡ Some (spot key)
+at_place keys spot j key has = ap (place_of spot) has
 
 -- the walk begins at the newest
-pub passes_none : (chains : Rings) (keys : List (Option Key)) (home : Key → ℕ) (bucket bound : ℕ) (next : Option ℕ)
-    → length keys ≡ chains.slots → AreChains chains (places home keys)
-    → Finds chains (places home keys) bucket (2 ^ 64) next → IsPassed keys home bucket bound next bound
-passes_none chains keys home bucket bound next slots are f = record {
+pub passes_none : (chains : Rings) (keys : List (Option Key)) (spot : Key → Place) (bucket bound : ℕ) (next : Option ℕ)
+    → length keys ≡ chains.slots → AreChains chains (places spot keys)
+    → Finds chains (places spot keys) bucket (2 ^ 64) next → IsPassed keys spot bucket bound next bound
+passes_none chains keys spot bucket bound next slots are f = record {
   low = omega arith;
   passed = λ j key has same high.
       let low : j < chains.slots = omega (arith, slots, key_low keys j key has) in
-      let place : Place = record { home = home key; order = key.order } in
+      let place : Place = spot key in
       absurd (omega (
         arith,
-        f.greatest j place low (at_place keys home j key has) same (are.orders j place (at_place keys home j key has)),
+        f.greatest j place low (at_place keys spot j key has) same (are.orders j place (at_place keys spot j key has)),
       ));
   near = inr refl;
-  stands = found chains keys home bucket (2 ^ 64) next f;
+  stands = found chains keys spot bucket (2 ^ 64) next f;
 }
 
 -- a step of the walk
-passes_key : (chains : Rings) (keys : List (Option Key)) (home : Key → ℕ) (bucket bound slot least : ℕ) (key : Key) (next : Option ℕ)
-    → length keys ≡ chains.slots → AreChains chains (places home keys)
-    → IsPassed keys home bucket bound (Some slot) least → key_in keys slot ≡ Some key → home key ≡ bucket
-    → Finds chains (places home keys) bucket key.order next
-    → IsPassed keys home bucket bound next (min least key.deadline)
-passes_key chains keys home bucket bound slot least key next slots are p has at_home f =
-    let here : bound_of (places home keys) (Some slot) ≡ key.order + 1 =
-    ap (λ (o : Option Key). order_of (place_of home o) + 1) has in
+passes_key : (chains : Rings) (keys : List (Option Key)) (spot : Key → Place) (bucket bound slot least : ℕ) (key : Key) (next : Option ℕ)
+    → length keys ≡ chains.slots → AreChains chains (places spot keys)
+    → IsPassed keys spot bucket bound (Some slot) least → key_in keys slot ≡ Some key → (spot key).home ≡ bucket
+    → Finds chains (places spot keys) bucket (spot key).order next
+    → IsPassed keys spot bucket bound next (min least key.deadline)
+passes_key chains keys spot bucket bound slot least key next slots are p has at_home f =
+    let here : bound_of (places spot keys) (Some slot) ≡ (spot key).order + 1 =
+    ap (λ (o : Option Key). order_of (place_of spot o) + 1) has in
     record {
       low = omega (arith, p.low);
       passed = λ j other is same high.
           let low : j < chains.slots = omega (arith, slots, key_low keys j other is) in
-          elim (cases_lt other.order key.order) [
+          elim (cases_lt (spot other).order (spot key).order) [
             | inl less ↦
-                absurd (omega (arith, f.greatest j (record { home = home other; order = other.order }) low (at_place keys home j other is) same less))
+                absurd (omega (arith, f.greatest j (spot other) low (at_place keys spot j other is) same less))
             | inr more ↦
-                elim (cases_eq other.order key.order) [
+                elim (cases_eq (spot other).order (spot key).order) [
                   | inl e ↦
                       let one : j ≡ slot =
-                      are.once j slot (record { home = home other; order = other.order }) (record { home = home key; order = key.order })
-                      (at_place keys home j other is) (at_place keys home slot key has) e in
+                      are.once j slot (spot other) (spot key)
+                      (at_place keys spot j other is) (at_place keys spot slot key has) e in
                       let some : Some other ≡ Some key = sym is ∙ ap (key_in keys) one ∙ has in
                       let same_key : other ≡ key = cc in
                       let it : other.deadline ≡ key.deadline = ap (λ (k : Key). k.deadline) same_key in
@@ -92,26 +92,26 @@ passes_key chains keys home bucket bound slot least key next slots are p has at_
         | inl less ↦ inl (record { slot = slot; key = key; has = has; at_home = at_home; at = omega arith })
         | inr more ↦
             let e : least ≡ min least key.deadline = omega arith in
-            subst (λ n. IsDueIn keys home bucket n ⊎ (n ≡ bound)) e p.near
+            subst (λ n. IsDueIn keys spot bucket n ⊎ (n ≡ bound)) e p.near
       ];
-      stands = found chains keys home bucket key.order next f;
+      stands = found chains keys spot bucket (spot key).order next f;
     }
 
 -- the key that is read there passes
-pub steps_on : (chains : Rings) (stored : List Key) (home : Key → ℕ) (bucket bound slot : ℕ) (here next : Option ℕ) (least : ℕ) (d : Key)
-    → Steps chains stored home bucket slot here next → IsPassed (held_keys chains stored) home bucket bound here least
-    → IsPassed (held_keys chains stored) home bucket bound next (min least (get_or stored slot d).deadline)
-steps_on chains stored home bucket bound slot here next least d t p =
-    let a = at_key chains stored home bucket slot here next d t in
-    passes_key chains (held_keys chains stored) home bucket bound slot least (get_or stored slot d) next t.slots t.are
-    (subst (λ (o : Option ℕ). IsPassed (held_keys chains stored) home bucket bound o least) t.is p) a.has a.at_home a.follows
+pub steps_on : (chains : Rings) (stored : List Key) (spot : Key → Place) (bucket bound slot : ℕ) (here next : Option ℕ) (least : ℕ) (d : Key)
+    → Steps chains stored spot bucket slot here next → IsPassed (held_keys chains stored) spot bucket bound here least
+    → IsPassed (held_keys chains stored) spot bucket bound next (min least (get_or stored slot d).deadline)
+steps_on chains stored spot bucket bound slot here next least d t p =
+    let a = at_key chains stored spot bucket slot here next d t in
+    passes_key chains (held_keys chains stored) spot bucket bound slot least (get_or stored slot d) next t.slots t.are
+    (subst (λ (o : Option ℕ). IsPassed (held_keys chains stored) spot bucket bound o least) t.is p) a.has a.at_home a.follows
 
 -- the walk ends where nothing comes next
-pub passes_all : (keys : List (Option Key)) (home : Key → ℕ) (bucket bound : ℕ) (here : Option ℕ) (least : ℕ) → here ≡ None
-    → IsPassed keys home bucket bound here least → IsLeastIn keys home bucket bound least
-passes_all keys home bucket bound here least is passed =
-    let p : IsPassed keys home bucket bound None least =
-    subst (λ (o : Option ℕ). IsPassed keys home bucket bound o least) is passed in
+pub passes_all : (keys : List (Option Key)) (spot : Key → Place) (bucket bound : ℕ) (here : Option ℕ) (least : ℕ) → here ≡ None
+    → IsPassed keys spot bucket bound here least → IsLeastIn keys spot bucket bound least
+passes_all keys spot bucket bound here least is passed =
+    let p : IsPassed keys spot bucket bound None least =
+    subst (λ (o : Option ℕ). IsPassed keys spot bucket bound o least) is passed in
     record {
       low = p.low;
       below = λ j key has same. p.passed j key has same (omega arith);
@@ -132,25 +132,25 @@ answer_is P None some least f = (let clash : false ≡ true = some in absurd cc)
 answer_is P (Some n) some least f = f n least
 
 -- a bucket in which no slot is found has no row
-pub none_in : (chains : Rings) (keys : List (Option Key)) (home : Key → ℕ) (bucket bound : ℕ)
-    → length keys ≡ chains.slots → AreChains chains (places home keys)
-    → Finds chains (places home keys) bucket (2 ^ 64) None → IsLeastIn keys home bucket bound bound
-none_in chains keys home bucket bound slots are f = record {
+pub none_in : (chains : Rings) (keys : List (Option Key)) (spot : Key → Place) (bucket bound : ℕ)
+    → length keys ≡ chains.slots → AreChains chains (places spot keys)
+    → Finds chains (places spot keys) bucket (2 ^ 64) None → IsLeastIn keys spot bucket bound bound
+none_in chains keys spot bucket bound slots are f = record {
   low = omega arith;
   below = λ j key has same.
-      let place : Place = record { home = home key; order = key.order } in
-      let at : places home keys j ≡ Some place = at_place keys home j key has in
+      let place : Place = spot key in
+      let at : places spot keys j ≡ Some place = at_place keys spot j key has in
       absurd (omega (arith, f.greatest j place (omega (arith, slots, key_low keys j key has)) at same (are.orders j place at)));
   near = inr refl;
 }
 
 -- the slot that is found there tells the begin of its window
-pub begins_in : (chains : Rings) (stored : List Key) (home : Key → ℕ) (bucket slot : ℕ) (d : Key)
-    → Finds chains (places home (held_keys chains stored)) bucket (2 ^ 64) (Some slot)
+pub begins_in : (chains : Rings) (stored : List Key) (spot : Key → Place) (bucket slot : ℕ) (d : Key)
+    → Finds chains (places spot (held_keys chains stored)) bucket (2 ^ 64) (Some slot)
     → (slot < length stored)
-    × BeginsIn (held_keys chains stored) home bucket ((get_or stored slot d).deadline / 512 ^ (bucket / 1024) * 512 ^ (bucket / 1024))
-begins_in chains stored home bucket slot d f =
-    let s : InBucket (held_keys chains stored) home bucket slot = found chains (held_keys chains stored) home bucket (2 ^ 64) (Some slot) f in
+    × BeginsIn (held_keys chains stored) spot bucket ((get_or stored slot d).deadline / 512 ^ (bucket / 1024) * 512 ^ (bucket / 1024))
+begins_in chains stored spot bucket slot d f =
+    let s : InBucket (held_keys chains stored) spot bucket slot = found chains (held_keys chains stored) spot bucket (2 ^ 64) (Some slot) f in
     let h : (slot < length stored) × (s.key ≡ get_or stored slot d) = held_in chains stored slot d s.key s.has in (
       h.0,
       record {

@@ -14,11 +14,11 @@ use Rattle.ert_wheel.specs.NextDue.{IsDueAt, WindowBegins, IsDueIn, IsLeastIn, B
 use Rattle.ert_wheel.specs.Rings.{Rings, Place, AreChains}
 use Rattle.ert_wheel.specs.Rows.{key_in}
 use Rattle.ert_wheel.specs.Walks.{StandOnLevels}
-use Rattle.ert_wheel.specs.Wheels.{home_on, places}
+use Rattle.ert_wheel.specs.Wheels.{home_on, stand_on, places}
 use Rattle.ert_wheel.specs.declared.row.Key.{Key}
 use Rattle.ert_wheel.specs.declared.row.TheConstants.{NEVER}
 
-pub due_at_of : {keys : List (Option Key)} {home : Key → ℕ} {bucket time : ℕ} → IsDueIn keys home bucket time → IsDueAt keys time
+pub due_at_of : {keys : List (Option Key)} {spot : Key → Place} {bucket time : ℕ} → IsDueIn keys spot bucket time → IsDueAt keys time
 due_at_of d = record { slot = d.slot; key = d.key; has = d.has; at = d.at }
 
 -- a time in an earlier window is before the begin of a later one
@@ -33,9 +33,9 @@ pub record IsFirst (next level found : ℕ) (keys : List (Option Key)) (chains :
   pub above : 1 ≤ level
   pub highest : level ≤ 4
   pub after : next / 512 ^ level < found
-  pub first : FirstWindow chains (places (home_on next levels) keys) level (next / 512 ^ level + 1) (end_of level next) found
+  pub first : FirstWindow chains (places (stand_on next levels stand.rank) keys) level (next / 512 ^ level + 1) (end_of level next) found
 
-pub first_is : {next level from end found : ℕ} {keys : List (Option Key)} {chains : Rings} {levels : Key → ℕ} → StandOnLevels next chains keys levels
+pub first_is : {next level from end found : ℕ} {keys : List (Option Key)} {chains : Rings} {levels : Key → ℕ} (stand : StandOnLevels next chains keys levels)
     → 1 ≤ level → level ≤ 4 → from ≡ next / 512 ^ level → end ≡ end_of level next → from + 1 ≤ found
     → ((places : ℕ → Option Place) → AreChains chains places → FirstWindow chains places level (from + 1) end found)
     → IsFirst next level found keys chains levels
@@ -44,15 +44,15 @@ first_is {next = next} {level = level} {from = from} {end = end} {found = found}
   above = above;
   highest = highest;
   after = omega (arith, now, up);
-  first = subst (λ (end : ℕ). FirstWindow chains (places (home_on next levels) keys) level (next / 512 ^ level + 1) end found) last
-      (subst (λ (begin : ℕ). FirstWindow chains (places (home_on next levels) keys) level (begin + 1) end found) now
-      (first (places (home_on next levels) keys) stand.are));
+  first = subst (λ (end : ℕ). FirstWindow chains (places (stand_on next levels stand.rank) keys) level (next / 512 ^ level + 1) end found) last
+      (subst (λ (begin : ℕ). FirstWindow chains (places (stand_on next levels stand.rank) keys) level (begin + 1) end found) now
+      (first (places (stand_on next levels stand.rank) keys) stand.are));
 }
 
 -- what is told of a bucket that is known by another name
-pub told_there : {keys : List (Option Key)} {home : Key → ℕ} {bucket time : ℕ} (level window : ℕ) → bucket ≡ bucket_of_window level window
-    → IsEarlyIn keys home bucket time → IsEarlyIn keys home (bucket_of_window level window) time
-told_there {keys = keys} {home = home} {time = time} level window same told = subst (λ (b : ℕ). IsEarlyIn keys home b time) same told
+pub told_there : {keys : List (Option Key)} {spot : Key → Place} {bucket time : ℕ} (level window : ℕ) → bucket ≡ bucket_of_window level window
+    → IsEarlyIn keys spot bucket time → IsEarlyIn keys spot (bucket_of_window level window) time
+told_there {keys = keys} {spot = spot} {time = time} level window same told = subst (λ (b : ℕ). IsEarlyIn keys spot b time) same told
 
 module _ {next level found : ℕ} {keys : List (Option Key)} {chains : Rings} {levels : Key → ℕ} (f : IsFirst next level found keys chains levels) where
   -- a row of the level is in no earlier window
@@ -66,8 +66,8 @@ module _ {next level found : ℕ} {keys : List (Option Key)} {chains : Rings} {l
       let low = window_before_end next (levels key) t (omega (arith, f.stand.low slot key has, f.stand.time)) fit in
       let home : home_on next levels key ≡ bucket_of_window level (t / 512 ^ level) =
       ap (λ l. bucket_of_window l (t / 512 ^ l)) on in
-      f.first.none_below (t / 512 ^ level) slot (record { home = home_on next levels key; order = key.order })
-      (omega (arith, f.stand.slots, key_low keys slot key has)) (at_place keys (home_on next levels) slot key has)
+      f.first.none_below (t / 512 ^ level) slot (stand_on next levels f.stand.rank key)
+      (omega (arith, f.stand.slots, key_low keys slot key has)) (at_place keys (stand_on next levels f.stand.rank) slot key has)
       (omega (arith, here, e, n)) (omega (arith, low, e, ap (λ l. end_of l next) on)) home
 
   -- so none is due before a time up to the begin of that window
@@ -105,7 +105,7 @@ module _ {next level found : ℕ} {keys : List (Option Key)} {chains : Rings} {l
   some_there : found < end_of level next → (slot : ℕ) × (key : Key) × IsThere slot key
   some_there low =
       let h = f.first.has_slot low in
-      let k = place_is (home_on next levels) (key_in keys h.slot) h.stands.place h.stands.has in (
+      let k = place_is (stand_on next levels f.stand.rank) (key_in keys h.slot) h.stands.place h.stands.has in (
         h.slot,
         k.0,
         there h.slot k.0 low k.1 (ap (λ (p : Place). p.home) k.2 ∙ h.stands.at_home),
@@ -116,8 +116,8 @@ module _ {next level found : ℕ} {keys : List (Option Key)} {chains : Rings} {l
   within slot key is = omega (arith, lt-div-mul-add {a = key.deadline} (some_wide level), ap (λ w. w * 512 ^ level) is.window)
 
   -- the least deadline of the bucket's rows is that of one of them
-  least_due : (time : ℕ) → found < end_of level next → IsLeastIn keys (home_on next levels) (bucket_of_window level found) NEVER time
-      → IsDueIn keys (home_on next levels) (bucket_of_window level found) time
+  least_due : (time : ℕ) → found < end_of level next → IsLeastIn keys (stand_on next levels f.stand.rank) (bucket_of_window level found) NEVER time
+      → IsDueIn keys (stand_on next levels f.stand.rank) (bucket_of_window level found) time
   least_due time low looks =
       elim looks.near [
         | inl due ↦ due
@@ -127,7 +127,7 @@ module _ {next level found : ℕ} {keys : List (Option Key)} {chains : Rings} {l
       ]
 
   -- and the least of the level's
-  none_least : (time : ℕ) → found < end_of level next → IsLeastIn keys (home_on next levels) (bucket_of_window level found) NEVER time
+  none_least : (time : ℕ) → found < end_of level next → IsLeastIn keys (stand_on next levels f.stand.rank) (bucket_of_window level found) NEVER time
       → NoneOn keys levels level time
   none_least time low looks = λ slot key has on.
       let t : ℕ = max key.deadline next in
@@ -146,14 +146,14 @@ module _ {next level found : ℕ} {keys : List (Option Key)} {chains : Rings} {l
       ]
 
   -- what is told as the begin of the window is that
-  begin_is : (time : ℕ) → found < end_of level next → BeginsIn keys (home_on next levels) (bucket_of_window level found) time
+  begin_is : (time : ℕ) → found < end_of level next → BeginsIn keys (stand_on next levels f.stand.rank) (bucket_of_window level found) time
       → time ≡ found * 512 ^ level
   begin_is time low b =
       let e : bucket_of_window level found / 1024 ≡ level = omega arith in
       let is = there b.slot b.key low b.has b.at_home in
       b.begin ∙ (ap (λ l. b.key.deadline / 512 ^ l * 512 ^ l) e ∙ ap (λ w. w * 512 ^ level) is.window)
 
-  begins_there : (time : ℕ) → found < end_of level next → BeginsIn keys (home_on next levels) (bucket_of_window level found) time
+  begins_there : (time : ℕ) → found < end_of level next → BeginsIn keys (stand_on next levels f.stand.rank) (bucket_of_window level found) time
       → WindowBegins keys next time
   begins_there time low b =
       let is = there b.slot b.key low b.has b.at_home in
@@ -172,7 +172,7 @@ module _ {next level found : ℕ} {keys : List (Option Key)} {chains : Rings} {l
       }
 
   -- what is told of the bucket is told of the level
-  pub early_none : (time : ℕ) → found < end_of level next → IsEarlyIn keys (home_on next levels) (bucket_of_window level found) time
+  pub early_none : (time : ℕ) → found < end_of level next → IsEarlyIn keys (stand_on next levels f.stand.rank) (bucket_of_window level found) time
       → NoneOn keys levels level time
   early_none time low told =
       elim told [
@@ -180,7 +180,7 @@ module _ {next level found : ℕ} {keys : List (Option Key)} {chains : Rings} {l
         | inr b ↦ none_early time (omega (arith, begin_is time low b))
       ]
 
-  pub early_is : (time : ℕ) → found < end_of level next → IsEarlyIn keys (home_on next levels) (bucket_of_window level found) time
+  pub early_is : (time : ℕ) → found < end_of level next → IsEarlyIn keys (stand_on next levels f.stand.rank) (bucket_of_window level found) time
       → IsEarlyOrNever keys next time
   early_is time low told =
       elim told [

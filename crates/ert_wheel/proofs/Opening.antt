@@ -8,7 +8,7 @@ use Rattle.std.proofs.lemmas.List.Folds.{sum_by-replicate}
 use Rattle.ert_wheel.proofs.Writes.{Sees}
 use Rattle.ert_wheel.specs.Rings.{Rings, Place, AreChains}
 use Rattle.ert_wheel.specs.Rows.{key_in}
-use Rattle.ert_wheel.specs.Wheels.{home_on, place_of, places}
+use Rattle.ert_wheel.specs.Wheels.{stand_on, place_of, places}
 use Rattle.ert_wheel.specs.declared.row.Key.{Key}
 use Rattle.ert_wheel.specs.declared.row.TheConstants.{BUCKETS}
 
@@ -22,8 +22,8 @@ no_key_in n j =
           get_or-eq_default (replicate n None) None short
     ]
 
-no_place : (home : Key → ℕ) (n j : ℕ) → places home (replicate n None) j ≡ None
-no_place home n j = ap (place_of home) (no_key_in n j)
+no_place : (spot : Key → Place) (n j : ℕ) → places spot (replicate n None) j ≡ None
+no_place spot n j = ap (place_of spot) (no_key_in n j)
 
 pub opened : (slots : ℕ) (stored : List Key) (chains : Rings) → chains.slots ≡ slots → chains.homes ≡ BUCKETS → AreChains chains (λ _. None)
     → slots < 2 ^ 32 → Sees 0 0 0 stored (replicate slots None) chains
@@ -41,11 +41,17 @@ opened slots stored chains low homes are few =
         low = λ j key has. (let no : None ≡ Some key = sym (no_key_in slots j) ∙ has in cc);
         are = record {
           level = λ _. 0;
+          rank = λ _. 0;
           levelled = record {
             fit = λ j key has. (let no : None ≡ Some key = sym (no_key_in slots j) ∙ has in absurd cc);
             falls = λ i j x y has. (let no : None ≡ Some x = sym (no_key_in slots i) ∙ has in absurd cc);
+            once = λ i j x y has. (let no : None ≡ Some x = sym (no_key_in slots i) ∙ has in absurd cc);
+            apart = λ i j x y has. (let no : None ≡ Some x = sym (no_key_in slots i) ∙ has in absurd cc);
+            older = λ j key has. (let no : None ≡ Some key = sym (no_key_in slots j) ∙ has in absurd cc);
+            bounded = λ j key has. (let no : None ≡ Some key = sym (no_key_in slots j) ∙ has in absurd cc);
+            exact = λ j key has. (let no : None ≡ Some key = sym (no_key_in slots j) ∙ has in absurd cc);
           };
-          are = subst (λ (p : ℕ → Option Place). AreChains chains p) (λ i j. sym (no_place (home_on 0 (λ _. 0)) slots j) i) are;
+          are = subst (λ (p : ℕ → Option Place). AreChains chains p) (λ i j. sym (no_place (stand_on 0 (λ _. 0) (λ _. 0)) slots j) i) are;
         };
       };
     }

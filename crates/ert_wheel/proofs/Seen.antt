@@ -1,23 +1,21 @@
 -- The due rows of a level are collected, window by window.
 
-use Rattle.std.proofs.Common.{◌≡◌, ℕ, zero, suc, ◌+◌, ◌/◌, ◌^◌, ◌<◌, ◌≤◌, Bool, true, false, ◌&&◌, ◌||◌, cond, nat_eq, nat_le, nat_lt, max, min, List, Option, Some, None, [], ◌∷◌, length, get_or, sym, ◌∙◌, ap, inl, inr, refl, arith}
+use Rattle.std.proofs.Common.{◌≡◌, ℕ, ◌+◌, ◌/◌, ◌^◌, ◌<◌, ◌≤◌, Bool, true, false, ◌&&◌, ◌||◌, cond, nat_eq, nat_le, nat_lt, max, min, List, Option, Some, None, sym, ◌∙◌, ap, inl, inr, refl, arith}
 use Rattle.std.proofs.lemmas.Bool.{and_right, cases_eq, cases_lt, eq-eqb, ne_eqb, lt-ltb, le-ltb, le-leb, lt-leb, true≢false}
 use Rattle.std.proofs.lemmas.Bool.Decides.{leb_tells}
 use Rattle.ert_wheel.proofs.Collect.{passing_same}
 use Rattle.ert_wheel.proofs.Least.{at_place}
-use Rattle.ert_wheel.proofs.Lists.{times-cons}
 use Rattle.ert_wheel.proofs.Looking.{key_low}
 use Rattle.ert_wheel.proofs.Standing.{StandsAt, end_of, stands_at, window_before_end}
 use Rattle.ert_wheel.proofs.Times.{later}
 use Rattle.ert_wheel.specs.Levels.{bucket_of_window}
 use Rattle.ert_wheel.specs.Marks.{FirstWindow}
 use Rattle.ert_wheel.specs.Rings.{Rings}
-use Rattle.ert_wheel.specs.Rows.{key_in, key_of, rows_told, times, passing}
-use Rattle.ert_wheel.specs.Walks.{AreRows, AreRanked, is_due_in, is_due_from, StandOnLevels, AreCollected, MayCollect, Collects}
-use Rattle.ert_wheel.specs.Wheels.{home_on, places}
+use Rattle.ert_wheel.specs.Rows.{key_in, rows_told, times, passing}
+use Rattle.ert_wheel.specs.Walks.{AreRows, is_due_in, is_due_from, StandOnLevels, AreCollected, MayCollect, Collects}
+use Rattle.ert_wheel.specs.Wheels.{home_on, stand_on, places}
 use Rattle.ert_wheel.specs.declared.row.HeldRow.{HeldRow}
 use Rattle.ert_wheel.specs.declared.row.Key.{Key}
-use Rattle.ert_wheel.specs.declared.row.Row.{Row}
 use Rattle.ert_wheel.specs.declared.row.TheConstants.{LAST}
 
 -- at the first window: the test is that of the levels above
@@ -106,18 +104,6 @@ met_more true k l v w h b is there =
           omega (arith, z, ap {B = ℕ} (λ c. cond (nat_lt k l || c) 1 0) same)
     ]
 
--- a key that was met, and isn't in an earlier window, stands on a higher level
-met_above : (due : Bool) (k l v w : ℕ) → (due && (nat_lt k l || (nat_eq k l && nat_lt v w))) ≡ true → v ≡ w → k < l
-met_above due k l v w met same =
-    elim (cases_lt k l) [
-      | inl less ↦ less
-      | inr more ↦
-          let none : (due && (nat_lt k l || (nat_eq k l && nat_lt v w))) ≡ false =
-          ap (λ b. due && (b || (nat_eq k l && nat_lt v w))) (le-ltb k l more)
-          ∙ (ap (λ b. due && b) (and_right (nat_eq k l) (nat_lt v w) (le-ltb v w (omega (arith, same)))) ∙ and_right due false refl) in
-          absurd (true≢false (sym met ∙ none))
-    ]
-
 -- a test passes at most once
 passing_low : (test : Key → Bool) (o : Option Key) → passing test o ≤ 1
 passing_low test None = omega arith
@@ -130,23 +116,6 @@ passing_sum : (p q r : Key → Bool) (o : Option Key) → ((key : Key) → o ≡
 passing_sum p q r None sum = refl
 passing_sum p q r (Some key) sum = sum key refl
 
--- a test that passes is true at the key
-passes : (test : Key → Bool) (key : Key) → 1 ≤ cond (test key) 1 0 → test key ≡ true
-passes test key some = go (test key) some
-  where
-    go : (b : Bool) → 1 ≤ cond b 1 0 → b ≡ true
-    go true some = refl
-    go false some = absurd (omega (arith, some))
-
--- the rows of a list stand in it
-stands_once : (rows : List Row) (k : ℕ) (d : Row) → k < length rows → 1 ≤ times (get_or rows k d).slot rows
-stands_once [] k d low = absurd (omega (arith, low))
-stands_once (row ∷ rows) zero d low =
-    let one : ◌≡◌ {A = ℕ} (cond (nat_eq row.slot row.slot) 1 0) 1 = ap (λ b. cond b 1 0) (eq-eqb row.slot row.slot refl) in
-    omega (arith, one, times-cons row rows row.slot)
-stands_once (row ∷ rows) (suc k) d low =
-    omega (arith, times-cons row rows (get_or rows k d).slot, stands_once rows k d (omega (arith, low)))
-
 -- the time of a key's window: a late one has the next time
 abbrev pub time_of : ℕ → Key → ℕ
 time_of next key = max key.deadline next
@@ -156,11 +125,10 @@ abbrev pub is_due_met : ℕ → (Key → ℕ) → ℕ → ℕ → ℕ → Key �
 is_due_met next levels level window to key =
     nat_le key.deadline to && (nat_lt level (levels key) || (nat_eq level (levels key) && nat_lt (max key.deadline next / 512 ^ level) window))
 
--- the due rows of those windows are there once, and no others, and the ranks tell their orders
+-- the due rows of those windows are there once, and no others
 pub record IsSeen (next : ℕ) (keys : List (Option Key)) (levels : Key → ℕ) (level window to : ℕ) (rows : List HeldRow) : Type 0 where
   pub each : (j : ℕ) → times j (rows_told keys rows) ≡ passing (is_due_met next levels level window to) (key_in keys j)
   pub are_rows : AreRows keys (rows_told keys rows)
-  pub ranked : AreRanked keys rows
 
 -- the level may be walked, from one window on
 module _ {next level to : ℕ} {keys : List (Option Key)} {chains : Rings} {levels : Key → ℕ} (stand : StandOnLevels next chains keys levels) where
@@ -171,7 +139,6 @@ module _ {next level to : ℕ} {keys : List (Option Key)} {chains : Rings} {leve
         ∙ passing_same (is_due_from levels (level + 1) to) (is_due_met next levels level from to) (key_in keys j) (λ key has.
         met_first (nat_le key.deadline to) level (levels key) (time_of next key / 512 ^ level) from (λ on. first key j has on));
     are_rows = so_far.are_rows;
-    ranked = so_far.ranked;
   }
     where
       first : (key : Key) (j : ℕ) → key_in keys j ≡ Some key → levels key ≡ level → from ≤ time_of next key / 512 ^ level
@@ -186,7 +153,7 @@ module _ {next level to : ℕ} {keys : List (Option Key)} {chains : Rings} {leve
 
   -- windows without a row are passed over
   pub seen_skip : (window end found : ℕ) (rows : List HeldRow) → window ≤ found → found ≤ end → end ≤ end_of level next
-      → FirstWindow chains (places (home_on next levels) keys) level window end found
+      → FirstWindow chains (places (stand_on next levels stand.rank) keys) level window end found
       → IsSeen next keys levels level window to rows → IsSeen next keys levels level found to rows
   seen_skip window end found rows up low few first seen = record {
     each = λ j. seen.each j
@@ -194,13 +161,12 @@ module _ {next level to : ℕ} {keys : List (Option Key)} {chains : Rings} {leve
         met_skip (nat_le key.deadline to) level (levels key) (time_of next key / 512 ^ level) window found up (λ on high.
         elim (cases_lt (time_of next key / 512 ^ level) end) [
           | inl before ↦
-              first.none_below (time_of next key / 512 ^ level) j (record { home = home_on next levels key; order = key.order })
-              (omega (arith, stand.slots, key_low keys j key has)) (at_place keys (home_on next levels) j key has) high before
+              first.none_below (time_of next key / 512 ^ level) j (stand_on next levels stand.rank key)
+              (omega (arith, stand.slots, key_low keys j key has)) (at_place keys (stand_on next levels stand.rank) j key has) high before
               (ap (λ l. bucket_of_window l (time_of next key / 512 ^ l)) on)
           | inr after ↦ omega (arith, low, after)
         ]));
     are_rows = seen.are_rows;
-    ranked = seen.ranked;
   }
 
   -- a window more
@@ -211,41 +177,19 @@ module _ {next level to : ℕ} {keys : List (Option Key)} {chains : Rings} {leve
     here key j has at = stands_at next (levels key) level (time_of next key) window (omega arith) (stand.levelled.fit j key has) from low at
 
     one_more : (j : ℕ)
-        → passing (is_due_met next levels level window to) (key_in keys j) + passing (is_due_in (home_on next levels) (bucket_of_window level window) to) (key_in keys j)
+        → passing (is_due_met next levels level window to) (key_in keys j) + passing (is_due_in (stand_on next levels stand.rank) (bucket_of_window level window) to) (key_in keys j)
         ≡ passing (is_due_met next levels level (window + 1) to) (key_in keys j)
     one_more j =
-        passing_sum (is_due_met next levels level window to) (is_due_in (home_on next levels) (bucket_of_window level window) to)
+        passing_sum (is_due_met next levels level window to) (is_due_in (stand_on next levels stand.rank) (bucket_of_window level window) to)
         (is_due_met next levels level (window + 1) to) (key_in keys j) (λ key has.
         met_more (nat_le key.deadline to) level (levels key) (time_of next key / 512 ^ level) window (home_on next levels key) (bucket_of_window level window)
         (here key j has)
         (λ on at. ap (λ l. bucket_of_window l (time_of next key / 512 ^ l)) on ∙ ap (bucket_of_window level) at))
 
-    -- a row that was collected before one of the window's that has its deadline is older
-    is_older : (row key : Key) (i j : ℕ) → key_in keys i ≡ Some row → key_in keys j ≡ Some key → is_due_met next levels level window to row ≡ true
-        → home_on next levels key ≡ bucket_of_window level window → key.deadline ≡ row.deadline → row.order < key.order
-    is_older row key i j has_row has met at same =
-        let s = here key j has at in
-        let t : time_of next row ≡ time_of next key = omega (arith, same) in
-        let above : level < levels row =
-        met_above (nat_le row.deadline to) level (levels row) (time_of next row / 512 ^ level) window met (ap (λ n. n / 512 ^ level) t ∙ s.window_is) in
-        stand.levelled.falls i j row key has_row has (omega (arith, above, s.level_is)) (ap (λ n. n / 512 ^ levels row) t)
-
-    pub may_collect : MayCollect chains keys (home_on next levels) (bucket_of_window level window) to rows
+    pub may_collect : MayCollect chains keys (stand_on next levels stand.rank) (bucket_of_window level window) to rows
     may_collect = record {
       slots = stand.slots;
-      few = stand.few;
       are = stand.are;
-      older = λ k d low. λ slot key has at same.
-          let row : Row = get_or (rows_told keys rows) k d in
-          let held : key_in keys row.slot ≡ Some (key_of row) = seen.are_rows k d low in
-          let some : 1 ≤ cond (is_due_met next levels level window to (key_of row)) 1 0 =
-          omega (
-            arith,
-            stands_once (rows_told keys rows) k d low,
-            seen.each row.slot,
-            ap (passing (is_due_met next levels level window to)) held,
-          ) in
-          is_older (key_of row) key row.slot slot held has (passes (is_due_met next levels level window to) (key_of row) some) at same;
       once = λ j. omega (
         arith,
         seen.each j,
@@ -253,15 +197,13 @@ module _ {next level to : ℕ} {keys : List (Option Key)} {chains : Rings} {leve
         passing_low (is_due_met next levels level (window + 1) to) (key_in keys j),
       );
       are_rows = seen.are_rows;
-      ranked = seen.ranked;
     }
 
-    pub seen_more : (new : List HeldRow) → Collects keys (home_on next levels) (bucket_of_window level window) to rows new
+    pub seen_more : (new : List HeldRow) → Collects keys (stand_on next levels stand.rank) (bucket_of_window level window) to rows new
         → IsSeen next keys levels level (window + 1) to new
     seen_more new c = record {
       each = λ j. omega (arith, c.each j, seen.each j, one_more j);
       are_rows = c.are_rows;
-      ranked = c.ranked;
     }
 
   -- at the end all due rows of the level are there
@@ -272,7 +214,6 @@ module _ {next level to : ℕ} {keys : List (Option Key)} {chains : Rings} {leve
         ∙ passing_same (is_due_met next levels level window to) (is_due_from levels level to) (key_in keys j) (λ key has.
         met_last (nat_le key.deadline to) level (levels key) (time_of next key / 512 ^ level) window (λ due on. before key j has due on));
     are_rows = seen.are_rows;
-    ranked = seen.ranked;
   }
     where
       before : (key : Key) (j : ℕ) → key_in keys j ≡ Some key → nat_le key.deadline to ≡ true → levels key ≡ level → time_of next key / 512 ^ level < window

@@ -23,7 +23,7 @@ head_stored slots homes home =
     let e : slots + home - slots ≡ home = omega arith in
     ap (λ b. cond b (homes + (slots + home)) (slots + home - slots)) (le-ltb (slots + home) slots high) ∙ e
 
-node_of_slot : (slots homes slot : ℕ) → stored_node slots homes (homes + slot) ≡ slot
+pub node_of_slot : (slots homes slot : ℕ) → stored_node slots homes (homes + slot) ≡ slot
 node_of_slot slots homes slot =
     let high : homes ≤ homes + slot = omega arith in
     let e : homes + slot - homes ≡ slot = omega arith in
@@ -33,7 +33,7 @@ node_of_head : (slots homes home : ℕ) → home < homes → stored_node slots h
 node_of_head slots homes home low = ap (λ b. cond b (slots + home) (home - homes)) (lt-ltb home homes low)
 
 -- each node has a place of its own
-back : (slots homes place : ℕ) → place < slots + homes → stored_at slots homes (stored_node slots homes place) ≡ place
+pub back : (slots homes place : ℕ) → place < slots + homes → stored_at slots homes (stored_node slots homes place) ≡ place
 back slots homes place few =
     elim (cases_lt place homes) [
       | inl low ↦ ap (stored_at slots homes) (node_of_head slots homes place low) ∙ head_stored slots homes place
@@ -55,7 +55,7 @@ forth slots homes node few =
           ∙ (ap (stored_node slots homes) (head_stored slots homes home) ∙ (node_of_head slots homes home (omega (arith, e)) ∙ e))
     ]
 
-node_low : (slots homes place : ℕ) → place < slots + homes → stored_node slots homes place < slots + homes
+pub node_low : (slots homes place : ℕ) → place < slots + homes → stored_node slots homes place < slots + homes
 node_low slots homes place few =
     elim (cases_lt place homes) [
       | inl low ↦ omega (arith, node_of_head slots homes place low)
@@ -112,7 +112,7 @@ pub seen_prev : (slots homes : ℕ) (stored : List Link) (node : ℕ) → node <
 seen_prev slots homes stored node low = ap (λ (l : Link). l.prev) (seen_at slots homes stored node low)
 
 -- and those of a node that is stored
-read_next : (slots homes : ℕ) (stored : List Link) (node place : ℕ) → node < slots + homes → stored_at slots homes node ≡ place → place < length stored
+pub read_next : (slots homes : ℕ) (stored : List Link) (node place : ℕ) → node < slots + homes → stored_at slots homes node ≡ place → place < length stored
     → next_at (seen_links slots homes stored) node ≡ stored_node slots homes (next_at stored place)
 read_next slots homes stored node place few at low =
     seen_next slots homes stored node few

@@ -64,19 +64,19 @@ abbrev pub AreStored : List Key → List (Option Key) → Type 0
 AreStored stored seen = (slot : ℕ) (key : Key) → key_in seen slot ≡ Some key → slice_get stored slot ≡ Some key
 
 -- and a slot is alone just where it has none: so they are those that are held
-pub held_is : (chains : Rings) (home : Key → ℕ) (stored : List Key) (seen : List (Option Key))
-    → length seen ≡ chains.slots → AreStored stored seen → AreChains chains (places home seen)
+pub held_is : (chains : Rings) (spot : Key → Place) (stored : List Key) (seen : List (Option Key))
+    → length seen ≡ chains.slots → AreStored stored seen → AreChains chains (places spot seen)
     → held_keys chains stored ≡ seen
-held_is chains home stored seen slots are_stored are =
+held_is chains spot stored seen slots are_stored are =
     sym (fill_by_all (held_key chains.links stored) seen chains.slots None slots (λ slot low. at slot low (key_in seen slot) refl))
   where
     at : (slot : ℕ) → slot < chains.slots → (o : Option Key) → key_in seen slot ≡ o
         → key_in seen slot ≡ held_key chains.links stored slot
     at slot low None none =
-        none ∙ sym (key_alone chains.links stored slot (are.alone slot low (ap (place_of home) none)).forth)
+        none ∙ sym (key_alone chains.links stored slot (are.alone slot low (ap (place_of spot) none)).forth)
     at slot low (Some key) has =
         has ∙ sym (key_kept chains.links stored slot
-        (placed_apart chains (places home seen) slot _ are low (ap (place_of home) has)) ∙ are_stored slot key has)
+        (placed_apart chains (places spot seen) slot _ are low (ap (place_of spot) has)) ∙ are_stored slot key has)
 
 -- who has a key after one was written
 pub key_set : (keys : List (Option Key)) (slot : ℕ) (new : Option Key) (j : ℕ) (key : Key) → slot < length keys
@@ -122,29 +122,29 @@ stored_more stored more seen are = λ j k has.
     ∙ ap (λ (x : Key). Some x) (get_or_append_left stored more no_key j within ∙ get_or_from_slice_get stored j k no_key old)
 
 -- the key of a place
-pub place_is : (home : Key → ℕ) (key : Option Key) (p : Place) → place_of home key ≡ Some p
-    → (k : Key) × (key ≡ Some k) × (record { home = home k; order = k.order } ≡ p)
-place_is home None p h = cc
-place_is home (Some k) p h = (k, refl, cc)
+pub place_is : (spot : Key → Place) (key : Option Key) (p : Place) → place_of spot key ≡ Some p
+    → (k : Key) × (key ≡ Some k) × (spot k ≡ p)
+place_is spot None p h = cc
+place_is spot (Some k) p h = (k, refl, cc)
 
 -- the places after a key was written
-places_set : (home : Key → ℕ) (keys : List (Option Key)) (slot : ℕ) (key : Option Key) → slot < length keys
-    → (j : ℕ) → with_place (places home keys) slot (place_of home key) j ≡ places home (set keys slot key) j
-places_set home keys slot key low j =
+places_set : (spot : Key → Place) (keys : List (Option Key)) (slot : ℕ) (key : Option Key) → slot < length keys
+    → (j : ℕ) → with_place (places spot keys) slot (place_of spot key) j ≡ places spot (set keys slot key) j
+places_set spot keys slot key low j =
     elim (cases_eq j slot) [
-      | inl e ↦ ap (with_place (places home keys) slot (place_of home key)) e
-          ∙ with_place_here (places home keys) slot (place_of home key)
-          ∙ ap (place_of home) (sym (get_or-set_same keys slot key None low) ∙ ap (key_in (set keys slot key)) (sym e))
-      | inr ne ↦ with_place_there (places home keys) slot (place_of home key) j ne
-          ∙ ap (place_of home) (sym (get_or-set_other keys slot j key None ne))
+      | inl e ↦ ap (with_place (places spot keys) slot (place_of spot key)) e
+          ∙ with_place_here (places spot keys) slot (place_of spot key)
+          ∙ ap (place_of spot) (sym (get_or-set_same keys slot key None low) ∙ ap (key_in (set keys slot key)) (sym e))
+      | inr ne ↦ with_place_there (places spot keys) slot (place_of spot key) j ne
+          ∙ ap (place_of spot) (sym (get_or-set_other keys slot j key None ne))
     ]
 
 -- the chains after that
-pub chains_set : (chains : Rings) (home : Key → ℕ) (keys : List (Option Key)) (slot : ℕ) (key : Option Key)
-    → slot < length keys → AreChains chains (with_place (places home keys) slot (place_of home key))
-    → AreChains chains (places home (set keys slot key))
-chains_set chains home keys slot key low are =
-    subst (λ (p : ℕ → Option Place). AreChains chains p) (λ i j. places_set home keys slot key low j i) are
+pub chains_set : (chains : Rings) (spot : Key → Place) (keys : List (Option Key)) (slot : ℕ) (key : Option Key)
+    → slot < length keys → AreChains chains (with_place (places spot keys) slot (place_of spot key))
+    → AreChains chains (places spot (set keys slot key))
+chains_set chains spot keys slot key low are =
+    subst (λ (p : ℕ → Option Place). AreChains chains p) (λ i j. places_set spot keys slot key low j i) are
 
 -- how many there are after that
 counts_set : (keys : List (Option Key)) (slot : ℕ) (key : Option Key) → slot < length keys

@@ -4,20 +4,23 @@ use Rattle.std.proofs.Common.{◌≡◌, ◌≢◌, ◌↔◌, ℕ, ◌+◌, ◌
 use Rattle.std.proofs.lemmas.Bool.{true≢false}
 use Rattle.std.proofs.lemmas.Bool.Decides.{leb_tells}
 use Rattle.std.proofs.lemmas.List.{ext_get_or, get_or-map, length-map, length-set, set-get_or}
+use Rattle.std.proofs.lemmas.Option.{get_or_from_slice_get}
 use Rattle.std.proofs.lemmas.List.Sums.{count_by-le-length}
 use Rattle.std.specs.Bool.{IsTrue}
 use Rattle.std.specs.Option.{is_some, IsSome}
 use Rattle.ert_wheel.proofs.Enters.{Enters, entered, entered_chains}
-use Rattle.ert_wheel.proofs.Falls.{at_level}
+use Rattle.ert_wheel.proofs.Falls.{given}
 use Rattle.ert_wheel.proofs.Parts.{chains_written}
+use Rattle.ert_wheel.proofs.Staying.{KeepsSpot, stays_levelled, stays_chained}
 use Rattle.ert_wheel.proofs.Views.{AreStored, held_at, held_len, key_stored, key_alone, key_apart, held_is, key_set, stored_held, stored_set, stored_less, stored_more, chains_set, counts_more, counts_less, counts_same, place_is}
 use Rattle.ert_wheel.specs.Kept.{KeptSlots, AreAlike}
-use Rattle.ert_wheel.specs.Levels.{IsLeastLevel, IsLeastBucket}
+use Rattle.ert_wheel.specs.Levels.{IsLeastLevel, IsLeastBucket, StaysPut}
 use Rattle.ert_wheel.specs.Links.{next_at}
-use Rattle.ert_wheel.specs.Rings.{Rings, Place, AreChains, with_place, MayPut, Puts, MayTake, GivesUpPlace, MovesSlot}
+use Rattle.ert_wheel.specs.Replacing.{MovesOrStays}
+use Rattle.ert_wheel.specs.Rings.{Rings, Place, AreChains, with_place, MayPut, Puts, MayTake, GivesUpPlace}
 use Rattle.ert_wheel.specs.Rows.{Held, key_in, times, due_count, left_at}
 use Rattle.ert_wheel.specs.Falling.{MayMoveOn}
-use Rattle.ert_wheel.specs.Wheels.{no_key, held_keys, home_on, place_of, places, AreLevelled, AreLevelChains, IsWheel, IsWheelKept, IsWheelAlike}
+use Rattle.ert_wheel.specs.Wheels.{no_key, held_keys, stand_on, place_of, places, AreLevelled, AreLevelChains, IsWheel, IsWheelKept, IsWheelAlike}
 use Rattle.ert_wheel.specs.declared.row.Key.{Key}
 use Rattle.ert_wheel.specs.declared.row.Row.{Row}
 use Rattle.ert_wheel.specs.declared.row.TheConstants.{NEVER, BUCKETS}
@@ -100,7 +103,7 @@ stored_as {next = next} {count = count} {floor = floor} {seen = seen} {chains = 
 pub is_held : {next count floor : ℕ} {stored : List Key} {seen : List (Option Key)} {chains : Rings}
     → Sees next count floor stored seen chains → held_keys chains stored ≡ seen
 is_held {next = next} {stored = stored} {seen = seen} {chains = chains} s =
-    held_is chains (home_on next s.wheel.are.level) stored seen s.wheel.slots s.are_stored s.wheel.are.are
+    held_is chains (stand_on next s.wheel.are.level s.wheel.are.rank) stored seen s.wheel.slots s.are_stored s.wheel.are.are
 
 pub is_kept : {next count floor : ℕ} {stored : List Key} {seen : List (Option Key)} {chains : Rings}
     → Sees next count floor stored seen chains → IsWheelKept next count floor (held_keys chains stored) chains
@@ -112,23 +115,22 @@ pub may_put : {next count floor : ℕ} {stored : List Key} {seen : List (Option 
     → Sees next count floor stored seen chains → slot < length seen → key_in seen slot ≡ None → home < BUCKETS
     → MayPut chains slot home
 may_put {next = next} {seen = seen} s low vacant in_range = record {
-  places = places (home_on next s.wheel.are.level) seen;
+  places = places (stand_on next s.wheel.are.level s.wheel.are.rank) seen;
   are = s.wheel.are.are;
   low = omega (arith, s.wheel.slots);
   in_range = omega (arith, s.wheel.homes);
-  out = ap (place_of (home_on next s.wheel.are.level)) vacant;
+  out = ap (place_of (stand_on next s.wheel.are.level s.wheel.are.rank)) vacant;
 }
 
 -- the orders that are held are below that of a newest row
-pub orders_below : (home : Key → ℕ) (keys : List (Option Key)) (order : ℕ)
+orders_below : (next : ℕ) (level rank : Key → ℕ) (keys : List (Option Key)) (order : ℕ) → AreLevelled next 1 keys level rank
     → ((j : ℕ) → IfSome (key_in keys j) (λ key. key.order < order)) → (j : ℕ) (p : Place)
-    → places home keys j ≡ Some p → p.order < order
-orders_below home keys order newest j p h =
-    let k : (k : Key) × (key_in keys j ≡ Some k) × (record { home = home k; order = k.order } ≡ p) =
-    place_is home (key_in keys j) p h in
+    → places (stand_on next level rank) keys j ≡ Some p → p.order < order
+orders_below next level rank keys order a newest j p h =
+    let k = place_is (stand_on next level rank) (key_in keys j) p h in
     let below : k.0.order < order =
     subst (λ (o : Option Key). IfSome o (λ key. key.order < order)) k.1 (newest j) in
-    omega (arith, ap (λ (q : Place). q.order) k.2)
+    omega (arith, a.older j k.0 k.1, ap (λ (q : Place). q.order) k.2)
 
 -- the count of rows leaves room for one more where a slot has none
 pub count_fits : {next count floor : ℕ} {stored : List Key} {seen : List (Option Key)} {chains : Rings} (slot : ℕ) (key : Key)
@@ -151,16 +153,16 @@ pub record CanStore (seen : List (Option Key)) (slot : ℕ) (key : Key) : Type 0
 
 -- a row to be stored comes to its level
 enters : {next l slot : ℕ} {seen : List (Option Key)} {key : Key} → CanStore seen slot key → IsLeastLevel next l (max key.deadline next) → Enters next l seen slot key
-enters can least = record { low = can.low; newest = can.newest; least = least }
+enters can least = record { low = can.low; newest = can.newest; order = can.order; least = least }
 
 -- the wheel with another row of a slot, or its first
-pub stored_row : {next count count' floor floor' : ℕ} {stored : List Key} {seen : List (Option Key)} {chains new : Rings} {slot : ℕ} {key : Key} {home : ℕ}
-    → (s : Sees next count floor stored seen chains) → CanStore seen slot key → slot < length stored → IsLeastBucket next (max key.deadline next) home
+stored_row : {next count count' floor floor' : ℕ} {stored : List Key} {seen : List (Option Key)} {chains new : Rings} {slot : ℕ} {key : Key}
+    → Sees next count floor stored seen chains → CanStore seen slot key → slot < length stored
     → new.slots ≡ chains.slots → new.homes ≡ chains.homes
     → floor' ≡ min floor key.deadline → count' ≡ count_by is_some (set seen slot (Some key))
-    → AreChains new (with_place (places (home_on next s.wheel.are.level) seen) slot (Some (record { home = home; order = key.order })))
+    → AreLevelChains next 1 new (set seen slot (Some key))
     → Sees next count' floor' (set stored slot key) (set seen slot (Some key)) new
-stored_row {next = next} {stored = stored} {seen = seen} {new = new} {slot = slot} {key = key} {home = home} s can written b slots homes low' counts are = record {
+stored_row {next = next} {stored = stored} {seen = seen} {new = new} {slot = slot} {key = key} s can written slots homes low' counts are = record {
   are_stored = stored_set stored seen slot key s.are_stored written can.low;
   above = λ j k has. elim (key_set seen slot (Some key) j k can.low has) [
     | inl (here, some) ↦ let same : key ≡ k = cc in omega (arith, ap (λ (x : Key). x.deadline) same)
@@ -176,12 +178,20 @@ stored_row {next = next} {stored = stored} {seen = seen} {new = new} {slot = slo
       | inl (here, some) ↦ let same : key ≡ k = cc in subst (λ (x : Key). x.deadline < NEVER) same can.deadline
       | inr (ne, was) ↦ s.wheel.low j k was
     ];
-    are = record {
-      level = at_level s.wheel.are.level key.order b.level;
-      levelled = entered s.wheel.are.level (enters can b.least) s.wheel.are.levelled;
-      are = entered_chains s.wheel.are.level home new (enters can b.least) b.is are;
-    };
+    are = are;
   };
+}
+
+-- a newest row comes to its least bucket
+comes_in : {next count floor : ℕ} {stored : List Key} {seen : List (Option Key)} {chains : Rings} {new : Rings} {slot : ℕ} {key : Key} {home : ℕ}
+    → (s : Sees next count floor stored seen chains) → CanStore seen slot key → IsLeastBucket next (max key.deadline next) home
+    → AreChains new (with_place (places (stand_on next s.wheel.are.level s.wheel.are.rank) seen) slot (Some (record { home = home; order = key.order })))
+    → AreLevelChains next 1 new (set seen slot (Some key))
+comes_in {new = new} {key = key} {home = home} s can b are = record {
+  level = given s.wheel.are.level key.order b.level;
+  rank = given s.wheel.are.rank key.order key.order;
+  levelled = entered s.wheel.are.level s.wheel.are.rank (enters can b.least) s.wheel.are.levelled;
+  are = entered_chains s.wheel.are.level s.wheel.are.rank home new (enters can b.least) b.is are;
 }
 
 -- the wheel with a row put in
@@ -191,20 +201,49 @@ pub inserted : {next count floor floor' : ℕ} {stored : List Key} {seen : List 
     → new.slots ≡ chains.slots → new.homes ≡ chains.homes → Puts chains new slot home → floor' ≡ min floor key.deadline
     → Sees next (count + 1) floor' (set stored slot key) (set seen slot (Some key)) new
 inserted {next = next} {seen = seen} {slot = slot} {key = key} s can written vacant b slots homes puts low' =
-    let h : Key → ℕ = home_on next s.wheel.are.level in
-    stored_row s can written b slots homes low' (ap (λ n. n + 1) s.wheel.counts ∙ sym (counts_more seen slot key can.low vacant))
-    (puts (places h seen) key.order s.wheel.are.are (ap (place_of h) vacant) can.order (orders_below h seen key.order can.newest))
+    let spot : Key → Place = stand_on next s.wheel.are.level s.wheel.are.rank in
+    stored_row s can written slots homes low' (ap (λ n. n + 1) s.wheel.counts ∙ sym (counts_more seen slot key can.low vacant))
+    (comes_in s can b
+    (puts (places spot seen) key.order s.wheel.are.are (ap (place_of spot) vacant) can.order
+    (orders_below next s.wheel.are.level s.wheel.are.rank seen key.order s.wheel.are.levelled can.newest)))
+
+-- the key that a slot has is the one that is stored
+held_stored : {next count floor : ℕ} {stored : List Key} {seen : List (Option Key)} {chains : Rings} (slot : ℕ)
+    → Sees next count floor stored seen chains → (o : Option Key) → key_in seen slot ≡ o → IsSome o → key_in seen slot ≡ Some (get_or stored slot no_key)
+held_stored slot s None is held = absurd (true≢false (sym held))
+held_stored {stored = stored} slot s (Some key) is held =
+    is ∙ ap (λ (k : Key). Some k) (sym (get_or_from_slice_get stored slot key no_key (s.are_stored slot key is)))
 
 -- the wheel with another row of a slot
-pub replaced : {next count floor floor' : ℕ} {stored : List Key} {seen : List (Option Key)} {chains new : Rings} {slot : ℕ} {key : Key} {home : ℕ}
+pub replaced : {next count floor floor' was : ℕ} {stored : List Key} {seen : List (Option Key)} {chains new : Rings} {slot : ℕ} {key : Key}
     → Sees next count floor stored seen chains → CanStore seen slot key → slot < length stored → IsSome (key_in seen slot)
-    → IsLeastBucket next (max key.deadline next) home
-    → new.slots ≡ chains.slots → new.homes ≡ chains.homes → MovesSlot chains new slot home → floor' ≡ min floor key.deadline
+    → was ≡ (get_or stored slot no_key).deadline → MovesOrStays next was (max key.deadline next) chains new slot
+    → new.slots ≡ chains.slots → new.homes ≡ chains.homes → floor' ≡ min floor key.deadline
     → Sees next count floor' (set stored slot key) (set seen slot (Some key)) new
-replaced {next = next} {seen = seen} {slot = slot} {key = key} s can written held b slots homes moves low' =
-    let h : Key → ℕ = home_on next s.wheel.are.level in
-    stored_row s can written b slots homes low' (s.wheel.counts ∙ sym (counts_same seen slot key can.low held))
-    (moves (places h seen) key.order s.wheel.are.are can.order (orders_below h seen key.order can.newest))
+replaced {next = next} {stored = stored} {seen = seen} {chains = chains} {new = new} {slot = slot} {key = key} s can written held was_is moves slots homes low' =
+    let spot : Key → Place = stand_on next s.wheel.are.level s.wheel.are.rank in
+    stored_row s can written slots homes low' (s.wheel.counts ∙ sym (counts_same seen slot key can.low held))
+    (elim moves [
+      | inl stays ↦
+          let keeps : KeepsSpot next seen slot (get_or stored slot no_key) key = record {
+            low = can.low;
+            has = held_stored slot s (key_in seen slot) refl held;
+            newest = λ j k has. subst (λ (o : Option Key). IfSome o (λ x. x.order < key.order)) has (can.newest j);
+            order = can.order;
+            put = subst (λ (w : ℕ). StaysPut next w (max key.deadline next)) was_is stays.put;
+          } in
+          subst (λ (r : Rings). AreLevelChains next 1 r (set seen slot (Some key))) (sym stays.same)
+          (record {
+            level = given s.wheel.are.level key.order (s.wheel.are.level (get_or stored slot no_key));
+            rank = given s.wheel.are.rank key.order (s.wheel.are.rank (get_or stored slot no_key));
+            levelled = stays_levelled keeps s.wheel.are.levelled;
+            are = stays_chained keeps s.wheel.are.levelled chains s.wheel.are.are;
+          })
+      | inr m ↦
+          comes_in s can m.least
+          (m.moves (places spot seen) key.order s.wheel.are.are can.order
+          (orders_below next s.wheel.are.level s.wheel.are.rank seen key.order s.wheel.are.levelled can.newest))
+    ])
 
 -- where a slot is alone it has no row, and else the one that is stored
 pub looks_alone : {next count floor : ℕ} {stored : List Key} {seen : List (Option Key)} {chains : Rings} {slot : ℕ}
@@ -223,7 +262,7 @@ looks_apart {stored = stored} {chains = chains} {slot = slot} s low written ne =
 pub may_take : {next count floor : ℕ} {stored : List Key} {seen : List (Option Key)} {chains : Rings} {slot : ℕ}
     → Sees next count floor stored seen chains → slot < length seen → MayTake chains slot
 may_take {next = next} {seen = seen} s low = record {
-  places = places (home_on next s.wheel.are.level) seen;
+  places = places (stand_on next s.wheel.are.level s.wheel.are.rank) seen;
   are = s.wheel.are.are;
   low = omega (arith, s.wheel.slots);
 }
@@ -235,15 +274,20 @@ count_holds {seen = seen} {slot = slot} {key = key} s low held =
     omega (arith, s.wheel.counts, counts_less seen slot key low held)
 
 -- the levels without it
-left_levelled : (next : ℕ) (seen : List (Option Key)) (slot : ℕ) (level : Key → ℕ) → slot < length seen → AreLevelled next 1 seen level
-    → AreLevelled next 1 (set seen slot None) level
-left_levelled next seen slot level low a =
+left_levelled : (next : ℕ) (seen : List (Option Key)) (slot : ℕ) (level rank : Key → ℕ) → slot < length seen → AreLevelled next 1 seen level rank
+    → AreLevelled next 1 (set seen slot None) level rank
+left_levelled next seen slot level rank low a =
     let was : (j : ℕ) (k : Key) → key_in (set seen slot None) j ≡ Some k → key_in seen j ≡ Some k =
     λ j k has. elim (key_set seen slot None j k low has)
     [ inl (e, none) ↦ let no : None ≡ Some k = none in cc | inr (ne, was) ↦ was ] in
     record {
       fit = λ j k has. a.fit j k (was j k has);
       falls = λ i j x y has has' less same. a.falls i j x y (was i x has) (was j y has') less same;
+      once = λ i j x y has has' same. a.once i j x y (was i x has) (was j y has') same;
+      apart = λ i j x y has has' same. a.apart i j x y (was i x has) (was j y has') same;
+      older = λ j k has. a.older j k (was j k has);
+      bounded = λ j k has. a.bounded j k (was j k has);
+      exact = λ j k has lowest. a.exact j k (was j k has) lowest;
     }
 
 -- the wheel with a row taken out
@@ -265,9 +309,10 @@ removed {next = next} {stored = stored} {seen = seen} {new = new} {slot = slot} 
         [ inl (e, none) ↦ let no : None ≡ Some k = none in cc | inr (ne, was) ↦ s.wheel.low j k was ];
     are = record {
       level = s.wheel.are.level;
-      levelled = left_levelled next seen slot s.wheel.are.level low s.wheel.are.levelled;
-      are = chains_set new (home_on next s.wheel.are.level) seen slot None low
-          (takes (places (home_on next s.wheel.are.level) seen) s.wheel.are.are);
+      rank = s.wheel.are.rank;
+      levelled = left_levelled next seen slot s.wheel.are.level s.wheel.are.rank low s.wheel.are.levelled;
+      are = chains_set new (stand_on next s.wheel.are.level s.wheel.are.rank) seen slot None low
+          (takes (places (stand_on next s.wheel.are.level s.wheel.are.rank) seen) s.wheel.are.are);
     };
   };
 }
@@ -289,7 +334,7 @@ pub may_move : {next next' count : ℕ} {keys : List (Option Key)} {chains : Rin
     → ((j : ℕ) → IfSome (key_in keys j) (λ key. to < key.deadline)) → next ≤ next' → next' ≤ max next (to + 1)
     → next' < NEVER → MayMoveOn chains keys next next'
 may_move to w none up low fits = record {
-  may = record { slots = w.slots; homes = w.homes; time = w.time; low = w.low; are = w.are };
+  may = record { slots = w.slots; few = w.few; homes = w.homes; time = w.time; low = w.low; are = w.are };
   up = up;
   time = fits;
   left = λ j key has.
@@ -334,8 +379,9 @@ grown {next = next} {stored = stored} {seen = seen} {chains = chains} more writt
     low = s.wheel.low;
     are = record {
       level = s.wheel.are.level;
+      rank = s.wheel.are.rank;
       levelled = s.wheel.are.levelled;
-      are = chains_written chains written (places (home_on next s.wheel.are.level) seen) s.wheel.are.are;
+      are = chains_written chains written (places (stand_on next s.wheel.are.level s.wheel.are.rank) seen) s.wheel.are.are;
     };
   };
 }

@@ -2,6 +2,7 @@
 
 use Rattle.std.specs.Prelude.{◌≡◌, ◌⊎◌, ℕ, ◌+◌, ◌<◌, ◌≤◌, false, List, Option, Some, max}
 use Rattle.ert_wheel.specs.NextDue.{NoneBefore, IsNextDue, WindowBegins}
+use Rattle.ert_wheel.specs.Rings.{Place}
 use Rattle.ert_wheel.specs.Rows.{key_in, key_of, row_at, row_told, comes_before}
 use Rattle.ert_wheel.specs.declared.row.FirstDue.{FirstDue}
 use Rattle.ert_wheel.specs.declared.row.FirstDue.TheVariants.{Row as First, Nothing, Moving}
@@ -63,13 +64,13 @@ pub record IsReached (keys : List (Option Key)) (passed to stop : ℕ) : Type 0 
   pub on : stop ≤ passed
 
 -- no row of a bucket is due by a time
-abbrev pub NoneDueIn : List (Option Key) → (Key → ℕ) → ℕ → ℕ → Type 0
-NoneDueIn keys home bucket to = (slot : ℕ) (key : Key) → key_in keys slot ≡ Some key → home key ≡ bucket → to < key.deadline
+abbrev pub NoneDueIn : List (Option Key) → (Key → Place) → ℕ → ℕ → Type 0
+NoneDueIn keys spot bucket to = (slot : ℕ) (key : Key) → key_in keys slot ≡ Some key → (spot key).home ≡ bucket → to < key.deadline
 
 -- of the rows of a bucket that are due by a time this one has the least order
-pub record IsOldestDue (keys : List (Option Key)) (home : Key → ℕ) (bucket to : ℕ) (row : Row) : Type 0 where
+pub record IsOldestDue (keys : List (Option Key)) (spot : Key → Place) (bucket to : ℕ) (row : Row) : Type 0 where
   pub held : key_in keys row.slot ≡ Some (key_of row)
-  pub at_home : home (key_of row) ≡ bucket
+  pub at_home : (spot (key_of row)).home ≡ bucket
   pub due : row.deadline ≤ to
-  pub oldest : (slot : ℕ) (key : Key) → key_in keys slot ≡ Some key → home key ≡ bucket → key.deadline ≤ to
-      → row.order ≤ key.order
+  pub oldest : (slot : ℕ) (key : Key) → key_in keys slot ≡ Some key → (spot key).home ≡ bucket → key.deadline ≤ to
+      → (spot (key_of row)).order ≤ (spot key).order

@@ -1,7 +1,7 @@
 -- When the next row of a wheel is due, or when the window begins in which it is.
 
 use Rattle.std.specs.Prelude.{◌≡◌, ℕ, ◌+◌, ◌*◌, ◌/◌, ◌<◌, ◌≤◌, ◌^◌, ◌⊎◌, List, Option, Some, None, length}
-use Rattle.ert_wheel.specs.Rings.{Rings, AreChains}
+use Rattle.ert_wheel.specs.Rings.{Rings, Place, AreChains}
 use Rattle.ert_wheel.specs.Rows.{key_in}
 use Rattle.ert_wheel.specs.Walks.{StandOnLevels}
 use Rattle.ert_wheel.specs.Wheels.{places}
@@ -100,34 +100,34 @@ LawOfLaterDue = (keys : List (Option Key)) (passed time to : ℕ) → IsNextDue 
 -- the chains are those of the keys, by some homes
 pub record MayWalk (chains : Rings) (keys : List (Option Key)) : Type 0 where
   pub slots : length keys ≡ chains.slots
-  pub home : Key → ℕ
-  pub are : AreChains chains (places home keys)
+  pub spot : Key → Place
+  pub are : AreChains chains (places spot keys)
 
 -- some row of a bucket is due at a time
-pub record IsDueIn (keys : List (Option Key)) (home : Key → ℕ) (bucket time : ℕ) : Type 0 where
+pub record IsDueIn (keys : List (Option Key)) (spot : Key → Place) (bucket time : ℕ) : Type 0 where
   pub slot : ℕ
   pub key : Key
   pub has : key_in keys slot ≡ Some key
-  pub at_home : home key ≡ bucket
+  pub at_home : (spot key).home ≡ bucket
   pub at : key.deadline ≡ time
 
 -- the least deadline of a bucket's rows and a bound
-pub record IsLeastIn (keys : List (Option Key)) (home : Key → ℕ) (bucket bound least : ℕ) : Type 0 where
+pub record IsLeastIn (keys : List (Option Key)) (spot : Key → Place) (bucket bound least : ℕ) : Type 0 where
   pub low : least ≤ bound
-  pub below : (slot : ℕ) (key : Key) → key_in keys slot ≡ Some key → home key ≡ bucket → least ≤ key.deadline
-  pub near : IsDueIn keys home bucket least ⊎ (least ≡ bound)
+  pub below : (slot : ℕ) (key : Key) → key_in keys slot ≡ Some key → (spot key).home ≡ bucket → least ≤ key.deadline
+  pub near : IsDueIn keys spot bucket least ⊎ (least ≡ bound)
 
 -- a time is the begin of the window in which a row of a bucket is due, as wide as a bucket of its level is
-pub record BeginsIn (keys : List (Option Key)) (home : Key → ℕ) (bucket time : ℕ) : Type 0 where
+pub record BeginsIn (keys : List (Option Key)) (spot : Key → Place) (bucket time : ℕ) : Type 0 where
   pub slot : ℕ
   pub key : Key
   pub has : key_in keys slot ≡ Some key
-  pub at_home : home key ≡ bucket
+  pub at_home : (spot key).home ≡ bucket
   pub begin : time ≡ key.deadline / 512 ^ (bucket / 1024) * 512 ^ (bucket / 1024)
 
 -- how early a row of a bucket may be due: the least deadline, or the begin of the bucket's window
-abbrev pub IsEarlyIn : List (Option Key) → (Key → ℕ) → ℕ → ℕ → Type 0
-IsEarlyIn keys home bucket time = IsLeastIn keys home bucket NEVER time ⊎ BeginsIn keys home bucket time
+abbrev pub IsEarlyIn : List (Option Key) → (Key → Place) → ℕ → ℕ → Type 0
+IsEarlyIn keys spot bucket time = IsLeastIn keys spot bucket NEVER time ⊎ BeginsIn keys spot bucket time
 
 -- some row is due at a time, or a window begins there that has one, or it is the end of all times
 abbrev pub IsEarlyOrNever : List (Option Key) → ℕ → ℕ → Type 0

@@ -39,9 +39,9 @@ row_told keys told = record { deadline = told.deadline; order = order_of_key (ke
 abbrev pub rows_told : List (Option Key) → List HeldRow → List Row
 rows_told keys told = map (row_told keys) told
 
--- how the row of a slot is told by its key, where it is told alone
+-- how the row of a slot is told by its key
 abbrev pub told_at : ℕ → Key → HeldRow
-told_at slot key = record { deadline = key.deadline; rank = 0; slot = slot }
+told_at slot key = record { deadline = key.deadline; slot = slot }
 
 -- how often a slot stands in a list of rows
 abbrev pub times : ℕ → List Row → ℕ

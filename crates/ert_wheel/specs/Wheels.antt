@@ -28,26 +28,38 @@ held_keys chains stored = map (held_key chains.links stored) (range_with_len 0 c
 abbrev pub home_on : ℕ → (Key → ℕ) → Key → ℕ
 home_on next level key = bucket_on (level key) (max key.deadline next)
 
--- where a key belongs: the home that it has, and its order
-abbrev pub place_of : (Key → ℕ) → Option Key → Option Place
-place_of home = option_map (λ key. record { home = home key; order = key.order })
+-- and its place there, by its rank in the chain
+abbrev pub stand_on : ℕ → (Key → ℕ) → (Key → ℕ) → Key → Place
+stand_on next level rank key = record { home = home_on next level key; order = rank key }
 
--- where the slots belong, by their keys
-abbrev pub places : (Key → ℕ) → List (Option Key) → ℕ → Option Place
-places home keys slot = place_of home (key_in keys slot)
+-- where a key stands
+abbrev pub place_of : (Key → Place) → Option Key → Option Place
+place_of spot = option_map spot
+
+-- where the slots stand, by their keys
+abbrev pub places : (Key → Place) → List (Option Key) → ℕ → Option Place
+places spot keys slot = place_of spot (key_in keys slot)
 
 -- Each key stands on a level on which it may. Of two that are in one window of a level, where one stands on that level and
--- one below it, the one below is newer.
-pub record AreLevelled (next high : ℕ) (keys : List (Option Key)) (level : Key → ℕ) : Type 0 where
+-- one below it, the rank of the one below is greater.
+-- A rank is the order that the slot had when it came to a chain, so it is that of no other key; on the lowest level it is the
+-- order of the key itself.
+pub record AreLevelled (next high : ℕ) (keys : List (Option Key)) (level rank : Key → ℕ) : Type 0 where
   pub fit : (slot : ℕ) (key : Key) → key_in keys slot ≡ Some key → MayStand next high (level key) (max key.deadline next)
   pub falls : (i j : ℕ) (x y : Key) → key_in keys i ≡ Some x → key_in keys j ≡ Some y → level y < level x
-      → max x.deadline next / 512 ^ level x ≡ max y.deadline next / 512 ^ level x → x.order < y.order
+      → max x.deadline next / 512 ^ level x ≡ max y.deadline next / 512 ^ level x → rank x < rank y
+  pub once : (i j : ℕ) (x y : Key) → key_in keys i ≡ Some x → key_in keys j ≡ Some y → x.order ≡ y.order → i ≡ j
+  pub apart : (i j : ℕ) (x y : Key) → key_in keys i ≡ Some x → key_in keys j ≡ Some y → rank x ≡ y.order → i ≡ j
+  pub older : (slot : ℕ) (key : Key) → key_in keys slot ≡ Some key → rank key ≤ key.order
+  pub bounded : (slot : ℕ) (key : Key) → key_in keys slot ≡ Some key → key.order < 2 ^ 64
+  pub exact : (slot : ℕ) (key : Key) → key_in keys slot ≡ Some key → level key ≡ 0 → rank key ≡ key.order
 
--- the chains are those of the buckets, by some levels of the keys
+-- the chains are those of the buckets, by some levels and ranks of the keys
 pub record AreLevelChains (next high : ℕ) (chains : Rings) (keys : List (Option Key)) : Type 0 where
   pub level : Key → ℕ
-  pub levelled : AreLevelled next high keys level
-  pub are : AreChains chains (places (home_on next level) keys)
+  pub rank : Key → ℕ
+  pub levelled : AreLevelled next high keys level rank
+  pub are : AreChains chains (places (stand_on next level rank) keys)
 
 -- the chains are those of the buckets, and the count is that of the rows
 pub record IsWheel (next_time count : ℕ) (keys : List (Option Key)) (chains : Rings) : Type 0 where

@@ -36,7 +36,7 @@ impl Chains {
     ghost use Rattle.std.specs.Prelude.{◌≡◌, ◌↔◌, ◌+◌, ◌<◌, ◌≤◌, ◌^◌, ℕ, Option, Some, None, IfOk, IfSome, IsTrue, MatchOption};
     ghost use Rattle.ert_wheel.specs.Chained.{Spliced, Unspliced};
     ghost use Rattle.ert_wheel.specs.Links.{next_at, prev_at, place_slot};
-    ghost use Rattle.ert_wheel.specs.Rings.{Place, AreChains, MayPut, Puts, PutsInHome, PutsOldestInHome, MayTake, GivesUpPlace, Finds, FindsOldest};
+    ghost use Rattle.ert_wheel.specs.Rings.{Place, AreChains, MayPut, Puts, PutsInHome, PutsOldestInHome, MayPutBehind, PutsBehind, MayTake, GivesUpPlace, node_slot, Finds, FindsOldest};
     ghost use Rattle.ert_wheel.specs.Rings.{IsOnlyOf, HasOthers};
 
     /// All chains empty, and no slot written. No call takes memory after this.
@@ -111,6 +111,24 @@ impl Chains {
         link_in(&mut self.links, last, node);
     }
 
+    /// Puts a slot that is in no chain into that of another, as the next older one.
+    #[inline]
+    pub fn put_behind(&mut self, slot: u32, other: u32)
+        requires may { MayPutBehind self.old slot other }
+        requires slot { slot < self.old.written }
+        requires other { other < self.old.written }
+        ensures slots { self.new.slots ≡ self.old.slots }
+        ensures homes { self.new.homes ≡ self.old.homes }
+        ensures written { self.new.written ≡ self.old.written }
+        ensures behind { PutsBehind self.old self.new slot other }
+        ensures spliced { Spliced (next_at self.old.links) (prev_at self.old.links)
+            (next_at self.new.links) (prev_at self.new.links) other slot }
+    {
+        let node = self.homes + slot;
+        let before = self.homes + other;
+        link_in(&mut self.links, before, node);
+    }
+
     /// Takes a slot out of its chain, where it is in one.
     #[inline]
     pub fn take(&mut self, slot: u32)
@@ -182,8 +200,9 @@ impl Chains {
     #[inline]
     pub fn oldest(&self, home: u32) -> Option<u32>
         requires { home < self.now.homes }
-        ensures { (places : ℕ → Option Place) → AreChains self.now places
+        ensures finds { (places : ℕ → Option Place) → AreChains self.now places
             → FindsOldest self.now places home 0 result }
+        ensures written { IfSome result (λ slot. slot < self.now.written) }
     {
         self.slot_at(prev_of(&self.links, home))
     }
@@ -194,6 +213,7 @@ impl Chains {
         requires { slot < self.now.written }
         ensures finds { (places : ℕ → Option Place) (place : Place) → AreChains self.now places
             → places slot ≡ Some place → Finds self.now places place.home place.order result }
+        ensures link { result ≡ node_slot self.now.slots (next_at self.now.links slot) }
         ensures written { IfSome result (λ slot. slot < self.now.written) }
     {
         self.slot_at(next_of(&self.links, self.homes + slot))
@@ -203,8 +223,10 @@ impl Chains {
     #[inline]
     pub fn newer(&self, slot: u32) -> Option<u32>
         requires { slot < self.now.written }
-        ensures { (places : ℕ → Option Place) (place : Place) → AreChains self.now places
+        ensures finds { (places : ℕ → Option Place) (place : Place) → AreChains self.now places
             → places slot ≡ Some place → FindsOldest self.now places place.home (place.order + 1) result }
+        ensures link { result ≡ node_slot self.now.slots (prev_at self.now.links slot) }
+        ensures written { IfSome result (λ slot. slot < self.now.written) }
     {
         self.slot_at(prev_of(&self.links, self.homes + slot))
     }

@@ -23,6 +23,7 @@ impl<T: Keyed> Model for Kept<T> {
 impl<T: Keyed> Kept<T> {
     ghost use Rattle.std.specs.Prelude.{◌≡◌, ◌-◌, ◌<◌, ◌≤◌, [], ◌++◌, IfOk, IfSome, Some, length, replicate, slice_index_or, slice_set};
     ghost use Rattle.std.specs.List.{slice_get};
+    ghost use Rattle.ert_wheel.specs.Walks.{stored_order};
     ghost use Rattle.ert_wheel.specs.Wheels.{no_key};
 
     /// Room for so many slots, of which none is written. No call takes memory after this.
@@ -74,6 +75,17 @@ impl<T: Keyed> Kept<T> {
         ensures { result ≡ (slice_index_or self.now.keys slot no_key).order }
     {
         self.values[slot as usize].order()
+    }
+
+    /// The order of a slot's last row; 0 where the slot isn't written.
+    #[inline]
+    pub fn order_if_any(&self, slot: u32) -> u64
+        ensures { result ≡ stored_order self.now.keys slot }
+    {
+        match self.values.get(slot as usize) {
+            Some(value) => value.order(),
+            None => 0,
+        }
     }
 
     /// The value of a slot.

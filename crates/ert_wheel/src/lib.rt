@@ -27,8 +27,10 @@
 //! moves to a lower level, what its expiry will read comes into the caches. A row's order is its rank among all rows that were
 //! put in, as the user counts them.
 //!
-//! **Another row of a slot** (`replace`) takes the place of the one before it. Where the slot is the newest of the bucket
-//! to which the new row belongs, as where a timer is moved on again and again, no link is written.
+//! **Another row of a slot** (`replace`) takes the place of the one before it. Where both are due in one window of 512
+//! milliseconds, the slot stays in its bucket, and no link is written: the window's rows come to the lowest level later, and there
+//! into order. So it is in one of 262,144 milliseconds, for rows that far away; and where the slot is the newest of the
+//! bucket to which the new row belongs, as where a timer is moved on again and again.
 //!
 //! **Levels** (`Wheel`). A wheel has 4,288 buckets, 1,024 on each of four levels and 192 on the highest. A bucket of
 //! the lowest level is a millisecond; one of the next is a window of 512 milliseconds, and so on: a bucket of each level
@@ -51,10 +53,12 @@
 //! window: so many for each millisecond that passes as leave few for the begin of the window, at first few and then more.
 //! How many fall ahead is a matter of speed alone: whether a row has fallen yet changes no answer.
 //!
-//! The newest row of a bucket falls first, and it comes to the oldest end of the bucket below. New rows come to the newest end
-//! there. So of the rows of one window those on a higher level are older, and each chain is in order of start
-//! (`AreLevelled`). A fall costs as much as a start does in the wheel, with two misses of the
-//! caches where there are many rows.
+//! A chain has its slots by rank: the order that the slot's row had when the slot came to that chain, or the same that it had in the
+//! one above it. The newest slot of a bucket falls first, and it comes to the oldest end of the bucket below. New rows come to the
+//! newest end there. So of the rows of one window those on a higher level have the lower ranks (`AreLevelled`). On the lowest level
+//! a rank is the order of the row itself: a row that falls there comes behind the oldest that is newer, which is mostly the
+//! oldest of its bucket. So the rows of a millisecond are in order of start. A fall costs as much as a start does in the
+//! wheel, with two misses of the caches where there are many rows.
 //!
 //! **Marks** (`Marks`, `MarkedChains`). A bit for each bucket tells whether it has a slot: a put into an empty one sets
 //! it, and a take of the only slot clears it. All other puts and takes leave the bits alone. One more word has a bit
@@ -62,11 +66,10 @@
 //! the windows of a level reads six words at most, however far the next row is.
 //!
 //! **A step of time** visits the buckets that have rows: on each level those of the windows up to that of the time that it
-//! comes to, and each from its oldest row to its newest. It begins on the highest level. Rows of one deadline that stand on
-//! one level have one bucket, and those on a higher level are older, so they are collected in order of start, and a sort by
-//! deadline and then by rank, the place where a row was collected, puts all into order. It takes no memory, and one pass
-//! where the deadlines come in order already, as they do from the lowest level where no row was late. Where the time that
-//! it comes to is in the next time's window of 512 milliseconds, all that are due stand on the lowest level.
+//! comes to, and each from its oldest row to its newest. A sort by deadline and then by order puts all into order: an order is
+//! read only where two deadlines are the same. It takes no memory, and one pass where the rows come in order already, as
+//! they do from the lowest level where no row was late. Where the time that it comes to is in the next time's window of 512
+//! milliseconds, all that are due stand on the lowest level.
 //!
 //! **The next due row** (`next_due`) is in the first bucket of a level that has one. On the lowest level the bucket tells its
 //! deadline; in the next time's window of 512 milliseconds this is the answer, since no row of another level is there.
@@ -143,6 +146,7 @@ mod marked;
 mod marks;
 mod oldest;
 mod row;
+mod sorting;
 mod telling;
 mod walk;
 mod wheel;

@@ -27,9 +27,9 @@ impl Model for MarkedChains {
 
 impl MarkedChains {
     ghost use Rattle.std.specs.Prelude.{◌≡◌, ◌↔◌, ◌+◌, ◌*◌, ◌<◌, ◌≤◌, ◌^◌, ℕ, Option, None, IfOk, IfSome, IsTrue};
-    ghost use Rattle.ert_wheel.specs.Links.{next_at};
+    ghost use Rattle.ert_wheel.specs.Links.{next_at, prev_at};
     ghost use Rattle.ert_wheel.specs.Marks.{FirstUsed, FirstWindow};
-    ghost use Rattle.ert_wheel.specs.Rings.{Place, AreChains, MayPut, Puts, PutsInHome, PutsOldestInHome, MayTake, GivesUpPlace, MovesSlot, Finds, FindsOldest};
+    ghost use Rattle.ert_wheel.specs.Rings.{Place, AreChains, MayPut, Puts, PutsInHome, PutsOldestInHome, MayPutBehind, PutsBehind, MayTake, GivesUpPlace, MovesSlot, node_slot, Finds, FindsOldest};
     ghost use Rattle.ert_wheel.specs.declared.row.TheConstants.{BUCKETS, NEVER};
 
     /// All chains empty, and no slot written. No call takes memory after this.
@@ -93,6 +93,20 @@ impl MarkedChains {
     {
         self.chains.put_oldest(slot, home);
         self.marks.set(home);
+    }
+
+    /// Puts a slot that is in no chain into that of another, as the next older one.
+    #[inline]
+    pub fn put_behind(&mut self, slot: u32, other: u32)
+        requires may { MayPutBehind self.old slot other }
+        requires slot { slot < self.old.written }
+        requires other { other < self.old.written }
+        ensures slots { self.new.slots ≡ self.old.slots }
+        ensures homes { self.new.homes ≡ self.old.homes }
+        ensures written { self.new.written ≡ self.old.written }
+        ensures behind { PutsBehind self.old self.new slot other }
+    {
+        self.chains.put_behind(slot, other);
     }
 
     /// Takes a slot out of its chain, where it is in one.
@@ -192,8 +206,9 @@ impl MarkedChains {
     #[inline]
     pub fn oldest(&self, home: u32) -> Option<u32>
         requires { home < BUCKETS }
-        ensures { (places : ℕ → Option Place) → AreChains self.now places
+        ensures finds { (places : ℕ → Option Place) → AreChains self.now places
             → FindsOldest self.now places home 0 result }
+        ensures written { IfSome result (λ slot. slot < self.now.written) }
     {
         self.chains.oldest(home)
     }
@@ -204,6 +219,7 @@ impl MarkedChains {
         requires { slot < self.now.written }
         ensures finds { (places : ℕ → Option Place) (place : Place) → AreChains self.now places
             → places slot ≡ Some place → Finds self.now places place.home place.order result }
+        ensures link { result ≡ node_slot self.now.slots (next_at self.now.links slot) }
         ensures written { IfSome result (λ slot. slot < self.now.written) }
     {
         self.chains.older(slot)
@@ -213,8 +229,10 @@ impl MarkedChains {
     #[inline]
     pub fn newer(&self, slot: u32) -> Option<u32>
         requires { slot < self.now.written }
-        ensures { (places : ℕ → Option Place) (place : Place) → AreChains self.now places
+        ensures finds { (places : ℕ → Option Place) (place : Place) → AreChains self.now places
             → places slot ≡ Some place → FindsOldest self.now places place.home (place.order + 1) result }
+        ensures link { result ≡ node_slot self.now.slots (prev_at self.now.links slot) }
+        ensures written { IfSome result (λ slot. slot < self.now.written) }
     {
         self.chains.newer(slot)
     }

@@ -3,7 +3,7 @@
 ghost use Rattle.std.specs.Prelude.{◌≡◌, ◌<◌, ℕ, MatchOption, length};
 ghost use Rattle.ert_wheel.specs.FirstDue.{NoneDueIn, IsOldestDue};
 ghost use Rattle.ert_wheel.specs.NextDue.{MayWalk};
-ghost use Rattle.ert_wheel.specs.Rings.{AreChains};
+ghost use Rattle.ert_wheel.specs.Rings.{Place, AreChains};
 ghost use Rattle.ert_wheel.specs.Rows.{row_told};
 ghost use Rattle.ert_wheel.specs.Wheels.{held_keys, places};
 ghost use Rattle.ert_wheel.specs.declared.row.Key.{Key};
@@ -26,20 +26,16 @@ pub fn oldest_due<T: Keyed>(
     requires bucket { bucket < BUCKETS }
     requires may { MayWalk chains.now (held_keys chains.now kept.now.keys) }
     requires kept { length kept.now.keys ≡ chains.now.written }
-    ensures { (home : Key → ℕ)
-        → AreChains chains.now (places home (held_keys chains.now kept.now.keys))
-        → MatchOption result (NoneDueIn (held_keys chains.now kept.now.keys) home bucket to)
-        (λ row. IsOldestDue (held_keys chains.now kept.now.keys) home bucket to (row_told (held_keys chains.now kept.now.keys) row)) }
+    ensures { (spot : Key → Place)
+        → AreChains chains.now (places spot (held_keys chains.now kept.now.keys))
+        → MatchOption result (NoneDueIn (held_keys chains.now kept.now.keys) spot bucket to)
+        (λ row. IsOldestDue (held_keys chains.now kept.now.keys) spot bucket to (row_told (held_keys chains.now kept.now.keys) row)) }
 {
     let mut next = chains.oldest(bucket);
     while let Some(slot) = next {
         let deadline = kept.deadline(slot);
         if deadline <= to {
-            return Some(HeldRow {
-                deadline,
-                rank: 0,
-                slot,
-            });
+            return Some(HeldRow { deadline, slot });
         }
         next = chains.newer(slot);
     }

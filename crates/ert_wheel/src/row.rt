@@ -42,13 +42,11 @@ pub struct Row {
     pub slot: u32,
 }
 
-/// A row that a wheel holds, as it is told. Rows are compared by deadline, then by rank.
-#[derive(Clone, Copy, Debug, PartialEq, Eq, PartialOrd, Ord)]
+/// A row that a wheel holds, as it is told.
+#[derive(Clone, Copy, Debug, PartialEq, Eq)]
 pub struct HeldRow {
     /// When the row is due, in milliseconds. At most [`LAST`].
     pub deadline: u64,
-    /// How many rows were collected before it, where all that are due are told; and else 0.
-    pub rank: u32,
     /// The slot whose row it is.
     pub slot: u32,
 }

@@ -128,7 +128,6 @@ impl<T: Keyed> Wheel<T> {
         }
         Some(HeldRow {
             deadline: self.kept.deadline(slot),
-            rank: 0,
             slot,
         })
     }

@@ -3,6 +3,7 @@ use super::Wheel;
 use crate::keyed::Keyed;
 use crate::levels::collect_level;
 use crate::row::HeldRow;
+use crate::sorting::sort_told;
 
 impl<T: Keyed> Wheel<T> {
     ghost use Rattle.std.specs.Prelude.{◌≡◌, ◌<◌, ◌≤◌, ℕ, All, length, vec_capacity};
@@ -20,13 +21,12 @@ impl<T: Keyed> Wheel<T> {
         ensures capacity { vec_capacity out.new ≡ vec_capacity out.old }
     {
         out.clear();
-        // All that are due stand on the lowest level, where that is in the next time's window of 512 milliseconds. Else rows
-        // of one deadline may stand on several levels: the older ones on the higher.
+        // All that are due stand on the lowest level, where that is in the next time's window of 512 milliseconds.
         let mut level = if to >> 9 <= self.next_time >> 9 { 1 } else { 5 };
         while level > 0 {
             level -= 1;
             collect_level(&self.buckets, &self.kept, level, self.next_time, to, out);
         }
-        out.sort_unstable();
+        sort_told(&self.kept, out);
     }
 }

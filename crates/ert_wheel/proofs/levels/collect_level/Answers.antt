@@ -4,7 +4,7 @@ use Rattle.ert_wheel.proofs.Standing.{end_after, end_low, end_of}
 use Rattle.ert_wheel.proofs.Times.{later}
 use Rattle.ert_wheel.proofs.levels.collect_level.Goals as goal
 use Rattle.ert_wheel.specs.Walks.{MayCollect, Collects}
-use Rattle.ert_wheel.specs.Wheels.{held_keys, home_on, places}
+use Rattle.ert_wheel.specs.Wheels.{held_keys, stand_on, places}
 
 pub first_window-window-requires-clause-from : goal.first_window-window-requires-clause-from
 first_window-window-requires-clause-from g c =
@@ -27,7 +27,7 @@ loop-window-init g c = record {
   sees = λ levels stand so_far.
       seen_skip stand (c.window_on.result + c.min.result) c.min-end.result c.first_window-window.result c.args.rows.now.items c.first_window-window.ensures.up c.first_window-window.ensures.low
       (omega (arith, c.min-end.ensures, c.windows_end.ensures))
-      (c.first_window-window.ensures.first (places (home_on c.args.next_time levels) (held_keys c.args.chains.now c.args.kept.now.keys)) stand.are)
+      (c.first_window-window.ensures.first (places (stand_on c.args.next_time levels stand.rank) (held_keys c.args.chains.now c.args.kept.now.keys)) stand.are)
       (seen_start stand (c.window_on.result + c.min.result) c.args.rows.now.items (omega (arith, c.window_on.ensures, c.min.ensures)) so_far);
 }
 
@@ -35,11 +35,11 @@ pub collect-requires-clause-may : goal.collect-requires-clause-may
 collect-requires-clause-may g c =
     let keys = held_keys c.args.chains.now c.args.kept.now.keys in
     let may = c.requires.may in
-    let home = home_on c.args.next_time may.level in
+    let spot = stand_on c.args.next_time may.level may.stand.rank in
     let low : c.loop-window.window < end_of c.args.level c.args.next_time = omega (arith, c.loop-window-test.true, c.min-end.ensures, c.windows_end.ensures) in
     record {
-      home = home;
-      may = subst (λ (b : ℕ). MayCollect c.args.chains.now keys home b c.args.to c.loop-window.rows.items) (sym c.bucket_of_window.ensures.is)
+      spot = spot;
+      may = subst (λ (b : ℕ). MayCollect c.args.chains.now keys spot b c.args.to c.loop-window.rows.items) (sym c.bucket_of_window.ensures.is)
           (may_collect may.stand c.loop-window.window c.loop-window.rows.items c.loop-window.invariant.from_on low
           (c.loop-window.invariant.sees may.level may.stand may.so_far));
     }
@@ -55,15 +55,15 @@ loop-window-preserved g c = record {
   low = c.first_window-window-in-loop-window.ensures.low;
   sees = λ levels stand so_far.
       let keys = held_keys c.args.chains.now c.args.kept.now.keys in
-      let home = home_on c.args.next_time levels in
+      let spot = stand_on c.args.next_time levels stand.rank in
       let low : c.loop-window.window < end_of c.args.level c.args.next_time = omega (arith, c.loop-window-test.true, c.min-end.ensures, c.windows_end.ensures) in
       let seen = c.loop-window.invariant.sees levels stand so_far in
-      let collects = subst (λ (b : ℕ). MayCollect c.args.chains.now keys home b c.args.to c.loop-window.rows.items
-      → Collects keys home b c.args.to c.loop-window.rows.items c.collect.new.rows.items) c.bucket_of_window.ensures.is (c.collect.ensures.collects home) in
+      let collects = subst (λ (b : ℕ). MayCollect c.args.chains.now keys spot b c.args.to c.loop-window.rows.items
+      → Collects keys spot b c.args.to c.loop-window.rows.items c.collect.new.rows.items) c.bucket_of_window.ensures.is (c.collect.ensures.collects spot) in
       seen_skip {keys = keys} stand (c.loop-window.window + 1) c.min-end.result c.first_window-window-in-loop-window.result c.collect.new.rows.items
       c.first_window-window-in-loop-window.ensures.up c.first_window-window-in-loop-window.ensures.low
       (omega (arith, c.min-end.ensures, c.windows_end.ensures))
-      (c.first_window-window-in-loop-window.ensures.first (places home keys) stand.are)
+      (c.first_window-window-in-loop-window.ensures.first (places spot keys) stand.are)
       (seen_more {keys = keys} stand c.loop-window.window c.loop-window.rows.items c.loop-window.invariant.from_on low seen c.collect.new.rows.items
       (collects (may_collect {keys = keys} stand c.loop-window.window c.loop-window.rows.items c.loop-window.invariant.from_on low seen)));
 }

@@ -3,7 +3,7 @@ use Rattle.ert_wheel.proofs.NextDue.{first_is, told_there, none_early, none_at_e
 use Rattle.ert_wheel.proofs.Standing.{end_after, end_of}
 use Rattle.ert_wheel.proofs.levels.early_on.Goals as goal
 use Rattle.ert_wheel.specs.NextDue.{IsEarlyOrNever}
-use Rattle.ert_wheel.specs.Wheels.{held_keys, home_on}
+use Rattle.ert_wheel.specs.Wheels.{held_keys, stand_on}
 
 pub first_window-window-requires-clause-from : goal.first_window-window-requires-clause-from
 first_window-window-requires-clause-from g c =
@@ -28,7 +28,7 @@ returns-clause-early g c =
     let low : c.first_window-window.result < end_of c.args.level c.args.next_time = omega (arith, c.windows_end-end.ensures, c.if-window-end.false, c.first_window-window.ensures.low) in
     subst (λ n. IsEarlyOrNever keys c.args.next_time n) (sym c.min.ensures)
     (earlier_is keys c.args.next_time c.early_in.result c.args.before
-    (early_is f c.early_in.result low (told_there c.args.level c.first_window-window.result c.bucket_of_window.ensures.is (c.early_in.ensures (home_on c.args.next_time level) stand.are)))
+    (early_is f c.early_in.result low (told_there c.args.level c.first_window-window.result c.bucket_of_window.ensures.is (c.early_in.ensures (stand_on c.args.next_time level f.stand.rank) f.stand.are)))
     c.requires.early)
 
 pub returns-clause-none : goal.returns-clause-none
@@ -37,4 +37,4 @@ returns-clause-none g c = λ levels stand.
     let f = first_is stand c.requires.level c.requires.highest c.window_on-from.ensures c.windows_end-end.ensures c.first_window-window.ensures.up c.first_window-window.ensures.first in
     let low : c.first_window-window.result < end_of c.args.level c.args.next_time = omega (arith, c.windows_end-end.ensures, c.if-window-end.false, c.first_window-window.ensures.low) in
     none_sooner keys levels c.args.level c.early_in.result c.min.result (omega (arith, c.min.ensures))
-    (early_none f c.early_in.result low (told_there c.args.level c.first_window-window.result c.bucket_of_window.ensures.is (c.early_in.ensures (home_on c.args.next_time levels) stand.are)))
+    (early_none f c.early_in.result low (told_there c.args.level c.first_window-window.result c.bucket_of_window.ensures.is (c.early_in.ensures (stand_on c.args.next_time levels f.stand.rank) f.stand.are)))

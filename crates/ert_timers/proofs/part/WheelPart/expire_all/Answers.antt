@@ -11,7 +11,7 @@ use Rattle.ert_wheel.specs.declared.row.Row.{Row}
 use Rattle.ert_wheel.proofs.Looking.{key_low}
 
 none : HeldRow
-none = record { deadline = 0; rank = 0; slot = 0 }
+none = record { deadline = 0; slot = 0 }
 
 pub loop-row-init : goal.loop-row-init
 loop-row-init c = record {

@@ -1,6 +1,6 @@
 use Rattle.std.proofs.Common.{◌≡◌, ◌-◌, ◌<◌, ◌∙◌, List, length, refl, sym, ap, subst, arith}
 use Rattle.ert_wheel.proofs.Calls.{finds_oldest}
-use Rattle.ert_wheel.proofs.Stored.{last_seen, found_seen}
+use Rattle.ert_wheel.proofs.Stored.{last_seen, found_seen, found_written}
 use Rattle.ert_wheel.proofs.chains.Chains.oldest.Goals as goal
 use Rattle.ert_wheel.specs.Links.{prev_at, seen_links, stored_node}
 use Rattle.ert_wheel.specs.Rings.{Rings}
@@ -11,8 +11,8 @@ prev_of-requires c =
     let low = subst (λ (r : Rings). c.args.home < r.homes) (sym c.self.view_is) c.requires in
     subst (λ (l : List Link). c.args.home < length l) (sym c.deref.ensures.value) (omega (arith, low, c.self.invariant.heads))
 
-pub returns : goal.returns
-returns c =
+pub returns-clause-finds : goal.returns-clause-finds
+returns-clause-finds c =
     let r = c.self.inside in
     let w = c.self.invariant in
     let stored = r.links.items in
@@ -23,3 +23,13 @@ returns c =
     (ap (stored_node r.slots r.homes) read ∙ last_seen r.slots r.homes r.links.cap stored c.args.home w low)
     (found_seen c.args.self.now r.slots r.homes c.prev_of.result stored c.slot_at.result c.self.view_is
     (omega (arith, read, w.prev c.args.home (omega (arith, low, w.heads)), w.most)) c.slot_at.ensures)
+
+pub returns-clause-written : goal.returns-clause-written
+returns-clause-written c =
+    let r = c.self.inside in
+    let w = c.self.invariant in
+    let stored = r.links.items in
+    let low = subst (λ (r : Rings). c.args.home < r.homes) (sym c.self.view_is) c.requires in
+    let read : c.prev_of.result ≡ prev_at stored c.args.home = c.prev_of.ensures ∙ ap (λ (l : List Link). prev_at l c.args.home) c.deref.ensures.value in
+    found_written c.args.self.now r.slots r.homes c.prev_of.result stored c.slot_at.result c.self.view_is
+    (omega (arith, read, w.prev c.args.home (omega (arith, low, w.heads)))) c.slot_at.ensures

@@ -1,7 +1,5 @@
-use Rattle.std.proofs.Common.{◌≡◌, ℕ, Some, get_or, ap, subst, sym, ◌∙◌, rules, arith}
-use Rattle.std.specs.List.Sorted.{IsSortedBy}
-use Rattle.ert_wheel.proofs.Due.{near_start, far_start, level_may, level_more, due_each, due_rows, due_sorted, ranks_before}
-use Rattle.ert_wheel.proofs.Ranks.{told_each}
+use Rattle.std.proofs.Common.{◌≡◌, ℕ, Some, get_or, ap, subst, sym, ◌∙◌, arith}
+use Rattle.ert_wheel.proofs.Due.{near_start, far_start, level_may, level_more, due_each, due_rows, due_sorted, told_each}
 use Rattle.ert_wheel.proofs.Standing.{wheel_stands}
 use Rattle.ert_wheel.proofs.Writes.{sees, keys_of, row_written}
 use Rattle.ert_wheel.proofs.wheel.Wheel.due.Goals as goal
@@ -56,29 +54,26 @@ loop-level-preserved g c = record {
 pub returns-clause-each : goal.returns-clause-each
 returns-clause-each g c =
     let look = wheel_stands (sees c.self.invariant.rows c.self.view_is).wheel in
-    due_each c.args.to c.args.self.now.keys look.level c.loop-level.out.items c.sort_unstable.new.self.items
+    due_each c.args.to c.args.self.now.keys look.level c.loop-level.out.items c.sort_told.new.rows.items
     (subst (λ (l : ℕ). AreCollected c.args.self.now.keys look.level l c.args.to c.loop-level.out.items) (omega (arith, c.loop-level-test.false))
     (c.loop-level.invariant.so_far look.level look.stand))
-    c.sort_unstable.ensures.permutation
+    c.sort_told.ensures.permutation
 
 pub returns-clause-rows : goal.returns-clause-rows
 returns-clause-rows g c =
     let look = wheel_stands (sees c.self.invariant.rows c.self.view_is).wheel in
-    due_rows c.args.self.now.keys c.loop-level.out.items c.sort_unstable.new.self.items (c.loop-level.invariant.so_far look.level look.stand).are_rows
-    c.sort_unstable.ensures.permutation
+    due_rows c.args.self.now.keys c.loop-level.out.items c.sort_told.new.rows.items (c.loop-level.invariant.so_far look.level look.stand).are_rows
+    c.sort_told.ensures.permutation
 
 pub returns-clause-written : goal.returns-clause-written
 returns-clause-written g c = λ k d low.
     let keys = c.args.self.now.keys in
-    let new = c.sort_unstable.new.self.items in
+    let new = c.sort_told.new.rows.items in
     let row : HeldRow = get_or new k d in
     row_written row.slot (key_of (row_told keys row)) c.self.invariant c.self.view_is
     (told_each (λ (row : Row). key_in keys row.slot ≡ Some (key_of row)) keys new (returns-clause-rows g c) k d low)
 
 pub returns-clause-sorted : goal.returns-clause-sorted
 returns-clause-sorted g c =
-    let sorted = c.sort_unstable.ensures.sorted in
-    let by_rank : IsSortedBy ranks_before c.sort_unstable.new.self.items = search (rules, sorted) in
     let look = wheel_stands (sees c.self.invariant.rows c.self.view_is).wheel in
-    due_sorted c.args.self.now.keys c.loop-level.out.items c.sort_unstable.new.self.items (c.loop-level.invariant.so_far look.level look.stand).ranked
-    c.sort_unstable.ensures.permutation by_rank
+    due_sorted c.self.inside.kept.keys look.stand (ap keys_of c.self.view_is) c.sort_told.new.rows.items (returns-clause-rows g c) c.sort_told.ensures.sorted

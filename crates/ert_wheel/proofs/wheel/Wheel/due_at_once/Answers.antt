@@ -6,7 +6,7 @@ use Rattle.ert_wheel.proofs.Writes.{sees, keys_of, passed_of}
 use Rattle.ert_wheel.proofs.wheel.Wheel.due_at_once.Goals as goal
 use Rattle.ert_wheel.specs.FirstDue.{SomeRowDue}
 use Rattle.ert_wheel.specs.NextDue.{NoRow, IsNextDue, IsLeastIn}
-use Rattle.ert_wheel.specs.Wheels.{home_on}
+use Rattle.ert_wheel.specs.Wheels.{stand_on}
 use Rattle.ert_wheel.specs.declared.row.TheConstants.{NEVER}
 
 pub returns-then-self : goal.returns-then-self
@@ -26,5 +26,5 @@ returns g c =
     answer_is (NoRow keys) c.least_in.result c.least_in.ensures.all c.least_in.ensures.least (λ least looked.
     subst (λ (n : ℕ). IsNextDue keys n least) (ap passed_of c.self.view_is)
     (least_here look.stand least due
-    (subst (λ (b : ℕ). IsLeastIn keys (home_on next look.level) b NEVER least) c.bucket_of_window-home.ensures.is
+    (subst (λ (b : ℕ). IsLeastIn keys (stand_on next look.level look.stand.rank) b NEVER least) c.bucket_of_window-home.ensures.is
     (least_seen c.self.inside.kept.keys look.stand (ap keys_of c.self.view_is) looked))))

@@ -6,14 +6,14 @@ use Rattle.ert_wheel.proofs.Standing.{wheel_stands, end_of}
 use Rattle.ert_wheel.proofs.Writes.{sees, passed_of}
 use Rattle.ert_wheel.proofs.wheel.Wheel.may_be_due.Goals as goal
 use Rattle.ert_wheel.specs.FirstDue.{MayBeDue, NoRowDue}
-use Rattle.ert_wheel.specs.Wheels.{home_on, places}
+use Rattle.ert_wheel.specs.Wheels.{stand_on, places}
 
 pub returns : goal.returns
 returns g c =
     let keys = c.args.self.now.keys in
     let next = c.self.inside.next_time in
     let look = wheel_stands (sees c.self.invariant.rows c.self.view_is).wheel in
-    let first = c.first_window.ensures.first (places (home_on next look.level) keys) look.stand.are in
+    let first = c.first_window.ensures.first (places (stand_on next look.level look.stand.rank) keys) look.stand.are in
     let later : next < c.args.to = omega (arith, c.if-to-self-2.false) in
     let near : c.args.to / 512 ≤ next / 512 = omega (arith, c.if-to-self-3.false) in
     let few : c.args.to + 1 ≤ end_of 0 next = omega (arith, near, end_lowest next, look.stand.time) in

@@ -2,13 +2,13 @@ use Rattle.std.proofs.Common.{ℕ, ap, set, subst, ◌∙◌, length, arith, ref
 use Rattle.std.proofs.lemmas.List.{length-set}
 use Rattle.ert_wheel.proofs.Writes.{sees, low_in, alike_after, is_held, is_kept, may_take, replaced, stored_as}
 use Rattle.ert_wheel.proofs.wheel.Wheel.replace.Goals as goal
-use Rattle.ert_wheel.specs.Levels.{IsLeastBucket}
+use Rattle.ert_wheel.specs.Replacing.{MovesOrStays}
 
-pub renew-requires-clause-slot : goal.renew-requires-clause-slot
-renew-requires-clause-slot g c = may_take (sees c.self.invariant.rows c.self.view_is) (low_in c.args.row.slot c.self.invariant c.self.view_is c.requires.slot).low_key
+pub move_row-requires-clause-may : goal.move_row-requires-clause-may
+move_row-requires-clause-may g c = may_take (sees c.self.invariant.rows c.self.view_is) (low_in c.args.row.slot c.self.invariant c.self.view_is c.requires.slot).low_key
 
-pub renew-requires-clause-written : goal.renew-requires-clause-written
-renew-requires-clause-written g c = (low_in c.args.row.slot c.self.invariant c.self.view_is c.requires.slot).low_bucket
+pub move_row-requires-clause-written : goal.move_row-requires-clause-written
+move_row-requires-clause-written g c = (low_in c.args.row.slot c.self.invariant c.self.view_is c.requires.slot).low_bucket
 
 pub set-requires : goal.set-requires
 set-requires g c = (low_in c.args.row.slot c.self.invariant c.self.view_is c.requires.slot).low_record
@@ -23,8 +23,8 @@ invariant_of-self g c = record {
         newest = c.requires.newest;
       })
       (low_in c.args.row.slot c.self.invariant c.self.view_is c.requires.slot).low_record
-      c.requires.held (subst (λ (t : ℕ). IsLeastBucket c.self.inside.next_time t c.bucket-home.result) c.max.ensures c.bucket-home.ensures.is) c.renew.ensures.slots c.renew.ensures.homes c.renew.ensures.chains c.lower.ensures));
-  alike = alike_after c.self.invariant.alike (ap length c.set.ensures.keys ∙ length-set c.self.inside.kept.keys c.args.row.slot _) c.set.ensures.room c.renew.ensures.slots c.renew.ensures.written refl refl;
+      c.requires.held c.deadline-was.ensures (subst (λ (t : ℕ). MovesOrStays c.self.inside.next_time c.deadline-was.result t c.self.inside.buckets c.move_row.new.chains c.args.row.slot) c.max-time.ensures c.move_row.ensures.moves) c.move_row.ensures.slots c.move_row.ensures.homes c.lower.ensures));
+  alike = alike_after c.self.invariant.alike (ap length c.set.ensures.keys ∙ length-set c.self.inside.kept.keys c.args.row.slot _) c.set.ensures.room c.move_row.ensures.slots c.move_row.ensures.written refl refl;
 }
 
 pub returns-clause-keys : goal.returns-clause-keys
@@ -37,4 +37,7 @@ returns-clause-keys g c =
       newest = c.requires.newest;
     })
     (low_in c.args.row.slot c.self.invariant c.self.view_is c.requires.slot).low_record
-    c.requires.held (subst (λ (t : ℕ). IsLeastBucket c.self.inside.next_time t c.bucket-home.result) c.max.ensures c.bucket-home.ensures.is) c.renew.ensures.slots c.renew.ensures.homes c.renew.ensures.chains c.lower.ensures))
+    c.requires.held c.deadline-was.ensures (subst (λ (t : ℕ). MovesOrStays c.self.inside.next_time c.deadline-was.result t c.self.inside.buckets c.move_row.new.chains c.args.row.slot) c.max-time.ensures c.move_row.ensures.moves) c.move_row.ensures.slots c.move_row.ensures.homes c.lower.ensures))
+
+pub deadline-was-requires : goal.deadline-was-requires
+deadline-was-requires g c = (low_in c.args.row.slot c.self.invariant c.self.view_is c.requires.slot).low_record

@@ -15,5 +15,5 @@ deadline-requires g c = (low_in c.args.slot c.self.invariant c.self.view_is c.re
 
 pub returns : goal.returns
 returns g c =
-    ap (λ n. Some (record { deadline = n; rank = 0; slot = c.args.slot })) c.deadline.ensures
+    ap (λ n. Some (record { deadline = n; slot = c.args.slot })) c.deadline.ensures
     ∙ sym (ap (option_map (told_at c.args.slot)) (looks_apart (sees c.self.invariant.rows c.self.view_is) (low_in c.args.slot c.self.invariant c.self.view_is c.requires).low_key (low_in c.args.slot c.self.invariant c.self.view_is c.requires).low_record (λ e. true≢false (sym (c.is_alone.ensures.1 e) ∙ c.if-is_alone.false))))
