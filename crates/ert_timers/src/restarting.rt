@@ -6,6 +6,7 @@ use crate::part::{Use, WheelPart};
 use ert_defs::{Actor, Kind, Start, TimerRef, USES_OF_ROUND, When};
 use ert_effects::RestartErr;
 use ert_table::{Desk, Pass, SlotPlace};
+use ert_words::armed_word;
 
 impl WheelPart {
     ghost use Rattle.std.specs.Prelude.{◌≡◌, ◌≢◌, ◌<◌, true, Err};
@@ -210,6 +211,7 @@ impl WheelPart {
         let now = ahead.rounded_down();
         let next = Use::after(timer.generation, now, ahead.deadline);
         let generation = next.generation;
+        let word = armed_word(next.deadline, generation);
         if !pass.renew(
             desk,
             by,
@@ -218,11 +220,12 @@ impl WheelPart {
             generation,
             start,
             next.deadline,
+            word,
             place,
         ) {
             return Err(RestartErr::NotArmed);
         }
-        let named = self.renew(timer.slot, start, next);
+        let named = self.renew(timer.slot, start, next, word);
         self.end(desk, pass, by, named, start.dest, next.deadline);
         Ok(named)
     }

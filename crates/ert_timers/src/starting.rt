@@ -8,6 +8,7 @@ use crate::part::{Use, WheelPart};
 use ert_defs::{Actor, Start, Status, TimerRef};
 use ert_effects::StartErr;
 use ert_table::{Desk, Pass, Settle, TimerCarry};
+use ert_words::armed_word;
 
 /// How many timers a wheel can have.
 pub(crate) const MOST_TIMERS: u64 = 1 << 53;
@@ -186,8 +187,9 @@ impl WheelPart {
         ensures call { Arms (settings_of desk.now) (view_of pass.old) by self.old self.new slot next start.now result (view_of pass.new) }
     {
         let place = desk.touch(self.number(), slot);
-        let timer = self.keep(slot, start, next);
-        pass.arm_at(desk, by, timer, start, next.deadline, place);
+        let word = armed_word(next.deadline, next.generation);
+        let timer = self.keep(slot, start, next, word);
+        pass.arm_at(desk, by, timer, start, next.deadline, word, place);
         timer
     }
 
