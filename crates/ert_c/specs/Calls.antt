@@ -21,7 +21,7 @@ use Rattle.ert_defs.specs.declared.mail.Request.{Request}
 use Rattle.ert_defs.specs.declared.memory.NoMemory.{NoMemory as OutOfMemory}
 use Rattle.ert_defs.specs.declared.timer.Start.{Start}
 use Rattle.ert_defs.specs.declared.timer.TimerRef.{TimerRef}
-use Rattle.ert_world.specs.Frees.{IsUsedUpAt, IsOpenAt, UsesFreeAt}
+use Rattle.ert_world.specs.Frees.{IsUsedUpAt, HasOpenSlotAt, UsesFreeAt}
 use Rattle.ert_world.specs.Restarts.{HasNoDeadline}
 use Rattle.ert_world.specs.Sleeping.{DropsSettledAt, HasSameTimeAt, IsFoundAt}
 use Rattle.ert_world.specs.Stepping.{Stays}
@@ -69,7 +69,7 @@ pub record StartsBy (wheel : ℕ) (start : Start) (answer : Result TimerRef Star
   pub memory : answer ≢ Err NoMemory
   pub forgotten : StayForgotten old new
   pub full : answer ≡ Err Full → IsUsedUpAt old new wheel
-  pub ready : IsOpenAt old wheel → answer ≢ Err Full
+  pub ready : HasOpenSlotAt old wheel → answer ≢ Err Full
   pub frees : UsesFreeAt old new wheel answer
 
 -- C starts a timer on the wheel of a scheduler, for a process; where there is no such scheduler or process,
@@ -83,7 +83,7 @@ StartsTimer sched start kept found old status new = Through (found ≡ kept) (λ
 -- a timer
 pub record TellsRoomBy (sched : ℕ) (answer : Room) (old new : Seen) : Type 0 where
   pub makes : MakesCall (λ w. By w (λ g. TellsRoom g 0 sched answer)) old new
-  pub ready : 1 ≤ answer.free → IsOpenAt new sched
+  pub ready : 1 ≤ answer.free → HasOpenSlotAt new sched
 
 -- C asks how much room the wheel of a scheduler has; where there is no such one, what C passed is as it was
 abbrev pub AsksRoom : ℕ → Type 0 → ℕ → ℕ → Option Seen → ℤ → Option Seen → Type 0

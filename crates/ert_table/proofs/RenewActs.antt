@@ -1,7 +1,6 @@
 -- An exchange of a slot's word takes place as the cancel of a timer and the start of the next one of its slot.
 
 use Rattle.std.proofs.Common.{◌≡◌, ◌≢◌, ℕ, ℤ, ◌<◌, Bool, true, false, cond, nat_eq, List, [], ◌∷◌, ◌++◌, length, Some, None, option_map, refl, sym, ap, subst, ◌∙◌, append_assoc, eqb-true}
-use Rattle.std.proofs.Props.{props}
 use prog.Atomic.{either}
 use Rattle.ert_defs.specs.Actors.{has_actor, same_actor}
 use Rattle.ert_defs.specs.Entries.{arm_entry, cancel_entry}
@@ -11,7 +10,6 @@ use Rattle.ert_defs.specs.States.{State, next, state, uses_at}
 use Rattle.ert_defs.specs.Timers.{IsNextUse, Row, Uses, deadline_told, is_taken, status_after, timer_at}
 use Rattle.ert_defs.specs.Words.{timer_word, word_count, word_of}
 use Rattle.ert_defs.proofs.Runs.{legal_more, state-append}
-use Rattle.ert_defs.proofs.Slots.{ordered}
 use Rattle.ert_defs.specs.declared.entry.Actor.TheVariants.{Caller, Wheel}
 use Rattle.ert_defs.specs.declared.entry.Entry.{Entry}
 use Rattle.ert_defs.specs.declared.settings.Settings.{Settings}
@@ -23,30 +21,18 @@ use Rattle.ert_table.specs.Acts.{Acts, ActsAll, IsHistoryAtStep}
 use Rattle.ert_table.specs.Calls.{AreOnlyOf}
 use Rattle.ert_table.specs.Places.{slot_place}
 use Rattle.ert_table.specs.Renewals.{MayRenew, renewal}
-use Rattle.ert_table.specs.Rule.{IsLegalBy}
 use Rattle.ert_table.specs.Settlings.{HasRow, hit_entry, settle_entry}
 use Rattle.ert_table.specs.Takes.{MayStep}
-use Rattle.ert_table.proofs.ArmActs.{arm_here, arm_others, in_range_at}
+use Rattle.ert_table.proofs.ArmActs.{arm_here, arm_others}
 use Rattle.ert_table.proofs.AtSteps.{look_then, row_then, rows_then, slot_then, uses_then}
 use Rattle.ert_table.proofs.Hits.{hit_others, hit_status}
-use Rattle.ert_table.proofs.OneStep.{grows, legal_by}
+use Rattle.ert_table.proofs.OneStep.{grows}
 use Rattle.ert_table.proofs.SettleActs.{settle_acts}
 use Rattle.ert_table.proofs.SlotFacts.{row_in_range, slots_kept}
 use Rattle.ert_table.proofs.SlotWords.{armed_by_word}
 use Rattle.ert_table.proofs.WordSteps.{cond_same}
 use Rattle.ert_table.specs.declared.carry.Settle.TheVariants.{Cancel}
 use Rattle.ert_table.specs.declared.view.View.{View}
-
--- the timer that is started has a word
-pub renewed_is : (g : Settings) (v : View) (by : ℕ) (timer : TimerRef) (generation : ℕ) (start : Start) (deadline : ℕ) → v.settings ≡ Some g
-    → ∥ IsLegalBy v.settings v.front ∥₁ → MayRenew g v by timer generation start
-    → option_map (deadline_told generation) (deadline_of g start ((state g v.front).looked (Caller by))) ≡ Some deadline
-    → IsTimer deadline generation
-renewed_is g v by timer generation start deadline named legal may due =
-    let prop : IsProp (IsTimer deadline generation) = hlevel props in
-    legal_by g v.settings v.front prop named legal
-    (λ h. in_range_at g (state g v.front) ((state g v.front).looked (Caller by)) (timer_at timer.wheel timer.slot generation) _ may.wanted deadline
-    (ordered g v.front h) may.due may.next_use due)
 
 module _ (g : Settings) (v : View) (by : ℕ) (timer : TimerRef) (deadline generation : ℕ) (start : Start) (coming : ℕ)
     (may : MayRenew g v by timer generation start) (has : HasRow (state g v.front) timer deadline)

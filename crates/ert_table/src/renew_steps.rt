@@ -4,6 +4,8 @@ ghost use Rattle.ert_defs.specs.Actors.{IsUser};
 ghost use Rattle.ert_defs.specs.Legal.{names_timer};
 ghost use Rattle.ert_defs.specs.Timers.{timer_at};
 ghost use Rattle.ert_defs.specs.declared.entry.Actor.TheVariants.{Caller};
+ghost use Rattle.ert_defs.specs.Words as words;
+ghost use Rattle.ert_defs.specs.declared.timer.Status.TheVariants.{Armed};
 ghost use Rattle.ert_table.specs.Calls.{AppendsAll};
 ghost use Rattle.ert_table.specs.Desks.{settings_of, view_of, actors_of, state_of, Belongs, IsDeadlineOf, SettlesOrMisses};
 ghost use Rattle.ert_table.specs.Held.{is_held};
@@ -17,7 +19,7 @@ use crate::desk::{Desk, Pass};
 use crate::places::SlotPlace;
 use crate::plays::{CarriedAll, ComparesAll};
 use ert_defs::{Actor, Start, TimerRef};
-use ert_words::{armed_deadline, armed_word, word_deadline};
+use ert_words::{armed_deadline, word_deadline};
 use std::marker::Brand;
 
 /// The word of a timer that was armed when it was read.
@@ -96,7 +98,8 @@ impl Pass {
     /// Cancels a timer whose word was read, and starts the next one of its slot, of a generation, by one exchange. It
     /// answers whether it did: where somebody else settled the timer in between, none is started.
     ///
-    /// `deadline` is that of the next timer by the caller's last look, in milliseconds after the start time.
+    /// `deadline` is that of the next timer by the caller's last look, in milliseconds after the start time, and `word` is its
+    /// word.
     #[inline(always)]
     pub fn renew(
         &mut self,
@@ -107,19 +110,23 @@ impl Pass {
         generation: u64,
         start: &Start,
         deadline: u64,
+        word: u64,
         place: SlotPlace,
     ) -> bool
         requires belongs { Belongs desk.now self.old }
         requires read { IsWordOf (state_of desk.now self.old) timer read }
         requires may { MayRenew (settings_of desk.now) (view_of self.old) by timer generation start.now }
         requires deadline { IsDeadlineOf desk.now self.old by (timer_at timer.wheel timer.slot generation) start.now deadline }
+        requires word { word ≡ words.timer_word Armed deadline generation }
         requires place { IsPlaceOf (settings_of desk.now) timer.wheel timer.slot place }
         ensures belongs { Belongs desk.now self.new }
         ensures step { AppendsAll (settings_of desk.now) (view_of self.old)
             (renewal (settings_of desk.now) ((state_of desk.now self.old).looked (Caller by)) by timer (word_deadline read.word) generation start.now result)
             (view_of self.new) }
     {
-        self.renew_as::<Brand>(desk, by, timer, read, generation, start, deadline, place)
+        self.renew_as::<Brand>(
+            desk, by, timer, read, generation, start, deadline, word, place,
+        )
     }
 
     #[inline(always)]
@@ -132,6 +139,7 @@ impl Pass {
         generation: u64,
         start: &Start,
         deadline: u64,
+        word: u64,
         place: SlotPlace,
     ) -> bool
         requires settings { C.settings ≡ settings_of desk.now }
@@ -140,17 +148,17 @@ impl Pass {
         requires read { IsWordOf (state_of desk.now self.old) timer read }
         requires may { MayRenew (settings_of desk.now) (view_of self.old) by timer generation start.now }
         requires deadline { IsDeadlineOf desk.now self.old by (timer_at timer.wheel timer.slot generation) start.now deadline }
+        requires word { word ≡ words.timer_word Armed deadline generation }
         requires place { IsPlaceOf (settings_of desk.now) timer.wheel timer.slot place }
         ensures belongs { Belongs desk.now self.new }
         ensures step { AppendsAll (settings_of desk.now) (view_of self.old)
             (renewal (settings_of desk.now) ((state_of desk.now self.old).looked (Caller by)) by timer (word_deadline read.word) generation start.now result)
             (view_of self.new) }
     {
-        let new = armed_word(deadline, generation);
         let found = desk
             .table
             .shared
-            .compare_exchange::<ComparesAll<C>>(&mut self.seat, place.place, read.word, new);
+            .compare_exchange::<ComparesAll<C>>(&mut self.seat, place.place, read.word, word);
         found == read.word
     }
 }

@@ -73,10 +73,11 @@ impl Pass {
         let place = SlotPlace {
             place: desk.slot_place(timer.wheel as usize, timer.slot as usize),
         };
-        self.arm_at(desk, by, timer, start, deadline, place);
+        let word = armed_word(deadline, timer.generation);
+        self.arm_at(desk, by, timer, start, deadline, word, place);
     }
 
-    /// The same, where the place of the slot is known from `Desk::touch`.
+    /// The same, where the word of the timer is known, and the place of the slot from `Desk::touch`.
     #[inline(always)]
     pub fn arm_at(
         &mut self,
@@ -85,16 +86,18 @@ impl Pass {
         timer: TimerRef,
         start: &Start,
         deadline: u64,
+        word: u64,
         place: SlotPlace,
     )
         requires belongs { Belongs desk.now self.old }
         requires may { MayMake desk.now self.old (arm_entry by timer start.now) }
         requires deadline { IsDeadlineOf desk.now self.old by timer start.now deadline }
+        requires word { word ≡ words.timer_word Armed deadline timer.generation }
         requires place { IsPlaceOf (settings_of desk.now) timer.wheel timer.slot place }
         ensures belongs { Belongs desk.now self.new }
         ensures step { Makes desk.now self.old (arm_entry by timer start.now) self.new }
     {
-        self.arm_as::<Brand>(desk, by, timer, start, deadline, place);
+        self.arm_as::<Brand>(desk, by, timer, start, deadline, word, place);
     }
 
     #[inline(always)]
@@ -105,6 +108,7 @@ impl Pass {
         timer: TimerRef,
         start: &Start,
         deadline: u64,
+        word: u64,
         place: SlotPlace,
     )
         requires settings { C.settings ≡ settings_of desk.now }
@@ -112,11 +116,11 @@ impl Pass {
         requires may { MayMake desk.now self.old (arm_entry by timer start.now) }
         requires entry { C.entry ≡ (λ n. arm_entry by timer start.now) }
         requires deadline { IsDeadlineOf desk.now self.old by timer start.now deadline }
+        requires word { word ≡ words.timer_word Armed deadline timer.generation }
         requires place { IsPlaceOf (settings_of desk.now) timer.wheel timer.slot place }
         ensures belongs { Belongs desk.now self.new }
         ensures step { Makes desk.now self.old (arm_entry by timer start.now) self.new }
     {
-        let word = armed_word(deadline, timer.generation);
         desk.table
             .shared
             .store::<Adds<C>>(&mut self.seat, place.place, word);

@@ -23,7 +23,7 @@ use Rattle.ert_timers.specs.Changes.{is_resting}
 use Rattle.ert_timers.specs.Looking.{LooksDown}
 use Rattle.ert_timers.specs.Parts.{HoldsCaller, Part, PartStands, slot_at}
 use Rattle.ert_timers.specs.Rooms.{FindsFree, SeesSlot, first_with}
-use Rattle.ert_timers.specs.Searching.{CanTake, IsOpen}
+use Rattle.ert_timers.specs.Searching.{CanTake, HasOpenSlot}
 use Rattle.ert_timers.proofs.Lookings.{found_is}
 use Rattle.ert_timers.proofs.Resting.{later_awake, rested_by}
 use Rattle.ert_timers.proofs.Searched.{can_stays}
@@ -81,10 +81,10 @@ finds_more g v by now p n before room None next u stands holds past low finds on
 
 -- the looks begin at it
 pub opened : (g : Settings) (h : _) (p q : Part) (seen : Room) (first : Option ℕ) (next : ℕ) → FindsFree g (state g h) p seen first → 0 < seen.free
-    → p.arms < 9007199254740992 → q ≡ record p { next_look = next } → ((k : ℕ) → first ≡ Some k → next ≡ k) → IsOpen g (state g h) q
+    → p.arms < 9007199254740992 → q ≡ record p { next_look = next } → ((k : ℕ) → first ≡ Some k → next ≡ k) → HasOpenSlot g (state g h) q
 opened g h p q seen None next finds some few is begins = absurd (omega (arith, finds, some))
 opened g h p q seen (Some k) next finds some few is begins =
-    subst (λ (x : Part). IsOpen g (state g h) x) (sym is)
+    subst (λ (x : Part). HasOpenSlot g (state g h) x) (sym is)
     (record {
       can = subst (λ n. CanTake g (state g h) (record p { next_look = next }) n) (sym (begins k refl))
           (record { low = finds.low; untaken = finds.untaken; rested = finds.rested });

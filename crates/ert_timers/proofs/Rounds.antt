@@ -21,7 +21,7 @@ use Rattle.ert_table.proofs.Calls.{step_takes_place, takes_place_then}
 use Rattle.ert_timers.specs.Changes.{is_resting}
 use Rattle.ert_timers.specs.Parts.{HoldsCaller, Part, PartStands, last_timer, slot_at}
 use Rattle.ert_timers.specs.Passed.{LosesRows}
-use Rattle.ert_timers.specs.Starting.{IsUntaken, LooksAt, LooksAtSome, FindsRound, LooksAround, AreFull, end_of, probes_from}
+use Rattle.ert_timers.specs.Starting.{IsUntaken, LooksAt, LooksAtSome, FindsRound, LooksAround, AreFull, round_end, probes_from}
 use Rattle.ert_timers.proofs.Standing.{clock_at, clock_rises}
 use Rattle.ert_timers.proofs.Passing.{loses_none, loses_then}
 
@@ -204,7 +204,7 @@ looks_around g v by now p q r round u w none first second =
 
 -- and where the next looks begin was told before
 pub around_from : (g : Settings) (v : View) (by now : ℕ) (p r : Part) (next : ℕ) (u : View) (round : Round (length p.slots) g.looks)
-    → round.from ≡ min p.next_look (length p.slots) → (p.next_look < length p.slots → 1 ≤ round.ahead) → next ≡ end_of round
+    → round.from ≡ min p.next_look (length p.slots) → (p.next_look < length p.slots → 1 ≤ round.ahead) → next ≡ round_end round
     → HasLookedAround g v by now (record p { next_look = next }) r round u → LooksAround g v by now p r u
 around_from g v by now p r next u round from some end all = record {
   round = round;

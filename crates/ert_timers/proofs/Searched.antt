@@ -16,7 +16,7 @@ use Rattle.ert_table.specs.declared.view.View.{View}
 use Rattle.ert_timers.specs.Changes.{is_resting}
 use Rattle.ert_timers.specs.Looking.{LooksAhead, now_in}
 use Rattle.ert_timers.specs.Parts.{HoldsCaller, Part, PartStands, slot_at, last_timer}
-use Rattle.ert_timers.specs.Searching.{CanTake, IsOpen}
+use Rattle.ert_timers.specs.Searching.{CanTake, HasOpenSlot}
 use Rattle.ert_timers.specs.Starting.{TakesSlot}
 use Rattle.ert_timers.specs.declared.looking.Ahead.{Ahead}
 use Rattle.ert_timers.proofs.Later.{later_step}
@@ -51,7 +51,7 @@ can_awake g v p k now stands can past = elim (cases_Bool (is_resting (slot_at p.
 -- a start finds one where the slot at which its looks begin can take a timer
 pub finds_open : (g : Settings) (v : View) (by : ℕ) (p q : Part) (start : Start) (ahead : Option Ahead) (a : Ahead) (slot : Option ℕ) (u x : View)
     → PartStands g v.front p → HoldsCaller g v by p.number → ahead ≡ Some a → LooksAhead g v by start ahead u → TakesSlot g u by (now_in a) p q slot x
-    → IsOpen g (state g v.front) p → slot ≢ None
+    → HasOpenSlot g (state g v.front) p → slot ≢ None
 finds_open g v by p q start ahead a slot u x stands holds has looks takes is =
     let can : CanTake g (state g u.front) p p.next_look =
     can_stays g v (look_entry (Caller by) looks.now) u p p.next_look stands holds.wheel looks.step refl is.can in

@@ -9,7 +9,7 @@ use Rattle.ert_table.specs.declared.view.View.{View}
 use Rattle.ert_timers.specs.Changes.{MayBecomeFree, picked}
 use Rattle.ert_laws.proofs.Since.{rounds_begun}
 use Rattle.ert_timers.specs.Parts.{Part, PartStands, slot_at, last_timer}
-use Rattle.ert_timers.specs.Starting.{FindsRound, GoesOn, LooksAround, TakesSlot}
+use Rattle.ert_timers.specs.Starting.{FindsRound, GoesRound, LooksAround, TakesSlot}
 use Rattle.ert_effects.specs.TimerCalls.{IsInRound, Round}
 use Rattle.ert_timers.specs.Passed.{LosesRows}
 use Rattle.ert_timers.proofs.Fit.{taken_was}
@@ -68,7 +68,7 @@ none_was p p' j same empty was =
     cc
 
 -- the slot at which the looks begin is one of the round
-begins : (g : Settings) (p q : Part) (round : Round (length p.slots) g.looks) → GoesOn p q round → p.next_look < length p.slots
+begins : (g : Settings) (p q : Part) (round : Round (length p.slots) g.looks) → GoesRound p q round → p.next_look < length p.slots
     → IsInRound round p.next_look
 begins g p q round on low =
     let from : round.from ≡ p.next_look = omega (arith, on.from, low) in
@@ -94,7 +94,7 @@ takes_then g v by now p p' q r None u stands told same empty some none left held
         round = here.round;
         finds = subst (λ (x : Part). FindsRound by now p.number x here.round here.probes) (sym left) here.finds;
         none = λ j. ap (λ (x : Part). sets.contains x.free j) left ∙ none j;
-        goes_on = subst (λ (x : Part). GoesOn p x here.round) (sym left) here.goes_on;
+        goes_on = subst (λ (x : Part). GoesRound p x here.round) (sym left) here.goes_on;
       };
       usable = tt;
       rested = tt;

@@ -64,9 +64,9 @@ pub record EndsAfter (g : Settings) (by wheel : ℕ) (timer : TimerRef) (start :
   pub entries : es ≡ probes ++ end
 
 -- an answer in two parts: why there is no name, or the name
-abbrev pub answer_of : Option RestartErr → TimerRef → Result TimerRef RestartErr
-answer_of None named = Ok named
-answer_of (Some e) named = Err e
+abbrev pub refused_or : Option RestartErr → TimerRef → Result TimerRef RestartErr
+refused_or None named = Ok named
+refused_or (Some e) named = Err e
 
 -- a part holds no row of the timer that was restarted, where another was started
 abbrev pub HasLetGo : TimerRef → Result TimerRef RestartErr → Part → Type 0

@@ -10,7 +10,7 @@ use Rattle.ert_defs.specs.declared.entry.Entry.{Entry}
 use Rattle.ert_defs.specs.declared.settings.Settings.{Settings}
 use Rattle.ert_effects.specs.TimerCalls.{IsRoundTaken, Round}
 use Rattle.ert_timers.specs.Parts.{Part, last_timer}
-use Rattle.ert_timers.specs.Starting.{GoesOn}
+use Rattle.ert_timers.specs.Starting.{GoesRound}
 
 -- a slot can take a timer now: its last one takes it no more, and it doesn't rest
 pub record CanTake (g : Settings) (s : State) (p : Part) (k : ℕ) : Type 0 where
@@ -19,7 +19,7 @@ pub record CanTake (g : Settings) (s : State) (p : Part) (k : ℕ) : Type 0 wher
   pub rested : (turned (uses_at s p.number k)).since ≤ natural (down g s.clock.now)
 
 -- the slot at which the next looks begin can take a timer now, and the wheel can have more timers
-pub record IsOpen (g : Settings) (s : State) (p : Part) : Type 0 where
+pub record HasOpenSlot (g : Settings) (s : State) (p : Part) : Type 0 where
   pub can : CanTake g s p p.next_look
   pub few : p.arms < 9007199254740992
 
@@ -30,5 +30,5 @@ pub record Searches (g : Settings) (by : ℕ) (p q : Part) (s : State) (es : Lis
   pub probes : List Entry
   pub round : Round g.slots g.looks
   pub taken : IsRoundTaken by p.number (natural (down g now)) s round probes
-  pub goes_on : GoesOn p q round
+  pub goes_on : GoesRound p q round
   pub entries : es ≡ look_entry (Caller by) now ∷ probes

@@ -138,14 +138,14 @@ pub record FindsRound (by now wheel : ℕ) (q : Part) {slots looks : ℕ} (round
   pub probes_are : probes ≡ probes_from by wheel round.from ahead ++ probes_from by wheel 0 behind
 
 -- the slot behind those of a round: there the next one begins
-abbrev pub end_of : {slots looks : ℕ} → Round slots looks → ℕ
-end_of round = cond (nat_eq round.behind 0) (round.from + round.ahead) round.behind
+abbrev pub round_end : {slots looks : ℕ} → Round slots looks → ℕ
+round_end round = cond (nat_eq round.behind 0) (round.from + round.ahead) round.behind
 
 -- a round begins where the last one ended, which is told as its end is
-pub record GoesOn (p q : Part) {slots looks : ℕ} (round : Round slots looks) : Type 0 where
+pub record GoesRound (p q : Part) {slots looks : ℕ} (round : Round slots looks) : Type 0 where
   pub from : round.from ≡ min p.next_look slots
   pub some : p.next_look < slots → 1 ≤ round.ahead
-  pub next : q.next_look ≡ end_of round
+  pub next : q.next_look ≡ round_end round
 
 -- the slots of a round were looked at, where none was held free
 pub record LooksAround (g : Settings) (v : View) (by now : ℕ) (p q : Part) (u : View) : Type 0 where
@@ -161,7 +161,7 @@ pub record LooksAround (g : Settings) (v : View) (by now : ℕ) (p q : Part) (u 
   pub since : (j : ℕ) → (state g u.front).since p.number j ≡ (state g v.front).since p.number j
   pub look : (state g u.front).looked (Caller by) ≡ (state g v.front).looked (Caller by)
   pub loses : LosesRows p q
-  pub goes_on : GoesOn p q round
+  pub goes_on : GoesRound p q round
   -- a slot among them that wasn't taken before and doesn't rest is held free
   pub meets : (j : ℕ) → IsInRound round j → IsUntaken g v p j → is_resting (slot_at p.slots j) now ≡ false → set.contains q.free j ≡ true
 
@@ -170,7 +170,7 @@ pub record FindsNone (looks by now : ℕ) (p q : Part) (probes : List Entry) : T
   pub round : Round (length p.slots) looks
   pub finds : FindsRound by now p.number q round probes
   pub none : (j : ℕ) → set.contains q.free j ≡ false
-  pub goes_on : GoesOn p q round
+  pub goes_on : GoesRound p q round
 
 -- a slot that can take a timer is found, or none is after looks at a round
 abbrev pub FindsSlot : ℕ → ℕ → ℕ → Part → Part → Option ℕ → List Entry → Type 0

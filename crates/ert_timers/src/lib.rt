@@ -6,12 +6,13 @@
 //! the message and the kind of the last timer, its generation, and one above the greatest deadline of all the
 //! slot's timers. A timer that is held as armed also has a row in a timing wheel (`ert_wheel`), which tells what is
 //! due, and its slot stands in the chain of its process there, so that an exit costs in proportion to the timers of
-//! that process. Its order in the wheel is how many timers of the wheel were armed before it; that is known to proofs
-//! alone. A timer that is settled leaves the wheel, and its slot stays in the chain until it is used for another process, or
-//! until the process is swept. So a start for the process of the slot's last timer changes no chain of a process. The wheel holds what is
-//! kept of a slot, as the slot's value. A slot is written there when it is first taken, with some of those that come next;
-//! until then it is held free, and what is kept of it counts as that of a slot that was never used. So a slot that isn't held
-//! free is written, and no call on it tests that.
+//! that process. Its order in the wheel is how many timers of the wheel were armed before it. A timer that is settled leaves
+//! the wheel, and its slot stays in the chain until it is used for another process, or until the process is swept. So a start
+//! for the process of the slot's last timer changes no chain of a process, nor reads one: what is stored of the slot says that
+//! it stands there. The wheel holds what is kept of a slot, as the slot's value (`Stored`), with deadline and order of the
+//! slot's last row. A slot is written there when it is first taken, with some of those that come next; until then it is held
+//! free, and what is kept of it counts as that of a slot that was never used. So a slot that isn't held free is written, and
+//! no call on it tests that.
 //!
 //! **What others do.** Any thread may cancel a timer by one exchange on its word, and tells the part nothing.
 //! So a held timer may be settled already. An advance finds that out when its own exchange misses; a start

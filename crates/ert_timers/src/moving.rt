@@ -1,6 +1,6 @@
 //! A timer that is given a new deadline in another slot than its own.
 ghost use Rattle.std.specs.Prelude.{◌≡◌};
-ghost use Rattle.ert_timers.specs.Restarting.{answer_of};
+ghost use Rattle.ert_timers.specs.Restarting.{refused_or};
 
 use crate::looking::Ahead;
 use crate::part::{Use, WheelPart};
@@ -28,7 +28,7 @@ impl WheelPart {
     ghost use Rattle.ert_timers.specs.declared.part.Use.{Use as Coming};
     ghost use Rattle.ert_defs.specs.States.{State};
     ghost use Rattle.ert_defs.specs.declared.timer.Status.TheVariants.{Armed};
-    ghost use Rattle.ert_timers.specs.Restarting.{HasLooked, HasSlotFor, EndsAfter, HasLetGo, answer_of};
+    ghost use Rattle.ert_timers.specs.Restarting.{HasLooked, HasSlotFor, EndsAfter, HasLetGo, refused_or};
 
     /// Gives a timer a new deadline in another slot, or refuses for want of one, after the caller's look. All comes in
     /// parts, and goes in two: so a restart, which seldom gets here, needn't write or read it in memory.
@@ -62,11 +62,11 @@ impl WheelPart {
         ensures belongs { Belongs desk.now pass.new }
         ensures number { self.new.number ≡ self.old.number }
         ensures stands { PartStands (settings_of desk.now) (front_of pass.new) self.new }
-        ensures call { IsMade (settings_of desk.now) (view_of pass.old) (EndsAfter (settings_of desk.now) by self.old.number (timer_at wheel slot generation) (record { when = when; dest = dest; msg = msg; kind = kind }) (now_in (record { passed = passed; up = up; deadline = deadline })) (answer_of result named.new)) (view_of pass.new) }
-        ensures full { answer_of result named.new ≡ Err Full → IsUsedUp self.old self.new }
-        ensures frees { UsesFree self.old self.new (answer_of result named.new) }
-        ensures rows { GainsOne self.old self.new (answer_of result named.new) }
-        ensures gone { HasLetGo (timer_at wheel slot generation) (answer_of result named.new) self.new }
+        ensures call { IsMade (settings_of desk.now) (view_of pass.old) (EndsAfter (settings_of desk.now) by self.old.number (timer_at wheel slot generation) (record { when = when; dest = dest; msg = msg; kind = kind }) (now_in (record { passed = passed; up = up; deadline = deadline })) (refused_or result named.new)) (view_of pass.new) }
+        ensures full { refused_or result named.new ≡ Err Full → IsUsedUp self.old self.new }
+        ensures frees { UsesFree self.old self.new (refused_or result named.new) }
+        ensures rows { GainsOne self.old self.new (refused_or result named.new) }
+        ensures gone { HasLetGo (timer_at wheel slot generation) (refused_or result named.new) self.new }
     {
         let timer = TimerRef {
             wheel,
@@ -230,7 +230,7 @@ impl WheelPart {
 /// An answer in two parts: the name is put into its place, and why there is none is told.
 #[inline(always)]
 pub(crate) fn told(answer: Result<TimerRef, RestartErr>, named: &mut TimerRef) -> Option<RestartErr>
-    ensures { answer_of result named.new ≡ answer }
+    ensures { refused_or result named.new ≡ answer }
 {
     match answer {
         Ok(next) => {
@@ -243,8 +243,11 @@ pub(crate) fn told(answer: Result<TimerRef, RestartErr>, named: &mut TimerRef) -
 
 /// The answer of two parts.
 #[inline(always)]
-pub(crate) fn answer_of(refused: Option<RestartErr>, named: TimerRef) -> Result<TimerRef, RestartErr>
-    ensures { result ≡ answer_of refused named }
+pub(crate) fn refused_or(
+    refused: Option<RestartErr>,
+    named: TimerRef,
+) -> Result<TimerRef, RestartErr>
+    ensures { result ≡ refused_or refused named }
 {
     match refused {
         Some(refused) => Err(refused),

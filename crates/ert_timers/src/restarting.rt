@@ -1,11 +1,12 @@
 //! A timer that is given a new deadline.
 
 use crate::looking::{Ahead, look_ahead};
-use crate::moving::{answer_of, told};
+use crate::moving::{refused_or, told};
 use crate::part::{Use, WheelPart};
 use ert_defs::{Actor, Kind, Start, TimerRef, USES_OF_ROUND, When};
 use ert_effects::RestartErr;
 use ert_table::{Desk, Pass, SlotPlace};
+use ert_words::armed_word;
 
 impl WheelPart {
     ghost use Rattle.std.specs.Prelude.{◌≡◌, ◌≢◌, ◌<◌, true, Err};
@@ -19,7 +20,7 @@ impl WheelPart {
     ghost use Rattle.ert_timers.specs.Parts.{HoldsCaller, PartStands};
     ghost use Rattle.ert_timers.specs.Frees.{IsUsedUp, UsesFree};
     ghost use Rattle.ert_timers.specs.Passed.{GainsOne};
-    ghost use Rattle.ert_timers.specs.Restarting.{MayStay, HasLooked, HasLetGo, answer_of};
+    ghost use Rattle.ert_timers.specs.Restarting.{MayStay, HasLooked, HasLetGo, refused_or};
 
     /// Gives an armed timer, of whatever wheel, a new deadline for a caller (as `uv_timer_again` of libuv), by the time that
     /// the call itself looks up: it is cancelled, and another is started on this wheel.
@@ -68,7 +69,7 @@ impl WheelPart {
             start.kind,
             &mut named,
         );
-        answer_of(refused, named)
+        refused_or(refused, named)
     }
 
     /// The same for a timer of a later round of its slot. Name and start come in parts, and the answer goes in
@@ -96,11 +97,11 @@ impl WheelPart {
         ensures belongs { Belongs desk.now pass.new }
         ensures number { self.new.number ≡ self.old.number }
         ensures stands { PartStands (settings_of desk.now) (front_of pass.new) self.new }
-        ensures call { IsMade (settings_of desk.now) (view_of pass.old) (Restarts (settings_of desk.now) by self.old.number (timer_at wheel slot generation) (record { when = when; dest = dest; msg = msg; kind = kind }) (answer_of result named.new)) (view_of pass.new) }
-        ensures full { answer_of result named.new ≡ Err Full → IsUsedUp self.old self.new }
-        ensures frees { UsesFree self.old self.new (answer_of result named.new) }
-        ensures rows { GainsOne self.old self.new (answer_of result named.new) }
-        ensures gone { HasLetGo (timer_at wheel slot generation) (answer_of result named.new) self.new }
+        ensures call { IsMade (settings_of desk.now) (view_of pass.old) (Restarts (settings_of desk.now) by self.old.number (timer_at wheel slot generation) (record { when = when; dest = dest; msg = msg; kind = kind }) (refused_or result named.new)) (view_of pass.new) }
+        ensures full { refused_or result named.new ≡ Err Full → IsUsedUp self.old self.new }
+        ensures frees { UsesFree self.old self.new (refused_or result named.new) }
+        ensures rows { GainsOne self.old self.new (refused_or result named.new) }
+        ensures gone { HasLetGo (timer_at wheel slot generation) (refused_or result named.new) self.new }
     {
         let timer = TimerRef {
             wheel,
@@ -170,7 +171,7 @@ impl WheelPart {
                 place,
                 &mut named,
             );
-            return answer_of(refused, named);
+            return refused_or(refused, named);
         }
         self.restart_here(desk, pass, by, timer, start, ahead, place)
     }
@@ -210,6 +211,7 @@ impl WheelPart {
         let now = ahead.rounded_down();
         let next = Use::after(timer.generation, now, ahead.deadline);
         let generation = next.generation;
+        let word = armed_word(next.deadline, generation);
         if !pass.renew(
             desk,
             by,
@@ -218,11 +220,12 @@ impl WheelPart {
             generation,
             start,
             next.deadline,
+            word,
             place,
         ) {
             return Err(RestartErr::NotArmed);
         }
-        let named = self.renew(timer.slot, start, next);
+        let named = self.renew(timer.slot, start, next, word);
         self.end(desk, pass, by, named, start.dest, next.deadline);
         Ok(named)
     }

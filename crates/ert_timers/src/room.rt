@@ -23,7 +23,7 @@ impl WheelPart {
     ghost use Rattle.ert_table.specs.Desks.{settings_of, view_of, front_of, state_of, Belongs};
     ghost use Rattle.ert_timers.specs.Parts.{HoldsCaller, PartStands};
     ghost use Rattle.ert_timers.specs.Rooms.{FindsFree, SeesSlot, SeesAll};
-    ghost use Rattle.ert_timers.specs.Searching.{IsOpen};
+    ghost use Rattle.ert_timers.specs.Searching.{HasOpenSlot};
 
     /// Looks at the time and at every slot: how many slots can take a timer now, and from when on one more
     /// can that rests and isn't taken. A wheel that has had 2^53 timers takes no more.
@@ -38,7 +38,7 @@ impl WheelPart {
         ensures stands { PartStands (settings_of desk.now) (front_of pass.new) self.new }
         ensures call { IsMade (settings_of desk.now) (view_of pass.old) (TellsRoom (settings_of desk.now) by self.old.number result) (view_of pass.new) }
         ensures part { self.new ≡ record self.old { next_look = self.new.next_look } }
-        ensures ready { 1 ≤ result.free → IsOpen (settings_of desk.now) (state_of desk.now pass.new) self.new }
+        ensures ready { 1 ≤ result.free → HasOpenSlot (settings_of desk.now) (state_of desk.now pass.new) self.new }
     {
         let (room, first) = self.see_slots(desk, pass, by);
         self.begin_next_look_at(first);

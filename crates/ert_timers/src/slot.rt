@@ -1,11 +1,11 @@
 //! What is stored of a slot, in four words.
 ghost use Rattle.std.specs.Prelude.{◌≡◌, ◌<◌, ◌≤◌, cond, true, false};
 ghost use Rattle.ert_timers.specs.Slots.{is_bare, is_joined, nothing, stored_slot, stored_key};
-ghost use Rattle.ert_words.specs.Ranges.{IsTimer};
+ghost use Rattle.ert_words.specs.Ranges.{word_deadline, word_generation};
 
 use ert_defs::Kind;
 use ert_wheel::Keyed;
-use ert_words::{armed_word, word_deadline, word_generation};
+use ert_words::{word_deadline, word_generation};
 
 /// The place of the destination in `rest`: the kind is below it.
 const DEST: u64 = 1 << 1;
@@ -48,29 +48,20 @@ impl Keyed for Stored {
 }
 
 impl Stored {
-    /// A slot whose last timer has this deadline, generation, order, destination, message and kind. One above the greatest
-    /// deadline of its timers is `above`. Deadlines are in milliseconds after the start time. It is noted as standing in the chain
-    /// of its process.
+    /// A slot whose last timer has this word while it is armed, and this order, destination, message and kind. One above the
+    /// greatest deadline of its timers is `above`, in milliseconds after the start time. It is noted as standing in the chain of
+    /// its process.
     #[inline(always)]
-    pub(crate) fn new(
-        deadline: u64,
-        generation: u64,
-        order: u64,
-        above: u64,
-        dest: u32,
-        msg: u64,
-        kind: Kind,
-    ) -> Stored
-        requires timer { IsTimer deadline generation }
+    pub(crate) fn new(word: u64, order: u64, above: u64, dest: u32, msg: u64, kind: Kind) -> Stored
         requires order { order ≤ 9007199254740992 }
         requires above { above < 17592186044416 }
         requires dest { dest < 524288 }
-        ensures slot { stored_slot result ≡ record { generation = generation; above = above; dest = dest; msg = msg; kind = kind } }
-        ensures key { stored_key result ≡ record { deadline = deadline; order = order } }
+        ensures slot { stored_slot result ≡ record { generation = word_generation word; above = above; dest = dest; msg = msg; kind = kind } }
+        ensures key { stored_key result ≡ record { deadline = word_deadline word; order = order } }
         ensures joined { is_joined result ≡ true }
     {
         Stored {
-            word: armed_word(deadline, generation),
+            word,
             rank: order * 2 + 1,
             msg,
             rest: number_of(kind) + DEST * u64::from(dest) + ABOVE * above,

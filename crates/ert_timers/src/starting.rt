@@ -8,6 +8,7 @@ use crate::part::{Use, WheelPart};
 use ert_defs::{Actor, Start, Status, TimerRef};
 use ert_effects::StartErr;
 use ert_table::{Desk, Pass, Settle, TimerCarry};
+use ert_words::armed_word;
 
 /// How many timers a wheel can have.
 pub(crate) const MOST_TIMERS: u64 = 1 << 53;
@@ -25,7 +26,7 @@ impl WheelPart {
     ghost use Rattle.ert_timers.specs.Looking.{now_in};
     ghost use Rattle.ert_timers.specs.Parts.{HoldsCaller, PartStands, slot_at, last_timer};
     ghost use Rattle.ert_timers.specs.Frees.{IsUsedUp, UsesFree};
-    ghost use Rattle.ert_timers.specs.Searching.{IsOpen, Searches};
+    ghost use Rattle.ert_timers.specs.Searching.{HasOpenSlot, Searches};
     ghost use Rattle.ert_timers.specs.Passed.{GainsOne};
     ghost use Rattle.ert_timers.specs.Starting.{HoldsTimer, IsUseFor, Orphans, Arms, Ends, LooksAt, LooksAtSome, LooksAround, TakesSlot};
 
@@ -58,7 +59,7 @@ impl WheelPart {
         ensures memory { result ≢ Err NoMemory }
         ensures full { result ≡ Err Full → IsUsedUp self.old self.new }
         ensures searched { result ≡ Err Full → self.old.arms < 9007199254740992 → IsMade (settings_of desk.now) (view_of pass.old) (Searches (settings_of desk.now) by self.old self.new) (view_of pass.new) }
-        ensures ready { IsOpen (settings_of desk.now) (state_of desk.now pass.old) self.old → result ≢ Err Full }
+        ensures ready { HasOpenSlot (settings_of desk.now) (state_of desk.now pass.old) self.old → result ≢ Err Full }
         ensures frees { UsesFree self.old self.new result }
         ensures rows { GainsOne self.old self.new result }
     {
@@ -115,7 +116,7 @@ impl WheelPart {
     {
         let from = self.next_look();
         let (ahead, behind) = round(self.slot_count(), from, desk.settings().looks);
-        self.set_next_look(end_of(from, ahead, behind));
+        self.set_next_look(round_end(from, ahead, behind));
         self.look_at_some(desk, pass, by, now, from, from + ahead);
         self.look_at_some(desk, pass, by, now, 0, behind);
     }
@@ -186,8 +187,9 @@ impl WheelPart {
         ensures call { Arms (settings_of desk.now) (view_of pass.old) by self.old self.new slot next start.now result (view_of pass.new) }
     {
         let place = desk.touch(self.number(), slot);
-        let timer = self.keep(slot, start, next);
-        pass.arm_at(desk, by, timer, start, next.deadline, place);
+        let word = armed_word(next.deadline, next.generation);
+        let timer = self.keep(slot, start, next, word);
+        pass.arm_at(desk, by, timer, start, next.deadline, word, place);
         timer
     }
 
@@ -289,7 +291,7 @@ fn round(slots: u32, from: u32, looks: u32) -> (u32, u32)
 }
 
 /// The slot behind those of a round.
-fn end_of(from: u32, ahead: u32, behind: u32) -> u32
+fn round_end(from: u32, ahead: u32, behind: u32) -> u32
     requires { from + ahead < 4294967296 }
     ensures { result ≡ cond (nat_eq behind 0) (from + ahead) behind }
 {

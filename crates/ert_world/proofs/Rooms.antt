@@ -13,9 +13,9 @@ use Rattle.ert_table.specs.declared.desk.Desk.{Desk}
 use Rattle.ert_table.specs.declared.desk.Pass.{Pass}
 use Rattle.ert_timers.specs.Parts.{Part, PartStands as WheelStands}
 use Rattle.ert_world.proofs.Armed.{AreCalm}
-use Rattle.ert_timers.specs.Searching.{IsOpen}
+use Rattle.ert_timers.specs.Searching.{HasOpenSlot}
 use Rattle.ert_world.proofs.Calls.{Does, Has, parts_in, seen_at}
-use Rattle.ert_world.specs.Frees.{IsOpenAt}
+use Rattle.ert_world.specs.Frees.{HasOpenSlotAt}
 use Rattle.ert_world.proofs.WheelCalls.{wheel_stepped}
 use Rattle.ert_world.specs.Worlds.{Seen, AreSound, By}
 use Rattle.ert_world.specs.declared.world.World.TheInside.{Inside}
@@ -42,8 +42,8 @@ wheel_looked before b d e q i part new allows same is fit belongs low lent n unc
     (subst (λ (x : Part). WheelStands (settings_of d) (front_of q) x) unchanged stands) made only calm (λ alone k key is. inl (is, refl)))
 
 -- the slot of a wheel at which its looks begin is that of its part
-pub open_at : (before : Seen) (b : Inside) (d : Desk) (i : ℕ) (part : Part) → Has before b d → part ≡ slice_index_or b.wheels.items i part → IsOpenAt before i
-    → IsOpen (settings_of d) (state (settings_of d) (front_of b.pass)) part
+pub open_at : (before : Seen) (b : Inside) (d : Desk) (i : ℕ) (part : Part) → Has before b d → part ≡ slice_index_or b.wheels.items i part → HasOpenSlotAt before i
+    → HasOpenSlot (settings_of d) (state (settings_of d) (front_of b.pass)) part
 open_at before b d i part has lent is =
-    subst (λ (p : Part). IsOpen (settings_of d) (state (settings_of d) (front_of b.pass)) p) (sym lent)
-    (subst (λ (w : Seen). IsOpen w.settings (state w.settings w.history) (slice_index_or w.wheels i part)) (sym has.is) (is part))
+    subst (λ (p : Part). HasOpenSlot (settings_of d) (state (settings_of d) (front_of b.pass)) p) (sym lent)
+    (subst (λ (w : Seen). HasOpenSlot w.settings (state w.settings w.history) (slice_index_or w.wheels i part)) (sym has.is) (is part))

@@ -4,7 +4,7 @@ use Rattle.std.specs.Prelude.{ℕ, Result, slice_index_or}
 use Rattle.ert_defs.specs.declared.timer.TimerRef.{TimerRef}
 use Rattle.ert_timers.specs.Frees.{IsUsedUp, UsesFree}
 use Rattle.ert_timers.specs.Parts.{Part}
-use Rattle.ert_timers.specs.Searching.{IsOpen}
+use Rattle.ert_timers.specs.Searching.{HasOpenSlot}
 use Rattle.ert_defs.specs.States.{state}
 use Rattle.ert_world.specs.Worlds.{Seen}
 
@@ -17,5 +17,5 @@ abbrev pub UsesFreeAt : {E : Type 0} → Seen → Seen → ℕ → Result TimerR
 UsesFreeAt old new i answer = (d : Part) → UsesFree (slice_index_or old.wheels i d) (slice_index_or new.wheels i d) answer
 
 -- the slot of a wheel at which the next looks begin can take a timer now, and the wheel can have more timers
-abbrev pub IsOpenAt : Seen → ℕ → Type 0
-IsOpenAt w i = (d : Part) → IsOpen w.settings (state w.settings w.history) (slice_index_or w.wheels i d)
+abbrev pub HasOpenSlotAt : Seen → ℕ → Type 0
+HasOpenSlotAt w i = (d : Part) → HasOpenSlot w.settings (state w.settings w.history) (slice_index_or w.wheels i d)

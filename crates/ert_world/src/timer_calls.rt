@@ -17,7 +17,7 @@ impl World {
     ghost use Rattle.ert_defs.specs.declared.entry.Actor.TheVariants.{Caller};
     ghost use Rattle.ert_defs.specs.States.{state};
     ghost use Rattle.ert_defs.specs.Timers.{is_taken, timer_at};
-    ghost use Rattle.ert_world.specs.Frees.{IsUsedUpAt, IsOpenAt, UsesFreeAt};
+    ghost use Rattle.ert_world.specs.Frees.{IsUsedUpAt, HasOpenSlotAt, UsesFreeAt};
     ghost use Rattle.ert_world.specs.Restarts.{HasNoDeadline};
     ghost use Rattle.ert_world.specs.Stepping.{Stays};
     ghost use Rattle.ert_world.specs.Worlds.{Goes, HasForgotten, StayForgotten, By, HasProcessExited, IsLetGoIn, KeepRows};
@@ -36,7 +36,7 @@ impl World {
         ensures time { result ≡ Err BadArg → HasNoDeadline self.old start.now }
         ensures memory { result ≢ Err NoMemory }
         ensures full { result ≡ Err Full → IsUsedUpAt self.old self.new wheel }
-        ensures ready { IsOpenAt self.old wheel → result ≢ Err Full }
+        ensures ready { HasOpenSlotAt self.old wheel → result ≢ Err Full }
         ensures frees { UsesFreeAt self.old self.new wheel result }
         ensures forgotten { StayForgotten self.old self.new }
     {
@@ -114,7 +114,7 @@ impl World {
     pub fn room(&mut self, wheel: u32) -> Room
         requires { wheel < self.old.settings.schedulers }
         ensures call { Goes self.old (By self.old (λ g. TellsRoom g 0 wheel result)) self.new }
-        ensures ready { 1 ≤ result.free → IsOpenAt self.new wheel }
+        ensures ready { 1 ≤ result.free → HasOpenSlotAt self.new wheel }
     {
         self.wheels[wheel as usize].room(&self.desk, &mut self.pass, CALLER)
     }

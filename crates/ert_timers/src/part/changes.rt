@@ -2,6 +2,8 @@
 ghost use Rattle.std.specs.FinSet as set;
 ghost use Rattle.std.specs.Prelude.{◌≡◌, ◌≤◌, ◌<◌, ℕ, Option, Some, IfSome, IsSome, MatchBool, false, true, nat_lt, length};
 ghost use Rattle.ert_defs.specs.Timers as timers;
+ghost use Rattle.ert_defs.specs.Words as words;
+ghost use Rattle.ert_defs.specs.declared.timer.Status.TheVariants.{Armed};
 ghost use Rattle.ert_timers.specs.Changes as changes;
 ghost use Rattle.ert_timers.specs.Owners.{MayJoin, Joins};
 ghost use Rattle.ert_timers.specs.Parts.{AreJoined, IsWritten, all_slots};
@@ -27,25 +29,18 @@ impl Stored {
         has_uses(self.generation())
     }
 
-    /// What is stored of it with the timer of a start, which is the next one of this order.
+    /// What is stored of it with the timer of a start, which is the next one of this order and has this word while it is armed.
     #[inline]
-    pub(super) fn used(self, start: &Start, next: Use, order: u64) -> Stored
+    pub(super) fn used(self, start: &Start, next: Use, word: u64, order: u64) -> Stored
         requires timer { IsTimer next.deadline next.generation }
+        requires word { word ≡ words.timer_word Armed next.deadline next.generation }
         requires order { order ≤ 9007199254740992 }
         requires dest { start.now.dest < 524288 }
         ensures slot { stored_slot result ≡ changes.slot_for next (stored_slot self).above start.now }
         ensures key { stored_key result ≡ record { deadline = next.deadline; order = order } }
     {
         let above = self.above().max(next.deadline + 1);
-        Stored::new(
-            next.deadline,
-            next.generation,
-            order,
-            above,
-            start.dest,
-            start.msg,
-            start.kind,
-        )
+        Stored::new(word, order, above, start.dest, start.msg, start.kind)
     }
 
     /// Whether it rests at a time in milliseconds after the start time: its round has no use left, and the
@@ -231,10 +226,11 @@ impl WheelPart {
     /// Puts in the timer of a start, in a slot that was held free. Where the slot's last timer went to the same process
     /// the slot stays in the chain of that, and no chain of a process is read or written but for one link.
     #[inline(always)]
-    pub(crate) fn keep(&mut self, slot: u32, start: &Start, next: Use) -> TimerRef
+    pub(crate) fn keep(&mut self, slot: u32, start: &Start, next: Use, word: u64) -> TimerRef
         requires free { MayBecomeFree self.old slot }
         requires dest { start.now.dest < self.old.processes }
         requires timer { IsTimer next.deadline next.generation }
+        requires word { word ≡ words.timer_word Armed next.deadline next.generation }
         requires few { self.old.arms < 9007199254740992 }
         ensures kept { self.new ≡ kept self.old slot start.now next }
         ensures timer { result ≡ last_timer self.new.number self.new.slots slot }
@@ -247,7 +243,8 @@ impl WheelPart {
             slot,
         };
         self.arms += 1;
-        self.wheel.insert(row, last.used(start, next, row.order));
+        self.wheel
+            .insert(row, last.used(start, next, word, row.order));
         join(&mut self.wheel, slot, start.dest, stays);
         TimerRef {
             wheel: self.number,

@@ -12,14 +12,17 @@ impl WheelPart {
     ghost use Rattle.ert_timers.specs.Parts.{last_timer, slot_at};
     ghost use Rattle.ert_timers.specs.Restarting.{CanRenew, MayStay};
     ghost use Rattle.ert_words.specs.Ranges.{IsTimer};
+    ghost use Rattle.ert_defs.specs.Words as words;
+    ghost use Rattle.ert_defs.specs.declared.timer.Status.TheVariants.{Armed};
 
     /// Puts in the timer of a start, in the slot of one that has a row still, whose place the new one takes. Where both
     /// go to the same process no chain of a process is read or written.
     #[inline(always)]
-    pub(crate) fn renew(&mut self, slot: u32, start: &Start, next: Use) -> TimerRef
+    pub(crate) fn renew(&mut self, slot: u32, start: &Start, next: Use, word: u64) -> TimerRef
         requires can { CanRenew self.old slot }
         requires dest { start.now.dest < self.old.processes }
         requires timer { IsTimer next.deadline next.generation }
+        requires word { word ≡ words.timer_word Armed next.deadline next.generation }
         ensures kept { self.new ≡ kept self.old slot start.now next }
         ensures timer { result ≡ last_timer self.new.number self.new.slots slot }
     {
@@ -30,7 +33,8 @@ impl WheelPart {
             slot,
         };
         self.arms += 1;
-        self.wheel.replace(row, last.used(start, next, row.order));
+        self.wheel
+            .replace(row, last.used(start, next, word, row.order));
         let stays = last.dest() == start.dest;
         join_seldom(&mut self.wheel, slot, start.dest, stays);
         TimerRef {

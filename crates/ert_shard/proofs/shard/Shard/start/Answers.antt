@@ -10,7 +10,7 @@ use Rattle.ert_timers.specs.Parts.{PartStands}
 use Rattle.ert_timers.specs.Passed.{GainsOne}
 use Rattle.ert_table.specs.Desks.{settings_of, front_of}
 use Rattle.ert_table.specs.declared.desk.Desk.{Desk}
-use Rattle.ert_timers.specs.Searching.{IsOpen}
+use Rattle.ert_timers.specs.Searching.{HasOpenSlot}
 use Rattle.ert_timers.specs.Frees.{IsUsedUp, UsesFree}
 use Rattle.ert_timers.proofs.LawsHold.{starts_only}
 use Rattle.ert_shard.proofs.shard.Shard.start.Goals as goal
@@ -41,8 +41,8 @@ returns-clause-frees c = subst (λ (o : Owned). UsesFree o.wheel c.start.new.sel
 
 pub returns-clause-ready : goal.returns-clause-ready
 returns-clause-ready c = λ is.
-    let is_open = subst (λ (o : Owned). IsOpen o.settings (state o.settings o.history) o.wheel) (sym c.self.view_is) is in
-    c.start.ensures.ready (subst (λ (d : Desk). IsOpen (settings_of d) (state (settings_of d) (front_of c.self.inside.pass)) c.self.inside.wheel) (sym c.deref.ensures) is_open)
+    let is_open = subst (λ (o : Owned). HasOpenSlot o.settings (state o.settings o.history) o.wheel) (sym c.self.view_is) is in
+    c.start.ensures.ready (subst (λ (d : Desk). HasOpenSlot (settings_of d) (state (settings_of d) (front_of c.self.inside.pass)) c.self.inside.wheel) (sym c.deref.ensures) is_open)
 
 pub returns-clause-forgotten : goal.returns-clause-forgotten
 returns-clause-forgotten c =

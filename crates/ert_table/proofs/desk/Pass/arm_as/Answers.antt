@@ -3,17 +3,10 @@ use Rattle.ert_defs.specs.Words.{word_count}
 use Rattle.ert_defs.specs.declared.entry.Entry.{Entry}
 use Rattle.ert_table.specs.Acts.{Acts}
 use Rattle.ert_defs.specs.Entries.{arm_entry}
-use Rattle.ert_table.proofs.ArmActs.{arm_is, arm_acts}
+use Rattle.ert_table.proofs.ArmActs.{arm_acts}
 use Rattle.ert_table.proofs.OneStep.{may_store_at}
 use Rattle.ert_table.proofs.WordPlaces.{slot_place-high}
 use Rattle.ert_table.proofs.desk.Pass.arm_as.Goals as goal
-
-pub armed_word-word-requires : goal.armed_word-word-requires
-armed_word-word-requires g c =
-    let desk = c.args.desk.now in
-    let v = c.args.self.now.seat.me.0 in
-    arm_is desk.settings v c.args.by c.args.timer c.args.start.now c.args.deadline c.requires.belongs.named c.args.self.now.legal
-    c.requires.may c.requires.deadline
 
 pub store-requires : goal.store-requires
 store-requires g c =
@@ -26,12 +19,12 @@ store-requires g c =
     let entry : Entry = arm_entry c.args.by timer c.args.start.now in
     let within : place < word_count desk.settings =
     subst (λ i. i < word_count desk.settings) place_is (slot_place-high desk.settings timer.wheel timer.slot slot.wheel_high slot.slot_high) in
-    let acts : Acts desk.settings seat.me.0 place (λ n. c.armed_word-word.result) (λ n. entry) =
-    subst₂ (λ i m. Acts desk.settings seat.me.0 i (λ n. m) (λ n. entry)) place_is (sym c.armed_word-word.ensures)
+    let acts : Acts desk.settings seat.me.0 place (λ n. c.args.word) (λ n. entry) =
+    subst₂ (λ i m. Acts desk.settings seat.me.0 i (λ n. m) (λ n. entry)) place_is (sym c.requires.word)
     (arm_acts desk.settings seat.me.0 c.args.by timer c.args.start.now c.args.deadline c.requires.may c.requires.deadline) in (
       c.requires.belongs.table,
       subst (λ n. place < n) (sym desk.counted) within,
       may_store_at desk.table.shared.key desk.settings g.C.Carried.settings desk.table.shared.table_id.slots seat.id seat.me
-          place c.armed_word-word.result entry g.C.Carried.entry
+          place c.args.word entry g.C.Carried.entry
           desk.keyed c.requires.settings c.requires.entry c.args.self.now.bare within acts,
     )

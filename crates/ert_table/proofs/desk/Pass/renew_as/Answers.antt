@@ -11,17 +11,10 @@ use Rattle.ert_table.specs.Acts.{ActsAll}
 use Rattle.ert_table.specs.Places.{slot_place}
 use Rattle.ert_table.specs.Renewals.{renewal}
 use Rattle.ert_table.proofs.OneStep.{may_compare_all_at, finds_all_as}
-use Rattle.ert_table.proofs.RenewActs.{renew_acts, renewed_is}
+use Rattle.ert_table.proofs.RenewActs.{renew_acts}
 use Rattle.ert_table.proofs.WordPlaces.{slot_place-high}
 use Rattle.ert_table.proofs.desk.Pass.renew_as.Goals as goal
 use Rattle.ert_words.specs.Ranges.{word_deadline}
-
-pub armed_word-new-requires : goal.armed_word-new-requires
-armed_word-new-requires g c =
-    let desk = c.args.desk.now in
-    let pass = c.args.self.now in
-    renewed_is desk.settings pass.seat.me.0 c.args.by c.args.timer c.args.generation c.args.start.now c.args.deadline c.requires.belongs.named pass.legal
-    c.requires.may c.requires.deadline
 
 pub compare_exchange-found-requires : goal.compare_exchange-found-requires
 compare_exchange-found-requires g c =
@@ -35,13 +28,13 @@ compare_exchange-found-requires g c =
     let look = (state desk.settings seat.me.0.front).looked (Caller c.args.by) in
     let place_is = sym c.requires.place in
     let old : timer_word Armed deadline timer.generation ≡ word = sym c.requires.read.is in
-    let new : timer_word Armed c.args.deadline c.args.generation ≡ c.armed_word-new.result = sym c.armed_word-new.ensures in
+    let new : timer_word Armed c.args.deadline c.args.generation ≡ c.args.word = sym c.requires.word in
     let entries : ℕ → List Entry = λ n. renewal desk.settings look c.args.by timer deadline c.args.generation start (nat_eq n word) in
     let within : place < word_count desk.settings =
     subst (λ i. i < word_count desk.settings) place_is
     (slot_place-high desk.settings timer.wheel timer.slot c.requires.may.slot.wheel_high c.requires.may.slot.slot_high) in
-    let acts : ActsAll desk.settings seat.me.0 place (λ n. either (nat_eq n word) c.armed_word-new.result n) entries =
-    subst (λ i. ActsAll desk.settings seat.me.0 i (λ n. either (nat_eq n word) c.armed_word-new.result n) entries) place_is
+    let acts : ActsAll desk.settings seat.me.0 place (λ n. either (nat_eq n word) c.args.word n) entries =
+    subst (λ i. ActsAll desk.settings seat.me.0 i (λ n. either (nat_eq n word) c.args.word n) entries) place_is
     (subst₂ (λ a b. ActsAll desk.settings seat.me.0 (slot_place desk.settings timer.wheel timer.slot) (λ n. either (nat_eq n a) b n)
     (λ n. renewal desk.settings look c.args.by timer deadline c.args.generation start (nat_eq n a))) old new
     (renew_acts desk.settings seat.me.0 c.args.by timer deadline c.args.generation start c.args.deadline c.requires.may c.requires.read.row
@@ -49,8 +42,8 @@ compare_exchange-found-requires g c =
       c.requires.belongs.table,
       subst (λ n. place < n) (sym desk.counted) within,
       may_compare_all_at desk.table.shared.key desk.settings g.C.CarriedAll.settings desk.table.shared.table_id.slots seat.id seat.me
-          (step desk.table.shared.table_id.slots place word c.armed_word-new.result none)
-          (λ n. either (nat_eq n word) c.armed_word-new.result n) entries g.C.CarriedAll.entries
+          (step desk.table.shared.table_id.slots place word c.args.word none)
+          (λ n. either (nat_eq n word) c.args.word n) entries g.C.CarriedAll.entries
           desk.keyed c.requires.settings c.requires.entries c.args.self.now.bare within acts,
     )
 

@@ -1,10 +1,12 @@
 use Rattle.std.proofs.Common.{◌≡◌, ◌<◌, ◌∙◌, sym, ap, subst, subst₂, arith}
+use Rattle.ert_defs.specs.Words.{timer_word}
+use Rattle.ert_defs.specs.declared.timer.Status.TheVariants.{Armed}
 use Rattle.ert_defs.specs.declared.timer.TimerRef.{TimerRef}
 use Rattle.ert_table.specs.Desks.{settings_of, view_of, front_of}
 use Rattle.ert_table.specs.Places.{IsPlaceOf}
 use Rattle.ert_timers.specs.Parts.{Part}
 use Rattle.ert_timers.proofs.Armings.{arms, may_arm}
-use Rattle.ert_timers.proofs.NextUses.{deadline_is, has_word}
+use Rattle.ert_timers.proofs.NextUses.{deadline_is, has_word, new_generation}
 use Rattle.ert_timers.proofs.part.WheelPart.arm.Goals as goal
 
 pub touch-place-requires : goal.touch-place-requires
@@ -20,6 +22,17 @@ pub keep-timer-requires-clause-timer : goal.keep-timer-requires-clause-timer
 keep-timer-requires-clause-timer c =
     has_word (settings_of c.args.desk.now) (front_of c.args.pass.now) c.args.by c.args.self.now.number c.args.slot c.args.start.now c.args.next
     c.requires.stands.legal c.requires.next
+
+pub armed_word-word-requires : goal.armed_word-word-requires
+armed_word-word-requires c =
+    has_word (settings_of c.args.desk.now) (front_of c.args.pass.now) c.args.by c.args.self.now.number c.args.slot c.args.start.now c.args.next
+    c.requires.stands.legal c.requires.next
+
+pub arm_at-requires-clause-word : goal.arm_at-requires-clause-word
+arm_at-requires-clause-word c =
+    let generation = new_generation c.args.self.now c.keep-timer.new.self c.args.slot c.args.start.now c.args.next c.keep-timer.result c.requires.free.low
+    c.keep-timer.ensures.kept c.keep-timer.ensures.timer in
+    c.armed_word-word.ensures ∙ ap (λ n. timer_word Armed c.args.next.deadline n) (sym generation)
 
 pub arm_at-requires-clause-deadline : goal.arm_at-requires-clause-deadline
 arm_at-requires-clause-deadline c =

@@ -9,8 +9,8 @@ use Rattle.ert_timers.proofs.Rounds.{around_from, looks_around, clock_taken}
 use Rattle.ert_timers.proofs.Standing.{stands_next}
 use Rattle.ert_timers.proofs.part.WheelPart.look_around.Goals as goal
 
-pub end_of-requires : goal.end_of-requires
-end_of-requires c = omega (arith, c.round-ahead.ensures.within)
+pub round_end-requires : goal.round_end-requires
+round_end-requires c = omega (arith, c.round-ahead.ensures.within)
 
 pub look_at_some-requires-clause-holds : goal.look_at_some-requires-clause-holds
 look_at_some-requires-clause-holds c =
@@ -19,7 +19,7 @@ look_at_some-requires-clause-holds c =
 pub look_at_some-requires-clause-stands : goal.look_at_some-requires-clause-stands
 look_at_some-requires-clause-stands c =
     subst (λ (p : Part). PartStands (settings_of c.args.desk.now) (view_of c.args.pass.now).front p) (sym c.set_next_look.ensures)
-    (stands_next (settings_of c.args.desk.now) (view_of c.args.pass.now).front c.args.self.now c.end_of.result c.requires.stands)
+    (stands_next (settings_of c.args.desk.now) (view_of c.args.pass.now).front c.args.self.now c.round_end.result c.requires.stands)
 
 pub look_at_some-requires-clause-low : goal.look_at_some-requires-clause-low
 look_at_some-requires-clause-low c =
@@ -53,10 +53,10 @@ returns-clause-call c =
     } in
     let first = subst (λ (p : Part). LooksAtSome g (view_of c.args.pass.now) c.args.by c.args.now p c.look_at_some.new.self here.from (here.from + here.ahead) (view_of c.look_at_some.new.pass))
     c.set_next_look.ensures c.look_at_some.ensures.call in
-    around_from g (view_of c.args.pass.now) c.args.by c.args.now c.args.self.now c.look_at_some-2.new.self c.end_of.result (view_of c.look_at_some-2.new.pass) here
+    around_from g (view_of c.args.pass.now) c.args.by c.args.now c.args.self.now c.look_at_some-2.new.self c.round_end.result (view_of c.look_at_some-2.new.pass) here
     c.next_look-from.ensures
     (λ low. c.round-ahead.ensures.some (omega (arith, c.requires.stands.checked.counts.looks_low, looks)) (omega (arith, low, many, c.next_look-from.ensures)))
-    c.end_of.ensures
-    (looks_around g (view_of c.args.pass.now) c.args.by c.args.now (record c.args.self.now { next_look = c.end_of.result }) c.look_at_some.new.self
+    c.round_end.ensures
+    (looks_around g (view_of c.args.pass.now) c.args.by c.args.now (record c.args.self.now { next_look = c.round_end.result }) c.look_at_some.new.self
     c.look_at_some-2.new.self here (view_of c.look_at_some.new.pass) (view_of c.look_at_some-2.new.pass) c.requires.none
     first c.look_at_some-2.ensures.call)

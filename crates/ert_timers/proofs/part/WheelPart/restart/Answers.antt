@@ -11,19 +11,19 @@ pub returns-clause-call : goal.returns-clause-call
 returns-clause-call c =
     let g = settings_of c.args.desk.now in
     subst (λ r. IsMade g (view_of c.args.pass.now) (Restarts g c.args.by c.args.self.now.number c.args.timer c.args.start.now r) (view_of c.restart_of_later_round-refused.new.pass))
-    (sym c.answer_of.ensures) c.restart_of_later_round-refused.ensures.call
+    (sym c.refused_or.ensures) c.restart_of_later_round-refused.ensures.call
 
 pub returns-clause-full : goal.returns-clause-full
-returns-clause-full c = λ is. c.restart_of_later_round-refused.ensures.full (sym c.answer_of.ensures ∙ is)
+returns-clause-full c = λ is. c.restart_of_later_round-refused.ensures.full (sym c.refused_or.ensures ∙ is)
 
 pub returns-clause-frees : goal.returns-clause-frees
 returns-clause-frees c =
-    subst (λ r. UsesFree c.args.self.now c.restart_of_later_round-refused.new.self r) (sym c.answer_of.ensures) c.restart_of_later_round-refused.ensures.frees
+    subst (λ r. UsesFree c.args.self.now c.restart_of_later_round-refused.new.self r) (sym c.refused_or.ensures) c.restart_of_later_round-refused.ensures.frees
 
 pub returns-clause-rows : goal.returns-clause-rows
 returns-clause-rows c =
-    subst (λ r. GainsOne c.args.self.now c.restart_of_later_round-refused.new.self r) (sym c.answer_of.ensures) c.restart_of_later_round-refused.ensures.rows
+    subst (λ r. GainsOne c.args.self.now c.restart_of_later_round-refused.new.self r) (sym c.refused_or.ensures) c.restart_of_later_round-refused.ensures.rows
 
 pub returns-clause-gone : goal.returns-clause-gone
 returns-clause-gone c =
-    subst (λ r. HasLetGo c.args.timer r c.restart_of_later_round-refused.new.self) (sym c.answer_of.ensures) c.restart_of_later_round-refused.ensures.gone
+    subst (λ r. HasLetGo c.args.timer r c.restart_of_later_round-refused.new.self) (sym c.refused_or.ensures) c.restart_of_later_round-refused.ensures.gone

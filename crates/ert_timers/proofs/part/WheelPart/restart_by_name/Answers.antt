@@ -62,8 +62,8 @@ returns-then-not-may_stay-clause-call c =
     let z = view_of c.restart_in_parts-refused.new.pass in
     let named : names_timer g c.args.timer ≡ true = names_both g c.args.timer (search rules) (search rules) in
     restarts g (view_of c.args.pass.now) u z c.args.by c.args.self.now c.args.timer c.args.start.now
-    c.look_ahead.result c.in-Some.ahead c.answer_of.result c.in-Some.is c.look_ahead.ensures.looks c.requires.holds named
-    (subst (λ r. IsMade g u (EndsAfter g c.args.by c.args.self.now.number c.args.timer c.args.start.now (now_in c.in-Some.ahead) r) z) (sym c.answer_of.ensures)
+    c.look_ahead.result c.in-Some.ahead c.refused_or.result c.in-Some.is c.look_ahead.ensures.looks c.requires.holds named
+    (subst (λ r. IsMade g u (EndsAfter g c.args.by c.args.self.now.number c.args.timer c.args.start.now (now_in c.in-Some.ahead) r) z) (sym c.refused_or.ensures)
     c.restart_in_parts-refused.ensures.call)
 
 pub restart_here-requires-clause-stands : goal.restart_here-requires-clause-stands
@@ -104,16 +104,16 @@ pub returns-then-not-has_generation-clause-frees : goal.returns-then-not-has_gen
 returns-then-not-has_generation-clause-frees c = keeps_uses c.args.self.now c.args.self.now _ (λ k was. was)
 
 pub returns-then-not-may_stay-clause-full : goal.returns-then-not-may_stay-clause-full
-returns-then-not-may_stay-clause-full c = λ is. c.restart_in_parts-refused.ensures.full (sym c.answer_of.ensures ∙ is)
+returns-then-not-may_stay-clause-full c = λ is. c.restart_in_parts-refused.ensures.full (sym c.refused_or.ensures ∙ is)
 
 pub returns-then-not-may_stay-clause-frees : goal.returns-then-not-may_stay-clause-frees
 returns-then-not-may_stay-clause-frees c =
-    subst (λ r. UsesFree c.args.self.now c.restart_in_parts-refused.new.self r) (sym c.answer_of.ensures) c.restart_in_parts-refused.ensures.frees
+    subst (λ r. UsesFree c.args.self.now c.restart_in_parts-refused.new.self r) (sym c.refused_or.ensures) c.restart_in_parts-refused.ensures.frees
 
 pub returns-then-not-may_stay-clause-rows : goal.returns-then-not-may_stay-clause-rows
 returns-then-not-may_stay-clause-rows c =
-    subst (λ r. GainsOne c.args.self.now c.restart_in_parts-refused.new.self r) (sym c.answer_of.ensures) c.restart_in_parts-refused.ensures.rows
+    subst (λ r. GainsOne c.args.self.now c.restart_in_parts-refused.new.self r) (sym c.refused_or.ensures) c.restart_in_parts-refused.ensures.rows
 
 pub returns-then-not-may_stay-clause-gone : goal.returns-then-not-may_stay-clause-gone
 returns-then-not-may_stay-clause-gone c =
-    subst (λ r. HasLetGo c.args.timer r c.restart_in_parts-refused.new.self) (sym c.answer_of.ensures) c.restart_in_parts-refused.ensures.gone
+    subst (λ r. HasLetGo c.args.timer r c.restart_in_parts-refused.new.self) (sym c.refused_or.ensures) c.restart_in_parts-refused.ensures.gone

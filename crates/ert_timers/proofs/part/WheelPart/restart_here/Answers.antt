@@ -79,6 +79,14 @@ renew-named-requires-clause-timer c =
     has_word (settings_of c.args.desk.now) (view_of c.peek_word.new.self).front c.args.by c.args.self.now.number c.args.timer.slot c.args.start.now
     c.after-next.result ready.read.stands.legal ready.coming
 
+pub armed_word-word-requires : goal.armed_word-word-requires
+armed_word-word-requires c =
+    let ready = is_ready (settings_of c.args.desk.now) (view_of c.args.pass.now) (view_of c.peek_word.new.self) c.args.by c.rounded_down-now.result c.args.self.now c.args.timer
+    c.args.start.now c.args.ahead c.peek_word.result c.in-Some.read c.after-next.result c.in-Some.is c.peek_word.ensures.step c.requires.stands c.requires.holds
+    c.requires.looked c.requires.stays c.rounded_down-now.ensures c.after-next.ensures in
+    has_word (settings_of c.args.desk.now) (view_of c.peek_word.new.self).front c.args.by c.args.self.now.number c.args.timer.slot c.args.start.now
+    c.after-next.result ready.read.stands.legal ready.coming
+
 pub end-requires-clause-holds : goal.end-requires-clause-holds
 end-requires-clause-holds c =
     let ready = is_ready (settings_of c.args.desk.now) (view_of c.args.pass.now) (view_of c.peek_word.new.self) c.args.by c.rounded_down-now.result c.args.self.now c.args.timer

@@ -4,7 +4,7 @@ use Rattle.ert_effects.specs.RoomCalls.{TellsRoom}
 use Rattle.ert_table.specs.Desks.{settings_of, front_of}
 use Rattle.ert_table.specs.declared.desk.Desk.{Desk}
 use Rattle.ert_timers.proofs.LawsHold.{rooms_only}
-use Rattle.ert_timers.specs.Searching.{IsOpen}
+use Rattle.ert_timers.specs.Searching.{HasOpenSlot}
 use Rattle.ert_world.proofs.Calls.{has_at}
 use Rattle.ert_world.proofs.Rooms.{wheel_looked, room_calm}
 use Rattle.ert_world.proofs.Listed.{kept_by}
@@ -27,8 +27,8 @@ returns-clause-call c =
 
 pub returns-clause-ready : goal.returns-clause-ready
 returns-clause-ready c = λ some x.
-    subst (λ (e : Desk). IsOpen (settings_of e) (state (settings_of e) (front_of c.room.new.pass)) (slice_index_or (slice_set c.self.inside.wheels.items c.args.wheel c.room.new.self) c.args.wheel x))
+    subst (λ (e : Desk). HasOpenSlot (settings_of e) (state (settings_of e) (front_of c.room.new.pass)) (slice_index_or (slice_set c.self.inside.wheels.items c.args.wheel c.room.new.self) c.args.wheel x))
     c.deref.ensures
-    (replaced_by (λ p q. IsOpen (settings_of c.deref.result.now) (state (settings_of c.deref.result.now) (front_of c.room.new.pass)) q)
+    (replaced_by (λ p q. HasOpenSlot (settings_of c.deref.result.now) (state (settings_of c.deref.result.now) (front_of c.room.new.pass)) q)
     c.args.self.now c.self.inside c.deref.result.now c.args.wheel c.index_mut.result.now c.room.new.self
     (has_at c.deref.ensures c.self.view_is c.self.invariant.sound) c.requires c.index_mut.ensures.value (c.room.ensures.ready some) x)
