@@ -10,11 +10,11 @@ pub record MovesTo (next time : ℕ) (old new : Rings) (slot : ℕ) : Type 0 whe
   pub least : IsLeastBucket next time home
   pub moves : MovesSlot old new slot home
 
--- a row stays where it is
-pub record KeepsStand (next was time : ℕ) (old new : Rings) : Type 0 where
+-- a row keeps its bucket
+pub record KeepsBucket (next was time : ℕ) (old new : Rings) : Type 0 where
   pub put : StaysPut next was time
   pub same : new ≡ old
 
 -- either
 abbrev pub MovesOrStays : ℕ → ℕ → ℕ → Rings → Rings → ℕ → Type 0
-MovesOrStays next was time old new slot = KeepsStand next was time old new ⊎ MovesTo next time old new slot
+MovesOrStays next was time old new slot = KeepsBucket next was time old new ⊎ MovesTo next time old new slot
