@@ -46,14 +46,15 @@
 //! **Choices.**
 //!
 //! - **A finalization of an offset that is not preliminary makes an Off by Keeper** and takes no reading.
-//! - **A cancel looks at the timer's word as soon as it has tested wheel and slot, then tests the generation, and
-//!   rounds the time before the exchange**: so that the word comes from memory beside the tests, and the time needn't
-//!   be read again behind the exchange, across which the compiler keeps nothing that other threads may write. Wheel and
-//!   slot are tested once, before that look: after it the compiler would read the settings again. With the early look a
-//!   cancel takes 0.89 of the time among 100,000 timers and 0.82 among 250,000 (in turn, the best of 3 runs, beside
-//!   other work). A name of the first round, of which the generation is the use, has a path of its own, where one
-//!   comparison can test it; a restart has none, since it passes its arguments by memory to a function apart, and takes
-//!   321 instructions with it and 304 without.
+//! - **A cancel and a restart test the generation of a name of the first round by one comparison, and a cancel rounds
+//!   the time before the exchange**: so the word is asked for as soon as wheel and slot are tested, and the time
+//!   needn't be read again behind the exchange, across which the compiler keeps nothing that other threads may write.
+//!   In the first round the generation is the use. The path of later rounds is a function apart, and so is that of a
+//!   restart that needs another slot. They take names, starts and looks in parts, and give the answer of a restart in
+//!   two, since a struct that is passed or given back by memory is written there on the other path too. A restart is
+//!   26 instructions shorter by it, of 312 in `bench/instructions.txt`, and a cancel five of 106. A name that is
+//!   given back by memory in two halves and read there as a whole costs the restart more than these instructions: the
+//!   read waits for both writes.
 #![tactic(auto)]
 
 mod clock_calls;
