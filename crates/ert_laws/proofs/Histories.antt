@@ -26,7 +26,7 @@ pub by_entries : (g : Settings) (P : List Entry → Type 0)
     → P [] → (h : List Entry) → Legal g h → P h
 by_entries g P step none h legal = along g P step [] h tt legal none
 
-gathered-append : {X : Type 0} (g : Settings) (give : State → Entry → List X) (s : State) (h m : List Entry)
+pub gathered-append : {X : Type 0} (g : Settings) (give : State → Entry → List X) (s : State) (h m : List Entry)
     → gathered_from g give s (h ++ m) ≡ gathered_from g give s h ++ gathered_from g give (run g s h) m
 gathered-append g give s [] m = refl
 gathered-append g give s (e ∷ h) m =

@@ -21,3 +21,6 @@ pub mod TimerLives
 pub mod Told
 pub mod Totals
 pub mod Waiting
+pub mod ExpiredOnce
+pub mod StandingRows
+pub mod DueMessages

@@ -33,7 +33,7 @@ abbrev pub AllWait : State → Type 0
 AllWait s = (r : TimerRef) → s.status r ≡ Some Expired → waits_in r (s.scheds r.wheel).expired ≡ true
 
 -- whether an event lets a timer expire
-abbrev expires : Event → TimerRef → Bool
+abbrev pub expires : Event → TimerRef → Bool
 expires (Expire timer) r = same_timer timer r
 expires _ r = false
 
@@ -59,7 +59,7 @@ expired_here true x y h = inr refl
 expired_here false x y h = inl h
 
 -- what is expired after an event was so before, unless the event let it expire
-was_expired : (r : TimerRef) (b : Bool) (x : Option Status) (event : Event) → status_after r b x event ≡ Some Expired
+pub was_expired : (r : TimerRef) (b : Bool) (x : Option Status) (event : Event) → status_after r b x event ≡ Some Expired
     → (x ≡ Some Expired) ⊎ (expires event r ≡ true)
 was_expired r b x (Arm timer start) h = inl (armed_not_expired (b && same_timer timer r) x h)
 was_expired r b x (Cancel timer left) h = inl (settled_not_expired Cancelled (same_timer timer r) x (λ is. cc) h)
@@ -69,7 +69,7 @@ was_expired r b x (Deliver timer) h = inl (handed_not_expired Delivered (same_ti
 was_expired r b x (Drop timer) h = inl (handed_not_expired Dropped (same_timer timer r) x (λ is. cc) h).0
 was_expired r b x _ h = inl h
 
-waits-append : (r : TimerRef) (rows more : List Row) → waits_in r rows ≡ true → waits_in r (rows ++ more) ≡ true
+pub waits-append : (r : TimerRef) (rows more : List Row) → waits_in r rows ≡ true → waits_in r (rows ++ more) ≡ true
 waits-append r rows more h = list_any-append (λ (row : Row). same_timer row.timer r) rows more ∙ rw h refl
 
 waits_with : (r : TimerRef) (expired : List Row) (o : Option Row) → waits_in r expired ≡ true → waits_in r (with_row expired o) ≡ true
@@ -87,7 +87,7 @@ row_found (r ∷ before) row behind =
     row_found_at (same_timer r.timer row.timer) r (row_of (before ++ (row ∷ behind)) row.timer) (row_found before row behind)
 
 -- a timer that expires has a row
-next_has_row : (g : Settings) (s : State) (by : Actor) (timer : TimerRef) → IsNext g s by timer → (x : Row) × (row_of (s.rows timer.wheel) timer ≡ Some x)
+pub next_has_row : (g : Settings) (s : State) (by : Actor) (timer : TimerRef) → IsNext g s by timer → (x : Row) × (row_of (s.rows timer.wheel) timer ≡ Some x)
 next_has_row g s by timer known =
     let P : List Row → TimerRef → Type 0 = λ rows t. (x : Row) × (row_of rows t ≡ Some x) in
     carry (λ rows. P rows timer) known.stands

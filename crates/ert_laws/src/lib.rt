@@ -24,6 +24,7 @@ mod clock_laws;
 mod counts;
 mod lives;
 mod mail_order;
+mod punctual;
 mod ranges;
 mod worked;
 
@@ -36,6 +37,7 @@ pub use clock_laws::{
 pub use counts::{statuses_are_counted, timers_are_counted, timers_are_few};
 pub use lives::{expired_timers_wait_once, timers_have_six_lives};
 pub use mail_order::{mailboxes_keep_order, timer_messages_come_in_order};
+pub use punctual::due_messages_are_put;
 pub use ranges::{
     expired_timers_are_few, requests_are_in_range, rows_are_in_range, timers_have_rows,
 };

@@ -23,6 +23,7 @@ use Rattle.ert_defs.specs.declared.settings.Settings.{Settings}
 use Rattle.ert_defs.specs.declared.timer.Status.{Status}
 use Rattle.ert_defs.specs.declared.timer.Status.TheVariants.{Expired}
 use Rattle.ert_defs.specs.declared.timer.TimerRef.{TimerRef}
+use Rattle.ert_laws.proofs.StandingRows.{differs_from}
 use Rattle.ert_plain.proofs.Bound.{IsName}
 use Rattle.ert_plain.proofs.Due.{IsFirstDue, SameArmed, due_first, due_none, due_pairs}
 use Rattle.ert_plain.proofs.Meets.{IsKept, Meets, meets_next, meets_probed}
@@ -48,10 +49,6 @@ to_is g w to (t ∷ tries) z legal =
 
 other_armed : (t r : TimerRef) (x : Option Status) → r ≢ t → is_armed x ≡ is_armed (cond (same_timer t r) (settled_as Expired x) x)
 other_armed t r x apart = sym (ap (λ (b : Bool). is_armed (cond b (settled_as Expired x) x)) (same_timer-false t r (λ same. apart (sym same))))
-
-pub differs_from : (x : Row) (before : List Row) (row : Row) (behind : List Row) → All (Differ x) (before ++ (row ∷ behind)) → x.timer ≢ row.timer
-differs_from x [] row behind all = All-head (Differ x) row behind all
-differs_from x (y ∷ before) row behind all = differs_from x before row behind (All-tail (Differ x) y (before ++ (row ∷ behind)) all)
 
 -- the statuses after a timer has expired
 abbrev status_after_expiry : TimerRef → (TimerRef → Option Status) → TimerRef → Option Status

@@ -30,3 +30,4 @@ pub mod Following
 pub mod PossibleSweeps
 pub mod PossibleTurns
 pub mod PossibleOps
+pub mod PossibleRestarts

@@ -4,8 +4,7 @@ use Rattle.std.proofs.Common.{◌≡◌, ◌≢◌, ◌⊎◌, inl, inr, ℕ, �
 use Rattle.std.proofs.lemmas.Int.{ints}
 use Rattle.std.proofs.lemmas.Bool.Decides.{nat_tests}
 use Rattle.std.proofs.lemmas.List.Elements.{All-head, All-tail}
-use Rattle.ert_defs.proofs.ExpiredTimers.{cond_same, same_timer_self, same_timer-false}
-use Rattle.ert_defs.proofs.Lists.{pairs_head, pairs_tail}
+use Rattle.ert_defs.proofs.ExpiredTimers.{cond_same, same_timer_self}
 use Rattle.ert_defs.proofs.Rows.{Differ}
 use Rattle.ert_defs.specs.Actors.{has_actor}
 use Rattle.ert_defs.specs.Entries.{look_entry, expire_entry, advanced_entry}
@@ -21,8 +20,9 @@ use Rattle.ert_defs.specs.declared.timer.Status.{Status}
 use Rattle.ert_defs.specs.declared.timer.Status.TheVariants.{Armed, Expired}
 use Rattle.ert_defs.specs.declared.timer.TimerRef.{TimerRef}
 use Rattle.ert_effects.specs.WheelCalls.{Try, expiry_entries, hits, AllMissesSettled, IsDueBy, AllDue, IsUntried, AreOnce, HasAdvanced}
+use Rattle.ert_laws.proofs.StandingRows.{row_stands}
 use Rattle.ert_laws.specs.Ranges.{IsPlaced}
-use Rattle.ert_plain.proofs.Advances.{ExpiresFirst, differs_from, expires_first, look_stays}
+use Rattle.ert_plain.proofs.Advances.{ExpiresFirst, expires_first, look_stays}
 use Rattle.ert_plain.proofs.Due.{is_armed_some}
 use Rattle.ert_plain.proofs.PossibleCalls.{can_look}
 use Rattle.ert_plain.proofs.Reached.{IsReached, milliseconds, reached_next}
@@ -153,14 +153,6 @@ expires_can g w to z sched h is p =
       };
       found = p.armed;
     }
-
-pub row_stands : (before : List Row) (row : Row) (behind : List Row) → AllPairs Differ (before ++ (row ∷ behind))
-    → row_of (before ++ (row ∷ behind)) row.timer ≡ Some row
-row_stands [] row behind apart = ap (λ (b : Bool). cond b (Some row) (row_of behind row.timer)) (same_timer_self row.timer)
-row_stands (x ∷ before) row behind apart =
-    ap (λ (b : Bool). cond b (Some x) (row_of (before ++ (row ∷ behind)) row.timer))
-    (same_timer-false x.timer row.timer (differs_from x before row behind (pairs_head Differ x (before ++ (row ∷ behind)) apart)))
-    ∙ row_stands before row behind (pairs_tail Differ x (before ++ (row ∷ behind)) apart)
 
 -- all that are due expire, one after the other
 

@@ -26,7 +26,7 @@ use Rattle.ert_defs.specs.declared.timer.When.TheVariants.{After, At}
 use Rattle.ert_effects.specs.TimerCalls.{AreTaken, Closes, Rests, Round, Starts}
 use Rattle.ert_effects.specs.declared.answers.StartErr.TheVariants.{BadArg, Full, NoMemory}
 use Rattle.ert_plain.proofs.PossibleCalls.{can_look, can_mark}
-use Rattle.ert_plain.proofs.Reached.{IsReached, milliseconds}
+use Rattle.ert_plain.proofs.Reached.{IsReached, milliseconds, reached_next}
 use Rattle.ert_plain.specs.Existence.{HasAnswerBut}
 
 -- a deadline is within the limits
@@ -50,17 +50,17 @@ deadline_within (suc since) now wanted low high = omega (arith, low, high)
 
 -- whether one of some first slots is free at a look
 
-abbrev last_of : State → ℕ → ℕ → TimerRef
+abbrev pub last_of : State → ℕ → ℕ → TimerRef
 last_of s w k = timer_at w k (s.last w k)
 
 pub record IsFreeSlot (s : State) (w now k : ℕ) : Type 0 where
   pub free : is_taken (s.status (last_of s w k)) ≡ false
   pub rested : (turned (uses_at s w k)).since ≤ now
 
-abbrev IsUnfit : State → ℕ → ℕ → ℕ → Type 0
+abbrev pub IsUnfit : State → ℕ → ℕ → ℕ → Type 0
 IsUnfit s w now k = (is_taken (s.status (last_of s w k)) ≡ true) ⊎ Rests s now w k
 
-data Search (s : State) (w now m : ℕ) : Type 0 where
+pub data Search (s : State) (w now m : ℕ) : Type 0 where
   found : (k : ℕ) → k < m → IsFreeSlot s w now k → Search s w now m
   nowhere : ((k : ℕ) → k < m → IsUnfit s w now k) → Search s w now m
 
@@ -84,22 +84,22 @@ search_more : (s : State) (w now m : ℕ) → Search s w now m → Search s w no
 search_more s w now m (found k lt free) = found k (omega arith) free
 search_more s w now m (nowhere before) = search_slot s w now m _ _ refl refl before
 
-search_slots : (s : State) (w now m : ℕ) → Search s w now m
+pub search_slots : (s : State) (w now m : ℕ) → Search s w now m
 search_slots s w now zero = nowhere (λ k lt. absurd (omega arith))
 search_slots s w now (suc m) = search_more s w now m (search_slots s w now m)
 
 -- slots that are looked at, each unfit: they are probed
 
-record AreProbed (g : Settings) (n w now : ℕ) (s z : State) (slot count : ℕ) : Type 0 where
-  entries : List Entry
-  taken : AreTaken n w now s slot count entries
-  legal : LegalFrom g z entries
-  undue : z.clock.due ≡ None → (run g z entries).clock.due ≡ None
+pub record AreProbed (g : Settings) (n w now : ℕ) (s z : State) (slot count : ℕ) : Type 0 where
+  pub entries : List Entry
+  pub taken : AreTaken n w now s slot count entries
+  pub legal : LegalFrom g z entries
+  pub undue : z.clock.due ≡ None → (run g z entries).clock.due ≡ None
 
 abbrev SameSlots : ℕ → State → State → Type 0
 SameSlots w s z = (k : ℕ) → z.status (last_of z w k) ≡ s.status (last_of s w k)
 
-probe_slots : (g : Settings) (n w now : ℕ) (s : State) (slot count : ℕ) → n < g.callers → w < g.schedulers → slot + count ≤ g.slots
+pub probe_slots : (g : Settings) (n w now : ℕ) (s : State) (slot count : ℕ) → n < g.callers → w < g.schedulers → slot + count ≤ g.slots
     → ((k : ℕ) → k < slot + count → IsUnfit s w now k) → (z : State) → SameSlots w s z → AreProbed g n w now s z slot count
 probe_slots g n w now s slot zero caller sched within unfit z same = record { entries = []; taken = refl; legal = tt; undue = λ idle. idle }
 probe_slots g n w now s slot (suc count) caller sched within unfit z same =
@@ -122,7 +122,7 @@ probe_slots g n w now s slot (suc count) caller sched within unfit z same =
 
 -- all slots that a start looks at are unfit: the first ones
 
-first_round : (slots looks : ℕ) → Round slots looks
+unfoldable pub first_round : (slots looks : ℕ) → Round slots looks
 first_round slots looks = record {
   from = 0;
   ahead = min slots looks;
@@ -213,68 +213,94 @@ or_not true b = refl
 or_not false true = refl
 or_not false false = refl
 
-start_armed : (g : Settings) (s : State) (n w k wanted : ℕ) (start : Start) → IsReached g s → n < g.callers → w < g.schedulers → start.dest < g.processes
-    → deadline_of g start s.clock.now ≡ Some wanted → length (s.rows w) < 9007199254740992 → k < g.slots
-    → IsFreeSlot s w (natural (down g s.clock.now)) k → HasAnswerBut g s (Err NoMemory) (Starts g n w start)
-start_armed g s n w k wanted start reached caller sched process due few slot free =
-    let now : ℕ = natural (down g s.clock.now) in
-    let u : Uses = uses_at s w k in
-    let deadline : ℕ = deadline_in (turned u).since now wanted in
+-- a timer is armed, in a state in which its caller has looked at the time
+pub record ArmsIn (g : Settings) (n w : ℕ) (start : Start) (z : State) : Type 0 where
+  pub timer : TimerRef
+  pub was : Bool
+  pub closing : List Entry
+  pub on_wheel : timer.wheel ≡ w
+  pub closes : Closes was n timer closing
+  pub legal : LegalFrom g z (arm_entry n timer start ∷ (mark_entry (Caller n) start.dest false was ∷ closing))
+  pub undue : z.clock.due ≡ None → (run g z (arm_entry n timer start ∷ (mark_entry (Caller n) start.dest false was ∷ closing))).clock.due ≡ None
+
+pub arm_in : (g : Settings) (z : State) (n w k wanted : ℕ) (start : Start) (now : ℤ) → IsReached g z → z.looked (Caller n) ≡ now → natural (down g now) ≤ 8796093022207
+    → n < g.callers → w < g.schedulers → start.dest < g.processes → deadline_of g start now ≡ Some wanted → length (z.rows w) < 9007199254740992 → k < g.slots
+    → IsFreeSlot z w (natural (down g now)) k → ArmsIn g n w start z
+arm_in g z n w k wanted start now reached looked high caller sched process due few slot free =
+    let u : Uses = uses_at z w k in
+    let deadline : ℕ = deadline_in (turned u).since (natural (down g now)) wanted in
     let t : TimerRef = timer_at w k (generation_in (turned u).since (use_of (turned u).last + 1) deadline) in
-    let one : Use = record { now = now; wanted = wanted; generation = t.generation } in
+    let one : Use = record { now = natural (down g now); wanted = wanted; generation = t.generation } in
     let can : CanUse u one = record {
       rested = free.rested;
-      within = deadline_within (turned u).since now wanted (milliseconds g s reached).high (when_within g start.when s.clock.now wanted due);
+      within = deadline_within (turned u).since (natural (down g now)) wanted high (when_within g start.when now wanted due);
       counts = refl;
     } in
-    let look : Entry = look_entry (Caller n) s.clock.now in
     let arm : Entry = arm_entry n t start in
-    let mark : Entry = mark_entry (Caller n) start.dest false (s.exited start.dest) in
-    let looked : State = next g s look in
-    let looked_is : looked.looked (Caller n) ≡ s.clock.now = ap (λ (b : Bool). cond b s.clock.now (s.looked (Caller n))) (eq-eqb n n refl) in
-    let deadline_is : deadline_of g start (looked.looked (Caller n)) ≡ Some wanted = ap (deadline_of g start) looked_is ∙ due in
+    let mark : Entry = mark_entry (Caller n) start.dest false (z.exited start.dest) in
+    let deadline_is : deadline_of g start (z.looked (Caller n)) ≡ Some wanted = ap (deadline_of g start) looked ∙ due in
     let place : IsSlot g w k = record { wheel_high = sched; slot_high = slot } in
-    let arms : Can g looked arm = record {
+    let arms : Can g z arm = record {
       keeps = (caller, refl, place, process);
       known = record {
         free = free.free;
         wanted = wanted;
         due = deadline_is;
-        next_use = subst (λ (x : ℤ). IsNextUse u (natural (down g x)) wanted t.generation) (sym looked_is) can;
+        next_use = subst (λ (x : ℤ). IsNextUse u (natural (down g x)) wanted t.generation) (sym looked) can;
         few = few;
       };
       found = tt;
     } in
-    let armed : State = next g looked arm in
+    let armed : State = next g z arm in
     let marked : State = next g armed mark in
     let row : Row = record { timer = t; deadline = deadline_told t.generation wanted; dest = start.dest; msg = start.msg; kind = start.kind } in
     let own : nat_eq w w ≡ true = eq-eqb w w refl in
-    let rows_are : marked.rows w ≡ s.rows w ++ row ∷ [] =
-    ap (λ (b : Bool). cond b (cond b (s.rows w ++ row_from t start (deadline_of g start (looked.looked (Caller n)))) (s.rows w)) (s.rows w)) own
-    ∙ ap (λ (d : Option ℕ). s.rows w ++ row_from t start d) deadline_is in
+    let rows_are : marked.rows w ≡ z.rows w ++ row ∷ [] =
+    ap (λ (b : Bool). cond b (cond b (z.rows w ++ row_from t start (deadline_of g start (z.looked (Caller n)))) (z.rows w)) (z.rows w)) own
+    ∙ ap (λ (d : Option ℕ). z.rows w ++ row_from t start d) deadline_is in
     let new : IsBefore u t.generation → ⊥ = λ before. fresh u one t.generation (reached.kept.ordered w k).sound can before refl in
     let stands : row_of (marked.rows w) t ≡ Some row =
     ap (λ (rows : List Row). row_of rows t) rows_are
-    ∙ row_last t (s.rows w) row (none_is t w (uses_at s w) (s.rows w) new (reached.kept.rows w).each) refl in
+    ∙ row_last t (z.rows w) row (none_is t w (uses_at z w) (z.rows w) new (reached.kept.rows w).each) refl in
     let status : marked.status t ≡ Some Armed =
-    ap (λ (b : Bool). cond (b && same_timer t t) (Some Armed) (s.status t)) own ∙ ap (λ (b : Bool). cond b (Some Armed) (s.status t)) (same_timer_self t) in
-    let closed = closed_by g n t row marked (s.exited start.dest) caller place stands (or_not (s.exited start.dest) (nat_eq start.dest start.dest)) status in (
-      Ok t,
+    ap (λ (b : Bool). cond (b && same_timer t t) (Some Armed) (z.status t)) own ∙ ap (λ (b : Bool). cond b (Some Armed) (z.status t)) (same_timer_self t) in
+    let closed = closed_by g n t row marked (z.exited start.dest) caller place stands (or_not (z.exited start.dest) (nat_eq start.dest start.dest)) status in
+    record {
+      timer = t;
+      was = z.exited start.dest;
+      closing = closed.closing;
+      on_wheel = refl;
+      closes = closed.closes;
+      legal = (arms, (can_mark g armed (Caller n) start.dest false caller process (z.exited start.dest) refl, closed.legal));
+      undue = closed.undue;
+    }
+
+start_armed : (g : Settings) (s : State) (n w k wanted : ℕ) (start : Start) → IsReached g s → n < g.callers → w < g.schedulers → start.dest < g.processes
+    → deadline_of g start s.clock.now ≡ Some wanted → length (s.rows w) < 9007199254740992 → k < g.slots
+    → IsFreeSlot s w (natural (down g s.clock.now)) k → HasAnswerBut g s (Err NoMemory) (Starts g n w start)
+start_armed g s n w k wanted start reached caller sched process due few slot free =
+    let look : Entry = look_entry (Caller n) s.clock.now in
+    let looked : State = next g s look in
+    let look_can : Can g s look = can_look g s (Caller n) caller in
+    let arms = arm_in g looked n w k wanted start s.clock.now (reached_next g s look reached look_can)
+    (ap (λ (b : Bool). cond b s.clock.now (s.looked (Caller n))) (eq-eqb n n refl)) (milliseconds g s reached).high caller sched process due few slot
+    (record { free = free.free; rested = free.rested }) in (
+      Ok arms.timer,
       (λ same. cc),
       record {
-        entries = look ∷ (arm ∷ (mark ∷ closed.closing));
-        undue = closed.undue;
+        entries = look ∷ (arm_entry n arms.timer start ∷ (mark_entry (Caller n) start.dest false arms.was ∷ arms.closing));
+        undue = arms.undue;
         allowed = record {
           now = s.clock.now;
           probes = [];
-          was = s.exited start.dest;
-          closing = closed.closing;
-          on_wheel = refl;
+          was = arms.was;
+          closing = arms.closing;
+          on_wheel = arms.on_wheel;
           are_probes = tt;
-          closes = closed.closes;
+          closes = arms.closes;
           entries = refl;
         };
-        legal = (can_look g s (Caller n) caller, (arms, (can_mark g armed (Caller n) start.dest false caller process (s.exited start.dest) refl, closed.legal)));
+        legal = (look_can, arms.legal);
       },
     )
 

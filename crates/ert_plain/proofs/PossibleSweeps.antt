@@ -21,10 +21,11 @@ use Rattle.ert_defs.specs.declared.timer.TimerRef.{TimerRef}
 use Rattle.ert_effects.specs.Chains.{SweepsWheel, SweepsWheels, Exits}
 use Rattle.ert_effects.specs.Ways.{alone}
 use Rattle.ert_effects.specs.WheelCalls.{Try, orphans_by, orphan_entries, AllMaySweep, IsUntried, AreOnce, AreSwept, MarksExit}
+use Rattle.ert_laws.proofs.StandingRows.{row_stands}
 use Rattle.ert_laws.specs.Ranges.{IsPlaced}
 use Rattle.ert_plain.proofs.Due.{is_armed_some}
 use Rattle.ert_plain.proofs.Following.{follow_none, follow_then, legal_with}
-use Rattle.ert_plain.proofs.PossibleAdvances.{AllArmed, row_stands}
+use Rattle.ert_plain.proofs.PossibleAdvances.{AllArmed}
 use Rattle.ert_plain.proofs.PossibleCalls.{can_mark}
 use Rattle.ert_plain.proofs.Reached.{IsReached, reached}
 use Rattle.ert_plain.specs.Existence.{CanFollow}

@@ -6,14 +6,13 @@ use Rattle.std.specs.Prelude.{◌-ℤ◌}
 use Rattle.ert_defs.proofs.ExpiredLists.{IsKept as KeepsExpired, expired_next, kept_after}
 use Rattle.ert_defs.proofs.Numbers.{floor_rises}
 use Rattle.ert_defs.proofs.Rows.{rows_hold}
-use Rattle.ert_defs.proofs.Runs.{kept_from}
 use Rattle.ert_defs.proofs.Slots.{ordered}
 use Rattle.ert_defs.proofs.Standing.{all_stand}
 use Rattle.ert_defs.proofs.Times.{KeepsBounds, kept, kept_next as bounds_next}
-use Rattle.ert_defs.specs.Legal.{Can, LegalFrom, Legal}
+use Rattle.ert_defs.specs.Legal.{Can, Legal}
 use Rattle.ert_defs.specs.Milliseconds.{natural, down}
 use Rattle.ert_defs.specs.Settings.{IsChecked}
-use Rattle.ert_defs.specs.States.{State, next, run, state}
+use Rattle.ert_defs.specs.States.{State, next, state}
 use Rattle.ert_defs.specs.declared.entry.Entry.{Entry}
 use Rattle.ert_defs.specs.declared.settings.Settings.{Settings}
 use Rattle.ert_laws.proofs.Requests.{HaveAskers, askers_next, have_askers}

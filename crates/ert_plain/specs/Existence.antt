@@ -18,6 +18,8 @@ use Rattle.ert_effects.specs.Chains.{Serves, AdvancesWheel, Delivers, Turns, Exi
 use Rattle.ert_effects.specs.ClockCalls.{Ticks, Finalizes, TellsTime, TellsOffset, TellsSystemTime}
 use Rattle.ert_effects.specs.MailCalls.{Takes, Monitors, Demonitors, Notifies}
 use Rattle.ert_effects.specs.RequestCalls.{Asks}
+use Rattle.ert_effects.specs.RestartCalls.{Restarts}
+use Rattle.ert_effects.specs.RoomCalls.{TellsRoom}
 use Rattle.ert_effects.specs.TimerCalls.{Reads, Cancels, Starts}
 use Rattle.ert_effects.specs.Ways.{Step, Growth, alone}
 use Rattle.ert_effects.specs.WheelCalls.{TellsAlive, MarksExit}
@@ -66,6 +68,9 @@ pub record TimersAnswer (g : Settings) (s : State) : Type 0 where
   pub cancel : (by : Actor) (timer : TimerRef) → IsUser g by → HasAnswer g s (Cancels g by timer)
   pub start : (n w : ℕ) (start : Start) → n < g.callers → w < g.schedulers → start.dest < g.processes
       → HasAnswerBut g s (Err NoMemory) (Starts g n w start)
+  pub restart : (n w : ℕ) (timer : TimerRef) (start : Start) → n < g.callers → w < g.schedulers → start.dest < g.processes
+      → HasAnswer g s (Restarts g n w timer start)
+  pub room : (n w : ℕ) → n < g.callers → w < g.schedulers → HasAnswer g s (TellsRoom g n w)
 
 -- the calls on processes
 pub record ProcessesAnswer (g : Settings) (s : State) : Type 0 where

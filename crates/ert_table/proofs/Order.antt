@@ -10,7 +10,7 @@ use Rattle.ert_defs.proofs.Runs.{free_first}
 use Rattle.ert_defs.specs.declared.entry.Entry.{Entry}
 use Rattle.ert_defs.specs.declared.settings.Settings.{Settings}
 use Rattle.ert_table.specs.Held.{is_held}
-use Rattle.ert_table.specs.Order.{Moment, IsRuled, IsKnown, StaysKnown, StepsBetween, PassDivides, PassesUnite, TableMoves, LawOfKnowledge, LawOfStepOrder, LawOfTwoSteps}
+use Rattle.ert_table.specs.Order.{Moment, IsRuled, IsKnown, StaysKnown, StepsBetween, PassDivides, PassesUnite, TableMoves, LawOfOneHistory, LawOfKnowledge, LawOfStepOrder, LawOfTwoSteps}
 use Rattle.ert_table.specs.Rule.{Fits}
 use Rattle.ert_table.specs.Views.{Begins, both, holding, spent}
 use Rattle.ert_table.proofs.Holders.{held_maker, or_left, same_actor_self, free_then}
@@ -38,6 +38,21 @@ known_at front m k v is begins = record { place = k; view = v; stands = is; begi
 -- what the pass that stands at a place knew is what it knows
 same_view : (m : Moment) (k : ℕ) (v w : View) → get_elem? m.views k ≡ some v → get_elem? m.views k ≡ some w → v ≡ w
 same_view m k v w is other = some-injective v w (sym is ∙ other)
+
+-- two passes know beginnings of one history
+
+known_begins : (g : Settings) (m : Moment) (front : List Entry) → (ruled : IsRuled g m) → IsKnown front m → Begins front ruled.history
+known_begins g m front ruled known =
+    let fit : Fits g ruled.history known.view = ruled.fits known.place known.view known.stands in
+    begins_then front known.view.front ruled.history known.begins (record { later = fit.later; grown = fit.begins })
+
+pub one_history : LawOfOneHistory
+one_history g m front other ruled known other_known = record {
+  history = ruled.history;
+  legal = ruled.legal;
+  begins = known_begins g m front ruled known;
+  other_begins = known_begins g m other ruled other_known;
+}
 
 -- a step
 

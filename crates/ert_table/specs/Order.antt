@@ -4,6 +4,7 @@
 use Rattle.std.specs.Prelude.{◌≡◌, ◌≢◌, ◌⊎◌, ℕ, List, [], ◌∷◌, ◌++◌, slice_set}
 use mathlib.Core.Option.{some}
 use lib.ListN.{get_elem?}
+use Rattle.ert_defs.specs.Legal.{Legal}
 use Rattle.ert_defs.specs.declared.entry.Actor.{Actor}
 use Rattle.ert_defs.specs.declared.entry.Entry.{Entry}
 use Rattle.ert_defs.specs.declared.settings.Settings.{Settings}
@@ -78,6 +79,17 @@ pub record StandsBehind (front : List Entry) (e : Entry) (more h : List Entry) :
   pub between : List Entry
   pub behind : List Entry
   pub stands : h ≡ ((front ++ between) ++ (e ∷ more)) ++ behind
+
+-- what two passes know at a moment are beginnings of one legal history
+pub record AreOfOne (g : Settings) (front other : List Entry) : Type 0 where
+  pub history : List Entry
+  pub legal : Legal g history
+  pub begins : Begins front history
+  pub other_begins : Begins other history
+
+-- so it is of any two passes of one table
+abbrev pub LawOfOneHistory : Type 0
+LawOfOneHistory = (g : Settings) (m : Moment) (front other : List Entry) → IsRuled g m → IsKnown front m → IsKnown other m → AreOfOne g front other
 
 -- what some pass knows stays known, whatever takes place
 abbrev pub LawOfKnowledge : Type 0

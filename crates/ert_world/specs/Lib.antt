@@ -1,6 +1,7 @@
 pub mod Bounded
 pub mod Cancelling
 pub mod Counted
+pub mod DueTurns
 pub mod Frees
 pub mod Held
 pub mod Laws

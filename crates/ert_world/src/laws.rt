@@ -1,4 +1,5 @@
-//! Laws on whose entries are whose, and on how early a timer may be due.
+//! Laws on whose entries are whose, on how early a timer may be due, and on what a turn puts into mailboxes.
+ghost use Rattle.ert_world.specs.DueTurns.{LawOfDueHandings, LawOfDueTurns};
 ghost use Rattle.ert_world.specs.Laws.{LawOfNoSeats, LawOfSeats, LawOfLaterAnswers};
 
 /// Where no seat was given out all entries are the world's own, and none of a caller with a seat ever is.
@@ -10,4 +11,13 @@ pub fn entries_are_divided()
 /// After an advance or a turn of a scheduler `next_due` answers a later time.
 pub fn next_due_goes_on()
     ensures { LawOfLaterAnswers }
+{}
+
+/// After a turn of its scheduler to a time, the message of each timer that was started before the turn, with a deadline at
+/// most that time, was put into the mailbox of its process once and nowhere else, unless the timer was cancelled or the
+/// process had exited by the end of the turn. It stands there or was taken. The messages of a scheduler's timers to one
+/// process are put by deadline, and for one deadline in order of starting (`due_messages_are_put` of `ert_laws`).
+pub fn turns_put_due_messages()
+    ensures handings { LawOfDueHandings }
+    ensures turns { LawOfDueTurns }
 {}

@@ -143,7 +143,7 @@ mod world;
 
 pub use counts::Counts;
 pub use ert_effects::{RestartErr, Room, Turned};
-pub use laws::{entries_are_divided, next_due_goes_on};
+pub use laws::{entries_are_divided, next_due_goes_on, turns_put_due_messages};
 pub use mailing::TakeEnd;
 pub use parts::Parts;
 pub use sched_part::SchedPart;

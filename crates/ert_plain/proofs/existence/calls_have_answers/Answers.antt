@@ -3,6 +3,8 @@
 use Rattle.ert_defs.specs.States.{state}
 use Rattle.ert_laws.proofs.SlotUses.{timers_few}
 use Rattle.ert_plain.proofs.PossibleCalls.{clock_answers, processes_answer, possible_read, possible_cancel}
+use Rattle.ert_laws.proofs.Since.{rounds_begun}
+use Rattle.ert_plain.proofs.PossibleRestarts.{possible_restart, possible_room}
 use Rattle.ert_plain.proofs.PossibleStarts.{possible_start}
 use Rattle.ert_plain.proofs.PossibleSweeps.{possible_exit}
 use Rattle.ert_plain.proofs.PossibleTurns.{possible_serve, can_advance, possible_deliver, possible_turn}
@@ -16,6 +18,8 @@ returns c = λ g h checked legal. (
     read = possible_read g (state g h);
     cancel = possible_cancel g (state g h);
     start = λ n w start. possible_start g (state g h) n w start (reached g h checked legal) (timers_few g h w legal);
+    restart = λ n w t start. possible_restart g (state g h) n w t start (reached g h checked legal) (λ v k. rounds_begun g h v k checked legal) (timers_few g h w legal);
+    room = possible_room g (state g h);
   },
   processes_answer g (state g h),
   record {
