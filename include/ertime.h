@@ -47,6 +47,14 @@
  * time on one handle. Everything else is answered: a closed handle, numbers out of range, bad readings and unknown
  * kinds.
  *
+ * What is proved. Each call has a contract, against which its code was proved (docs/PROVED.md in the sources). Two things
+ * that this header says stand in no contract. Order between threads: if one call returned before another began, on
+ * whatever threads and through whatever handles of a service, the later one knows what the earlier one did. This is an
+ * argument from the order of the atomic steps (docs/THEOREM.md), and tested on logs of threads. Memory in turns: that
+ * ert_world_serve, ert_world_advance, ert_world_deliver, the turns, and those of a shard, never return ERT_NO_MEMORY if
+ * there is room, is tested by turns with every allocation refused. Proved is that they return it without a loss, and of a
+ * mailbox with room that it takes a message without memory.
+ *
  * Versions. Within one major version functions, constants and fields keep their meaning and their place, and no
  * struct changes its size, except that ert_settings may grow at its end. Functions, statuses and kinds of messages
  * may be added: treat a negative status that you don't know as a refusal, and ignore a message of a kind that you
