@@ -6,7 +6,8 @@
 %%     erl -noshell -run ertime_explored main schedule SCHEDULE MODULE..
 %%     erl -noshell -run ertime_explored main FAULTS FIRST LAST MODULE..
 %%
-%% By a clock all processes of the node see it, and it goes on as real time does while they don't rest. SCHEDULE is a list of
+%% By a clock all processes of the node see it. Where they don't rest for as many milliseconds as the environment variable EXPLORED_PACE
+%% says, it goes on by as many; without it for five seconds, so that a busy machine isn't taken for a program that never rests. SCHEDULE is a list of
 %% faults, and FAULTS are kinds of `ertime:seeds/3', with a comma between; all tests are run under the clock of each seed. A
 %% line for each test that failed has how often it did, and with which seed first; the last line has how many passed and failed in all
 %% runs, and the seconds.
@@ -101,7 +102,7 @@ under(Schedule, Modules) ->
 mover(Clock, Owner) ->
     Self = self(),
     _ = ertime_watch:start(Clock, Owner, #{
-        advance => auto, limit => infinity, pace => true, tell => fun(_) -> Self ! again end, gone => fun() -> ok end
+        advance => auto, limit => infinity, pace => list_to_integer(os:getenv("EXPLORED_PACE", "5000")), tell => fun(_) -> Self ! again end, gone => fun() -> ok end
     }),
     receive again -> mover(Clock, Owner) end.
 

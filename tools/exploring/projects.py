@@ -149,6 +149,7 @@ PROJECTS = (
             " credentials_obfuscation ranch".split()
         ),
         environment={
+            "EXPLORED_PACE": "100",
             "RABBITMQ_NODENAME": "explored@localhost",
             "RABBITMQ_MNESIA_BASE": "@/mnesia",
             "RABBITMQ_MNESIA_DIR": "@/mnesia/explored",

@@ -5,6 +5,8 @@
 %% measured beside what no step can do without: that each of the processes gets a message, runs, and answers. In the folder of the package:
 %%
 %%     rebar3 compile && bench/rest.escript [STEPS]
+%%
+%% Where the machine does other work, `chrt -r 1 bench/rest.escript' gives its processors to the node.
 -mode(compile).
 
 -define(SECOND, 1000).

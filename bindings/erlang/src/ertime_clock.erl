@@ -94,7 +94,7 @@ close(Clock) ->
     ok = ertime_use:leave_everywhere(Clock),
     case ertime_nif:close(Clock) of
         badarg ->
-            error(badarg, [Clock]);
+            no_clock(badarg, [Clock]);
         false ->
             stopped(Clock),
             false;
@@ -160,8 +160,12 @@ auto(Limit) ->
 is_open(Clock, Arguments) ->
     case ertime_nif:os_time(Clock) of
         {_, _} -> true;
-        Reason -> error(Reason, Arguments)
+        Reason -> no_clock(Reason, Arguments)
     end.
+
+-spec no_clock(badarg | closed, list()) -> no_return().
+no_clock(badarg, Arguments) -> ?BADARG(Arguments, 1, "no clock");
+no_clock(Reason, Arguments) -> error(Reason, Arguments).
 
 %% One process moves a clock at a time. What the NIF refuses, as where another process closes the clock meanwhile, is thrown,
 %% and is an error of the call that has these arguments.
@@ -182,7 +186,7 @@ led(Clock, Arguments, Work) ->
             after 1 -> led(Clock, Arguments, Work)
             end;
         Reason ->
-            error(Reason, Arguments)
+            no_clock(Reason, Arguments)
     end.
 
 -spec refused(term()) -> no_return().
@@ -314,7 +318,7 @@ info(Clock) ->
                 ]
             };
         Reason ->
-            error(Reason, [Clock])
+            no_clock(Reason, [Clock])
     end.
 
 kind(true) -> send_after;

@@ -28,7 +28,10 @@ wrong(Options) when is_map(Options) ->
     Known = maps:keys(with_defaults(#{})),
     case maps:keys(maps:without(Known, Options)) of
         [] -> first([{Name, Value, must_be(Name)} || {Name, Value} <- maps:to_list(Options), not is_good(Name, Value)]);
-        [Unknown | _] -> told("unknown option ~tp: the options are ~ts", [Unknown, lists:join(", ", [atom_to_list(Name) || Name <- Known])])
+        [Unknown | _] -> told(
+            "unknown option ~tp: a clock has ~ts; test/2 has always, deterministic, schedule and seen as well, and seeds/3 faults, most, over and shrink",
+            [Unknown, lists:join(", ", [atom_to_list(Name) || Name <- Known])]
+        )
     end;
 wrong(Options) ->
     told("~tp is no map of options", [Options]).

@@ -6,6 +6,7 @@
 
 -include("ertime.hrl").
 
+-define(OWN_MODULES, [?MODULE, ertime, ertime_clock, ertime_timers, ertime_timer, ertime_rest]).
 -define(LIMIT, 60000).
 -define(STILL, 10).
 -define(ROUNDS, 20).
@@ -39,9 +40,9 @@ told(Clock, #{seen := true, show := true} = Rest, {raised, _, Reason, Stack, {Do
 told(_, _, Outcome) ->
     Outcome.
 
-%% A test's own, or that of the function that called the test: the last of this package stands above it.
+%% A test's own, or that of the outermost function which is neither of this package nor of ExUnit.
 name(none, Stack) ->
-    case [{Module, Name} || {Module, Name, _, _} <- lists:reverse(Stack), Module =/= ?MODULE, not lists:prefix("Elixir.ExUnit.", atom_to_list(Module))] of
+    case [{Module, Name} || {Module, Name, _, _} <- lists:reverse(Stack), not lists:member(Module, ?OWN_MODULES), not lists:prefix("Elixir.ExUnit.", atom_to_list(Module))] of
         [{Module, Name} | _] -> io_lib:format("~ts.~ts", [Module, Name]);
         [] -> "a test"
     end;

@@ -251,7 +251,7 @@ convert(Time, From, To, Arguments) ->
         error:badarg -> error(badarg, Arguments)
     end.
 
-%% The last of the arguments is the time.
+%% The time is the second of the arguments, or the only one.
 %% @private
 nanoseconds(Time, Unit, Arguments) when is_integer(Time) ->
     nanoseconds({Time, Unit}, Unit, Arguments);
@@ -261,13 +261,13 @@ nanoseconds({Time, Unit}, _, Arguments) when is_integer(Time) ->
         Seconds -> Time * Seconds * 1000000000
     end;
 nanoseconds(_, _, Arguments) ->
-    ?BADARG(Arguments, length(Arguments), "not a whole number, or one with its unit").
+    ?BADARG(Arguments, min(2, length(Arguments)), "not a whole number, or one with its unit").
 
 converted(Time, Unit, Arguments) ->
     try
         erlang:convert_time_unit(Time, Unit, nanosecond)
     catch
-        error:badarg -> ?BADARG(Arguments, length(Arguments), "an unknown unit of time")
+        error:badarg -> ?BADARG(Arguments, min(2, length(Arguments)), "an unknown unit of time")
     end.
 
 seconds(minute) -> 60;

@@ -14,8 +14,8 @@
 -type options() :: #{
     advance := auto | by_hand,
     limit := non_neg_integer() | infinity,  % real milliseconds that `auto' may take
-    pace => boolean(),                      % whether it goes on as real time does while they don't rest, and ten times as
-                                            % fast where other nodes are connected, of whose work nothing is seen here
+    pace => pos_integer(),                  % after so many real milliseconds without rest the clock goes on by as many, and ten
+                                            % times as fast where other nodes are connected, of whose work nothing is seen here
     tell := fun((term()) -> term()),        % is called once with what went wrong
     gone := fun(() -> term())               % is called when the owner has ended
 }.
@@ -37,7 +37,7 @@ start(Clock, Owner, Options = #{advance := Advance}) ->
     Pid = spawn(fun() ->
         ertime_use:stand_apart(),
         %% Else those that keep all schedulers busy could keep it from running.
-        maps:get(pace, Options, false) andalso process_flag(priority, high),
+        is_map_key(pace, Options) andalso process_flag(priority, high),
         Advance =:= auto andalso ertime_keeper:put({auto, Clock}, self()),
         Self ! {?MODULE, self()},
         loop(#watch{clock = Clock, owner = Owner, options = Options, monitor = erlang:monitor(process, Owner), started = now_ms()})
@@ -62,10 +62,10 @@ is_auto(Clock) ->
 %% Whether nobody moves the clock, and nobody is about to: all others of its processes rest.
 -spec is_left(ertime:clock()) -> boolean().
 is_left(Clock) ->
-    not is_auto(Clock) andalso nobody_leads(Clock) andalso all_rest(Clock).
+    not is_auto(Clock) andalso nobody_leads(Clock) andalso all_rest(Clock, ?LOOK).
 
-all_rest(Clock) ->
-    try ertime_rest:wait(Clock, ?LOOK) of
+all_rest(Clock, Milliseconds) ->
+    try ertime_rest:wait(Clock, Milliseconds) of
         ok -> true
     catch
         error:{not_at_rest, _} -> false
@@ -110,12 +110,15 @@ auto(Watch = #watch{clock = Clock, started = Started, options = #{limit := Limit
             go_on(Watch)
     end.
 
-go_on(Watch = #watch{clock = Clock, options = Options}) ->
-    case {all_rest(Clock), maps:get(pace, Options, false)} of
-        {true, false} -> next(Watch);
-        {false, false} -> auto(Watch#watch{since = none});
-        {false, true} -> paced(Watch, ?LOOK);
-        {true, true} -> connected(Watch, nodes(connected))
+go_on(Watch = #watch{clock = Clock, options = #{pace := Pace}}) ->
+    case all_rest(Clock, Pace) of
+        true -> connected(Watch, nodes(connected));
+        false -> paced(Watch, Pace)
+    end;
+go_on(Watch = #watch{clock = Clock}) ->
+    case all_rest(Clock, ?LOOK) of
+        true -> next(Watch);
+        false -> auto(Watch#watch{since = none})
     end.
 
 connected(Watch, []) -> next(Watch);

@@ -41,7 +41,7 @@ by_itself() ->
 mover(Clock) ->
     Self = self(),
     ertime_watch:start(Clock, Self, #{
-        advance => auto, limit => infinity, pace => true, tell => fun(_) -> Self ! again end, gone => fun() -> ok end
+        advance => auto, limit => infinity, pace => 100, tell => fun(_) -> Self ! again end, gone => fun() -> ok end
     }),
     receive again -> mover(Clock) end.
 

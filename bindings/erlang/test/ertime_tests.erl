@@ -165,9 +165,14 @@ bad_options() ->
 texts_test_() ->
     Rows = [
         {"os_tme", 1, fun(_) -> ertime:open(#{os_tme => 5}) end},
+        {"faults, most, over", 1, fun(_) -> ertime:seeds(1, #{fault => silent}, fun(_) -> ok end) end},
         {"slots is a number from 1 to 262144, and not 0", 1, fun(_) -> ertime:test([{slots, 0}], fun(_) -> ok end) end},
         {"one argument", 2, fun(_) -> ertime:test(#{}, fun() -> ok end) end},
         {"unit", 2, fun(Clock) -> ertime:advance(Clock, {1, fortnight}) end},
+        {"whole number", 2, fun(Clock) -> ertime:warp(Clock, soon) end},
+        {"no clock", 1, fun(_) -> ertime:advance(make_ref(), 1) end},
+        {"no clock", 1, fun(_) -> ertime:info(make_ref()) end},
+        {"no clock", 1, fun(_) -> ertime:close(make_ref()) end},
         {"go back", 2, fun(Clock) -> ertime:advance(Clock, -1) end},
         {"no_such", 1, fun(_) -> ertime:transform(no_such_application) end},
         {"module", 1, fun(_) -> ertime:transform([lists, "a"]) end},
