@@ -4,7 +4,7 @@
 //! start has a slot of its own, whose number is the timer's label: so it has one run, which computes. The text of every
 //! script run is the one that it computes, and so settings and ops have one transcript (`one_transcript`).
 //!
-//! It stands on `ert_transcript`, which says what a transcript is. No crate stands on it but tests.
+//! It stands on `ert_transcript`, which says what a transcript is. `ert_program` says by it what `ertime run` writes.
 #![tactic(auto)]
 
 mod laws;
