@@ -20,7 +20,8 @@
 //! | `exit` | Mark; if the process hadn't exited, wheel by wheel an Orphan for each armed row for it |
 //! | `monitor`, `demonitor`, `notify` | Watch, or Off if 64 stand or the number 4294967295 was given; Unwatch; Tell |
 //!
-//! It stands on `ert_transcript`, which says what a transcript is. No crate stands on it but tests.
+//! It stands on `ert_transcript`, which says what a transcript is. `ert_program` says by it what
+//! `ertime run` writes.
 //!
 //! Its laws have the premises of a scenario: no two starts with one label, and at most 100,000 ops.
 //!

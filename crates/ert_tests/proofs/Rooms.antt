@@ -1,6 +1,6 @@
 -- How much room a run needs whose whole input is known: as much as what was written of it.
 
-use Rattle.std.proofs.Common.{◌≡◌, ◌≤◌, ℕ, false, List, [], length, Option, None, Some, sym, ap, subst, ◌∙◌, arith}
+use Rattle.std.proofs.Common.{◌≡◌, ℕ, false, List, [], length, Option, None, Some, sym, ap, subst, ◌∙◌, arith}
 use Rattle.ert_defs.specs.declared.settings.Settings.{Settings}
 use Rattle.ert_io.specs.Reads.{Input}
 use Rattle.ert_io.specs.Told.{SinkTold, sink_told}
