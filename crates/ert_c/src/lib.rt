@@ -37,6 +37,42 @@
 //! is there after `OK`, or was given back, is a clause of the mailbox (`ert_mail`) and of the list (`ert_timers`), and
 //! not of the exported calls.
 //!
+//! **What is proved.** A contract says of a call through a handle, by `specs/Through`:
+//!
+//! - **A closed handle.** The call returns `ERT_CLOSED`, the handle stays closed, and nothing that C passed is written.
+//! - **An open handle** stands for a service. The call is that of `ert_world::World`: the history that it knows grows
+//!   by a piece. In that piece the entries that no seat made are exactly those that this call may make with this
+//!   answer, in the state before the piece. After the call the service stands behind the handle, which is never left
+//!   closed.
+//! - **A seat** that is open stands for its caller. Its history grows in the same way by that caller's entries, and is
+//!   legal: so what a seat returns is what its history has at that place. The histories of one service are all prefixes
+//!   of one legal history, in which no timer ends twice and no time goes back; that is a law of the desk
+//!   (`steps_stand_in_order` of `ert_table`, `one`), and no clause of these calls, each of which is about its own handle.
+//!   A seat is on the desk of the service that gave it (`GivesSeat`, `table`), and every call leaves its handle on that
+//!   desk.
+//! - **A hub and a shard** that are open stand for what `ert_shard` says of them: in the piece by which the history
+//!   grows the entries of the shard's own actors are exactly those that the call may make with this answer, beside all
+//!   other threads, and the history is legal (`specs/HubCalls`, `specs/ShardCalls`). `ert_hub_shard` gives the last
+//!   scheduler and the last processes, and `ert_hub_seat` the next caller after those of the schedulers; that the shard
+//!   or the seat is of the hub's service is in its contract (`GivesShard` and `HubGivesSeat`, `table`).
+//! - **Opening a seat** gives it the service's next caller, which is then no longer the service's (`specs/SeatCalls`).
+//!   `ERT_NO_SEAT` comes exactly if each caller but 0 was given out, and after every refusal nothing has changed behind
+//!   either handle.
+//! - **A number out of range.** The call returns `ERT_RANGE` exactly if a number is out of range, and the service is as
+//!   it was.
+//! - **Each status has its cause.** It is tied to the answer of the call (`specs/Told`, `specs/ClockCalls`), and each
+//!   answer's own cause stands in the contract of that call. After a refusal the out parameters are what they were.
+//! - **Opening a service** returns `ERT_OK` only with a service of the settings that C passed (`specs/Opened`), whose
+//!   history is empty, and each `ERT_BAD_..` exactly if its fault is there and none before it is.
+//! - **Closing** leaves the handle closed. The place of a service can't be dropped, so code that forgets one is
+//!   refused, by the type check or by the prover. That the memory is then given back is up to `Box`, which contracts
+//!   cannot express.
+//!
+//! Three short functions reach the pointer in a handle; they fill, empty and lend the place of a box of any type
+//! (`src/place.rt`). One more for each kind of handle lends it as such a place (`src/handle.rt`), since a type
+//! parameter may not appear in what C sees. Their proofs were written by hand. That a seat, a world, a hub and a shard
+//! may go to another thread is proved in their own crates (`Send`). No other function follows a raw pointer.
+//!
 //! **Choices.**
 //!
 //! - **A shard doesn't come back to its hub in C.** To join two passes it has to be proved that they are of one desk.

@@ -58,7 +58,7 @@
 //!
 //! - **A turn looks at the last timer of each open interval of its wheel**, in order of number, since the world does
 //!   not tell which timers expired.
-//! - **That intervals are kept (`AreIntervalsKept`) is a condition and a promise of each call**, so that who reads the
+//! - **That intervals are kept (`AreIntervalsKept`) is a condition and a promise of each call**, so that a reader of the
 //!   contracts sees what is kept.
 //! - **What the intervals of a turn do is a chain of their own calls**: a body that starts a stray timer is refused.
 #![tactic(auto)]

@@ -1,4 +1,4 @@
--- What a world of names leaves undone, so that its registrar has the messages of named timers alone and who has a
+-- What a world of names leaves undone, so that its registrar has the messages of named timers alone and whoever has a
 -- name lives.
 
 use Rattle.std.specs.Prelude.{◌≡◌, ℕ, ◌<◌, ◌≤◌, false, List, [], ◌∷◌}

@@ -1,4 +1,4 @@
--- Who has a name lives.
+-- A process with a name lives.
 
 use Rattle.std.specs.Prelude.{◌≡◌, ℕ, false, List, Some}
 use Rattle.std.specs.FinMap as map

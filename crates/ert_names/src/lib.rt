@@ -24,7 +24,7 @@
 //!
 //! 1. **The start.** `start_named(0, After(1), "db", 7, Wrapped)` (`crates/ert_names/src/named_calls.rt`) keeps a row
 //!    with the name, the message and the kind, say at place 0. It starts a wrapped timer of the world for process 0,
-//!    whose message is 0, the place. Nobody looks at who has the name.
+//!    whose message is 0, the place. The owner of the name is not looked up.
 //! 2. **Another owner.** `unregister("db")` and `register("db", 2)` change the two maps of the registry (`registry.rt`)
 //!    alone.
 //! 3. **The turn.** `turn(0)` (`turns.rt`) makes the world's turn, which lets the timer expire and puts `Timeout {

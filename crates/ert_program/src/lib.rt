@@ -60,8 +60,7 @@
 //!    `StdSink`, and then the line `end 2000000000`. `World::into_desk` gives out the desk and the pass. `ertime`
 //!    answers Done and returns both, and its contract says what that means: all of the input was read, it is a
 //!    scenario, what was written is its transcript, a function of its settings and ops, and the history of the pass is
-//!    that of a script run that has this text. Who closes the desk (`Desk::close`) finds its words as they are after
-//!    the last line.
+//!    that of a script run that has this text. `Desk::close` returns its words, as they are after the last line.
 //!
 //! **`live N`.** `live` (`ert_program`, `living.rt`) → `OsClock::read` (`ert_io`) N times: the first reading opens a
 //! `World`, each later one is a tick → after each, `monotonic_time` and `system_time` make a line, and all lines are
@@ -89,7 +88,7 @@
 //!   them to `explain`. So a reader of what `run` writes needs no definition of a message, and the message has a
 //!   contract of its own.
 //! - **The desk has clauses of its own**, beside those of the text: the same plan, history and text, told once more of
-//!   what is returned. Who reads the text alone reads no pass.
+//!   what is returned. A reader of the text alone needs no pass.
 #![tactic(auto)]
 
 mod command;

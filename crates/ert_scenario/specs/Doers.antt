@@ -1,4 +1,4 @@
--- Which ops may stand in a list, by who does it.
+-- Which ops may stand in a list, by the thread that does it.
 
 use Rattle.std.specs.Prelude.{List, All}
 use Rattle.ert_ops.specs.Races.{IsCallersOp}

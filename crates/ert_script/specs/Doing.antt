@@ -1,4 +1,4 @@
--- What is answered to an op, by who makes its call.
+-- What is answered to an op, by the maker of its call.
 
 use Rattle.std.specs.Prelude.{◌≡◌, ℕ, List, [], ◌∷◌, Option, Some, None, Result, Ok, Err, IfOk, OnErr}
 use Rattle.ert_defs.specs.declared.entry.Actor.TheVariants.{Wheel, Inbox, MailOf}

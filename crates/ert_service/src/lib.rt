@@ -11,7 +11,7 @@
 //! are allowed in the state at that place. A call that has taken several locks is the chain of its steps,
 //! between which others may step. What a seat knows is a legal history.
 //!
-//! Which number a lock guards is known to nobody but who holds it. So a call that finds another number lets
+//! The number of the part behind a lock is known to its holder alone. So a call that finds another number lets
 //! go and tries again. Nothing is claimed of progress: a call may wait for a lock for ever.
 //!
 //! It stands on `ert_locks` and `ert_world`, on the parts' crates, `ert_calls`, `ert_table` and `ert_effects`.

@@ -84,7 +84,7 @@ abbrev pub LawOfNearAnswers : Type 0
 LawOfNearAnswers = (keys : List (Option Key)) (passed time least : ℕ) → IsNextDue keys passed time
     → IsLeastDeadline keys least → least / 512 ≤ passed / 512 → time ≡ least
 
--- Answers come closer: who is told the begin of a window, lets time pass up to it and asks again is told a deadline, or
+-- Answers come closer: a caller that gets the begin of a window, lets time pass up to it and asks again gets a deadline, or
 -- the begin of a window of a lower level, as long as the least deadline is the same. There are four such levels, so an
 -- answer that isn't a deadline comes four times at most for one least deadline, whatever rows come or go beside it.
 abbrev pub LawOfCloserAnswers : Type 0

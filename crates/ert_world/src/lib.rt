@@ -83,7 +83,7 @@
 //!
 //! - **A world's calls are made by caller 0**, so that each op has the same entries whatever the number of callers.
 //! - **A wheel that no seat shares holds armed timers alone**, and that is part of what a world is: no call says it.
-//!   Who puts parts together looks once at each timer that is held (`World::from_parts`, `WheelPart::drop_settled`), by
+//!   A caller that puts parts together looks once at each timer that is held (`World::from_parts`, `WheelPart::drop_settled`), by
 //!   loads that are no entries, since the pass that holds every actor knows the whole history. A turn that looked at
 //!   every slot for that, with an entry for each look, was a second relation of every advance and turn.
 //! - **`counts` adds up counters that the parts keep** and scans no timer; its laws add and never subtract.
