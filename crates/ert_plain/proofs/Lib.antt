@@ -31,3 +31,4 @@ pub mod PossibleSweeps
 pub mod PossibleTurns
 pub mod PossibleOps
 pub mod PossibleRestarts
+pub mod PossibleSome

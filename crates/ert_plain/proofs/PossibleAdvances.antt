@@ -31,15 +31,15 @@ use Rattle.ert_plain.specs.PlainTurns.{due_rows}
 
 -- the earliest of the rows that are armed and due
 
-record IsPicked (status : TimerRef → Option Status) (to : ℕ) (rows : List Row) : Type 0 where
-  before : List Row
-  row : Row
-  behind : List Row
-  stands : rows ≡ before ++ (row ∷ behind)
-  armed : status row.timer ≡ Some Armed
-  low : row.deadline ≤ to
-  first_before : AllSettled status (λ d. nat_le d row.deadline) before
-  first_behind : AllSettled status (λ d. nat_lt d row.deadline) behind
+pub record IsPicked (status : TimerRef → Option Status) (to : ℕ) (rows : List Row) : Type 0 where
+  pub before : List Row
+  pub row : Row
+  pub behind : List Row
+  pub stands : rows ≡ before ++ (row ∷ behind)
+  pub armed : status row.timer ≡ Some Armed
+  pub low : row.deadline ≤ to
+  pub first_before : AllSettled status (λ d. nat_le d row.deadline) before
+  pub first_behind : AllSettled status (λ d. nat_lt d row.deadline) behind
 
 settled_weaker : (status : TimerRef → Option Status) (p q : ℕ → Bool) (rows : List Row) → ((d : ℕ) → q d ≡ true → p d ≡ true)
     → AllSettled status p rows → AllSettled status q rows
@@ -91,7 +91,7 @@ pick_earlier status to x xs armed low p true is =
     }
 pick_earlier status to x xs armed low p false is = with_first status to x xs p (λ le. let clash : true ≡ false = sym le ∙ is in absurd cc)
 
-abbrev Picks : (TimerRef → Option Status) → ℕ → List Row → Type 0
+abbrev pub Picks : (TimerRef → Option Status) → ℕ → List Row → Type 0
 Picks status to rows = AllSettled status (λ d. nat_le d to) rows ⊎ IsPicked status to rows
 
 pick_with : (status : TimerRef → Option Status) (to : ℕ) (x : Row) (xs : List Row) (a b : Bool) → is_armed (status x.timer) ≡ a → nat_le x.deadline to ≡ b
@@ -123,7 +123,7 @@ pick_with status to x xs true true armed due (inr p) =
     let low : x.deadline ≤ to = grind (arith, nat_tests) in
     inr (pick_earlier status to x xs (is_armed_some (status x.timer) armed) low p _ refl)
 
-pick : (status : TimerRef → Option Status) (to : ℕ) (rows : List Row) → Picks status to rows
+pub pick : (status : TimerRef → Option Status) (to : ℕ) (rows : List Row) → Picks status to rows
 pick status to [] = inl tt
 pick status to (x ∷ xs) = pick_with status to x xs _ _ refl refl (pick status to xs)
 
@@ -133,7 +133,7 @@ all_at : (P : Row → Type 0) (before : List Row) (row : Row) (behind : List Row
 all_at P [] row behind all = All-head P row behind all
 all_at P (x ∷ before) row behind all = all_at P before row behind (All-tail P x (before ++ (row ∷ behind)) all)
 
-expires_can : (g : Settings) (w to : ℕ) (z : State) → w < g.schedulers → IsReached g z → pos to ≡ down g (z.looked (Sched w)) → (p : IsPicked z.status to (z.rows w))
+pub expires_can : (g : Settings) (w to : ℕ) (z : State) → w < g.schedulers → IsReached g z → pos to ≡ down g (z.looked (Sched w)) → (p : IsPicked z.status to (z.rows w))
     → Can g z (expire_entry w p.row.timer)
 expires_can g w to z sched h is p =
     let placed : IsPlaced g w p.row = all_at (IsPlaced g w) p.before p.row p.behind (subst (All (IsPlaced g w)) p.stands (h.placed w)) in
@@ -175,12 +175,12 @@ armed_before true None is = let clash : None ≡ Some Armed = is in absurd cc
 armed_before true (Some Armed) is = refl
 armed_before true (Some _) is = is
 
-all_armed_before : (t : TimerRef) (status : TimerRef → Option Status) (tries : List Try)
+pub all_armed_before : (t : TimerRef) (status : TimerRef → Option Status) (tries : List Try)
     → AllArmed (λ r. cond (same_timer t r) (settled_as Expired (status r)) (status r)) tries → AllArmed status tries
 all_armed_before t status [] h = tt
 all_armed_before t status (u ∷ tries) h = (armed_before (same_timer t u.timer) (status u.timer) h.0, all_armed_before t status tries h.1)
 
-untried : (t : TimerRef) (status : TimerRef → Option Status) (tries : List Try) → status t ≡ Some Expired → AllArmed status tries → IsUntried t tries
+pub untried : (t : TimerRef) (status : TimerRef → Option Status) (tries : List Try) → status t ≡ Some Expired → AllArmed status tries → IsUntried t tries
 untried t status [] expired h = tt
 untried t status (u ∷ tries) expired h = (
   (λ same. let clash : Some Expired ≡ Some Armed = sym expired ∙ (ap status (sym same) ∙ h.0) in absurd cc),

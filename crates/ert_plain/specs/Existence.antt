@@ -20,9 +20,11 @@ use Rattle.ert_effects.specs.MailCalls.{Takes, Monitors, Demonitors, Notifies}
 use Rattle.ert_effects.specs.RequestCalls.{Asks}
 use Rattle.ert_effects.specs.RestartCalls.{Restarts}
 use Rattle.ert_effects.specs.RoomCalls.{TellsRoom}
+use Rattle.ert_effects.specs.SomeCalls.{AdvancesWheelSome}
 use Rattle.ert_effects.specs.TimerCalls.{Reads, Cancels, Starts}
 use Rattle.ert_effects.specs.Ways.{Step, Growth, alone}
 use Rattle.ert_effects.specs.WheelCalls.{TellsAlive, MarksExit}
+use Rattle.ert_effects.specs.declared.answers.Left.{Left}
 use Rattle.ert_effects.specs.declared.answers.MonitorErr.TheVariants.{NoMemory as NoMonitorMemory}
 use Rattle.ert_effects.specs.declared.answers.StartErr.TheVariants.{NoMemory}
 use Rattle.ert_effects.specs.declared.answers.Turned.{Turned}
@@ -86,6 +88,7 @@ pub record ProcessesAnswer (g : Settings) (s : State) : Type 0 where
 pub record ChainsAnswer (g : Settings) (h : List Entry) : Type 0 where
   pub serve : (w : ℕ) → w < g.schedulers → (served : Bool) × CanFollow g h (Serves g (alone g) w (Ok served))
   pub advance : (w : ℕ) → w < g.schedulers → (answer : ℕ × ℕ) × CanFollow g h (AdvancesWheel g (alone g) w (Ok answer))
+  pub advance_some : (w most : ℕ) → w < g.schedulers → (answer : ℕ × ℕ × Left) × CanFollow g h (AdvancesWheelSome g (alone g) w most (Ok answer))
   pub deliver : (w : ℕ) → w < g.schedulers → (answer : ℕ × ℕ) × CanFollow g h (Delivers g (alone g) w (Ok answer))
   pub turn : (w : ℕ) → w < g.schedulers → (turned : Turned) × CanFollow g h (Turns g (alone g) w (Ok turned))
   pub exit : (n p : ℕ) → n < g.callers → p < g.processes → (was_alive : Bool) × CanFollow g h (Exits g (alone g) n p was_alive)

@@ -5,6 +5,11 @@ use Rattle.ert_laws.proofs.SlotUses.{timers_few}
 use Rattle.ert_plain.proofs.PossibleCalls.{clock_answers, processes_answer, possible_read, possible_cancel}
 use Rattle.ert_laws.proofs.Since.{rounds_begun}
 use Rattle.ert_plain.proofs.PossibleRestarts.{possible_restart, possible_room}
+use Rattle.std.proofs.Common.{[], ◌∷◌}
+use Rattle.ert_defs.specs.declared.entry.Actor.TheVariants.{Wheel}
+use Rattle.ert_effects.specs.SomeCalls.{HasAdvancedSome}
+use Rattle.ert_plain.proofs.Following.{follow_step}
+use Rattle.ert_plain.proofs.PossibleSome.{possible_advance_some}
 use Rattle.ert_plain.proofs.PossibleStarts.{possible_start}
 use Rattle.ert_plain.proofs.PossibleSweeps.{possible_exit}
 use Rattle.ert_plain.proofs.PossibleTurns.{possible_serve, can_advance, possible_deliver, possible_turn}
@@ -25,6 +30,9 @@ returns c = λ g h checked legal. (
   record {
     serve = λ w sched. possible_serve g h w legal sched;
     advance = λ w sched. can_advance g h w checked legal sched;
+    advance_some = λ w most sched.
+        (let a = possible_advance_some g (state g h) w most (reached g h checked legal) sched in
+        (a.0, follow_step g h (Wheel w ∷ []) (HasAdvancedSome g w most a.0) a.1));
     deliver = λ w sched. possible_deliver g h w legal sched;
     turn = λ w sched. possible_turn g h w checked legal sched;
     exit = λ n p caller process. possible_exit g h n p checked legal caller process;
