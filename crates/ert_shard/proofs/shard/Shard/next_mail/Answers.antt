@@ -19,11 +19,11 @@ starts c =
     let counted = c.self.invariant.stand.mails.counted in
     let many : length b.mails.items ≡ b.to - b.from = omega (arith, counted) in
     elim c.match-take.branch [
-    in-Some w ↦ starts_there (counted_from b.from (state_of (arc_value b.desk) b.pass)) b.list c.take.result (b.to - b.from)
-    b.mails.items c.match-take.list w.in-Some.list many c.self.invariant.stand.listed c.take.ensures.value w.in-Some.is w.list-is
-  | in-None+in_ok-list-in-None w ↦ starts_new (exited_from b.from (state_of (arc_value b.desk) b.pass).exited) b.list c.take.result (b.to - b.from)
-    b.mails.items c.match-take.list w.in_ok-list-in-None.list many c.take.ensures.value w.in-None.is w.list-is w.in_ok-list-in-None.ensures
-]
+      | in-Some w ↦ starts_there (counted_from b.from (state_of (arc_value b.desk) b.pass)) b.list c.take.result (b.to - b.from)
+          b.mails.items c.match-take.list w.in-Some.list many c.self.invariant.stand.listed c.take.ensures.value w.in-Some.is w.list-is
+      | in-None+in_ok-list-in-None w ↦ starts_new (exited_from b.from (state_of (arc_value b.desk) b.pass).exited) b.list c.take.result (b.to - b.from)
+          b.mails.items c.match-take.list w.in_ok-list-in-None.list many c.take.ensures.value w.in-None.is w.list-is w.in_ok-list-in-None.ensures
+    ]
 
 pub next-next-requires-clause-listed : goal.next-next-requires-clause-listed
 next-next-requires-clause-listed c =
@@ -45,11 +45,11 @@ starts_then c =
     let counted = c.self.invariant.stand.mails.counted in
     let many : length b.mails.items ≡ b.to - b.from = omega (arith, counted) in
     elim c.match-take.branch [
-    in-Some w ↦ starts_there (counted_from b.from (state_of (arc_value b.desk) b.pass)) b.list c.take.result (b.to - b.from)
-    b.mails.items c.match-take.list w.in-Some.list many c.self.invariant.stand.listed c.take.ensures.value w.in-Some.is w.list-is
-  | in-None+in_ok-list-in-None w ↦ starts_new (exited_from b.from (state_of (arc_value b.desk) b.pass).exited) b.list c.take.result (b.to - b.from)
-    b.mails.items c.match-take.list w.in_ok-list-in-None.list many c.take.ensures.value w.in-None.is w.list-is w.in_ok-list-in-None.ensures
-]
+      | in-Some w ↦ starts_there (counted_from b.from (state_of (arc_value b.desk) b.pass)) b.list c.take.result (b.to - b.from)
+          b.mails.items c.match-take.list w.in-Some.list many c.self.invariant.stand.listed c.take.ensures.value w.in-Some.is w.list-is
+      | in-None+in_ok-list-in-None w ↦ starts_new (exited_from b.from (state_of (arc_value b.desk) b.pass).exited) b.list c.take.result (b.to - b.from)
+          b.mails.items c.match-take.list w.in_ok-list-in-None.list many c.take.ensures.value w.in-None.is w.list-is w.in_ok-list-in-None.ensures
+    ]
 
 found : (c : Joined-next)
     → Found c.args.self.now (arc_value c.self.inside.desk) c.next-next.new.pass (share_of c.self.inside.number c.self.inside.from c.self.inside.to)
