@@ -1,6 +1,6 @@
 -- A row of processes, and which are listed in it.
 
-use Rattle.std.proofs.Common.{◌≡◌, ◌≢◌, ℕ, ◌<◌, Bool, true, false, not, ◌&&◌, ◌||◌, nat_eq, List, [], ◌∷◌, ◌++◌, length, Option, Some, None, IfNone, refl, sym, ap, subst, ◌∙◌, eqb-true, eq-eqb, if◌then◌else◌}
+use Rattle.std.proofs.Common.{◌≡◌, ◌≢◌, ℕ, ◌<◌, Bool, true, false, not, ◌&&◌, ◌||◌, nat_eq, List, [], ◌∷◌, ◌++◌, length, Some, None, refl, sym, ap, subst, ◌∙◌, eqb-true, eq-eqb, if◌then◌else◌}
 use Rattle.std.specs.Prelude.{slice_set, slice_index_or}
 use Rattle.std.proofs.lemmas.Grind.{get_or-set_at}
 use Rattle.std.proofs.lemmas.List.{get_or-set_other, get_or_default, length-set}
@@ -97,10 +97,6 @@ bound_with row p = at (is_listed row p) refl
     at : (b : Bool) → is_listed row p ≡ b → (with_listed row p).bound ≡ row.bound
     at true is = ap (λ (r : TurnRow). r.bound) (with_there row p is)
     at false is = ap (λ (r : TurnRow). r.bound) (with_new row p is)
-
-pub if_none : {A : Type 0} (o : Option A) (X : Type 0) → X → IfNone o X
-if_none None X x = x
-if_none (Some a) X x = tt
 
 -- a mailbox of which nothing can be taken needn't be listed
 pub still_listed : (exited : ℕ → Bool) (old new : TurnRow) (mails : List Mailbox) (p : ℕ) → old ≡ record new { held = p ∷ new.held }
