@@ -38,7 +38,7 @@ mod settings;
 mod timer;
 
 pub use entry::{Act, Actor, Entry, Event};
-pub use laws::{entries_are_local, prefixes_are_legal, timers_settle_once};
+pub use laws::{entries_are_local, limits_are_fixed, prefixes_are_legal, timers_settle_once};
 pub use mail::{Mail, Monitor, Request, RequestKind};
 pub use memory::NoMemory;
 pub use monitors::{has_monitor, notify_monitors, remove_monitor};

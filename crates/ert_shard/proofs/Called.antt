@@ -13,7 +13,7 @@ use Rattle.ert_defs.specs.declared.entry.Entry.{Entry}
 use Rattle.ert_defs.specs.declared.settings.Settings.{Settings}
 use Rattle.ert_effects.specs.Ways.{Growth, Way}
 use Rattle.ert_mail.specs.Mailboxes.{Mailbox, MailboxStands as MailStands}
-use Rattle.ert_shard.specs.Shards.{Share, counted_from, IsHome, AreMails, is_by, Owned, owned, shard_way, ShardGoes, ShardSteps, ShardBy, HoldsShare, ShardParts, ShardPartsStand, AreHome, AreShardPartsFit}
+use Rattle.ert_shard.specs.Shards.{Share, counted_from, IsHome, AreMails, is_of, Owned, owned, shard_way, ShardGoes, ShardSteps, ShardBy, HoldsShare, ShardParts, ShardPartsStand, AreHome, AreShardPartsFit}
 use Rattle.ert_shard.proofs.Home.{home_on}
 use Rattle.ert_shard.proofs.Kept.{AreOwn, own_by, same_of, others_stand, self_own, home_own}
 use Rattle.ert_table.specs.Calls.{AreOnlyOf, IsMade}
@@ -71,7 +71,7 @@ has_at {before} {d} {e} {p} {s} {parts} same is fit = subst (λ x. Has before x 
 -- what a call may record, of a piece of the history in which these entries are the share's
 abbrev pub Makes : Desk → Pass → Pass → Share → ShardParts → List Entry → (Owned → Way → Growth) → Type 0
 Makes d p q s parts es call =
-    (m : List Entry) → front_of q ≡ front_of p ++ m → filter (is_by s) m ≡ es → call (owned d p s parts.wheel parts.list) (shard_way (owned d p s parts.wheel parts.list)) (front_of p) m
+    (m : List Entry) → front_of q ≡ front_of p ++ m → filter (is_of s) m ≡ es → call (owned d p s parts.wheel parts.list) (shard_way (owned d p s parts.wheel parts.list)) (front_of p) m
 
 pub finish : (before : Owned) (d : Desk) (p q : Pass) (s : Share) (old new : ShardParts) (es : List Entry) (lent : List Actor) (call : Owned → Way → Growth)
     → Has before d p s old → TurnsGrow old.list new.list → Belongs d q → TakesPlace (settings_of d) (view_of p) es (view_of q) → AreOnlyOf lent es → AreOwn s lent

@@ -1,6 +1,6 @@
 -- After a call that others stepped beside: whose the entries are, and which parts of a shard stand.
 
-use Rattle.std.proofs.Common.{◌≡◌, ℕ, ◌+◌, ◌<◌, Bool, true, false, List, [], ◌∷◌, filter, Option, Some, None, slice_index_or, refl, sym, ap, subst, ◌∙◌, arith, eq-eqb}
+use Rattle.std.proofs.Common.{◌≡◌, ℕ, ◌+◌, ◌<◌, Bool, true, false, List, [], ◌∷◌, filter, Option, Some, None, slice_index_or, refl, sym, ap, subst, ◌∙◌, arith, eq-eqb, ◌||◌}
 use Rattle.std.proofs.lemmas.Bool.{lt-ltb, le-leb}
 use Rattle.std.specs.Prelude.{nat_eq}
 use Rattle.ert_defs.proofs.Runs.{legal_then, state-append, exit_stays}
@@ -16,10 +16,9 @@ use Rattle.ert_mail.proofs.LawsHold.{inbox_on, mail_on}
 use Rattle.ert_mail.proofs.Listing.{listed_on}
 use Rattle.ert_mail.specs.Lists.{exited_from}
 use Rattle.ert_mail.specs.Mailboxes.{Mailbox}
+use Rattle.ert_shard.proofs.Partners.{none_any}
 use Rattle.ert_shard.proofs.StandOn.{sched_on}
-use Rattle.ert_shard.specs.Shards.{Share, IsHome, is_own, is_by, HoldsShare, ShardParts, ShardPartsStand, counted_from}
-use Rattle.ert_table.proofs.Calls.{made_ours}
-use Rattle.ert_table.proofs.Closings.{maker_in_range}
+use Rattle.ert_shard.specs.Shards.{Share, IsHome, is_own, is_of, HoldsShare, ShardParts, ShardPartsStand, counted_from, has_any, is_with_any}
 use Rattle.ert_table.proofs.Holders.{held_maker, same_actor-true}
 use Rattle.ert_table.specs.Calls.{AreOnlyOf}
 use Rattle.ert_table.specs.Held.{is_held, IsActor}
@@ -52,32 +51,26 @@ self_own n = eq-eqb n n refl
 
 -- of what a pass's front gains, the entries of its share are those of the call
 module _ (g : Settings) (actors : List Actor) (s : Share) (holds : HoldsShare g actors s) where
-  not_held : (e : Entry) → is_ours actors e ≡ false → is_held actors e.by ≡ false
-  not_held e theirs = at (is_held actors e.by) refl
-    where
-      at : (b : Bool) → is_held actors e.by ≡ b → is_held actors e.by ≡ false
-      at true is = let mine : is_ours actors e ≡ true = made_ours actors e is in absurd cc
-      at false is = is
-
   same_own : (lent : List Actor) (st : State) (m : List Entry) → AreOwn s lent → LegalFrom g st m → AreOnlyOf lent (filter (is_ours actors) m)
-      → filter (is_by s) m ≡ filter (is_ours actors) m
+      → filter (is_of s) m ≡ filter (is_ours actors) m
   same_own lent st [] own legal only = refl
   same_own lent st (e ∷ m) own legal only = at (is_ours actors e) refl (same_own lent (next g st e) m own legal.1)
     where
-      at : (b : Bool) → is_ours actors e ≡ b → (AreOnlyOf lent (filter (is_ours actors) m) → filter (is_by s) m ≡ filter (is_ours actors) m)
-          → filter (is_by s) (e ∷ m) ≡ filter (is_ours actors) (e ∷ m)
+      at : (b : Bool) → is_ours actors e ≡ b → (AreOnlyOf lent (filter (is_ours actors) m) → filter (is_of s) m ≡ filter (is_ours actors) m)
+          → filter (is_of s) (e ∷ m) ≡ filter (is_ours actors) (e ∷ m)
       at true is more =
           let mine : filter (is_ours actors) (e ∷ m) ≡ e ∷ filter (is_ours actors) m = rw is refl in
           let all = subst (AreOnlyOf lent) mine only in
           let one : is_own s e.by ≡ true = held_own s lent e.by own (held_maker lent e.by e.with all.0) in
-          rw (is, one) (ap (λ l. e ∷ l) (more all.1))
+          let some : has_any (is_own s) e ≡ true = ap (λ b. b || is_with_any (is_own s) e.with) one in
+          rw (is, some) (ap (λ l. e ∷ l) (more all.1))
       at false is more =
           let theirs : filter (is_ours actors) (e ∷ m) ≡ filter (is_ours actors) m = rw is refl in
-          let none : is_own s e.by ≡ false = sym (holds.own e.by (maker_in_range g e.by e.with e.event legal.0.keeps)) ∙ not_held e is in
+          let none : has_any (is_own s) e ≡ false = none_any g actors (is_own s) holds.own e legal.0.keeps is in
           rw (is, none) (more (subst (AreOnlyOf lent) theirs only))
 
 pub own_by : (g : Settings) (v : View) (es : List Entry) (w : View) (s : Share) (lent : List Actor) → HoldsShare g v.actors s
-    → (takes : TakesPlace g v es w) → AreOnlyOf lent es → AreOwn s lent → filter (is_by s) takes.later ≡ es
+    → (takes : TakesPlace g v es w) → AreOnlyOf lent es → AreOwn s lent → filter (is_of s) takes.later ≡ es
 own_by g v es w s lent holds takes only own =
     let legal = legal_then g (opening g) v.front takes.later (subst (Legal g) takes.grown takes.legal) in
     same_own g v.actors s holds lent (state g v.front) takes.later own legal (subst (AreOnlyOf lent) (sym takes.ours) only) ∙ takes.ours

@@ -23,3 +23,4 @@ pub mod StandOn
 pub mod Stepped
 pub mod Ticked
 pub mod Turned
+mod Partners

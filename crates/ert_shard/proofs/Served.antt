@@ -19,7 +19,7 @@ use Rattle.ert_world.specs.Stepping.{turns_same, turns_then}
 use Rattle.ert_shard.proofs.Called.{same_rows, rows_then}
 use Rattle.ert_shard.proofs.Stepped.{since, steps_as, steps_then, steps_then_share}
 use Rattle.ert_shard.specs.Serving.{ShardHasForgottenAll, ShardForgetsCancelled, ShardServes, ShardServesAll}
-use Rattle.ert_shard.specs.Shards.{Share, is_by, as_share, Owned, shard_way, ShardHasForgotten, ShardSteps}
+use Rattle.ert_shard.specs.Shards.{Share, is_of, as_share, Owned, shard_way, ShardHasForgotten, ShardSteps}
 use Rattle.ert_shard.specs.declared.requests.ServeErr.TheVariants.{NoMemory as NoMemoryToServe}
 use Rattle.ert_world.proofs.Forgotten.{answer_cancels}
 use Rattle.ert_world.proofs.Sparing.{CancelOnly}
@@ -115,8 +115,8 @@ forget_append o (e ∷ es) fs one other = (one.0, forget_append o es fs one.1 ot
 
 -- a request that is held cancels nothing
 hold_forgets : (o : Owned) (g : Settings) (s : Share) (hand got : Option Request) (h m : List Entry) → HoldsBy hand (as_share g s) g s.number got h m
-    → ShardHasForgottenAll o (filter (is_by s) m)
-hold_forgets o g s (Some request) got h m holds = subst (λ l. ShardHasForgottenAll o (filter (is_by s) l)) (sym holds.1) tt
+    → ShardHasForgottenAll o (filter (is_of s) m)
+hold_forgets o g s (Some request) got h m holds = subst (λ l. ShardHasForgottenAll o (filter (is_of s) l)) (sym holds.1) tt
 hold_forgets o g s None got h m holds = subst (ShardHasForgottenAll o) (sym holds) ((λ timer left is. cc), tt)
 
 -- entries that cancel one timer, of which no row is held then
@@ -140,16 +140,16 @@ held_forgets a b got holds =
 
 -- it is held, and then these entries are made for it
 then_forgets : (a b c : Owned) (got : Option Request) → ShardSteps a (λ way. HoldsRequest a.settings way a.share.number got) b
-    → (p : List Entry) → c.history ≡ b.history ++ p → ShardHasForgottenAll c (filter (is_by b.share) p) → ShardForgetsCancelled a c
+    → (p : List Entry) → c.history ≡ b.history ++ p → ShardHasForgottenAll c (filter (is_of b.share) p) → ShardForgetsCancelled a c
 then_forgets a b c got holds p grown forgot =
     let grows = holds.goes.grows in
     record {
       piece = grows.piece ++ p;
       grown = grown ∙ (ap (λ l. l ++ p) grows.grown ∙ append_assoc a.history grows.piece p);
-      forgotten = subst (ShardHasForgottenAll c) (sym (filter-append (is_by a.share) grows.piece p))
-          (forget_append c (filter (is_by a.share) grows.piece) (filter (is_by a.share) p)
+      forgotten = subst (ShardHasForgottenAll c) (sym (filter-append (is_of a.share) grows.piece p))
+          (forget_append c (filter (is_of a.share) grows.piece) (filter (is_of a.share) p)
           (hold_forgets c a.settings a.share (sched_of a.settings a.history a.share.number).hand got a.history grows.piece grows.made)
-          (subst (λ (s : Share). ShardHasForgottenAll c (filter (is_by s) p)) holds.goes.share forgot));
+          (subst (λ (s : Share). ShardHasForgottenAll c (filter (is_of s) p)) holds.goes.share forgot));
     }
 
 -- it is held and answered
@@ -159,8 +159,8 @@ pub served_forgets : (a b c : Owned) (request : Request) (left : Option ℕ) →
 served_forgets a b c request left holds answers forgot =
     let grows = answers.goes.grows in
     then_forgets a b c (Some request) holds grows.piece grows.grown
-    (only_forgets c request.timer (left_for request.kind left) (filter (is_by b.share) grows.piece)
-    (answer_cancels b.settings b.share.number request left (state b.settings b.history) (filter (is_by b.share) grows.piece) grows.made) forgot)
+    (only_forgets c request.timer (left_for request.kind left) (filter (is_of b.share) grows.piece)
+    (answer_cancels b.settings b.share.number request left (state b.settings b.history) (filter (is_of b.share) grows.piece) grows.made) forgot)
 
 -- it is held, and there is no memory for the answer
 pub unserved_forgets : (a b c : Owned) (request : Request) (e : NoMemory) → ShardSteps a (λ way. HoldsRequest a.settings way a.share.number (Some request)) b

@@ -21,12 +21,12 @@ use Rattle.ert_calls.specs.Published.{ReadsByLeastCaller}
 use Rattle.ert_mail.proofs.LawsHold.{inbox_on, mail_on}
 use Rattle.ert_mail.specs.Inboxes.{Waiting, InboxStands}
 use Rattle.ert_mail.specs.Mailboxes.{Mailbox, MailboxStands as MailStands}
+use Rattle.ert_shard.proofs.Partners.{none_any}
+use Rattle.ert_shard.specs.Shards.{has_any, is_with_any}
 use Rattle.ert_shard.proofs.Cut.{homes_on}
 use Rattle.ert_shard.specs.Hubs.{Rest, rest, is_kept, HubHoldsRest, IsRest, HubGoes, HubSteps, HubBy}
 use Rattle.ert_shard.specs.declared.hub.Home.{Home}
 use Rattle.ert_shard.proofs.Rejoined.{ordered_kept}
-use Rattle.ert_table.proofs.Calls.{made_ours}
-use Rattle.ert_table.proofs.Closings.{maker_in_range}
 use Rattle.ert_table.proofs.Holders.{held_maker, same_actor-true}
 use Rattle.ert_table.specs.Calls.{AreOnlyOf, IsMade}
 use Rattle.ert_table.specs.Desks.{settings_of, view_of, front_of, actors_of, Belongs}
@@ -55,28 +55,22 @@ module _ (g : Settings) (actors : List Actor) (own : Actor → Bool) (holds : (a
       at true is more = subst (λ c. own c ≡ true) (same_actor-true b a is) all.0
       at false is more = more (rw is at held)
 
-  not_held : (e : Entry) → is_ours actors e ≡ false → is_held actors e.by ≡ false
-  not_held e theirs = at (is_held actors e.by) refl
-    where
-      at : (b : Bool) → is_held actors e.by ≡ b → is_held actors e.by ≡ false
-      at true is = let mine : is_ours actors e ≡ true = made_ours actors e is in absurd cc
-      at false is = is
-
   same_own : (lent : List Actor) (st : State) (m : List Entry) → AllOwn lent → LegalFrom g st m → AreOnlyOf lent (filter (is_ours actors) m)
-      → filter (λ e. own e.by) m ≡ filter (is_ours actors) m
+      → filter (has_any own) m ≡ filter (is_ours actors) m
   same_own lent st [] all legal only = refl
   same_own lent st (e ∷ m) all legal only = at (is_ours actors e) refl (same_own lent (next g st e) m all legal.1)
     where
-      at : (b : Bool) → is_ours actors e ≡ b → (AreOnlyOf lent (filter (is_ours actors) m) → filter (λ e. own e.by) m ≡ filter (is_ours actors) m)
-          → filter (λ e. own e.by) (e ∷ m) ≡ filter (is_ours actors) (e ∷ m)
+      at : (b : Bool) → is_ours actors e ≡ b → (AreOnlyOf lent (filter (is_ours actors) m) → filter (has_any own) m ≡ filter (is_ours actors) m)
+          → filter (has_any own) (e ∷ m) ≡ filter (is_ours actors) (e ∷ m)
       at true is more =
           let mine : filter (is_ours actors) (e ∷ m) ≡ e ∷ filter (is_ours actors) m = rw is refl in
           let each = subst (AreOnlyOf lent) mine only in
           let one : own e.by ≡ true = held_own lent e.by all (held_maker lent e.by e.with each.0) in
-          rw (is, one) (ap (λ l. e ∷ l) (more each.1))
+          let some : has_any own e ≡ true = ap (λ b. b || is_with_any own e.with) one in
+          rw (is, some) (ap (λ l. e ∷ l) (more each.1))
       at false is more =
           let theirs : filter (is_ours actors) (e ∷ m) ≡ filter (is_ours actors) m = rw is refl in
-          let none : own e.by ≡ false = sym (holds e.by (maker_in_range g e.by e.with e.event legal.0.keeps)) ∙ not_held e is in
+          let none : has_any own e ≡ false = none_any g actors own holds e legal.0.keeps is in
           rw (is, none) (more (subst (AreOnlyOf lent) theirs only))
 
 zero_kept : (left first seat : ℕ) → is_kept left first seat (Caller 0) ≡ true
@@ -106,7 +100,7 @@ ticked before d e p q left first seat homes parts x allows same is fit belongs s
     let kept : (k : Actor) → IsActor g k → is_kept left first seat k ≡ true → is_held lent k ≡ false → of h k ≡ of (front_of p) k =
     λ k ranged own apart. own_kept g (view_of p) made.entries (view_of q) lent k takes only (fit.holds.rest k ranged ∙ own) apart in
     let legal = legal_then g (opening g) (front_of p) takes.later (subst (Legal g) takes.grown takes.legal) in
-    let own : filter (λ (e : Entry). is_kept left first seat e.by) takes.later ≡ made.entries =
+    let own : filter (has_any (is_kept left first seat)) takes.later ≡ made.entries =
     same_own g (actors_of p) (is_kept left first seat) fit.holds.rest lent (state g (front_of p)) takes.later (refl, (zero_kept left first seat, tt)) legal
     (subst (AreOnlyOf lent) (sym takes.ours) only) ∙ takes.ours in
     record {

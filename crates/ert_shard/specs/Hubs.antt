@@ -14,7 +14,7 @@ use Rattle.ert_effects.specs.Ways.{Growth, Way, Grows}
 use Rattle.ert_mail.specs.Inboxes.{InboxStands}
 use Rattle.ert_mail.specs.Mailboxes.{MailboxStands as MailStands}
 use Rattle.ert_laws.specs.Counts.{entries_of, is_arm}
-use Rattle.ert_shard.specs.Shards.{Share, share_of, Owned, AreHome}
+use Rattle.ert_shard.specs.Shards.{Share, share_of, Owned, AreHome, has_any}
 use Rattle.ert_shard.specs.declared.dividing.ShardErr.{ShardErr}
 use Rattle.ert_shard.specs.declared.dividing.ShardErr.TheVariants.{Used, NoMemory}
 use Rattle.ert_shard.specs.declared.hub.Home.{Home}
@@ -117,9 +117,9 @@ pub record IsFresh (w : Seen) (r : Rest) : Type 0 where
   pub next : r.next ≡ w.settings.schedulers + 1
   pub homes : r.homes ≡ []
 
--- whether an entry was made by an actor that is left
+-- whether an entry has an actor that is left
 abbrev pub is_rests : Rest → Entry → Bool
-is_rests r e = is_kept r.left r.first r.next e.by
+is_rests r e = has_any (is_kept r.left r.first r.next) e
 
 abbrev pub hub_way : Rest → Way
 hub_way r = among r.settings (is_rests r)

@@ -9,7 +9,7 @@ use Rattle.ert_defs.specs.declared.settings.Settings.{Settings}
 use Rattle.ert_defs.specs.declared.timer.TimerRef.{TimerRef}
 use Rattle.ert_effects.specs.Chains.{HoldsRequest, Serves, ServesMany}
 use Rattle.ert_effects.specs.Ways.{Growth, Way, Then}
-use Rattle.ert_shard.specs.Shards.{Share, is_by, IsHome, Owned, ShardHasForgotten}
+use Rattle.ert_shard.specs.Shards.{Share, is_of, IsHome, Owned, ShardHasForgotten}
 use Rattle.ert_shard.specs.declared.requests.ServeErr.{ServeErr}
 use Rattle.ert_shard.specs.declared.requests.ServeErr.TheVariants.{NotHome, NoMemory}
 
@@ -35,7 +35,7 @@ ShardHasForgottenAll o (e ∷ es) =
 pub record ShardForgetsCancelled (old new : Owned) : Type 0 where
   pub piece : List Entry
   pub grown : new.history ≡ old.history ++ piece
-  pub forgotten : ShardHasForgottenAll new (filter (is_by old.share) piece)
+  pub forgotten : ShardHasForgottenAll new (filter (is_of old.share) piece)
 
 -- there is no request to be served: none waits, or the one that is held is for a process of another shard
 abbrev pub EndsServing : Settings → Way → Share → Growth

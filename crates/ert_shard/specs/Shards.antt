@@ -1,6 +1,6 @@
 -- What callers see of a shard, and how its calls make its history longer.
 
-use Rattle.std.specs.Prelude.{◌≡◌, ◌≢◌, ℕ, ◌+◌, ◌<◌, ◌≤◌, Bool, false, ◌&&◌, nat_eq, nat_le, nat_lt, List, [], ◌∷◌, length, Option, None, slice_index_or}
+use Rattle.std.specs.Prelude.{◌≡◌, ◌≢◌, ℕ, ◌+◌, ◌<◌, ◌≤◌, Bool, false, ◌&&◌, ◌||◌, nat_eq, nat_le, nat_lt, List, [], ◌∷◌, length, Option, Some, None, slice_index_or}
 use Rattle.atomic_table.specs.Seated.{TableId}
 use Rattle.ert_defs.specs.Actors.{of}
 use Rattle.ert_defs.specs.Legal.{Legal}
@@ -48,13 +48,22 @@ is_own s (Sched w) = nat_eq w s.number
 is_own s (MailOf p) = nat_le s.from p && nat_lt p s.to
 is_own s (Caller c) = nat_eq c (s.number + 1)
 
--- whether an entry was made by an actor of a share
-abbrev pub is_by : Share → Entry → Bool
-is_by s e = is_own s e.by
+-- whether an actor with whom an entry was made passes a test
+abbrev pub is_with_any : (Actor → Bool) → Option Actor → Bool
+is_with_any own None = false
+is_with_any own (Some a) = own a
 
--- beside all others, by the actors of a share
+-- whether an entry has an actor that passes a test: its maker, or the one with whom it was made
+abbrev pub has_any : (Actor → Bool) → Entry → Bool
+has_any own e = own e.by || is_with_any own e.with
+
+-- whether an entry has an actor of a share
+abbrev pub is_of : Share → Entry → Bool
+is_of s e = has_any (is_own s) e
+
+-- beside all others, by the actors of a share: no other makes an entry with one of them
 abbrev pub as_share : Settings → Share → Way
-as_share g s = among g (is_by s)
+as_share g s = among g (is_of s)
 
 -- what callers see of a shard: which desk it is of, with its settings, the history that it knows, its share, its wheel, and
 -- the row of its processes that may have mail, counted from the first, from the first `next_mail` on
