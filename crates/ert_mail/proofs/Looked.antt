@@ -99,8 +99,8 @@ looked_all g v w first by row later none made = record {
   allowed = (
     none,
     made.allowed.entries
-    ∙ ap (λ l. exits_seen first by (with_mail first (state g v.front) l))
-    (sym (made.allowed.was ∙ (ap (λ l. made.allowed.passed ++ l) none ∙ append-nil made.allowed.passed))),
+        ∙ ap (λ l. exits_seen first by (with_mail first (state g v.front) l))
+        (sym (made.allowed.was ∙ (ap (λ l. made.allowed.passed ++ l) none ∙ append-nil made.allowed.passed))),
   );
   call = made.call;
 }

@@ -17,11 +17,11 @@ use Rattle.ert_world.proofs.world.World.next_mail.Goals.{After-deref-3, Joined-s
 starts : (c : After-deref-3) → Starts (state_of (arc_value c.self.inside.desk) c.self.inside.pass).exited c.self.inside.list (settings_of (arc_value c.self.inside.desk)).processes
     c.self.inside.mails.items c.match-take.list
 starts c = elim c.match-take.branch [
-    in-Some w ↦ starts_there (state_of (arc_value c.self.inside.desk) c.self.inside.pass) c.self.inside.list c.take.result (settings_of (arc_value c.self.inside.desk)).processes
-    c.self.inside.mails.items c.match-take.list w.in-Some.list c.self.invariant.sound.fit.stand.mails.counted c.self.invariant.listed c.take.ensures.value w.in-Some.is w.list-is
+  | in-Some w ↦ starts_there (state_of (arc_value c.self.inside.desk) c.self.inside.pass) c.self.inside.list c.take.result (settings_of (arc_value c.self.inside.desk)).processes
+      c.self.inside.mails.items c.match-take.list w.in-Some.list c.self.invariant.sound.fit.stand.mails.counted c.self.invariant.listed c.take.ensures.value w.in-Some.is w.list-is
   | in-None+in_ok-list-in-None w ↦ starts_new (state_of (arc_value c.self.inside.desk) c.self.inside.pass).exited c.self.inside.list c.take.result (settings_of (arc_value c.self.inside.desk)).processes
-    c.self.inside.mails.items c.match-take.list w.in_ok-list-in-None.list c.self.invariant.sound.fit.stand.mails.counted c.take.ensures.value w.in-None.is w.list-is
-    (w.in_ok-list-in-None.ensures ∙ ap (λ (g : Settings). let r : TurnRow = record { bound = g.processes; held = range_with_len 0 g.processes } in r) (w.settings.ensures ∙ ap settings_of w.deref.ensures))
+      c.self.inside.mails.items c.match-take.list w.in_ok-list-in-None.list c.self.invariant.sound.fit.stand.mails.counted c.take.ensures.value w.in-None.is w.list-is
+      (w.in_ok-list-in-None.ensures ∙ ap (λ (g : Settings). let r : TurnRow = record { bound = g.processes; held = range_with_len 0 g.processes } in r) (w.settings.ensures ∙ ap settings_of w.deref.ensures))
 ]
 
 pub next-next-requires-clause-listed : goal.next-next-requires-clause-listed
@@ -39,11 +39,11 @@ next-next-requires-clause-mail c =
 starts_then : (c : Joined-self) → Starts (state_of (arc_value c.self.inside.desk) c.self.inside.pass).exited c.self.inside.list (settings_of (arc_value c.self.inside.desk)).processes
     c.self.inside.mails.items c.match-take.list
 starts_then c = elim c.match-take.branch [
-    in-Some w ↦ starts_there (state_of (arc_value c.self.inside.desk) c.self.inside.pass) c.self.inside.list c.take.result (settings_of (arc_value c.self.inside.desk)).processes
-    c.self.inside.mails.items c.match-take.list w.in-Some.list c.self.invariant.sound.fit.stand.mails.counted c.self.invariant.listed c.take.ensures.value w.in-Some.is w.list-is
+  | in-Some w ↦ starts_there (state_of (arc_value c.self.inside.desk) c.self.inside.pass) c.self.inside.list c.take.result (settings_of (arc_value c.self.inside.desk)).processes
+      c.self.inside.mails.items c.match-take.list w.in-Some.list c.self.invariant.sound.fit.stand.mails.counted c.self.invariant.listed c.take.ensures.value w.in-Some.is w.list-is
   | in-None+in_ok-list-in-None w ↦ starts_new (state_of (arc_value c.self.inside.desk) c.self.inside.pass).exited c.self.inside.list c.take.result (settings_of (arc_value c.self.inside.desk)).processes
-    c.self.inside.mails.items c.match-take.list w.in_ok-list-in-None.list c.self.invariant.sound.fit.stand.mails.counted c.take.ensures.value w.in-None.is w.list-is
-    (w.in_ok-list-in-None.ensures ∙ ap (λ (g : Settings). let r : TurnRow = record { bound = g.processes; held = range_with_len 0 g.processes } in r) (w.settings.ensures ∙ ap settings_of w.deref.ensures))
+      c.self.inside.mails.items c.match-take.list w.in_ok-list-in-None.list c.self.invariant.sound.fit.stand.mails.counted c.take.ensures.value w.in-None.is w.list-is
+      (w.in_ok-list-in-None.ensures ∙ ap (λ (g : Settings). let r : TurnRow = record { bound = g.processes; held = range_with_len 0 g.processes } in r) (w.settings.ensures ∙ ap settings_of w.deref.ensures))
 ]
 
 found : (c : Joined-self)
