@@ -290,3 +290,13 @@ full_start a b w start deadline BadArg goes lone due memory =
     absurd cc
 full_start a b w start deadline NoMemory goes lone due memory = absurd (memory refl)
 full_start a b w start deadline Full goes lone due memory = goes
+
+-- and its answer is that
+pub full_answer : (a b : Seen) (w : ℕ) (start : Start) (deadline : ℕ) (e : StartErr) → Goes a (By a (λ g. Starts g 0 w start (Err e))) b
+    → a.next ≡ 1 → ((look : ℤ) → deadline_of a.settings start look ≡ Some deadline) → (e ≡ NoMemory → ⊥) → e ≡ Full
+full_answer a b w start deadline BadArg goes lone due memory =
+    let st = (goes.lone lone).made in
+    let clash : Some deadline ≡ None = sym (due st.now) ∙ st.refused in
+    absurd cc
+full_answer a b w start deadline NoMemory goes lone due memory = absurd (memory refl)
+full_answer a b w start deadline Full goes lone due memory = refl

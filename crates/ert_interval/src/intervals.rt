@@ -29,13 +29,14 @@ pub struct IntervalWorld {
 }
 
 impl IntervalWorld {
-    ghost use Rattle.std.specs.Prelude.{◌≡◌, ◌<◌, [], IfOk, length};
+    ghost use Rattle.std.specs.Prelude.{◌≡◌, ◌<◌, [], IfOk, length, Err};
     ghost use Rattle.ert_effects.specs.Chains.{Exits};
     ghost use Rattle.ert_effects.specs.ClockCalls.{Ticks};
     ghost use Rattle.ert_effects.specs.MailCalls.{Takes};
     ghost use Rattle.ert_defs.specs.Settings.{IsChecked};
     ghost use Rattle.ert_interval.specs.Intervals.{AreIntervalsKept};
     ghost use Rattle.ert_interval.specs.Calls.{FiringsAre, Every, Stops, StateIs};
+    ghost use Rattle.ert_world.specs.Frees.{IsUsedUpAt};
     ghost use Rattle.ert_world.specs.Openings.{IsOpened};
     ghost use Rattle.ert_world.specs.Worlds.{Goes, GoesOnClock, By};
 
@@ -75,6 +76,7 @@ impl IntervalWorld {
         requires dest { dest < self.old.world.settings.processes }
         requires few { length self.old.intervals.items < 4294967295 }
         ensures kept { AreIntervalsKept self.new.world self.new.intervals.items }
+        ensures full { result ≡ Err IntervalErr.Full → IsUsedUpAt self.old.world self.new.world wheel }
         ensures made { Every wheel first period dest msg self.old.world self.old.intervals.items result self.new.world self.new.intervals.items }
     {
         let settings = *self.world.settings();

@@ -5,7 +5,9 @@ use ert_defs::{Kind, Start, TimerRef, When};
 use ert_timers::StartErr;
 
 impl NameWorld {
-    ghost use Rattle.std.specs.Prelude.{◌≡◌, ◌<◌};
+    ghost use Rattle.std.specs.Prelude.{◌≡◌, ◌<◌, Err};
+    ghost use Rattle.ert_effects.specs.declared.answers.StartErr.TheVariants.{Full};
+    ghost use Rattle.ert_world.specs.Frees.{IsUsedUpAt};
     ghost use Rattle.ert_names.specs.Calls.{StartsNamed, TakesNamed, IsPlace, first_for, others_for};
 
     /// Starts a timer on a wheel for a name: when it expires, its message goes to the process that has the
@@ -22,6 +24,7 @@ impl NameWorld {
     ) -> Result<TimerRef, StartErr>
         requires { wheel < self.old.world.settings.schedulers }
         ensures call { StartsNamed self.old wheel when (record { name = name.now; msg = msg; kind = kind }) result self.new }
+        ensures full { result ≡ Err Full → IsUsedUpAt self.old.world self.new.world wheel }
     {
         let Ok(name) = name.to_string(self.alloc) else {
             return Err(StartErr::NoMemory);

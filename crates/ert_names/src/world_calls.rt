@@ -11,11 +11,12 @@ impl NameWorld {
     ghost use Rattle.ert_effects.specs.ClockCalls.{Ticks};
     ghost use Rattle.ert_effects.specs.MailCalls.{Takes};
     ghost use Rattle.ert_effects.specs.TimerCalls.{Reads, Cancels, Starts};
-    ghost use Rattle.ert_effects.specs.declared.answers.StartErr.TheVariants.{NoMemory};
+    ghost use Rattle.ert_effects.specs.declared.answers.StartErr.TheVariants.{Full, NoMemory};
     ghost use Rattle.ert_clock.specs.Ticks.{act_of, Gives};
     ghost use Rattle.ert_defs.specs.declared.entry.Actor.TheVariants.{Caller};
     ghost use Rattle.ert_names.specs.Calls.{GoesAlone, GoesAloneOnClock, ExitDropsName};
     ghost use Rattle.ert_names.specs.Names.{Unnamed};
+    ghost use Rattle.ert_world.specs.Frees.{IsUsedUpAt};
     ghost use Rattle.ert_world.specs.Worlds.{By};
 
     /// Takes one reading of the OS clocks, as `World::tick`.
@@ -33,6 +34,7 @@ impl NameWorld {
         requires not_registrar { start.now.dest ≢ 0 }
         ensures call { GoesAlone self.old (By self.old.world (λ g. Starts g 0 wheel start.now result)) self.new }
         ensures memory { result ≢ Err NoMemory }
+        ensures full { result ≡ Err Full → IsUsedUpAt self.old.world self.new.world wheel }
     {
         self.world.start(wheel, start)
     }

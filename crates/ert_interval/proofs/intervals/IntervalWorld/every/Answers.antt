@@ -10,7 +10,7 @@ use Rattle.ert_interval.specs.declared.interval.Interval.{Interval}
 use Rattle.ert_interval.specs.declared.interval.IntervalState.TheVariants.{Running}
 use Rattle.ert_interval.proofs.Plain.{starts_plain}
 use Rattle.ert_interval.proofs.Pushing.{begun}
-use Rattle.ert_interval.proofs.Starting.{started, full_start}
+use Rattle.ert_interval.proofs.Starting.{started, full_answer, full_start}
 use Rattle.ert_interval.proofs.Tables.{all_kept, pushed_kept}
 use Rattle.ert_world.specs.Worlds.{Goes, By}
 use Rattle.ert_interval.proofs.intervals.IntervalWorld.every.Goals as goal
@@ -51,6 +51,19 @@ returns-in_default-started-clause-made c =
       c.reserve-else-is_err.ensures.items,
     )
 
+pub returns-in_default-started-clause-full : goal.returns-in_default-started-clause-full
+returns-in_default-started-clause-full c = λ is.
+    let a = c.args.self.now.world in
+    let b = c.start-started.new.self in
+    let e = c.in_default-started.field-0 in
+    let fits : FitsSigned w64 c.args.first = search rules in
+    let first : to_z w64 (of_z w64 c.args.first) ≡ c.args.first = to_z-of_z fits in
+    let start : c.start_at-start.result ≡ start_at c.args.first c.args.dest c.args.msg = rw first at c.start_at-start.ensures in
+    let due = due_of a.settings c.settings.result.now c.args.first _ c.in-Some.deadline first c.settings.ensures.value c.in-Some.ensures.told in
+    c.in_default-started.ensures.full (ap Err (full_answer a b c.args.wheel (start_at c.args.first c.args.dest c.args.msg) c.in-Some.deadline e
+    (subst (λ x. Goes a (By a (λ g. Starts g 0 c.args.wheel x (Err e))) b) start c.in_default-started.ensures.call)
+    c.requires.kept.lone (λ look. due) (λ none. c.in_default-started.ensures.memory (ap Err none))))
+
 pub returns : goal.returns
 returns c =
     let a = c.args.self.now.world in
@@ -81,6 +94,7 @@ returns c =
     let last : c.push_reserved-2.new.self.items ≡ c.args.self.now.intervals.items ++ made ∷ [] =
     c.push_reserved-2.ensures.items ∙ ap (λ l. l ++ made ∷ []) c.reserve-else-is_err.ensures.items in
     record {
+      full = λ is. absurd cc;
       kept = subst (AreIntervalsKept b) (sym last)
           (pushed_kept a b _ c.args.self.now.intervals.items made call c.requires.kept
           (starts_plain a.settings 0 c.args.wheel (start_at c.args.first c.args.dest c.args.msg) (Ok c.in-Ok.last) (state a.settings a.history) grows.piece grows.made)
