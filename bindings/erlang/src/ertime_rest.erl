@@ -48,11 +48,12 @@ loop(Known, Round, Until) ->
         {busy, Busy, New} -> again(New, Busy, Round, Until)
     end.
 
-again(Known, _, Round, Until) when Round < ?YIELDS ->
-    erlang:yield(),
-    loop(Known, Round + 1, Until);
+%% A yield takes long where many processes are at work.
 again(Known, Busy, Round, Until) ->
     case erlang:monotonic_time(millisecond) < Until of
+        true when Round < ?YIELDS ->
+            erlang:yield(),
+            loop(Known, Round + 1, Until);
         true ->
             receive
             after 1 -> loop(Known, Round + 1, Until)
