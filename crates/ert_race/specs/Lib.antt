@@ -1,4 +1,5 @@
 pub mod Ends
+pub mod Existence
 pub mod Laws
 pub mod Lists
 pub mod Made

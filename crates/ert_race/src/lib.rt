@@ -5,7 +5,7 @@
 //! `run_race` does the ops first, and writes the report. What comes of it is an outcome (`specs/Outcomes`): one
 //! legal history, and the report of its replies. `specs/Made` says what one actor makes in a stretch of a history
 //! beside others, and `specs/Reports` what the text is. Many outcomes come of one race, since the threads may step
-//! in any order.
+//! in any order; each race has one (`races_have_outcomes`).
 //!
 //! **The threads.** One of them keeps the clock, and acts as caller 0; one makes turns, for each scheduler; and
 //! each further one does a list of ops as a caller of its own. Each worker has its seat (`ert_locks`), whose pass
@@ -18,7 +18,8 @@
 //! **Labels.** A list knows the labels that were bound before the race, by the `LabelMap` of the ops, which all
 //! workers share, and its own, for which it keeps another. It knows none of another list.
 //!
-//! It stands on `ert_service` and `ert_locks` for the threads, and on `ert_script` for the ops and the text.
+//! It stands on `ert_service` and `ert_locks` for the threads, on `ert_script` for the ops and the text, and on
+//! `ert_plain` for the law that each race has an outcome.
 //!
 //! **Choices.**
 //!
@@ -31,6 +32,7 @@
 #![tactic(auto)]
 
 mod contested;
+mod existence;
 mod gates;
 mod laws;
 mod list;
@@ -44,6 +46,7 @@ mod turns;
 mod workers;
 
 pub use contested::a_contest_has_an_outcome;
+pub use existence::races_have_outcomes;
 pub use gates::{FreeGate, Gate, LedgerGate};
 pub use laws::lists_are_done_whole;
 pub use list::ListDone;
