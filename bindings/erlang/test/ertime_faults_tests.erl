@@ -303,8 +303,12 @@ process_limit_test_() ->
     {timeout, 120, fun() ->
         Paths = lists:append([["-pa", filename:dirname(code:which(Module))] || Module <- [ertime, ?MODULE]]),
         Arguments = ["+P", "32768", "-noshell", "-run", atom_to_list(?MODULE), "process_limit" | Paths],
-        Port = open_port({spawn_executable, os:find_executable("erl")}, [{args, Arguments}, exit_status]),
-        ?assertEqual(0, receive {Port, {exit_status, Status}} -> Status end)
+        %% In a process that keeps what the node writes.
+        {Pid, Monitor} = spawn_monitor(fun() ->
+            Port = open_port({spawn_executable, os:find_executable("erl")}, [{args, Arguments}, exit_status]),
+            receive {Port, {exit_status, Status}} -> exit({status, Status}) end
+        end),
+        ?assertEqual({status, 0}, receive {'DOWN', Monitor, process, Pid, Reason} -> Reason end)
     end}.
 
 process_limit() ->
