@@ -12,7 +12,7 @@
 %% waited for in any case.
 -module(ertime_rest).
 
--export([wait/1, wait/2, describe/1, monitored_by/1, processes_of/1]).
+-export([wait/1, rests/3, describe/1, monitored_by/1, processes_of/1]).
 
 -define(KEY, '$ertime_rest').
 -define(YIELDS, 200).
@@ -29,42 +29,52 @@
     others            % what `ertime_others' knows of the node
 }).
 
+%% Raises who doesn't rest within the limit of the application. It looks so many times at least: where the machine is slow, there are
+%% few looks in that time, and who was at work at one of them may rest.
 wait(Clock) ->
-    wait(Clock, application:get_env(ertime, rest_limit, 5000)).
+    wait(Clock, ?YIELDS, erlang:monotonic_time(millisecond) + application:get_env(ertime, rest_limit, 5000)).
 
-%% For at most so many milliseconds.
-wait(Clock, Limit) ->
-    Known =
-        case get(?KEY) of
-            #known{clock = Clock} = Before -> Before;
-            _ -> #known{clock = Clock, others = ertime_others:new()}
-        end,
-    put(?KEY, loop(Known, 0, erlang:monotonic_time(millisecond) + Limit)),
-    ok.
-
-loop(Known, Round, Until) ->
-    case look(Known) of
-        {rest, New} -> New;
-        {busy, Busy, New} -> again(New, Busy, Round, Until)
-    end.
-
-%% A yield takes long where many processes are at work.
-again(Known, Busy, Round, Until) ->
-    case erlang:monotonic_time(millisecond) < Until of
-        true when Round < ?YIELDS ->
-            erlang:yield(),
-            loop(Known, Round + 1, Until);
-        true ->
-            receive
-            after 1 -> loop(Known, Round + 1, Until)
-            end;
-        false ->
+wait(Clock, Looks, Until) ->
+    case loop(known(Clock), 0, Looks, Until) of
+        rest ->
+            ok;
+        {busy, Busy} ->
             case [describe(Pid) || Pid <- lists:usort(Busy), is_process_alive(Pid)] of
                 [] ->
-                    loop(Known, Round, Until);
+                    wait(Clock, 1, Until);
                 Busiest ->
                     erase(?KEY),
                     error({not_at_rest, Busiest})
+            end
+    end.
+
+%% Whether they rest: it looks for so many milliseconds, and so many times at least. What was seen is kept for the next call.
+rests(Clock, Looks, Milliseconds) ->
+    loop(known(Clock), 0, Looks, erlang:monotonic_time(millisecond) + Milliseconds) =:= rest.
+
+known(Clock) ->
+    case get(?KEY) of
+        #known{clock = Clock} = Before -> Before;
+        _ -> #known{clock = Clock, others = ertime_others:new()}
+    end.
+
+loop(Known, Round, Looks, Until) ->
+    case look(Known) of
+        {rest, New} -> put(?KEY, New), rest;
+        {busy, Busy, New} -> again(New, Busy, Round, Looks, Until)
+    end.
+
+again(Known, Busy, Round, Looks, Until) ->
+    case Round >= Looks andalso erlang:monotonic_time(millisecond) >= Until of
+        true ->
+            put(?KEY, Known),
+            {busy, Busy};
+        false when Round < ?YIELDS ->
+            erlang:yield(),
+            loop(Known, Round + 1, Looks, Until);
+        false ->
+            receive
+            after 1 -> loop(Known, Round + 1, Looks, Until)
             end
     end.
 

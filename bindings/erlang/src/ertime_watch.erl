@@ -24,10 +24,12 @@
 -define(ASLEEP, 2000).
 -define(LOOK, 100).
 -define(PACE, 10).
+-define(PACE_LOOKS, 200).
 -define(MOST_STEPS, 1000).
 -define(AFTER, '$ertime_after').
 -define(LONGEST, 1 bsl 60).
 -define(MOST_AT_ONE_TIME, 20000).
+-define(MOST_TOLD, 1000).
 
 -record(watch, {clock, owner, options, monitor, started, since = none, seen = none, same = 0}).
 
@@ -62,13 +64,14 @@ is_auto(Clock) ->
 %% Whether nobody moves the clock, and nobody is about to: all others of its processes rest.
 -spec is_left(ertime:clock()) -> boolean().
 is_left(Clock) ->
-    not is_auto(Clock) andalso nobody_leads(Clock) andalso all_rest(Clock, ?LOOK).
+    not is_auto(Clock) andalso nobody_leads(Clock) andalso all_rest(Clock, 1, ?LOOK).
 
-all_rest(Clock, Milliseconds) ->
-    try ertime_rest:wait(Clock, Milliseconds) of
-        ok -> true
+%% Where no more processes can be spawned, it can't be seen.
+all_rest(Clock, Looks, Milliseconds) ->
+    try
+        ertime_rest:rests(Clock, Looks, Milliseconds)
     catch
-        error:{not_at_rest, _} -> false
+        error:system_limit -> false
     end.
 
 now_ms() -> erlang:monotonic_time(millisecond).
@@ -111,12 +114,12 @@ auto(Watch = #watch{clock = Clock, started = Started, options = #{limit := Limit
     end.
 
 go_on(Watch = #watch{clock = Clock, options = #{pace := Pace}}) ->
-    case all_rest(Clock, Pace) of
+    case all_rest(Clock, ?PACE_LOOKS, Pace) of
         true -> connected(Watch, nodes(connected));
         false -> paced(Watch, Pace)
     end;
 go_on(Watch = #watch{clock = Clock}) ->
-    case all_rest(Clock, ?LOOK) of
+    case all_rest(Clock, 1, ?LOOK) of
         true -> next(Watch);
         false -> auto(Watch#watch{since = none})
     end.
@@ -158,12 +161,15 @@ next(Watch = #watch{clock = Clock, same = Same}) ->
     end.
 
 %% Sends what is due, or else goes on to the next deadline: whether the time was moved, how many messages were sent, and how many
-%% timers were armed then. Or why it didn't: `other' where another process moves the clock, `closed' or `no_memory'.
+%% timers were armed then. Or why it didn't: `other' where another process moves the clock or no more processes can be spawned,
+%% `closed' or `no_memory'.
 led(Clock) ->
     case ertime_nif:lead(Clock) of
         true ->
             try
                 moved(Clock, ertime_drive:step(Clock, 0))
+            catch
+                error:system_limit -> other
             after
                 ertime_nif:unlead(Clock)
             end;
@@ -258,7 +264,7 @@ processes_of(Clock) ->
         _ -> []
     end.
 
-%% Each process of a clock, and where it is.
+%% The processes of a clock, a thousand of them at most, and where each is.
 -spec who_waits(ertime:clock()) -> [{pid(), [{atom(), term()}]}].
 who_waits(Clock) ->
-    [Told || Pid <- processes_of(Clock), {_, [_ | _]} = Told <- [ertime_rest:describe(Pid)]].
+    [Told || Pid <- lists:sublist(processes_of(Clock), ?MOST_TOLD), {_, [_ | _]} = Told <- [ertime_rest:describe(Pid)]].

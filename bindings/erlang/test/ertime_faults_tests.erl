@@ -4,6 +4,9 @@
 -include_lib("eunit/include/eunit.hrl").
 -compile({parse_transform, ertime_transform}).
 
+%% In a node of its own.
+-export([process_limit/0]).
+
 -define(SECOND, 1000).
 
 under(Schedule, Fun) ->
@@ -294,6 +297,38 @@ leaves_nothing_test_() ->
         ?assertEqual(Online, erlang:system_info(schedulers_online)),
         ?assertEqual([], [Filter || Filter = {Id, _} <- maps:get(filters, logger:get_primary_config()), lists:prefix("ertime_quiet", atom_to_list(Id))])
     end}.
+
+%% Tests that spawn sleeping processes as fast as they can, up to the limit of their node: a fresh one, with a low limit.
+process_limit_test_() ->
+    {timeout, 120, fun() ->
+        Paths = lists:append([["-pa", filename:dirname(code:which(Module))] || Module <- [ertime, ?MODULE]]),
+        Arguments = ["+P", "32768", "-noshell", "-run", atom_to_list(?MODULE), "process_limit" | Paths],
+        %% In a process that keeps what the node writes.
+        {Pid, Monitor} = spawn_monitor(fun() ->
+            Port = open_port({spawn_executable, os:find_executable("erl")}, [{args, Arguments}, exit_status]),
+            receive {Port, {exit_status, Status}} -> exit({status, Status}) end
+        end),
+        ?assertEqual({status, 0}, receive {'DOWN', Monitor, process, Pid, Reason} -> Reason end)
+    end}.
+
+process_limit() ->
+    Fast = fun Fast() -> spawn(fun() -> timer:sleep(infinity) end), Fast() end,
+    Again = fun Again() -> try Fast() catch error:system_limit -> timer:sleep(1000), Again() end end,
+    {passed, 1} = ertime_seeds:check(1, #{}, fun(_) -> ok end),
+    Before = processes(),
+    Failed = fun(Fun) ->
+        {failed, #{raised := {error, Reason, _}}} = ertime_seeds:check(3, #{limit => 1000, shrink => false}, Fun),
+        case Reason of _ when is_tuple(Reason) -> element(1, Reason); _ -> Reason end
+    end,
+    system_limit = Failed(fun(_) -> Fast() end),
+    true = lists:member(Failed(fun(_) -> spawn(Fast), timer:sleep(infinity) end), [deadlock, real_time_limit]),
+    real_time_limit = Failed(fun(_) -> spawn(Again), timer:sleep(infinity) end),
+    all_gone(Before),
+    halt(0).
+
+%% What logs is gone when the runtime has written that there are too many processes.
+all_gone(Before) ->
+    processes() -- Before =:= [] orelse begin timer:sleep(100), all_gone(Before) end.
 
 %% --- a suite as it is ---------------------------------------------------------------------------------------------
 
