@@ -20,6 +20,7 @@ use Rattle.ert_table.specs.Settlings.{ShownWord}
 use Rattle.ert_table.specs.Takes.{Appends, TakesPlace}
 use Rattle.ert_table.specs.declared.view.View.{View}
 use Rattle.ert_timers.proofs.Dropped.{armed_is, told_none, told_some}
+use Rattle.ert_timers.proofs.Freed.{frees_given, frees_none, frees_then}
 use Rattle.ert_timers.proofs.Lookings.{found_is, status_is}
 use Rattle.ert_timers.proofs.Passing.{loses_none, loses_row, loses_then}
 use Rattle.ert_timers.proofs.Rows.{key_left}
@@ -173,6 +174,7 @@ drops_none g v p stands = record {
   call = none_probed g v p stands;
   stands = stands;
   loses = loses_none p;
+  frees = frees_none p;
   time = refl;
   fewer = omega arith;
 }
@@ -190,6 +192,7 @@ drops_more g v u x p q r n k key some has one =
       call = call_push g v u x p.number some.probes last some.call (step_of g u p q k one.found x some.loses one.step);
       stands = one.stands;
       loses = loses_then p q r some.loses loses;
+      frees = frees_then p q r some.loses some.frees (frees_given q r k false one.part);
       time = ap (λ (y : Part). y.passed) one.part ∙ some.time;
       fewer = omega (arith, some.fewer, given_fewer q r k key has one.part);
     }
@@ -212,6 +215,7 @@ asks_there g v u p q r n most answer some low is held found =
       held = held;
       found = found;
       loses = some.loses;
+      frees = some.frees;
       time = some.time;
     })
 
@@ -269,6 +273,7 @@ asks_armed g v u x p q r t n most time k answer some low is held told tells b ar
       held = subst (IsNextHeld q) told held;
       found = inl done.near;
       loses = some.loses;
+      frees = some.frees;
       time = some.time;
     })
 
@@ -294,6 +299,7 @@ asks_anew g v u p q answer on = record {
   held = on.held;
   found = within_next (state g u.front) p q answer on.found;
   loses = on.loses;
+  frees = on.frees;
   time = on.time;
 }
 
@@ -328,6 +334,7 @@ asks_more g v u x p q r time k answer tells b not probed on =
       held = on.held;
       found = within_more (state g x.front) p q r answer (given_fewer p q k tells.key tells.has one.part) on.found;
       loses = loses_then p q r loses on.loses;
+      frees = frees_then p q r loses (frees_given p q k false one.part) on.frees;
       time = on.time ∙ ap (λ (y : Part). y.passed) one.part;
     }
   where
@@ -382,6 +389,22 @@ finds_last : (k : ℕ) (probes : List Probed) (one : Probed) → one.slot ≡ k 
 finds_last k [] one slot armed = inl (slot, armed)
 finds_last k (p ∷ probes) one slot armed = inr (finds_last k probes one slot armed)
 
+-- none was probed yet
+pub probes_none : (g : Settings) (v : View) (p : Part) → PartStands g v.front p → ProbesSome g v p p 0 0 v
+probes_none g v p stands = record {
+  probes = [];
+  order = omega arith;
+  settled = refl;
+  few = omega arith;
+  call = none_probed g v p stands;
+  stands = stands;
+  loses = loses_none p;
+  frees = frees_none p;
+  time = refl;
+  fewer = omega arith;
+  armed = λ k key low has. absurd (omega (arith, low));
+}
+
 -- the next has no row
 pub probes_vacant : (g : Settings) (v u : View) (p q : Part) (n m : ℕ) → ProbesSome g v p q n m u → key_in q.keys n ≡ None → ProbesSome g v p q (n + 1) m u
 probes_vacant g v u p q n m some none = record {
@@ -392,6 +415,7 @@ probes_vacant g v u p q n m some none = record {
   call = some.call;
   stands = some.stands;
   loses = some.loses;
+  frees = some.frees;
   time = some.time;
   fewer = some.fewer;
   armed = λ k key low has.
@@ -415,6 +439,7 @@ probes_stay g v u x p q r n m some one =
       call = call_push g v u x p.number some.probes last some.call (step_of g u p q n one.found x some.loses one.step);
       stands = subst (PartStands g x.front) one.part one.stands;
       loses = some.loses;
+      frees = some.frees;
       time = some.time;
       fewer = some.fewer;
       armed = λ k key low has.
@@ -438,6 +463,7 @@ probes_drop g v u x p q r n m key some has one =
       call = call_push g v u x p.number some.probes last some.call (step_of g u p q n one.found x some.loses one.step);
       stands = one.stands;
       loses = loses_then p q r some.loses loses;
+      frees = frees_then p q r some.loses some.frees (frees_given q r n false one.part);
       time = ap (λ (y : Part). y.passed) one.part ∙ some.time;
       fewer = omega (arith, some.fewer, given_fewer q r n key has one.part);
       armed = λ k seen low is.
