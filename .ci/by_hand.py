@@ -1,18 +1,18 @@
-"""Which part of a document a script writes.
+"""Which part of a document people write, and which a script.
 
-A page that begins with a sentence `GENERATED` is written whole by a script; in others a part is generated that stands between
-the line `<!-- NAME -->` and the line `<!-- end of NAME -->` (of the model and of the reading base with an article). What is
-neither is written by hand.
+A script writes what stands between the line `<!-- NAME -->` and the line `<!-- end of NAME -->` (of the model and of the reading
+base with an article), a transcript below the command `ertime run` that prints it, and the pages of WHOLE. The rest is by hand.
 """
 import re
 
 PART = re.compile(r"^<!-- (?:the )?([^>]+?) -->\n(.*?)^<!-- end of (?:the )?\1 -->\n?", re.M | re.S)
-GENERATED = "<!-- This page is generated"
+QUOTED = re.compile(r"^(    \$ ertime run < (examples/\S+)\n)(?:    .*\n)+", re.M)
+WHOLE = ("READING-BASE.md",)
 
 
-def by_hand(text: str) -> str:
-    """A page without what scripts write in it."""
-    return "" if GENERATED in text[:1000] else PART.sub("", text)
+def by_hand(name: str, text: str) -> str:
+    """What people write of a page."""
+    return "" if name in WHOLE else QUOTED.sub(r"\1", PART.sub("", text))
 
 
 def with_part(text: str, name: str, made: str) -> str:
@@ -20,4 +20,4 @@ def with_part(text: str, name: str, made: str) -> str:
     begin, end = f"<!-- {name} -->\n", f"<!-- end of {name} -->"
     if text.count(begin) != 1 or text.count(end) != 1:
         raise ValueError(f"there is no one place for the part {name!r}")
-    return text[: text.index(begin) + len(begin)] + "\n" + made + "\n" + text[text.index(end):]
+    return text[: text.index(begin) + len(begin)] + "\n" + made + "\n" + text[text.index(end) :]
