@@ -29,6 +29,7 @@ pub mod Least
 pub mod Near
 pub mod NextDue
 pub mod Parts
+pub mod Renumber
 pub mod Reaching
 pub mod Standing
 pub mod Staying
