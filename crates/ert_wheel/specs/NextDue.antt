@@ -112,18 +112,6 @@ pub record IsLeastIn (keys : List (Option Key)) (spot : Key → Place) (bucket b
   pub below : (slot : ℕ) (key : Key) → key_in keys slot ≡ Some key → (spot key).home ≡ bucket → least ≤ key.deadline
   pub near : IsDueIn keys spot bucket least ⊎ (least ≡ bound)
 
--- a time is the begin of the window in which a row of a bucket is due, as wide as a bucket of its level is
-pub record BeginsIn (keys : List (Option Key)) (spot : Key → Place) (bucket time : ℕ) : Type 0 where
-  pub slot : ℕ
-  pub key : Key
-  pub has : key_in keys slot ≡ Some key
-  pub at_home : (spot key).home ≡ bucket
-  pub begin : time ≡ key.deadline / 512 ^ (bucket / 1024) * 512 ^ (bucket / 1024)
-
--- how early a row of a bucket may be due: the least deadline, or the begin of the bucket's window
-abbrev pub IsEarlyIn : List (Option Key) → (Key → Place) → ℕ → ℕ → Type 0
-IsEarlyIn keys spot bucket time = IsLeastIn keys spot bucket NEVER time ⊎ BeginsIn keys spot bucket time
-
 -- some row is due at a time, or a window begins there that has one, or it is the end of all times
 abbrev pub IsEarlyOrNever : List (Option Key) → ℕ → ℕ → Type 0
 IsEarlyOrNever keys passed time = (IsDueAt keys time ⊎ WindowBegins keys passed time) ⊎ (time ≡ NEVER)

@@ -145,6 +145,7 @@ mod links;
 mod marked;
 mod marks;
 mod oldest;
+mod ordering;
 mod row;
 mod sorting;
 mod telling;
@@ -153,6 +154,6 @@ mod wheel;
 mod windows;
 
 pub use keyed::Keyed;
-pub use laws::answers_come_closer;
+pub use laws::answers_are_rare;
 pub use row::{BUCKETS, FirstDue, HeldRow, Key, Row};
 pub use wheel::Wheel;

@@ -26,5 +26,5 @@ returns g c =
     answer_is (NoRow keys) c.least_in.result c.least_in.ensures.all c.least_in.ensures.least (λ least looked.
     subst (λ (n : ℕ). IsNextDue keys n least) (ap passed_of c.self.view_is)
     (least_here look.stand least due
-    (subst (λ (b : ℕ). IsLeastIn keys (stand_on next look.level look.stand.rank) b NEVER least) c.bucket_of_window-home.ensures.is
+    (subst (λ (b : ℕ). IsLeastIn keys (stand_on next look.level look.stand.time look.stand.rank) b NEVER least) c.bucket_of_window-home.ensures.is
     (least_seen c.self.inside.kept.keys look.stand (ap keys_of c.self.view_is) looked))))

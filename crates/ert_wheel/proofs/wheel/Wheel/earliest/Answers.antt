@@ -20,17 +20,17 @@ due_at_once-requires g c =
     let keys = c.args.self.now.keys in
     let next = c.self.inside.next_time in
     let look = wheel_stands (sees c.self.invariant.rows c.self.view_is).wheel in
-    let first = c.first_window-near.ensures.first (places (stand_on next look.level look.stand.rank) keys) look.stand.are in
+    let first = c.first_window-near.ensures.first (places (stand_on next look.level look.stand.time look.stand.rank) keys) look.stand.are in
     subst (λ (n : ℕ). SomeRowDue keys n) (ap passed_of c.self.view_is)
     (due_by_next look.stand first c.first_window-near.ensures.up c.first_window-near.ensures.low (omega (arith, c.windows_end-end.ensures))
-    (omega (arith, c.if-near-self.true, c.windows_end-end.ensures, end_after 0 next (omega arith) look.stand.time, lowest next)) c.if-near-self.true)
+    (omega (arith, c.if-near-self.true, c.windows_end-end.ensures, end_after 0 next (omega arith) look.stand.fits, lowest next)) c.if-near-self.true)
 
 pub returns-then-near-self-2 : goal.returns-then-near-self-2
 returns-then-near-self-2 g c =
     let keys = c.args.self.now.keys in
     let next = c.self.inside.next_time in
     let look = wheel_stands (sees c.self.invariant.rows c.self.view_is).wheel in
-    let first = c.first_window-near.ensures.first (places (stand_on next look.level look.stand.rank) keys) look.stand.are in
+    let first = c.first_window-near.ensures.first (places (stand_on next look.level look.stand.time look.stand.rank) keys) look.stand.are in
     subst (λ (n : ℕ). IsNextDue keys n c.first_window-near.result) (ap passed_of c.self.view_is)
     (near_due look.stand first c.first_window-near.ensures.up c.first_window-near.ensures.low (omega (arith, c.windows_end-end.ensures))
     (omega (arith, c.if-near-self.false, c.first_window-near.ensures.up)) (omega (arith, c.if-near-self-2.true)) c.windows_end-end.ensures)
@@ -41,7 +41,7 @@ early_above-requires-clause-may g c =
     let next = c.self.inside.next_time in
     let buckets = c.self.inside.buckets in
     let look = wheel_stands (sees c.self.invariant.rows c.self.view_is).wheel in
-    let first = c.first_window-near.ensures.first (places (stand_on next look.level look.stand.rank) keys) look.stand.are in
+    let first = c.first_window-near.ensures.first (places (stand_on next look.level look.stand.time look.stand.rank) keys) look.stand.are in
     let few : c.windows_end-end.result ≤ end_of 0 next = omega (arith, c.windows_end-end.ensures) in
     let may : MayLookAbove next buckets keys c.if-near-end.near =
     elim c.if-near-end.branch [
