@@ -21,7 +21,6 @@ pub mod Empties
 pub mod Enters
 pub mod Falls
 pub mod Following
-pub mod InOrder
 pub mod Lists
 pub mod Looking
 pub mod MarkBits
@@ -36,7 +35,6 @@ pub mod Standing
 pub mod Staying
 pub mod Steps
 pub mod Views
-pub mod Within
 pub mod Times
 pub mod Told
 pub mod Turning
