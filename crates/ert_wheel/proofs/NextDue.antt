@@ -7,7 +7,7 @@ use Rattle.ert_wheel.proofs.Least.{at_place}
 use Rattle.ert_wheel.proofs.Looking.{key_low}
 use Rattle.ert_wheel.proofs.Near.{stands_at_time}
 use Rattle.ert_wheel.proofs.Standing.{end_of, begins, window_before_end, window_later}
-use Rattle.ert_wheel.proofs.Times.{some_wide}
+use Rattle.ert_wheel.proofs.Times.{before_window, some_wide}
 use Rattle.ert_wheel.proofs.Views.{place_is}
 use Rattle.ert_wheel.specs.Levels.{bucket_of_window}
 use Rattle.ert_wheel.specs.Marks.{FirstWindow}
@@ -18,12 +18,6 @@ use Rattle.ert_wheel.specs.Walks.{StandOnLevels}
 use Rattle.ert_wheel.specs.Wheels.{home_on, stand_on, places}
 use Rattle.ert_wheel.specs.declared.row.Key.{Key}
 use Rattle.ert_wheel.specs.declared.row.TheConstants.{NEVER}
-
--- a time in an earlier window is before the begin of a later one
-before_window : (n w p : ℕ) → 1 ≤ p → n / p < w → n < w * p
-before_window n w p some less =
-    let up : suc (n / p) ≤ w = less in
-    omega (arith, lt-div-mul-add {a = n} some, suc-mul (n / p) p, mul-le-mul_right p up)
 
 -- no row that stands on a level before a window is due before a time
 abbrev pub NoneUpTo : List (Option Key) → (Key → ℕ) → (Key → ℕ) → ℕ → ℕ → ℕ → ℕ → Type 0

@@ -1,7 +1,7 @@
 -- Windows of levels: how those of one level stand to those of the levels above, and to the buckets.
 
 use Rattle.std.proofs.Common.{◌≡◌, ℕ, zero, suc, ◌+◌, ◌*◌, ◌/◌, ◌%◌, ◌^◌, ◌<◌, ◌≤◌, sym, subst, ◌∙◌, ap, arith}
-use Rattle.std.proofs.Math.Nat.{pow-succ', div-div-eq-div-mul}
+use Rattle.std.proofs.Math.Nat.{pow-succ', div-div-eq-div-mul, lt-div-mul-add, suc-mul, mul-le-mul_right}
 use Rattle.ert_wheel.specs.Levels.{bucket_of_window}
 
 -- a window is never empty
@@ -17,6 +17,12 @@ above level time =
     let p : ◌≡◌ {A = ℕ} (512 ^ suc level) (512 * 512 ^ level) = pow-succ' 512 level in
     let q : 512 * 512 ^ level ≡ 512 ^ level * 512 = omega arith in
     ap (λ m. time / m) (p ∙ q) ∙ sym (div-div-eq-div-mul time (512 ^ level) 512)
+
+-- a time in an earlier window is before the begin of a later one
+pub before_window : (n w p : ℕ) → 1 ≤ p → n / p < w → n < w * p
+before_window n w p some less =
+    let up : suc (n / p) ≤ w = less in
+    omega (arith, lt-div-mul-add {a = n} some, suc-mul (n / p) p, mul-le-mul_right p up)
 
 -- the windows of the lowest level are milliseconds
 pub lowest : (time : ℕ) → time / 512 ^ 0 ≡ time
