@@ -105,7 +105,7 @@ met_more true k l v w h b is there =
     ]
 
 -- a test passes at most once
-passing_low : (test : Key → Bool) (o : Option Key) → passing test o ≤ 1
+pub passing_low : (test : Key → Bool) (o : Option Key) → passing test o ≤ 1
 passing_low test None = omega arith
 passing_low test (Some key) =
     elim (test key) as (λ b. cond b 1 0 ≤ 1) [ true ↦ omega arith | false ↦ omega arith ]
