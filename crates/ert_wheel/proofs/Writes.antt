@@ -110,6 +110,23 @@ pub is_kept : {next count ordered floor : ℕ} {stored : List Key} {seen : List 
 is_kept {next = next} {count = count} {ordered = ordered} {floor = floor} {chains = chains} s =
     subst (λ (ks : List (Option Key)). IsWheelKept next count ordered floor ks chains) (sym (is_held s)) (record { wheel = s.wheel; above = s.above })
 
+-- after the next bucket was put in order
+pub sees_ordered : {T : Type 0} {next count ordered floor passed : ℕ} {stored : List Key} {chains owners new : Rings} {values : List T} {held : Held T}
+    → IsWheelKept next count ordered floor (held_keys chains stored) chains
+    → ◌≡◌ {A = Held T} (record { keys = held_keys chains stored; owners = owners; values = values; passed = passed }) held
+    → ((n : ℕ) → IsWheel next n ordered (held_keys chains stored) chains → IsWheel next n next (held_keys chains stored) new)
+    → Sees next count next floor stored held.keys new
+sees_ordered {T} {next} {count} {ordered} {floor} {passed} {stored} {chains} {owners} {new} {values} {held} w is orders =
+    subst (λ (h : Held T). Sees next count next floor stored h.keys new) is
+    (record { wheel = orders count w.wheel; above = w.above; are_stored = stored_held chains stored })
+
+-- what is held where other chains hold the same keys
+pub same_held : {T : Type 0} {keys other : List (Option Key)} {owners : Rings} {values : List T} {passed : ℕ} {held : Held T} → other ≡ keys
+    → ◌≡◌ {A = Held T} (record { keys = keys; owners = owners; values = values; passed = passed }) held
+    → ◌≡◌ {A = Held T} (record { keys = other; owners = owners; values = values; passed = passed }) held
+same_held {T} {keys} {other} {owners} {values} {passed} {held} same is =
+    ap (λ (ks : List (Option Key)). record { keys = ks; owners = owners; values = values; passed = passed }) same ∙ is
+
 -- a slot without a row can be put into a chain
 pub may_put : {next count ordered floor : ℕ} {stored : List Key} {seen : List (Option Key)} {chains : Rings} {slot home : ℕ}
     → Sees next count ordered floor stored seen chains → slot < length seen → key_in seen slot ≡ None → home < BUCKETS
