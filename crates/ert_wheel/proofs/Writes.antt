@@ -120,6 +120,13 @@ sees_ordered {T} {next} {count} {ordered} {floor} {passed} {stored} {chains} {ow
     subst (λ (h : Held T). Sees next count next floor stored h.keys new) is
     (record { wheel = orders count w.wheel; above = w.above; are_stored = stored_held chains stored })
 
+-- what is held where other chains hold the same keys
+pub same_held : {T : Type 0} {keys other : List (Option Key)} {owners : Rings} {values : List T} {passed : ℕ} {held : Held T} → other ≡ keys
+    → ◌≡◌ {A = Held T} (record { keys = keys; owners = owners; values = values; passed = passed }) held
+    → ◌≡◌ {A = Held T} (record { keys = other; owners = owners; values = values; passed = passed }) held
+same_held {T} {keys} {other} {owners} {values} {passed} {held} same is =
+    ap (λ (ks : List (Option Key)). record { keys = ks; owners = owners; values = values; passed = passed }) same ∙ is
+
 -- a slot without a row can be put into a chain
 pub may_put : {next count ordered floor : ℕ} {stored : List Key} {seen : List (Option Key)} {chains : Rings} {slot home : ℕ}
     → Sees next count ordered floor stored seen chains → slot < length seen → key_in seen slot ≡ None → home < BUCKETS

@@ -16,14 +16,14 @@ invariant_of-self g c = record {
           arith,
           c.max-self-inside.ensures,
           c.self.invariant.rows.above slot key has,
-          c.requires.next.none_before slot key (subst (λ (keys : List (Option Key)). key_in keys slot ≡ Some key) (ap keys_of c.self.view_is) has),
+          c.requires.reached.next.none_before slot key (subst (λ (keys : List (Option Key)). key_in keys slot ≡ Some key) (ap keys_of c.self.view_is) has),
         );
   };
 }
 
-pub first_at-requires : goal.first_at-requires
-first_at-requires g c = λ slot key has.
-    c.requires.next.none_before slot key (subst (λ (keys : List (Option Key)). key_in keys slot ≡ Some key) (ap keys_of c.self.view_is) has)
+pub first_at-requires-clause-before : goal.first_at-requires-clause-before
+first_at-requires-clause-before g c = λ slot key has.
+    c.requires.reached.next.none_before slot key (subst (λ (keys : List (Option Key)). key_in keys slot ≡ Some key) (ap keys_of c.self.view_is) has)
 
 pub returns-in-Some-clause-first : goal.returns-in-Some-clause-first
 returns-in-Some-clause-first g c =
@@ -33,6 +33,6 @@ returns-in-Some-clause-first g c =
 pub returns-in-None-clause-first : goal.returns-in-None-clause-first
 returns-in-None-clause-first g c =
     none_at_stop c.args.self.now.keys c.self.inside.next_time c.args.to c.args.reached
-    (subst (λ (n : ℕ). IsReached c.args.self.now.keys n c.args.to c.args.reached) (sym (ap passed_of c.self.view_is)) c.requires)
+    (subst (λ (n : ℕ). IsReached c.args.self.now.keys n c.args.to c.args.reached) (sym (ap passed_of c.self.view_is)) c.requires.reached)
     (omega (arith, c.if-reached-to.false))
     (subst (λ (keys : List (Option Key)). c.args.reached ≤ c.self.inside.next_time → NoRowDue keys c.args.reached) (ap keys_of c.self.view_is) c.in-None.ensures)
