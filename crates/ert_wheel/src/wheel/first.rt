@@ -224,6 +224,7 @@ impl<T: Keyed> Wheel<T> {
         let begin = begin_of(level, window);
         let mut none = 0;
         self.pass_slowly(begin - 2, &mut none);
+        self.ordered = NEVER;
         fall_before(&mut self.buckets, &self.kept, self.next_time, level, moves)
     }
 
