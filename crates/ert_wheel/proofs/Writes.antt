@@ -8,10 +8,10 @@ use Rattle.std.proofs.lemmas.Option.{get_or_from_slice_get}
 use Rattle.std.proofs.lemmas.List.Sums.{count_by-le-length}
 use Rattle.std.specs.Bool.{IsTrue}
 use Rattle.std.specs.Option.{is_some, IsSome}
-use Rattle.ert_wheel.proofs.Enters.{Enters, entered, entered_chains}
-use Rattle.ert_wheel.proofs.Falls.{given}
+use Rattle.ert_wheel.proofs.Enters.{IsNewest, entered, numbers_below}
 use Rattle.ert_wheel.proofs.Parts.{chains_written}
-use Rattle.ert_wheel.proofs.Staying.{KeepsSpot, stays_levelled, stays_chained}
+use Rattle.ert_wheel.proofs.Renumber.{numbered}
+use Rattle.ert_wheel.proofs.Staying.{stays_put}
 use Rattle.ert_wheel.proofs.Views.{AreStored, held_at, held_len, key_stored, key_alone, key_apart, held_is, key_set, stored_held, stored_set, stored_less, stored_more, chains_set, counts_more, counts_less, counts_same, place_is}
 use Rattle.ert_wheel.specs.Kept.{KeptSlots, AreAlike}
 use Rattle.ert_wheel.specs.Levels.{IsLeastLevel, IsLeastBucket, StaysPut}
@@ -139,16 +139,6 @@ may_put {next = next} {seen = seen} s low vacant in_range = record {
   out = ap (place_of (stand_on next s.wheel.are.level s.wheel.are.time s.wheel.are.rank)) vacant;
 }
 
--- the orders that are held are below that of a newest row
-orders_below : (next : ℕ) (level rank : Key → ℕ) (keys : List (Option Key)) (order : ℕ) → AreLevelled next 1 keys level rank
-    → ((j : ℕ) → IfSome (key_in keys j) (λ key. key.order < order)) → (j : ℕ) (p : Place)
-    → places (stand_on next level rank) keys j ≡ Some p → p.order < order
-orders_below next level rank keys order a newest j p h =
-    let k = place_is (stand_on next level rank) (key_in keys j) p h in
-    let below : k.0.order < order =
-    subst (λ (o : Option Key). IfSome o (λ key. key.order < order)) k.1 (newest j) in
-    omega (arith, a.older j k.0 k.1, ap (λ (q : Place). q.order) k.2)
-
 -- the count of rows leaves room for one more where a slot has none
 pub count_fits : {next count ordered floor : ℕ} {stored : List Key} {seen : List (Option Key)} {chains : Rings} (slot : ℕ) (key : Key)
     → Sees next count ordered floor stored seen chains → slot < length seen → key_in seen slot ≡ None → count + 1 < 2 ^ 32
@@ -168,9 +158,8 @@ pub record CanStore (seen : List (Option Key)) (slot : ℕ) (key : Key) : Type 0
   pub order : key.order < 2 ^ 64
   pub newest : (j : ℕ) → IfSome (key_in seen j) (λ k. k.order < key.order)
 
--- a row to be stored comes to its level
-enters : {next l slot : ℕ} {seen : List (Option Key)} {key : Key} → CanStore seen slot key → IsLeastLevel next l (max key.deadline next) → Enters next l seen slot key
-enters can least = record { low = can.low; newest = can.newest; order = can.order; least = least }
+is_newest : {slot : ℕ} {seen : List (Option Key)} {key : Key} → CanStore seen slot key → IsNewest seen slot key
+is_newest can = record { low = can.low; newest = can.newest; order = can.order }
 
 -- the wheel with another row of a slot, or its first
 stored_row : {next count count' ordered floor floor' : ℕ} {stored : List Key} {seen : List (Option Key)} {chains new : Rings} {slot : ℕ} {key : Key}
@@ -199,30 +188,19 @@ stored_row {next = next} {stored = stored} {seen = seen} {new = new} {slot = slo
   };
 }
 
--- a newest row comes to its least bucket
-comes_in : {next count ordered floor : ℕ} {stored : List Key} {seen : List (Option Key)} {chains : Rings} {new : Rings} {slot : ℕ} {key : Key} {home : ℕ}
-    → (s : Sees next count ordered floor stored seen chains) → CanStore seen slot key → IsLeastBucket next (max key.deadline next) home
-    → AreChains new (with_place (places (stand_on next s.wheel.are.level s.wheel.are.time s.wheel.are.rank) seen) slot (Some (record { home = home; order = key.order })))
-    → AreLevelChains next 1 new (set seen slot (Some key))
-comes_in {new = new} {key = key} {home = home} s can b are = record {
-  level = given s.wheel.are.level key.order b.level;
-  rank = given s.wheel.are.rank key.order key.order;
-  levelled = entered s.wheel.are.level s.wheel.are.time s.wheel.are.rank (enters can b.least) s.wheel.are.levelled;
-  are = entered_chains s.wheel.are.level s.wheel.are.time s.wheel.are.rank home new (enters can b.least) b.is are;
-}
-
 -- the wheel with a row put in
 pub inserted : {next count ordered floor floor' : ℕ} {stored : List Key} {seen : List (Option Key)} {chains new : Rings} {slot : ℕ} {key : Key} {home : ℕ}
     → Sees next count ordered floor stored seen chains → CanStore seen slot key → slot < length stored → key_in seen slot ≡ None
     → IsLeastBucket next (max key.deadline next) home
     → new.slots ≡ chains.slots → new.homes ≡ chains.homes → Puts chains new slot home → floor' ≡ min floor key.deadline
     → Sees next (count + 1) ordered floor' (set stored slot key) (set seen slot (Some key)) new
-inserted {next = next} {seen = seen} {slot = slot} {key = key} s can written vacant b slots homes puts low' =
-    let spot : Key → Place = stand_on next s.wheel.are.level s.wheel.are.time s.wheel.are.rank in
+inserted {next = next} {seen = seen} {chains = chains} {slot = slot} {key = key} s can written vacant b slots homes puts low' =
+    let a = s.wheel.are in
+    let n = numbered chains seen (stand_on next a.level a.time a.rank) s.wheel.slots s.wheel.few a.are in
     stored_row s can written slots homes low' (ap (λ n. n + 1) s.wheel.counts ∙ sym (counts_more seen slot key can.low vacant))
-    (comes_in s can b
-    (puts (places spot seen) key.order s.wheel.are.are (ap (place_of spot) vacant) can.order
-    (orders_below next s.wheel.are.level s.wheel.are.time s.wheel.are.rank seen key.order s.wheel.are.levelled can.newest)))
+    (entered a n (is_newest can) b.least b.is
+    (puts (places (stand_on next a.level a.time n.rank) seen) (chains.slots + 1) n.are (ap (place_of (stand_on next a.level a.time n.rank)) vacant)
+    (omega (arith, s.wheel.slots, s.wheel.few)) (numbers_below n)))
 
 -- the key that a slot has is the one that is stored
 held_stored : {next count ordered floor : ℕ} {stored : List Key} {seen : List (Option Key)} {chains : Rings} (slot : ℕ)
@@ -237,29 +215,22 @@ pub replaced : {next count ordered floor floor' was : ℕ} {stored : List Key} {
     → was ≡ (get_or stored slot no_key).deadline → MovesOrStays next was (max key.deadline next) chains new slot
     → new.slots ≡ chains.slots → new.homes ≡ chains.homes → floor' ≡ min floor key.deadline
     → Sees next count ordered floor' (set stored slot key) (set seen slot (Some key)) new
-replaced {next = next} {stored = stored} {seen = seen} {chains = chains} {new = new} {slot = slot} {key = key} s can written held was_is moves slots homes low' =
-    let spot : Key → Place = stand_on next s.wheel.are.level s.wheel.are.time s.wheel.are.rank in
+replaced {next = next} {ordered = ordered} {stored = stored} {seen = seen} {chains = chains} {new = new} {slot = slot} {key = key} s can written held was_is moves slots homes low' =
+    let a = s.wheel.are in
     stored_row s can written slots homes low' (s.wheel.counts ∙ sym (counts_same seen slot key can.low held))
     (elim moves [
       | inl stays ↦
-          let keeps : KeepsSpot next seen slot (get_or stored slot no_key) key = record {
-            low = can.low;
+          subst (λ (r : Rings). AreOrderedChains next ordered r (set seen slot (Some key))) (sym stays.same)
+          (stays_put (record {
+            new = is_newest can;
             has = held_stored slot s (key_in seen slot) refl held;
-            newest = λ j k has. subst (λ (o : Option Key). IfSome o (λ x. x.order < key.order)) has (can.newest j);
-            order = can.order;
             put = subst (λ (w : ℕ). StaysPut next w (max key.deadline next)) was_is stays.put;
-          } in
-          subst (λ (r : Rings). AreLevelChains next 1 r (set seen slot (Some key))) (sym stays.same)
-          (record {
-            level = given s.wheel.are.level key.order (s.wheel.are.level (get_or stored slot no_key));
-            rank = given s.wheel.are.rank key.order (s.wheel.are.rank (get_or stored slot no_key));
-            levelled = stays_levelled keeps s.wheel.are.levelled;
-            are = stays_chained keeps s.wheel.are.levelled chains s.wheel.are.are;
-          })
+          }) a)
       | inr m ↦
-          comes_in s can m.least
-          (m.moves (places spot seen) key.order s.wheel.are.are can.order
-          (orders_below next s.wheel.are.level s.wheel.are.time s.wheel.are.rank seen key.order s.wheel.are.levelled can.newest))
+          let n = numbered chains seen (stand_on next a.level a.time a.rank) s.wheel.slots s.wheel.few a.are in
+          entered a n (is_newest can) m.least.least m.least.is
+          (m.moves (places (stand_on next a.level a.time n.rank) seen) (chains.slots + 1) n.are
+          (omega (arith, s.wheel.slots, s.wheel.few)) (numbers_below n))
     ])
 
 -- where a slot is alone it has no row, and else the one that is stored

@@ -303,6 +303,7 @@ impl<T: Keyed> Wheel<T> {
         let next_time = was.max(after);
         self.fallen = move_on(&mut self.buckets, &self.kept, was, next_time, self.fallen);
         self.next_time = next_time;
+        self.ordered = NEVER;
         self.floor = self.floor.max(after);
     }
 

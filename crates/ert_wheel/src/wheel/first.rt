@@ -6,7 +6,7 @@ use crate::falling::{fall_before, fall_on};
 use crate::keyed::Keyed;
 use crate::oldest::oldest_due;
 use crate::ordering::order_next;
-use crate::row::{FirstDue, HeldRow, LAST};
+use crate::row::{FirstDue, HeldRow, LAST, NEVER};
 use crate::windows::{begin_of, bucket_of_window, window_on};
 
 impl<T: Keyed> Wheel<T> {
@@ -248,6 +248,7 @@ impl<T: Keyed> Wheel<T> {
             moves,
         );
         self.next_time = next_time;
+        self.ordered = NEVER;
         self.floor = self.floor.max(after);
     }
 }

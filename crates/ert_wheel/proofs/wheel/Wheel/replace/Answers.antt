@@ -23,7 +23,7 @@ invariant_of-self g c = record {
         newest = c.requires.newest;
       })
       (low_in c.args.row.slot c.self.invariant c.self.view_is c.requires.slot).low_record
-      c.requires.held c.deadline-was.ensures (subst (λ (t : ℕ). MovesOrStays c.self.inside.next_time c.deadline-was.result t c.self.inside.buckets c.move_row.new.chains c.args.row.slot) c.max-time.ensures c.move_row.ensures.moves) c.move_row.ensures.slots c.move_row.ensures.homes c.lower.ensures));
+      c.requires.held c.deadline-was.ensures c.move_row.ensures.moves c.move_row.ensures.slots c.move_row.ensures.homes c.lower.ensures));
   alike = alike_after c.self.invariant.alike (ap length c.set.ensures.keys ∙ length-set c.self.inside.kept.keys c.args.row.slot _) c.set.ensures.room c.move_row.ensures.slots c.move_row.ensures.written refl refl;
 }
 
@@ -37,7 +37,7 @@ returns-clause-keys g c =
       newest = c.requires.newest;
     })
     (low_in c.args.row.slot c.self.invariant c.self.view_is c.requires.slot).low_record
-    c.requires.held c.deadline-was.ensures (subst (λ (t : ℕ). MovesOrStays c.self.inside.next_time c.deadline-was.result t c.self.inside.buckets c.move_row.new.chains c.args.row.slot) c.max-time.ensures c.move_row.ensures.moves) c.move_row.ensures.slots c.move_row.ensures.homes c.lower.ensures))
+    c.requires.held c.deadline-was.ensures c.move_row.ensures.moves c.move_row.ensures.slots c.move_row.ensures.homes c.lower.ensures))
 
 pub deadline-was-requires : goal.deadline-was-requires
 deadline-was-requires g c = (low_in c.args.row.slot c.self.invariant c.self.view_is c.requires.slot).low_record
