@@ -1,8 +1,8 @@
-use Rattle.std.proofs.Common.{◌≢◌, ◌≤◌, ℕ, List, Option, count_by, ap, subst, sym, rules, arith}
+use Rattle.std.proofs.Common.{◌≢◌, ℕ, List, Option, count_by, ap, subst, sym, rules, arith}
 use Rattle.std.specs.Option.{is_some}
 use Rattle.ert_wheel.proofs.Least.{no_row, has_row}
 use Rattle.ert_wheel.proofs.Near.{due_by_next, near_due, above_near, above_none, early_next}
-use Rattle.ert_wheel.proofs.Standing.{wheel_stands, end_of, end_after}
+use Rattle.ert_wheel.proofs.Standing.{wheel_stands, end_after}
 use Rattle.ert_wheel.proofs.Times.{lowest}
 use Rattle.ert_wheel.proofs.Writes.{sees, keys_of, passed_of}
 use Rattle.ert_wheel.proofs.wheel.Wheel.earliest.Goals as goal

@@ -1,4 +1,4 @@
-use Rattle.std.proofs.Common.{◌≡◌, ◌<◌, ◌≤◌, ℕ, ap, subst, sym, ◌∙◌, arith}
+use Rattle.std.proofs.Common.{ℕ, ap, subst, sym, ◌∙◌, arith}
 use Rattle.ert_wheel.proofs.Tellers.{tells_row, row_tells}
 use Rattle.ert_wheel.proofs.Views.{key_stored}
 use Rattle.ert_wheel.proofs.Writes.{keys_of, passed_of}
