@@ -1,7 +1,7 @@
 -- A newest row comes to the least level on which it may stand, or takes the place of the row that its slot had.
 
-use Rattle.std.proofs.Common.{◌≡◌, ◌≢◌, ℕ, ◌+◌, ◌<◌, ◌≤◌, ◌^◌, max, List, Option, Some, None, IfSome, length, set, sym, subst, ◌∙◌, ap, inl, inr, refl, arith, get_or-set_same, get_or-set_other}
-use Rattle.ert_wheel.proofs.Falls.{HasWith, either, given, given_here, given_there, place_at, stands_least, levelled_with, chained_with}
+use Rattle.std.proofs.Common.{◌≡◌, ℕ, ◌+◌, ◌<◌, ◌^◌, max, List, Option, Some, None, IfSome, length, set, subst, ap, inl, inr, arith, get_or-set_same, get_or-set_other}
+use Rattle.ert_wheel.proofs.Falls.{HasWith, either, given, given_here, given_there, stands_least, levelled_with, chained_with}
 use Rattle.ert_wheel.proofs.Renumber.{AreNumbered, with_rank}
 use Rattle.ert_wheel.proofs.Views.{place_is}
 use Rattle.ert_wheel.specs.Levels.{bucket_on, IsLeastLevel}

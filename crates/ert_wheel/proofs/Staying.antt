@@ -1,6 +1,6 @@
 -- A row that stays where it is, when another takes its place.
 
-use Rattle.std.proofs.Common.{◌≡◌, ◌≢◌, ℕ, ◌+◌, ◌-◌, ◌*◌, ◌/◌, ◌%◌, ◌^◌, ◌<◌, ◌≤◌, max, List, Option, Some, length, set, sym, subst, ◌∙◌, ap, inl, inr, refl, arith}
+use Rattle.std.proofs.Common.{◌≡◌, ℕ, ◌+◌, ◌-◌, ◌*◌, ◌/◌, ◌%◌, ◌^◌, ◌<◌, ◌≤◌, max, List, Option, Some, set, sym, subst, ◌∙◌, ap, inl, inr, arith}
 use Rattle.std.proofs.lemmas.Bool.{cases_eq}
 use Rattle.ert_wheel.proofs.Enters.{IsNewest, newest_with}
 use Rattle.ert_wheel.proofs.Falls.{StandsAnew, either, given, given_there, place_at, levelled_with, chained_with}

@@ -1,6 +1,6 @@
 -- The row of a slot tells when the next one is due.
 
-use Rattle.std.proofs.Common.{Bool, true, false, None, option_map, subst, sym, ◌∙◌, refl, ◌≡◌, ℕ, ◌+◌, ◌-◌, ◌*◌, ◌/◌, ◌%◌, ◌^◌, ◌<◌, ◌≤◌, List, Option, Some, ap, inl, inr, arith}
+use Rattle.std.proofs.Common.{Bool, true, false, None, option_map, subst, sym, ◌∙◌, refl, ◌≡◌, ℕ, ◌-◌, ◌*◌, ◌/◌, ◌%◌, ◌^◌, ◌<◌, List, Option, Some, ap, inl, inr, arith}
 use Rattle.std.specs.Bool.{OnTrue}
 use Rattle.ert_wheel.proofs.Closer.{narrower}
 use Rattle.ert_wheel.specs.NextDue.{NoneBefore, IsNextDue, Tells, IsToldBy, TellsNext}

@@ -12,15 +12,15 @@ use Rattle.ert_wheel.proofs.Enters.{IsNewest, entered, numbers_below}
 use Rattle.ert_wheel.proofs.Parts.{chains_written}
 use Rattle.ert_wheel.proofs.Renumber.{numbered}
 use Rattle.ert_wheel.proofs.Staying.{stays_put}
-use Rattle.ert_wheel.proofs.Views.{AreStored, held_at, held_len, key_stored, key_alone, key_apart, held_is, key_set, stored_held, stored_set, stored_less, stored_more, chains_set, counts_more, counts_less, counts_same, place_is}
+use Rattle.ert_wheel.proofs.Views.{AreStored, held_at, held_len, key_stored, key_alone, key_apart, held_is, key_set, stored_held, stored_set, stored_less, stored_more, chains_set, counts_more, counts_less, counts_same}
 use Rattle.ert_wheel.specs.Kept.{KeptSlots, AreAlike}
-use Rattle.ert_wheel.specs.Levels.{IsLeastLevel, IsLeastBucket, StaysPut}
+use Rattle.ert_wheel.specs.Levels.{IsLeastBucket, StaysPut}
 use Rattle.ert_wheel.specs.Links.{next_at}
 use Rattle.ert_wheel.specs.Replacing.{MovesOrStays}
-use Rattle.ert_wheel.specs.Rings.{Rings, Place, AreChains, with_place, MayPut, Puts, MayTake, GivesUpPlace}
+use Rattle.ert_wheel.specs.Rings.{Rings, Place, MayPut, Puts, MayTake, GivesUpPlace}
 use Rattle.ert_wheel.specs.Rows.{Held, key_in, times, due_count, left_at}
 use Rattle.ert_wheel.specs.Falling.{MayMoveOn}
-use Rattle.ert_wheel.specs.Wheels.{no_key, held_keys, stand_on, place_of, places, AreLevelled, AreLevelChains, AreOrderedChains, IsWheel, IsWheelKept, IsWheelAlike}
+use Rattle.ert_wheel.specs.Wheels.{no_key, held_keys, stand_on, place_of, places, AreLevelChains, AreOrderedChains, IsWheel, IsWheelKept, IsWheelAlike}
 use Rattle.ert_wheel.specs.declared.row.Key.{Key}
 use Rattle.ert_wheel.specs.declared.row.Row.{Row}
 use Rattle.ert_wheel.specs.declared.row.TheConstants.{NEVER, BUCKETS}

@@ -84,7 +84,8 @@ impl<T: Keyed> Wheel<T> {
         ensures fewer { moves.new ≤ moves.old }
         ensures capacity { vec_capacity scratch.new ≡ vec_capacity scratch.old }
     {
-        if let Some(row) = self.first_at(self.floor, scratch) {
+        let floor = self.floor;
+        if let Some(row) = self.first_at(floor, scratch) {
             if row.deadline <= to {
                 return FirstDue::Row(row);
             }
@@ -222,8 +223,7 @@ impl<T: Keyed> Wheel<T> {
             return false;
         }
         let begin = begin_of(level, window);
-        let mut none = 0;
-        self.pass_slowly(begin - 2, &mut none);
+        self.pass_slowly(begin - 2, moves);
         self.ordered = NEVER;
         fall_before(&mut self.buckets, &self.kept, self.next_time, level, moves)
     }

@@ -36,7 +36,13 @@ impl<T: Keyed> Wheel<T> {
         ensures passed { self.new.passed ≡ self.old.passed }
     {
         let was = self.kept.deadline(row.slot);
-        move_row(&mut self.buckets, &mut self.teller, self.next_time, was, row);
+        move_row(
+            &mut self.buckets,
+            &mut self.teller,
+            self.next_time,
+            was,
+            row,
+        );
         self.kept.set(row.slot, value);
         lower(&mut self.floor, &mut self.teller, row);
     }

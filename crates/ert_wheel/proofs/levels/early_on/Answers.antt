@@ -1,6 +1,6 @@
-use Rattle.std.proofs.Common.{◌≡◌, ◌<◌, ◌≤◌, ◌+◌, ◌*◌, ◌/◌, ◌^◌, ◌∙◌, ℕ, ap, subst, sym, refl, arith}
+use Rattle.std.proofs.Common.{◌≡◌, ◌+◌, ◌*◌, ◌^◌, ◌∙◌, ℕ, ap, subst, sym, arith}
 use Rattle.ert_wheel.proofs.NextDue.{NoneUpTo, none_first, none_skip, none_looked, none_left, none_at_end, has_there, begins_there, early_looked, earlier_is}
-use Rattle.ert_wheel.proofs.Standing.{end_after, end_low, end_of}
+use Rattle.ert_wheel.proofs.Standing.{end_after, end_low}
 use Rattle.ert_wheel.proofs.levels.early_on.Goals as goal
 use Rattle.ert_wheel.specs.NextDue.{IsEarlyOrNever}
 use Rattle.ert_wheel.specs.Wheels.{held_keys, stand_on, places}

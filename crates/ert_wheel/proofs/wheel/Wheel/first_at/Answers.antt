@@ -1,4 +1,4 @@
-use Rattle.std.proofs.Common.{◌≡◌, ◌≤◌, ◌∙◌, ℕ, List, Option, MatchOption, ap, refl, subst, sym}
+use Rattle.std.proofs.Common.{◌≤◌, ◌∙◌, ℕ, List, Option, MatchOption, ap, refl, subst, sym}
 use Rattle.ert_wheel.proofs.Reaching.{sees_first}
 use Rattle.ert_wheel.proofs.Standing.{wheel_stands}
 use Rattle.ert_wheel.proofs.Writes.{sees_ordered, same_held, alike_after, is_held, is_kept, keys_of, passed_of}

@@ -1,8 +1,7 @@
-use Rattle.std.proofs.Common.{ℕ, ap, set, subst, ◌∙◌, length, arith, refl}
+use Rattle.std.proofs.Common.{ap, set, ◌∙◌, length, arith, refl}
 use Rattle.std.proofs.lemmas.List.{length-set}
 use Rattle.ert_wheel.proofs.Writes.{sees, low_in, alike_after, is_held, is_kept, may_take, replaced, stored_as}
 use Rattle.ert_wheel.proofs.wheel.Wheel.replace.Goals as goal
-use Rattle.ert_wheel.specs.Replacing.{MovesOrStays}
 
 pub move_row-requires-clause-may : goal.move_row-requires-clause-may
 move_row-requires-clause-may g c = may_take (sees c.self.invariant.rows c.self.view_is) (low_in c.args.row.slot c.self.invariant c.self.view_is c.requires.slot).low_key
