@@ -286,7 +286,7 @@ impl<T: Keyed> Wheel<T> {
     }
 
     /// Tells that nothing is left up to `to`: no later call looks at a time up to it again. Where this comes into
-    /// another window of a level, the rows that are left in its bucket fall to the level below; before that some fall ahead of
+    /// other windows of a level, the rows that are left in their buckets go to those of their deadlines; before that some do ahead of
     /// time, in each millisecond that passes.
     ///
     /// A wheel that isn't told so gives the same rows, but looks at more and more buckets.
