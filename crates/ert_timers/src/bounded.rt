@@ -7,11 +7,11 @@ use crate::part::WheelPart;
 use ert_defs::{Actor, NoMemory};
 use ert_effects::Left;
 use ert_table::{Desk, Pass, TimeCarry};
-use ert_wheel::FirstDue;
+use ert_wheel::{FirstDue, HeldRow};
 
 impl WheelPart {
     ghost use Rattle.std.specs.Option.{is_some};
-    ghost use Rattle.std.specs.Prelude.{◌≡◌, ◌≤◌, IfOk, ℕ, count_by, min};
+    ghost use Rattle.std.specs.Prelude.{◌≡◌, ◌≤◌, IfOk, ℕ, count_by, length, min, vec_capacity};
     ghost use Rattle.ert_effects.specs.SomeCalls.{AreTried};
     ghost use Rattle.ert_table.specs.Desks.{settings_of, view_of, front_of, Belongs};
     ghost use Rattle.ert_timers.specs.Parts.{HoldsSched, PartStands};
@@ -45,8 +45,10 @@ impl WheelPart {
         ensures loses { LosesRows self.old self.new }
     {
         expired.reserve(self.rows_at_most(most))?;
+        let mut scratch = self.lend_list()?;
         let to = look_down(desk, pass, Actor::Sched(self.number()));
-        let left = self.try_some(desk, pass, to, most, expired);
+        let left = self.try_some(desk, pass, to, most, &mut scratch, expired);
+        self.keep_list(scratch);
         if left.is_more() {
             return Ok((to, left));
         }
@@ -65,6 +67,7 @@ impl WheelPart {
         pass: &mut Pass,
         to: u64,
         most: u32,
+        scratch: &mut Vec<HeldRow>,
         expired: &mut ExpiredList,
     ) -> Left
         requires belongs { Belongs desk.now pass.old }
@@ -72,6 +75,7 @@ impl WheelPart {
         requires looked { IsLooked (settings_of desk.now) (front_of pass.old) self.old to }
         requires room { min most (count_by is_some self.old.keys) ≤ expired.old.room }
         requires few { to ≤ 8796093022207 }
+        requires scratch { length self.old.keys ≤ vec_capacity scratch.old }
         ensures belongs { Belongs desk.now pass.new }
         ensures call { IsTriedSome (settings_of desk.now) (view_of pass.old) self.old self.new to most result expired.old expired.new (view_of pass.new) }
         ensures left { IsLeft self.new to result }
@@ -79,7 +83,7 @@ impl WheelPart {
         let mut left = most;
         let mut moves = most;
         loop {
-            let row = match self.first_row_due(to, &mut moves) {
+            let row = match self.first_row_due(to, &mut moves, scratch) {
                 FirstDue::Row(row) => row,
                 FirstDue::Nothing => return Left::Nothing,
                 FirstDue::Moving => return Left::Moving,
