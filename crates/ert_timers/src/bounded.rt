@@ -16,7 +16,7 @@ impl WheelPart {
     ghost use Rattle.ert_table.specs.Desks.{settings_of, view_of, front_of, Belongs};
     ghost use Rattle.ert_timers.specs.Parts.{HoldsSched, PartStands};
     ghost use Rattle.ert_timers.specs.Passed.{LosesRows};
-    ghost use Rattle.ert_timers.specs.Trying.{IsLooked, IsLeft, IsAdvancedSome, HasDue, IsTriedSome, LosesSome};
+    ghost use Rattle.ert_timers.specs.Trying.{IsLooked, IsLeft, IsAdvancedSome, HasDue, HasExpiredSome, IsTriedSome, LosesSome};
 
     /// Advances as `advance` does, but tries so many timers at most, and tells what is left.
     ///
@@ -46,18 +46,44 @@ impl WheelPart {
     {
         expired.reserve(self.rows_at_most(most))?;
         let mut scratch = self.lend_list()?;
-        let to = look_down(desk, pass, Actor::Sched(self.number()));
-        let left = self.try_some(desk, pass, to, most, &mut scratch, expired);
+        let answer = self.advance_with(desk, pass, most, &mut scratch, expired);
         self.keep_list(scratch);
+        Ok(answer)
+    }
+
+    /// And so with all memory taken.
+    fn advance_with(
+        &mut self,
+        desk: &Desk,
+        pass: &mut Pass,
+        most: u32,
+        scratch: &mut Vec<HeldRow>,
+        expired: &mut ExpiredList,
+    ) -> (u64, Left)
+        requires belongs { Belongs desk.now pass.old }
+        requires holds { HoldsSched (view_of pass.old) self.old.number }
+        requires stands { PartStands (settings_of desk.now) (front_of pass.old) self.old }
+        requires room { min most (count_by is_some self.old.keys) ≤ expired.old.room }
+        requires scratch { length self.old.keys ≤ vec_capacity scratch.old }
+        ensures belongs { Belongs desk.now pass.new }
+        ensures number { self.new.number ≡ self.old.number }
+        ensures stands { PartStands (settings_of desk.now) (front_of pass.new) self.new }
+        ensures call { HasExpiredSome (settings_of desk.now) (view_of pass.old) self.old self.new most result.0 result.1 expired.old expired.new (view_of pass.new) }
+        ensures left { IsLeft self.new result.0 result.1 }
+        ensures fewer { LosesSome result.1 most self.old self.new }
+        ensures loses { LosesRows self.old self.new }
+    {
+        let to = look_down(desk, pass, Actor::Sched(self.number()));
+        let left = self.try_some(desk, pass, to, most, scratch, expired);
         if left.is_more() {
-            return Ok((to, left));
+            return (to, left);
         }
         pass.load_time(
             desk,
             Actor::Sched(self.number()),
             &TimeCarry::Advanced { to },
         );
-        Ok((to, left))
+        (to, left)
     }
 
     /// Tries so many at most of the rows that are due at `to`, in order, and tells what is left.
