@@ -43,16 +43,6 @@ one_above low (suc more) n t same =
     subst (λ (l : ℕ). n / 512 ^ l ≡ t / 512 ^ l) e
     (omega (arith, above (more + low) n, above (more + low) t, one_above low more n t same))
 
--- and times in windows that come one after the other are so, or in one window, on each level above
-pub near_above : (low more n t : ℕ) → t / 512 ^ low ≤ n / 512 ^ low + 1 → t / 512 ^ (more + low) ≤ n / 512 ^ (more + low) + 1
-near_above low zero n t near =
-    let e : low ≡ 0 + low = omega arith in
-    subst (λ (l : ℕ). t / 512 ^ l ≤ n / 512 ^ l + 1) e near
-near_above low (suc more) n t near =
-    let e : suc (more + low) ≡ suc more + low = omega arith in
-    subst (λ (l : ℕ). t / 512 ^ l ≤ n / 512 ^ l + 1) e
-    (omega (arith, above (more + low) n, above (more + low) t, near_above low more n t near))
-
 -- windows of a level that may be in use at one time have buckets of their own
 pub one_window : (next v w : ℕ) → next ≤ v → next ≤ w → v / 512 ≤ next / 512 + 1 → w / 512 ≤ next / 512 + 1
     → v % 1024 ≡ w % 1024 → v ≡ w
