@@ -743,9 +743,10 @@ int32_t ert_world_turn(ert_world *world, uint32_t sched, ert_turned *turned);
  * after ert_world_turn, and none has expired. The turn serves up to 64 requests, as ert_world_turn does. With `most` 0 no
  * timer expires or moves, and it tells whether there is more.
  *
- * The work is in proportion to `most`, with one exception. Timers move within the wheel as their deadlines come near, at
+ * The work is in proportion to `most`, with two exceptions. Timers move within the wheel as their deadlines come near, at
  * most `most` in a turn: if turns follow each other, a few in each millisecond; after a sleep, those of the windows that
- * begin (of 512 milliseconds, of 512 times that, and so on), in as many turns as they take. The exception: timers that were
+ * begin (of 512 milliseconds, of 512 times that, and so on), in as many turns as they take. The exceptions: all timers that
+ * are due in one millisecond are put in order of their starts by the first turn that comes to them; and timers that were
  * started when their deadline had passed are all looked at once for each deadline among them, and more often if they were
  * not started in order of deadline.
  *
@@ -761,18 +762,19 @@ int32_t ert_world_turn_some(ert_world *world, uint32_t sched, uint32_t most, ert
  * No armed timer of the wheel is due before it. So an event loop may sleep for `due` less `to` milliseconds
  * after a turn (as with `uv_backend_timeout`), unless something else wakes it. After a turn `due` is above `to`.
  *
- * `due` is the deadline of a timer, or the beginning of a window in which one is due: of 512 milliseconds, of 512 times
- * that, and so on. After a turn at the beginning of a window the answer lies in it. So a loop wakes five times at most
- * for the timer that is due first, however far it is, and once if few timers are due in the same window. A timer that
- * was cancelled through a seat doesn't wake it: the call looks whether the timer of the answer is armed, and if it isn't,
- * lets go of it and goes on with the next, at 1,024 timers at most. Only after as many, or if `due` is not after the last
- * turn's `to`, may `due` be too early because of such a timer.
+ * `due` is the deadline of a timer, or the beginning of a window of 512 milliseconds, of 512 times that, and so on. It is a
+ * deadline if at most 64 timers stand in the windows that come first: each timer stands in that of its deadline, or, if it
+ * was restarted, in that of an earlier deadline. After a turn at the beginning of a window the answer is a deadline, or at
+ * least 512 milliseconds later. So a loop wakes early once in 512 milliseconds at most, and not at all for few timers. A
+ * timer that was cancelled through a seat doesn't wake it: the call looks whether the timer of the answer is armed, and if
+ * it isn't, lets go of it and goes on with the next, at 1,024 timers at most. Only after as many, or if `due` is not after
+ * the last turn's `to`, may `due` be too early because of such a timer.
  *
  * ERT_EMPTY: no timer is armed, and `due` is as it was. ERT_RANGE: there is no such scheduler. ERT_CLOSED.
  * No memory. The answer is kept: until time comes to it, an earlier timer is started, or the timer that it is of is
- * cancelled or restarted, a call takes a few comparisons and a look at that timer. Else it looks at 64 timers at most on
- * each level of the wheel, and only if a timer was started whose deadline had passed at all that are due at the next turn;
- * and again for each timer that it lets go.
+ * cancelled or moves within the wheel, a call takes a few comparisons and a look at that timer. Else it looks at 64 timers
+ * at most on each level of the wheel, and only if a timer was started whose deadline had passed at all that are due at the
+ * next turn; and again for each timer that it lets go.
  */
 int32_t ert_world_next_due(ert_world *world, uint32_t sched, uint64_t *due);
 

@@ -679,8 +679,8 @@ impl World {
     /// How early a timer of a scheduler may be due, in milliseconds since the start time; None where none is
     /// armed. No timer is due before it, and after a turn it is later than the turn's `to`.
     ///
-    /// It is a timer's deadline, or the begin of a window in which one is due: a loop that sleeps until then and makes
-    /// a turn wakes five times at most for the timer that is due first, and once where timers are few. A timer that a seat
+    /// It is a timer's deadline, or the begin of a window of 512 milliseconds or a wider one: a loop that sleeps until then and
+    /// makes a turn wakes early once in 512 milliseconds at most, and not at all where timers are few. A timer that a seat
     /// cancelled doesn't wake it, unless it is one of more than 1,024 that are let go at once.
     pub fn next_due(&mut self, sched: u32) -> Result<Option<u64>, Error> {
         let mut due = 0;
