@@ -26,6 +26,7 @@ use Rattle.ert_scenario.specs.declared.scenario.ScenarioErr.TheVariants.{Shape, 
 use Rattle.ert_scenario.proofs.Cut.{ops_of-without}
 use Rattle.ert_scenario.proofs.Founds.{follows, in_range_parts}
 use Rattle.ert_scenario.proofs.NewLabels.{AreNew}
+use Rattle.ert_scenario.proofs.SettingsRead.{has_settings, settings_are}
 use Rattle.ert_scenario.proofs.Valid.{tested_plan, valid, whole}
 
 -- ---- the settings are for one caller
@@ -119,7 +120,12 @@ accepted d plan h =
     let reads : raws ≡ map Ok (ops_of raws) = all ∙ ap without_fault (sym same) in
     let labels : AreOps (ops_of raws) = subst (λ (p : Plan). AreOps p.ops) a.is v.labels in
     subst (λ (p : Plan). IsAccepted d p.settings p.ops) (sym a.is)
-    (record { values = a.values; settings = a.settings; list = a.list; reads = reads; in_range = fit; labels = labels })
+    (record {
+      settings = has_settings false d a.g a.settings;
+      list = record { values = a.values; list = a.list; reads = reads };
+      in_range = fit;
+      labels = labels;
+    })
 
 -- and has no race
 pub plan_is_alone : (d : Data) (plan : Plan) → verdict_of false d ≡ Ok plan → plan ≡ plan_alone plan.settings plan.ops
@@ -202,22 +208,23 @@ pub is_scenario : (d : Data) (g : Settings) (ops : List Op) → IsAccepted d g o
 unfolding verdict_of lists_found top_of
 is_scenario d g ops a =
     let format : Format = format_of d in
-    let lists : OpValues = record { ops = a.values; race = None } in
+    let opened : settings_from false d ≡ Ok g = settings_are false d g a.settings in
+    let lists : OpValues = record { ops = a.list.values; race = None } in
     let top : Top = record { settings = g; turns = 0 } in
-    let found : lists_found false d ≡ Ok lists = ap (λ (r : FoundOrFault (List Data)). r >>= (λ ops. Ok (record { ops = ops; race = None }))) a.list in
-    let opens : top_of false d ≡ Ok top = ap (λ (r : FoundOrFault Settings). r >>= (λ g. Ok (record { settings = g; turns = 0 }))) a.settings in
-    let raws : List (FoundOrFault Op) = raws_of format Everyone a.values in
+    let found : lists_found false d ≡ Ok lists = ap (λ (r : FoundOrFault (List Data)). r >>= (λ ops. Ok (record { ops = ops; race = None }))) a.list.list in
+    let opens : top_of false d ≡ Ok top = ap (λ (r : FoundOrFault Settings). r >>= (λ g. Ok (record { settings = g; turns = 0 }))) opened in
+    let raws : List (FoundOrFault Op) = raws_of format Everyone a.list.values in
     let founds : tested g [] (raws ++ []) ≡ without_fault ops =
-    ap (tested g []) (append-nil raws ∙ a.reads)
+    ap (tested g []) (append-nil raws ∙ a.list.reads)
     ∙ tested_same g [] ops a.in_range (record { apart = a.labels.apart; new = λ i d below. refl }) in
     let many : length (without_fault ops) ≡ length ops = length-map ops Ok in
     let verdict : judged format lists (Ok top) (without_fault ops) ≡ Ok (planned format lists top) =
     judged_as format lists top (without_fault ops) (no_shape ops 1) (no_range ops 1)
     (not_over (is_over (length (without_fault ops)) 0 0) (few (length (without_fault ops)) (omega (arith, many, a.labels.few)))) in
-    let read : ops_of raws ≡ ops = ap ops_of a.reads ∙ ops_of-without ops in
+    let read : ops_of raws ≡ ops = ap ops_of a.list.reads ∙ ops_of-without ops in
     ap (λ (r : FoundOrFault OpValues). judged_all format r (top_of false d)) found
     ∙ ap (λ (r : FoundOrFault Top). judged_all format (Ok lists) r) opens
     ∙ ap (λ (k : List (FoundOrFault Op)). judged format lists (Ok top) k) founds
     ∙ verdict
     ∙ ap (λ (k : List Op). Ok (record { settings = with_callers 1 g; ops = k; race = None })) read
-    ∙ ap (λ (k : Settings). Ok (plan_alone k ops)) (for_one d g a.settings)
+    ∙ ap (λ (k : Settings). Ok (plan_alone k ops)) (for_one d g opened)

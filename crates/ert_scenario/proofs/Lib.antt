@@ -21,6 +21,7 @@ pub mod QuickMembers
 pub mod Reading
 pub mod Refused
 pub mod Scanned
+pub mod SettingsRead
 pub mod Tested
 pub mod Valid
 pub mod Wholes
