@@ -21,7 +21,7 @@ abbrev pub OfRace : Type 1
 OfRace = Settings → List Op → Race → List ℕ → Type 0
 
 -- a text is the report of an outcome
-abbrev pub IsReport : OfRace
+abbrev pub IsReport : Settings → List Op → Race → List ℕ → Type 0
 IsReport g ops race text = (h : List Entry) × IsOutcome g ops race h text
 
 -- a text of the race of a plan
@@ -31,7 +31,7 @@ pub record OfPlan (may : OfRace) (plan : Plan) (text : List ℕ) : Type 0 where
   pub is : may plan.settings plan.ops race text
 
 -- what `race` may write of bytes: they are a scenario with a race
-abbrev pub RaceWrites : OfRace → List ℕ → List ℕ → Type 0
+abbrev pub RaceWrites : (Settings → List Op → Race → List ℕ → Type 0) → List ℕ → List ℕ → Type 0
 RaceWrites may bytes text = (g : Settings) × (ops : List Op) × (race : Race) × IsRaceable bytes g ops race × may g ops race text
 
 -- `race` came to an end, between two moments of the input and of the output

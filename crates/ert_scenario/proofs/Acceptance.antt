@@ -51,7 +51,7 @@ range_step g op new rest k h later = by_test (is_op g op && new) refl h
         ap (λ (b : Bool). b && list_all (is_op g) (ops_of rest)) own ∙ later h
     by_test false e h = absurd (cc)
 
-all_fit : (g : Settings) (labels : List ℕ) (raws : List (FoundOrFault Op)) (k : ℕ) → first_range k (tested g labels raws) ≡ None → list_all (is_op g) (ops_of (tested g labels raws)) ≡ true
+pub all_fit : (g : Settings) (labels : List ℕ) (raws : List (FoundOrFault Op)) (k : ℕ) → first_range k (tested g labels raws) ≡ None → list_all (is_op g) (ops_of (tested g labels raws)) ≡ true
 all_fit g labels [] k h = refl
 all_fit g labels (Ok op ∷ raws) k h =
     range_step g op (is_new labels (started_label op)) (tested g (with_label labels (started_label op)) raws) k h (all_fit g (with_label labels (started_label op)) raws (k + 1))
@@ -138,7 +138,7 @@ plan_is_alone d plan h =
 apart : (l k : ℕ) → l ≢ k → eqb k l ≡ false
 apart l k h = grind (arith, nat_tests)
 
-or_none : (a b : Bool) → a ≡ false → b ≡ false → (a || b) ≡ false
+pub or_none : (a b : Bool) → a ≡ false → b ≡ false → (a || b) ≡ false
 or_none a b first second = ap (λ (x : Bool). x || b) first ∙ second
 
 -- one label is new, and so are those behind it
@@ -168,7 +168,7 @@ fits_step : (fits new : Bool) (op : Op) → fits ≡ true → new ≡ true → i
 unfolding if_in_range
 fits_step fits new op first second = ap (λ (b : Bool). if_in_range (b && new) op) first ∙ ap (λ (b : Bool). if_in_range b op) second
 
-tested_same : (g : Settings) (earlier : List ℕ) (ops : List Op) → list_all (is_op g) ops ≡ true → AreNew earlier (labels_in ops)
+pub tested_same : (g : Settings) (earlier : List ℕ) (ops : List Op) → list_all (is_op g) ops ≡ true → AreNew earlier (labels_in ops)
     → tested g earlier (without_fault ops) ≡ without_fault ops
 tested_same g earlier [] fit new = refl
 tested_same g earlier (op ∷ ops) fit new =
@@ -178,11 +178,11 @@ tested_same g earlier (op ∷ ops) fit new =
     (fits_step (is_op g op) (is_new earlier (started_label op)) op parts.0 label.first)
     ∙ ap (λ (rest : List (FoundOrFault Op)). Ok op ∷ rest) (tested_same g (with_label earlier (started_label op)) ops parts.1 label.then)
 
-no_shape : (ops : List Op) (k : ℕ) → first_shape k (without_fault ops) ≡ None
+pub no_shape : (ops : List Op) (k : ℕ) → first_shape k (without_fault ops) ≡ None
 no_shape [] k = refl
 no_shape (op ∷ ops) k = no_shape ops (k + 1)
 
-no_range : (ops : List Op) (k : ℕ) → first_range k (without_fault ops) ≡ None
+pub no_range : (ops : List Op) (k : ℕ) → first_range k (without_fault ops) ≡ None
 no_range [] k = refl
 no_range (op ∷ ops) k = no_range ops (k + 1)
 
@@ -192,7 +192,7 @@ few n h = or_none (ltb 100000 n) false (low n h) refl
     low : (n : ℕ) → n ≤ 100000 → ltb 100000 n ≡ false
     low n h = grind (arith, nat_tests)
 
-judged_as : (format : Format) (lists : OpValues) (top : Top) (founds : List (FoundOrFault Op)) → first_shape 1 founds ≡ None → first_range 1 founds ≡ None
+pub judged_as : (format : Format) (lists : OpValues) (top : Top) (founds : List (FoundOrFault Op)) → first_shape 1 founds ≡ None → first_range 1 founds ≡ None
     → over top lists.race founds ≡ None → judged format lists (Ok top) founds ≡ Ok (planned format lists top)
 judged_as format lists top founds shape range limit =
     let all : Verdict = Ok (planned format lists top) in
@@ -200,7 +200,7 @@ judged_as format lists top founds shape range limit =
     ∙ ap (λ (k : Option ℕ). refused Range k (refused Limit (over top lists.race founds) all)) range
     ∙ ap (λ (k : Option ℕ). refused Limit k all) limit
 
-not_over : (is : Bool) → is ≡ false → cond {A = Option ℕ} is (Some 0) None ≡ None
+pub not_over : (is : Bool) → is ≡ false → cond {A = Option ℕ} is (Some 0) None ≡ None
 not_over is h = ap (λ (b : Bool). cond {A = Option ℕ} b (Some 0) None) h
 
 -- the plan of what is accepted

@@ -1,5 +1,6 @@
 pub mod Acceptance
 pub mod Accepted
+pub mod AcceptedRace
 pub mod Changed
 pub mod Checked
 pub mod Cut

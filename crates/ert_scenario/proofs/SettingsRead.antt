@@ -185,8 +185,8 @@ checked_for g n few h =
     )
 
 -- the fields give the same settings for another number of callers
-pub for_callers : (race : Bool) (d : Data) (n k : ℕ) (g : Settings) → k ≤ 16 → HasSettings race d n g → HasSettings race d (1 + k) (with_callers (1 + k) g)
-for_callers race d n k g few h = record {
+pub for_callers : (race : Bool) (d : Data) (n k : ℕ) (g : Settings) → k ≤ 16 → HasSettings race d n g → HasSettings race d (suc k) (with_callers (1 + k) g)
+for_callers race d n k g few h = let count : (1 + k) ≡ suc k = omega arith in record {
   named = h.named;
   format = h.format;
   start = h.start;
@@ -197,7 +197,7 @@ for_callers race d n k g few h = record {
   processes = h.processes;
   slots = h.slots;
   looks = h.looks;
-  for_callers = refl;
+  for_callers = count;
   in_range = checked_for g k few h.in_range;
 }
 
