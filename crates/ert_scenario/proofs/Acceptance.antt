@@ -1,6 +1,6 @@
 -- A scenario without a race is one whose value is accepted.
 
-use Rattle.std.proofs.Common.{◌≡◌, ◌≢◌, ◌+◌, ◌<◌, ◌≤◌, ℕ, zero, suc, List, [], ◌∷◌, ◌++◌, map, length, get_or, AllPairs, All, Bool, true, false, ◌&&◌, ◌||◌, not, Option, Some, None, Ok, Err, eqb, ltb, cond, codes, sym, subst, ap, ◌∙◌, arith, refl, append-nil}
+use Rattle.std.proofs.Common.{◌≡◌, ◌≢◌, ◌+◌, ◌≤◌, ℕ, suc, List, [], ◌∷◌, ◌++◌, map, length, get_or, Bool, true, false, ◌&&◌, ◌||◌, not, Option, Some, None, Ok, Err, eqb, ltb, cond, codes, sym, subst, ap, ◌∙◌, arith, refl, append-nil}
 use Rattle.std.specs.List.{list_all}
 use Rattle.std.proofs.lemmas.Bool.{and_parts}
 use Rattle.std.proofs.lemmas.Bool.Decides.{nat_tests}
@@ -18,7 +18,7 @@ use Rattle.ert_scenario.specs.Lists.{OpValues, lists_found}
 use Rattle.ert_scenario.specs.Ranges.{is_op, is_checked}
 use Rattle.ert_scenario.specs.Scenarios.{Plan, Verdict, with_callers, is_over, over, refused, planned, judged, judged_all, verdict_of}
 use Rattle.ert_scenario.specs.Walked.{without_fault}
-use Rattle.ert_scenario.specs.Walks.{raws_of, all_raws, founds_of, first_shape, first_range, ops_of}
+use Rattle.ert_scenario.specs.Walks.{raws_of, all_raws, first_shape, first_range, ops_of}
 use Rattle.ert_scenario.specs.declared.doer.Doer.TheVariants.{Everyone}
 use Rattle.ert_scenario.specs.declared.fields.Top.{Top}
 use Rattle.ert_scenario.specs.declared.format.Format.{Format}

@@ -5,7 +5,6 @@ use Rattle.serde_json.specs.Data.{Data}
 use Rattle.ert_defs.specs.declared.settings.Mode.{Mode}
 use Rattle.ert_defs.specs.declared.settings.Reading.{Reading}
 use Rattle.ert_defs.specs.declared.settings.Settings.{Settings}
-use Rattle.ert_defs.specs.declared.settings.TheConstants.{SCENARIO_LOOKS}
 use Rattle.ert_scenario.specs.Acceptance.{HasSettings}
 use Rattle.ert_scenario.specs.Fields.{is_field, only_named, field, one_or_two, start_time, time_warp_mode, time_correction, count, start_and_first, modes, clock_fields_of, sizes_of, head_of, settings_with, settings_from}
 use Rattle.ert_scenario.specs.Kinds.{FoundOrFault, ◌>>=◌, read_both, if_in_range, listed_reading}

@@ -1,7 +1,7 @@
 -- The call that an op is, by caller n, in a way: which pieces of history it allows with its reply. Out of
 -- memory is no reply.
 
-use Rattle.std.specs.Prelude.{◌≡◌, ℕ, ℤ, FitsSigned, Bool, true, false, List, [], ◌∷◌, Option, Ok, Err}
+use Rattle.std.specs.Prelude.{◌≡◌, ℕ, ℤ, FitsSigned, Bool, List, [], ◌∷◌, Option}
 use Rattle.std.specs.Int.{w64}
 use Rattle.ert_effects.specs.Chains.{HasServedOne, HasDelivered, HasTurned, Exits}
 use Rattle.ert_effects.specs.ClockCalls.{MovesClock, IsTooWide, HasFinalized, TellsTime, TellsOffset, TellsSystemTime}
