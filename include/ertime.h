@@ -931,10 +931,12 @@ int32_t ert_seat_is_alive(ert_seat *seat, uint32_t process, uint32_t *alive);
  * The clocks are read under the lock, so that the readings come in order. A thread that sleeps until ert_shard_next_due
  * has to look at the time when it wakes, as this does: it may have been the only one that was awake.
  *
- * Memory. ert_hub_open allocates and writes what the wheels of all shards need, and ert_hub_shard a block for each shard.
- * What comes later belongs to the thread that calls: mailboxes, monitors and expired timers that wait. What the threads
- * share while they run are the words of the clock, of processes and of timers; those of a wheel are on cache lines apart
- * from all others. Calls read handles and don't write them, so handles may lie in one array.
+ * Memory. ert_hub_open allocates and writes what the wheels of all shards need, and ert_hub_shard a block for each
+ * shard. What comes later belongs to the thread that calls: mailboxes, monitors and expired timers that wait. What the
+ * threads share while they run are the words of the clock, of processes and of timers; those of a wheel are on cache
+ * lines apart from all others. On a machine with several memory nodes, what a wheel has of a slot lies on the node of
+ * the thread that first uses the slot, and what threads share on that of the thread that opened the hub. Calls read
+ * handles and don't write them, so handles may lie in one array.
  *
  * A handle of either kind begins as ERT_INIT, and what is said of handles, threads and forks at the beginning of this
  * file is so for these too: a hub and each shard are used by one thread at a time.
