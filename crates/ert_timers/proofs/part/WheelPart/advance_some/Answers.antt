@@ -15,9 +15,6 @@ use Rattle.ert_timers.proofs.part.WheelPart.advance_some.Goals as goal
 pub returns-in_err-reserve-clause-loses : goal.returns-in_err-reserve-clause-loses
 returns-in_err-reserve-clause-loses c = loses_none c.args.self.now
 
-pub returns-in_err-reserve-clause-frees : goal.returns-in_err-reserve-clause-frees
-returns-in_err-reserve-clause-frees c = λ k was. was
-
 pub try_some-left-requires-clause-holds : goal.try_some-left-requires-clause-holds
 try_some-left-requires-clause-holds c =
     still_held (view_of c.args.pass.now) (view_of c.look_down-to.new.pass) c.args.self.now.number c.args.self.now.number c.requires.holds
@@ -45,9 +42,6 @@ returns-then-is_more-clause-stands c = c.try_some-left.ensures.call.looked.stand
 
 pub returns-then-is_more-clause-loses : goal.returns-then-is_more-clause-loses
 returns-then-is_more-clause-loses c = c.try_some-left.ensures.call.done.loses
-
-pub returns-then-is_more-clause-frees : goal.returns-then-is_more-clause-frees
-returns-then-is_more-clause-frees c = c.try_some-left.ensures.call.done.frees
 
 pub returns-then-is_more-clause-fewer : goal.returns-then-is_more-clause-fewer
 returns-then-is_more-clause-fewer c =
@@ -105,6 +99,3 @@ returns-clause-fewer c =
 
 pub returns-clause-loses : goal.returns-clause-loses
 returns-clause-loses c = c.try_some-left.ensures.call.done.loses
-
-pub returns-clause-frees : goal.returns-clause-frees
-returns-clause-frees c = c.try_some-left.ensures.call.done.frees
