@@ -97,7 +97,7 @@ def texts(body: str, functions: dict[str, str]) -> Iterator[str]:
     """The texts that a piece of code writes, as far as its own file says; a value is its name in capitals, or two dots."""
     for found in re.finditer(r'write!\(\s*page,\s*"((?:[^"\\]|\\.)*)"|\b(write_\w+)\(page', body):
         if found[1] is not None:
-            yield re.sub(r"(?<![a-z])\{(\w+)\}", lambda it: it[1].upper(), found[1]).replace("{number}", "..").replace("{}", "..")
+            yield re.sub(r"(?<![a-z])\{(\w+)\}", lambda it: it[1].upper(), found[1]).replace("{number}", "..").replace("{}", "..") + ".." * found[1].endswith(" ")
         elif found[2] in functions:
             yield from texts(functions[found[2]], functions)
 
