@@ -30,7 +30,7 @@ IsFound text (Illegal line why) = IsIllegalBy text line why
 IsFound text (Refused line) = MisspelledAt text line
 
 -- the verdict on the text
-abbrev pub verdict_of : Finding → Verdict
-verdict_of (Legal count) = verdicts.Legal count
-verdict_of (Illegal line why) = verdicts.Illegal line
-verdict_of (Refused line) = verdicts.Refused line
+abbrev pub finding_verdict : Finding → Verdict
+finding_verdict (Legal count) = verdicts.Legal count
+finding_verdict (Illegal line why) = verdicts.Illegal line
+finding_verdict (Refused line) = verdicts.Refused line

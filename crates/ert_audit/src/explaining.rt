@@ -3,7 +3,7 @@
 ghost use Rattle.std.specs.Prelude.{◌≡◌, ◌⊎◌, ◌≤◌, ◌++◌, codes, IfSome, OnOk, None, string_bytes};
 ghost use Rattle.ert_audit.specs.Audits.{status_telling};
 ghost use Rattle.ert_audit.specs.Explained.{IsMessage, TellsPart};
-ghost use Rattle.ert_audit.specs.Findings.{IsFound, IsIllegalBy, verdict_of};
+ghost use Rattle.ert_audit.specs.Findings.{IsFound, IsIllegalBy, finding_verdict};
 ghost use Rattle.ert_audit.specs.Messages.{line_front, shortened, illegal_message, IsIllegalMessage};
 ghost use Rattle.ert_audit.specs.Refusals.{IsRefusalMessage};
 ghost use Rattle.ert_io.specs.Writing.{WritesFront};
@@ -40,7 +40,7 @@ pub fn explain<E: Sink>(alloc: Global, audited: &Audited, errors: &mut E)
 /// unless memory runs out.
 pub fn message_on(alloc: Global, text: &[u8], finding: Finding) -> Option<String>
     requires { IsFound text.now finding }
-    ensures { IfSome result (λ message. IsMessage (status_telling (verdict_of finding)) text.now (string_bytes message)) }
+    ensures { IfSome result (λ message. IsMessage (status_telling (finding_verdict finding)) text.now (string_bytes message)) }
 {
     match finding {
         Finding::Legal { .. } => None,

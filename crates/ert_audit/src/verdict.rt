@@ -33,12 +33,12 @@ pub enum Finding {
 
 impl Finding {
     ghost use Rattle.std.specs.Prelude.{◌≡◌, ℕ, List};
-    ghost use Rattle.ert_audit.specs.Findings.{IsFound, verdict_of};
+    ghost use Rattle.ert_audit.specs.Findings.{IsFound, finding_verdict};
     ghost use Rattle.ert_audit.specs.Verdicts.{HasVerdict};
 
     /// The verdict on the text.
     pub fn verdict(self) -> Verdict
-        ensures is { result ≡ verdict_of self }
+        ensures is { result ≡ finding_verdict self }
         ensures holds { (text : List ℕ) → IsFound text self → HasVerdict text result }
     {
         match self {

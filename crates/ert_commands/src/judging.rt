@@ -1,6 +1,6 @@
 //! What `ertaudit` does.
 ghost use Rattle.std.specs.Prelude.{◌≡◌, ◌⊎◌, ◌↔◌, ◌<◌, ◌≤◌, [], length, IfOk};
-ghost use Rattle.ert_audit.specs.Findings.{IsFound, verdict_of};
+ghost use Rattle.ert_audit.specs.Findings.{IsFound, finding_verdict};
 ghost use Rattle.ert_audit.specs.Verdicts.{HasVerdict, verdict_line};
 ghost use Rattle.ert_audit.specs.declared.verdict.Verdict as verdicts;
 ghost use Rattle.ert_commands.specs.Answers.{JudgesTo, TellsReason, JudgeAnswers, text_status};
@@ -69,7 +69,7 @@ fn line_of(alloc: Global, verdict: Verdict) -> Result<Vec<u8>, NoMemory>
 /// Why a text has its verdict: nothing where it is legal.
 fn why(alloc: Global, finding: Finding, history: &[u8]) -> Result<Vec<u8>, NoMemory>
     requires { IsFound history.now finding }
-    ensures { IfOk result (λ text. TellsReason history.now (verdict_of finding) text.items) }
+    ensures { IfOk result (λ text. TellsReason history.now (finding_verdict finding) text.items) }
 {
     match finding {
         Finding::Legal { .. } => Ok(Vec::new(alloc)),

@@ -15,12 +15,12 @@ impl<'a, L: DeskName, R: Wait> CallerSession<'a, L, R> {
 
     /// Takes a note of what the caller knows, for whoever the program gives it to. No entry is made, and it takes no lock.
     ///
-    /// With a timer's name it is all that another caller needs to know the timer:
+    /// With a timer's name it is all that another caller needs to know the timer, whatever channel both go through:
     ///
-    ///     let timer = session.start(0, &start)?;
-    ///     channel.send((timer, session.note()))       // in one thread
-    ///     session.learn(note);                        // in another, which knows the timer from here on
-    ///     session.cancel_timer(timer)
+    ///     let timer = session.start(0, start)?;
+    ///     let note = session.note();
+    ///     other.learn(note);              // knows the timer from here on
+    ///     Ok(other.cancel_timer(timer))   // None only once the timer has settled
     pub fn note(&mut self) -> DeskNote<L>
         ensures known { result.note.front ≡ front_of self.old.seat.pass }
         ensures same { front_of self.new.seat.pass ≡ front_of self.old.seat.pass }

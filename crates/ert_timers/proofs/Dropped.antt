@@ -124,7 +124,7 @@ pub drops_more : (g : Settings) (h : List Entry) (p q r : Part) (n : ℕ) → Dr
 drops_more g h p q r n some one = record {
   stands = one.stands;
   loses = loses_then p q r some.loses one.loses;
-  frees = frees_then p q r some.loses some.frees one.frees;
+  frees = frees_then p q r some.loses one.loses.frees some.frees one.frees;
   below = λ k key low is.
       elim (cases_eq k n) [
         | inl here ↦ subst (λ m. (state g h).status (last_timer r.number r.slots m) ≡ Some Armed) (sym here)

@@ -19,7 +19,7 @@ use Rattle.ert_table.specs.Settlings.{ShownWord}
 use Rattle.ert_table.specs.Takes.{Appends, TakesPlace}
 use Rattle.ert_table.specs.declared.view.View.{View}
 use Rattle.ert_timers.proofs.Dropped.{armed_is, told_none, told_some}
-use Rattle.ert_timers.proofs.Freed.{frees_given, frees_none, frees_then}
+use Rattle.ert_timers.proofs.Freed.{frees_given, frees_none, frees_then, given_keeps}
 use Rattle.ert_timers.proofs.Lookings.{found_is, status_is}
 use Rattle.ert_timers.proofs.Passing.{loses_none, loses_row, loses_then}
 use Rattle.ert_timers.proofs.Rows.{key_left}
@@ -119,7 +119,7 @@ nearest_by g s p time k fits tells armed =
 -- the row of a slot goes, and its slot is held free
 given_loses : (p q : Part) (k : ℕ) (key : Key) → key_in p.keys k ≡ Some key → q ≡ given_back p k false → LosesRows p q
 given_loses p q k key has is =
-    subst (LosesRows p) (sym is) (loses_row p (given_back p k false) k (key_low p.keys k key has) refl refl refl refl)
+    subst (LosesRows p) (sym is) (loses_row p (given_back p k false) k (key_low p.keys k key has) refl refl refl refl (given_keeps p (given_back p k false) k false refl))
 
 given_fewer : (p q : Part) (k : ℕ) (key : Key) → key_in p.keys k ≡ Some key → q ≡ given_back p k false → HasLost 1 p q
 given_fewer p q k key has is =
@@ -187,7 +187,7 @@ drops_more g v u x p q r n k key some has one =
       call = call_push g v u x p.number some.probes last some.call (step_of g u p q k one.found x some.loses one.step);
       stands = one.stands;
       loses = loses_then p q r some.loses loses;
-      frees = frees_then p q r some.loses some.frees (frees_given q r k false one.part);
+      frees = frees_then p q r some.loses loses.frees some.frees (frees_given q r k false one.part);
       time = ap (λ (y : Part). y.passed) one.part ∙ some.time;
       fewer = omega (arith, some.fewer, given_fewer q r k key has one.part);
     }
@@ -329,7 +329,7 @@ asks_more g v u x p q r time k answer tells b not probed on =
       held = on.held;
       found = within_more (state g x.front) p q r answer (given_fewer p q k tells.key tells.has one.part) on.found;
       loses = loses_then p q r loses on.loses;
-      frees = frees_then p q r loses (frees_given p q k false one.part) on.frees;
+      frees = frees_then p q r loses on.loses.frees (frees_given p q k false one.part) on.frees;
       time = on.time ∙ ap (λ (y : Part). y.passed) one.part;
     }
   where
@@ -458,7 +458,7 @@ probes_drop g v u x p q r n m key some has one =
       call = call_push g v u x p.number some.probes last some.call (step_of g u p q n one.found x some.loses one.step);
       stands = one.stands;
       loses = loses_then p q r some.loses loses;
-      frees = frees_then p q r some.loses some.frees (frees_given q r n false one.part);
+      frees = frees_then p q r some.loses loses.frees some.frees (frees_given q r n false one.part);
       time = ap (λ (y : Part). y.passed) one.part ∙ some.time;
       fewer = omega (arith, some.fewer, given_fewer q r n key has one.part);
       armed = λ k seen low is.

@@ -15,10 +15,9 @@ HoldsNoneFree p = (k : ℕ) → set.contains p.free k ≡ false
 abbrev pub KeepsFree : Part → Part → Type 0
 KeepsFree p q = (k : ℕ) → set.contains p.free k ≡ true → set.contains q.free k ≡ true
 
--- and so is that of each row that has gone, where its round has uses left
-pub record FreesRows (p q : Part) : Type 0 where
-  pub kept : KeepsFree p q
-  pub gone : (k : ℕ) → key_in p.keys k ≢ None → key_in q.keys k ≡ None → has_uses (slot_at p.slots k) ≡ true → set.contains q.free k ≡ true
+-- the slot of each row that has gone is held free, where its round has uses left
+abbrev pub FreesRows : Part → Part → Type 0
+FreesRows p q = (k : ℕ) → key_in p.keys k ≢ None → key_in q.keys k ≡ None → has_uses (slot_at p.slots k) ≡ true → set.contains q.free k ≡ true
 
 -- each slot that was held free is so still but one, where one was taken
 abbrev pub TakesFree : Part → Part → Option ℕ → Type 0

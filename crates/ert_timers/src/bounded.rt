@@ -14,7 +14,6 @@ impl WheelPart {
     ghost use Rattle.std.specs.Prelude.{◌≡◌, ◌≤◌, IfOk, ℕ, count_by, length, min, vec_capacity};
     ghost use Rattle.ert_effects.specs.SomeCalls.{AreTried};
     ghost use Rattle.ert_table.specs.Desks.{settings_of, view_of, front_of, Belongs};
-    ghost use Rattle.ert_timers.specs.Frees.{KeepsFree};
     ghost use Rattle.ert_timers.specs.Parts.{HoldsSched, PartStands};
     ghost use Rattle.ert_timers.specs.Passed.{LosesRows};
     ghost use Rattle.ert_timers.specs.Trying.{IsLooked, IsLeft, IsAdvancedSome, HasDue, HasExpiredSome, IsTriedSome, LosesSome};
@@ -44,7 +43,6 @@ impl WheelPart {
         // that were settled long ago and leaves their rows.
         ensures fewer { IfOk result (λ answer. LosesSome answer.1 most self.old self.new) }
         ensures loses { LosesRows self.old self.new }
-        ensures frees { KeepsFree self.old self.new }
     {
         expired.reserve(self.rows_at_most(most))?;
         let mut scratch = self.lend_list()?;
@@ -74,7 +72,6 @@ impl WheelPart {
         ensures left { IsLeft self.new result.0 result.1 }
         ensures fewer { LosesSome result.1 most self.old self.new }
         ensures loses { LosesRows self.old self.new }
-        ensures frees { KeepsFree self.old self.new }
     {
         let to = look_down(desk, pass, Actor::Sched(self.number()));
         let left = self.try_some(desk, pass, to, most, scratch, expired);

@@ -2,9 +2,10 @@
 
 use Rattle.std.proofs.Common.{◌≡◌, ℕ, ◌+◌, ◌<◌, ◌^◌, max, List, Option, Some, None, IfSome, length, set, subst, ap, inl, inr, arith, get_or-set_same, get_or-set_other}
 use Rattle.ert_wheel.proofs.Falls.{HasWith, either, given, given_here, given_there, stands_least, levelled_with, chained_with}
-use Rattle.ert_wheel.proofs.Renumber.{AreNumbered, with_rank}
+use Rattle.ert_wheel.proofs.Renumber.{AreNumbered}
 use Rattle.ert_wheel.proofs.Views.{place_is}
 use Rattle.ert_wheel.specs.Levels.{bucket_on, IsLeastLevel}
+use Rattle.ert_wheel.specs.Ordering.{ranked}
 use Rattle.ert_wheel.specs.Rings.{Rings, Place, AreChains, with_place}
 use Rattle.ert_wheel.specs.Rows.{key_in}
 use Rattle.ert_wheel.specs.Wheels.{stand_on, places, AreOrderedChains}
@@ -31,9 +32,9 @@ newest_with {slot} {keys} {key} e = record {
 
 -- its rank is above all that are numbered
 pub numbers_below : {chains : Rings} {keys : List (Option Key)} {spot : Key → Place} (n : AreNumbered chains keys spot) → (j : ℕ) (p : Place)
-    → places (with_rank spot n.rank) keys j ≡ Some p → p.order < chains.slots + 1
+    → places (ranked spot n.rank) keys j ≡ Some p → p.order < chains.slots + 1
 numbers_below {keys = keys} {spot = spot} n j p is =
-    let k = place_is (with_rank spot n.rank) (key_in keys j) p is in
+    let k = place_is (ranked spot n.rank) (key_in keys j) p is in
     omega (arith, n.few j k.0 k.1, ap (λ (q : Place). q.order) k.2)
 
 -- the chains with it

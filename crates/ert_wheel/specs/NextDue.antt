@@ -1,4 +1,4 @@
--- When the next row of a wheel is due, or when the window begins in which it is.
+-- When the next row of a wheel is due, or when a window begins before which none is.
 
 use Rattle.std.specs.Prelude.{◌≡◌, ℕ, ◌+◌, ◌*◌, ◌/◌, ◌%◌, ◌<◌, ◌≤◌, ◌^◌, ◌⊎◌, List, Option, Some, None, length}
 use Rattle.ert_wheel.specs.Rings.{Rings, Place, AreChains}
@@ -40,7 +40,7 @@ pub record WindowBegins (keys : List (Option Key)) (passed time : ℕ) : Type 0 
   pub begin : time ≡ window * 512 ^ level
   pub some : HasSomeRow keys
 
--- there are rows, none is due before a time, and either one is due at it, or a window begins there that has one
+-- there are rows, none is due before a time, and either one is due at it, or a window begins there
 pub record IsNextDue (keys : List (Option Key)) (passed time : ℕ) : Type 0 where
   pub some : HasSomeRow keys
   pub none_before : NoneBefore keys time
@@ -60,7 +60,7 @@ pub record IsInWindow (passed time deadline : ℕ) : Type 0 where
   pub begin : time ≡ window * 512 ^ level
   pub at_or_after : time ≤ deadline
 
--- a row with a deadline tells a time: it is due at it, or in a window that begins there
+-- a row with a deadline tells a time: it is due at it, or no earlier than a window that begins there
 abbrev pub IsToldBy : ℕ → ℕ → ℕ → Type 0
 IsToldBy passed time deadline = (deadline ≡ time) ⊎ IsInWindow passed time deadline
 
@@ -112,7 +112,7 @@ pub record IsLeastIn (keys : List (Option Key)) (spot : Key → Place) (bucket b
   pub below : (slot : ℕ) (key : Key) → key_in keys slot ≡ Some key → (spot key).home ≡ bucket → least ≤ key.deadline
   pub near : IsDueIn keys spot bucket least ⊎ (least ≡ bound)
 
--- some row is due at a time, or a window begins there that has one, or it is the end of all times
+-- some row is due at a time, or there are rows and a window begins there, or it is the end of all times
 abbrev pub IsEarlyOrNever : List (Option Key) → ℕ → ℕ → Type 0
 IsEarlyOrNever keys passed time = (IsDueAt keys time ⊎ WindowBegins keys passed time) ⊎ (time ≡ NEVER)
 

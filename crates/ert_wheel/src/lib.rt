@@ -98,7 +98,8 @@
 //!
 //! So many rows at most fall in such a call, whatever time has leapt. Before time comes into another window of a level it
 //! stands in the last millisecond before that, until the bucket of the window is empty: the windows of the highest level
-//! first, so four times at most. Where more rows are left than may fall the call says so, and the next one goes on there.
+//! first, so four times at most. Where more rows are left than may fall the call says so, and the next one goes on there. Rows of
+//! the windows between stood too early; they move without a stop, and on each level there are no more than `next_due` looks at.
 //!
 //! **Owners.** `own` puts a slot into the chain of an owner as its newest, `disown` takes it out, `is_owned` tells whether
 //! it is in one, and `newest_owned` tells the newest of an owner. This hangs on no row: a slot may have an owner without a row, and a row without an owner.

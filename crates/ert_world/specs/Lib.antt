@@ -13,5 +13,6 @@ pub mod Restarts
 pub mod Seats
 pub mod Sleeping
 pub mod Stepping
+pub mod Tried
 pub mod Ways
 pub mod Worlds

@@ -1,5 +1,6 @@
 /*
- * How often the event loop of a server wakes early. Each packet restarts the idle timer of a connection, and then the packets end.
+ * How often the event loop of a server wakes early. Each packet restarts the idle timer of a connection, and after a minute the
+ * packets end. They come one by one, or many at once: then the loop sleeps for longer.
  * There is no clock, as in wakes.c. What is expected stands in ertime.h.
  */
 #include <inttypes.h>
@@ -10,7 +11,7 @@
 
 #define MILLISECOND INT64_C(1000000)
 
-/* So many packets come in each millisecond of the first minute. Windows are as wide as an answer that is early is from the next. */
+/* So many packets come for each millisecond of the minute. An answer that is early is as far from the next as a window is wide. */
 enum { CONNECTIONS = 100000, IDLE = 30000, PACKETS = 20, BUSY = 60000, WINDOW = 512 };
 
 static ert_world world = ERT_INIT;
@@ -71,10 +72,14 @@ static void sleep_until(int64_t to) {
     }
 }
 
-int main(void) {
+/* A server to which packets come after so many milliseconds each time. */
+static void serve(int pause) {
     ert_reading first = {0, 0};
     ert_settings settings;
     uint64_t due;
+    uint64_t restarts = 0;
+    now = 0;
+    expired = early = 0;
     ert_settings_init(&settings, &first);
     settings.slots = CONNECTIONS;
     IS(ert_world_open(&world, &settings), ERT_OK);
@@ -82,10 +87,9 @@ int main(void) {
         ert_start start = idle(i);
         IS(ert_world_start(&world, 0, &start, &timers[i]), ERT_OK);
     }
-    uint64_t restarts = 0;
-    for (int64_t at = 1; at <= BUSY; at++) {
+    for (int64_t at = pause; at <= BUSY; at += pause) {
         sleep_until(at);
-        for (int packet = 0; packet < PACKETS; packet++) {
+        for (int packet = 0; packet < PACKETS * pause; packet++) {
             uint32_t connection = drawn(CONNECTIONS);
             if (last[connection] + IDLE <= now) {
                 continue; /* it was closed */
@@ -102,6 +106,12 @@ int main(void) {
     IS(early <= (BUSY + IDLE) / WINDOW + 1, 1);
     IS(ert_world_next_due(&world, 0, &due), ERT_EMPTY);
     IS(ert_world_close(&world), ERT_OK);
-    printf("%" PRIu64 " restarts: %" PRIu64 " early wakes in a minute with packets, %" PRIu64 " in half a minute without\n", restarts, busy, early - busy);
+    printf("%" PRIu64 " restarts, %d ms from packets to packets: %" PRIu64 " early wakes in the minute, %" PRIu64 " in half a minute after that\n", restarts, pause, busy, early - busy);
+}
+
+int main(void) {
+    serve(1);
+    serve(100);
+    serve(1000);
     return EXIT_SUCCESS;
 }

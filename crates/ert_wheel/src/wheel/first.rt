@@ -17,7 +17,7 @@ impl<T: Keyed> Wheel<T> {
     ghost use Rattle.ert_wheel.specs.Rows.{key_in, row_told};
     ghost use Rattle.ert_wheel.specs.declared.row.TheConstants.{LAST};
 
-    /// Whether a row may be due at `to`: one is due by then or by the next time, or a window begins by then that has one. False
+    /// Whether a row may be due at `to`: one is due by then or by the next time, or a window begins by then where rows stand. False
     /// comes only where none is due by then.
     ///
     /// Before the time that `next_due` told last it is one comparison, and up to the next time one look at a bucket. Within the
@@ -66,7 +66,8 @@ impl<T: Keyed> Wheel<T> {
     /// Time moves on to the row's deadline, where that is later than the next time. Before it comes into another window of a
     /// level the rows of the window's bucket fall, so many at most as `moves` has, which are counted down. Where more are
     /// left time stands in the last millisecond before the window: the next call goes on there. Each row falls once from each
-    /// level at most, and a row that was replaced once more.
+    /// level at most, and a row that was replaced once more. Rows that stand too early in the windows between are counted too, but
+    /// don't hold time up: on each level there are no more than `next_due` looks at.
     ///
     /// The bucket of the next time is put in order of start once, when the first row of it is asked for. That is a walk over it where
     /// its rows came in order, and else a sort. The other work is constant, but where rows were put in late since time moved on. Then

@@ -1,7 +1,7 @@
-use Rattle.std.proofs.Common.{[], ◌∷◌, ◌+◌, ap}
+use Rattle.std.proofs.Common.{[], ◌∷◌, ◌+◌}
 use Rattle.ert_defs.specs.declared.entry.Actor.TheVariants.{Caller}
 use Rattle.ert_shard.proofs.Called.{alone_called}
-use Rattle.ert_shard.specs.Shards.{Owned, share_of, shard_parts_of}
+use Rattle.ert_shard.specs.Shards.{share_of, shard_parts_of}
 use Rattle.ert_table.specs.Desks.{settings_of, view_of}
 use Rattle.ert_world.proofs.Noted.{learned_made, none_quiet}
 use Rattle.ert_world.specs.Ways.{MakesNone}

@@ -8,9 +8,6 @@ use Rattle.ert_timers.specs.Trying.{HasExpiredSome}
 pub returns-in_err-reserve-clause-loses : goal.returns-in_err-reserve-clause-loses
 returns-in_err-reserve-clause-loses c = loses_none c.args.self.now
 
-pub returns-in_err-reserve-clause-frees : goal.returns-in_err-reserve-clause-frees
-returns-in_err-reserve-clause-frees c = λ k was. was
-
 pub returns-clause-call : goal.returns-clause-call
 returns-clause-call c =
     let g = settings_of c.args.desk.now in

@@ -36,9 +36,6 @@ returns-then-is_more-clause-stands c = c.try_some-left.ensures.call.looked.stand
 pub returns-then-is_more-clause-loses : goal.returns-then-is_more-clause-loses
 returns-then-is_more-clause-loses c = c.try_some-left.ensures.call.done.loses
 
-pub returns-then-is_more-clause-frees : goal.returns-then-is_more-clause-frees
-returns-then-is_more-clause-frees c = c.try_some-left.ensures.call.done.frees
-
 pub returns-then-is_more-clause-fewer : goal.returns-then-is_more-clause-fewer
 returns-then-is_more-clause-fewer c =
     loses_some (settings_of c.args.desk.now) (view_of c.look_down-to.new.pass) c.args.self.now c.try_some-left.new.self c.look_down-to.result c.args.most
@@ -95,6 +92,3 @@ returns-clause-fewer c =
 
 pub returns-clause-loses : goal.returns-clause-loses
 returns-clause-loses c = c.try_some-left.ensures.call.done.loses
-
-pub returns-clause-frees : goal.returns-clause-frees
-returns-clause-frees c = c.try_some-left.ensures.call.done.frees
