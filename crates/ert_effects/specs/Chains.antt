@@ -13,7 +13,7 @@ use Rattle.ert_defs.specs.declared.settings.Settings.{Settings}
 use Rattle.ert_effects.specs.MailCalls.{HandsOver}
 use Rattle.ert_effects.specs.RequestCalls.{Picks, HasAnswered, Answers}
 use Rattle.ert_effects.specs.Ways.{Growth, Way, Then, Many}
-use Rattle.ert_effects.specs.WheelCalls.{HasAdvanced, Advances, Sweeps, IsSwept, MarksExit}
+use Rattle.ert_effects.specs.WheelCalls.{HasAdvanced, Advances, Sweeps, AreSwept, MarksExit}
 use Rattle.ert_effects.specs.declared.answers.Handed.{Handed}
 use Rattle.ert_effects.specs.declared.answers.Handed.TheVariants.{Put, Dropped}
 use Rattle.ert_effects.specs.declared.answers.Turned.{Turned}
@@ -105,7 +105,7 @@ drops (how ∷ hows) = dropped_by how + drops hows
 -- expired timers are handed over until none is left: so many are put, and so many thrown away
 pub record HasDelivered (g : Settings) (way : Way) (w : ℕ) (answer : ℕ × ℕ) (h m : List Entry) : Type 0 where
   pub hows : List Handed
-  pub runs : HandsMany g way w hows h m
+  pub runs : Many (λ how. Hands g way w (Ok how)) hows h m
   pub put_is : answer.0 ≡ puts hows
   pub dropped_is : answer.1 ≡ drops hows
   pub done : ((state g (h ++ m)).scheds w).expired ≡ []
@@ -143,7 +143,7 @@ Turns g way w (Err e) h m = CannotTurn g way w e h m
 -- a wheel is swept for a process: then none of its timers for that is armed
 pub record SweepsWheel (g : Settings) (way : Way) (by process w : ℕ) (h m : List Entry) : Type 0 where
   pub steps : way (Wheel w ∷ []) (Sweeps g by w process) h m
-  pub swept : IsSwept (state g (h ++ m)) w process
+  pub swept : AreSwept (state g (h ++ m)).status process ((state g (h ++ m)).rows w)
 
 -- so many wheels from one on
 abbrev pub SweepsWheels : Settings → Way → ℕ → ℕ → ℕ → ℕ → Growth
