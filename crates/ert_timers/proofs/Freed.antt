@@ -1,6 +1,6 @@
 -- What is left of the slots that are held free.
 
-use Rattle.std.proofs.Common.{◌≡◌, ◌⊎◌, ℕ, Bool, true, false, cond, not, ◌&&◌, Option, Some, None, Result, Ok, Err, MatchResult, inl, inr, sym, ap, subst, ◌∙◌, ne_eqb}
+use Rattle.std.proofs.Common.{◌≡◌, ◌≢◌, ◌⊎◌, ℕ, Bool, true, false, cond, not, ◌&&◌, get_or-set_other, List, Option, Some, None, Result, Ok, Err, MatchResult, inl, inr, refl, sym, ap, subst, ◌∙◌, ne_eqb}
 use Rattle.std.proofs.lemmas.Bool.{cases_eq}
 use Rattle.std.specs.FinSet as sets
 use Rattle.ert_defs.specs.declared.settings.Settings.{Settings}
@@ -8,13 +8,17 @@ use Rattle.ert_defs.specs.declared.timer.Start.{Start}
 use Rattle.ert_defs.specs.declared.timer.TimerRef.{TimerRef}
 use Rattle.ert_table.specs.declared.view.View.{View}
 use Rattle.ert_timers.specs.Changes.{freed, given_back, has_uses, picked}
-use Rattle.ert_timers.specs.Frees.{HoldsNoneFree, KeepsFree, TakesFree, UsesFree}
+use Rattle.ert_timers.specs.Frees.{FreesRows, HoldsNoneFree, KeepsFree, TakesFree, UsesFree}
 use Rattle.ert_timers.specs.Parts.{Part, last_timer, slot_at}
+use Rattle.ert_timers.specs.Passed.{LosesRows}
+use Rattle.ert_timers.specs.Slots.{Slot}
 use Rattle.ert_timers.specs.Starting.{Arms, Ends, TakesSlot}
 use Rattle.ert_timers.specs.declared.part.Use.{Use}
 use Rattle.ert_timers.proofs.Fit.{put_keeps, taken_and}
 use Rattle.ert_timers.proofs.Lookings.{put_here}
 use Rattle.ert_timers.proofs.Passing.{same_last}
+use Rattle.ert_wheel.specs.Rows.{key_in}
+use Rattle.ert_wheel.specs.declared.row.Key.{Key}
 
 -- a slot was taken out
 pub taken_free : (p q : Part) (k j : ℕ) → q ≡ picked p k → sets.contains p.free j ≡ true → (sets.contains q.free j ≡ true) ⊎ (Some k ≡ Some j)
@@ -84,3 +88,36 @@ moved_uses p q r slot k (Err e) found takes keeps back j was =
       | inl still ↦ inl (keeps j still)
       | inr is ↦ inl (subst (λ n. sets.contains r.free n ≡ true) (let both : Some k ≡ Some j = sym found ∙ is in let same : k ≡ j = cc in same) back)
     ]
+
+-- no row has gone
+pub frees_none : (p : Part) → FreesRows p p
+frees_none p = record { kept = λ k was. was; gone = λ k some none uses. absurd (some none) }
+
+-- rows go, and then others
+pub frees_then : (p q r : Part) → LosesRows p q → FreesRows p q → FreesRows q r → FreesRows p r
+frees_then p q r loses one other = record {
+  kept = λ k was. other.kept k (one.kept k was);
+  gone = λ k some none uses. at k (key_in q.keys k) refl some none uses;
+}
+  where
+    at : (k : ℕ) (o : Option Key) → key_in q.keys k ≡ o → key_in p.keys k ≢ None → key_in r.keys k ≡ None → has_uses (slot_at p.slots k) ≡ true
+        → sets.contains r.free k ≡ true
+    at k None is some none uses = other.kept k (one.gone k some is uses)
+    at k (Some key) is some none uses =
+        other.gone k (λ gone. (let clash : Some key ≡ None = sym is ∙ gone in cc)) none (ap (λ (slots : List Slot). has_uses (slot_at slots k)) loses.slots ∙ uses)
+
+-- the row of a slot goes, and the slot is given back
+pub frees_given : (p q : Part) (k : ℕ) (hit : Bool) → q ≡ given_back p k hit → FreesRows p q
+frees_given p q k hit is = record {
+  kept = given_keeps p q k hit is;
+  gone = λ j some none uses.
+      elim (cases_eq j k) [
+        | inl here ↦ subst (λ n. sets.contains q.free n ≡ true) (sym here)
+            (ap (λ (x : Part). sets.contains x.free k) is ∙ at (has_uses (slot_at p.slots k)) (subst (λ n. has_uses (slot_at p.slots n) ≡ true) here uses))
+        | inr there ↦ absurd (some (sym (get_or-set_other p.keys k j None None there) ∙ (ap (λ (x : Part). key_in x.keys j) (sym is) ∙ none)))
+      ];
+}
+  where
+    at : (b : Bool) → b ≡ true → sets.contains (cond b (sets.insert p.free k) p.free) k ≡ true
+    at true uses = put_here p.free k
+    at false uses = absurd cc

@@ -1,7 +1,6 @@
 -- Slots that have a row are probed, and the rows of settled timers go.
 
-use Rattle.std.proofs.Common.{◌≡◌, ◌≢◌, ℕ, ◌+◌, ◌/◌, ◌^◌, ◌<◌, ◌≤◌, Bool, true, false, cond, List, [], ◌∷◌, ◌++◌, length, count_by, Option, Some, None, option_map, inl, inr, refl, sym, ap, subst, ◌∙◌, arith, append-nil, length-append, IfNone, IsSome}
-use Rattle.std.proofs.Math.Nat.{lt-div-mul-add}
+use Rattle.std.proofs.Common.{◌≡◌, ◌≢◌, ℕ, ◌+◌, ◌<◌, ◌≤◌, Bool, true, false, cond, List, [], ◌∷◌, ◌++◌, length, count_by, Option, Some, None, option_map, inl, inr, refl, sym, ap, subst, ◌∙◌, arith, append-nil, length-append, IfNone, IsSome}
 use Rattle.std.proofs.lemmas.Bool.{cases_eq}
 use Rattle.std.specs.Option.{is_some}
 use Rattle.std.specs.Prelude.{MatchBool}
@@ -20,6 +19,7 @@ use Rattle.ert_table.specs.Settlings.{ShownWord}
 use Rattle.ert_table.specs.Takes.{Appends, TakesPlace}
 use Rattle.ert_table.specs.declared.view.View.{View}
 use Rattle.ert_timers.proofs.Dropped.{armed_is, told_none, told_some}
+use Rattle.ert_timers.proofs.Freed.{frees_given, frees_none, frees_then}
 use Rattle.ert_timers.proofs.Lookings.{found_is, status_is}
 use Rattle.ert_timers.proofs.Passing.{loses_none, loses_row, loses_then}
 use Rattle.ert_timers.proofs.Rows.{key_left}
@@ -32,7 +32,6 @@ use Rattle.ert_timers.specs.Passed.{LosesRows}
 use Rattle.ert_timers.specs.Sleeping.{AreSettled, AsksNext, DropsNext, HasLost, IsFoundNext, ProbesRow, ProbesRows, ProbesSome}
 use Rattle.ert_timers.specs.Starting.{status_shown}
 use Rattle.ert_wheel.proofs.Looking.{key_low}
-use Rattle.ert_wheel.proofs.Times.{some_wide}
 use Rattle.ert_wheel.proofs.Views.{counts_less}
 use Rattle.ert_wheel.specs.NextDue.{TellsNext}
 use Rattle.ert_wheel.specs.Rows.{key_in, told_at}
@@ -105,19 +104,16 @@ nearest_by g s p time k fits tells armed =
     } in
     elim tells.told [
       | inl at ↦ inl (record { row = held_row p.number p.slots k tells.key; armed = is; at = at })
-      | inr b ↦
-          let wide : 0 < 512 ^ b.level = some_wide b.level in
-          inr (record {
-            later = b.later;
-            level = b.level;
-            above = b.above;
-            highest = b.highest;
-            window = tells.key.deadline / 512 ^ b.level;
-            begin = b.begin;
-            row = held_row p.number p.slots k tells.key;
-            armed = is;
-            within = omega (arith, b.begin, lt-div-mul-add {a = tells.key.deadline} wide);
-          })
+      | inr b ↦ inr (record {
+        later = b.later;
+        level = b.level;
+        above = b.above;
+        highest = b.highest;
+        window = b.window;
+        begin = b.begin;
+        row = held_row p.number p.slots k tells.key;
+        armed = is;
+      })
     ]
 
 -- the row of a slot goes, and its slot is held free
@@ -173,6 +169,7 @@ drops_none g v p stands = record {
   call = none_probed g v p stands;
   stands = stands;
   loses = loses_none p;
+  frees = frees_none p;
   time = refl;
   fewer = omega arith;
 }
@@ -190,6 +187,7 @@ drops_more g v u x p q r n k key some has one =
       call = call_push g v u x p.number some.probes last some.call (step_of g u p q k one.found x some.loses one.step);
       stands = one.stands;
       loses = loses_then p q r some.loses loses;
+      frees = frees_then p q r some.loses some.frees (frees_given q r k false one.part);
       time = ap (λ (y : Part). y.passed) one.part ∙ some.time;
       fewer = omega (arith, some.fewer, given_fewer q r k key has one.part);
     }
@@ -212,6 +210,7 @@ asks_there g v u p q r n most answer some low is held found =
       held = held;
       found = found;
       loses = some.loses;
+      frees = some.frees;
       time = some.time;
     })
 
@@ -269,6 +268,7 @@ asks_armed g v u x p q r t n most time k answer some low is held told tells b ar
       held = subst (IsNextHeld q) told held;
       found = inl done.near;
       loses = some.loses;
+      frees = some.frees;
       time = some.time;
     })
 
@@ -294,6 +294,7 @@ asks_anew g v u p q answer on = record {
   held = on.held;
   found = within_next (state g u.front) p q answer on.found;
   loses = on.loses;
+  frees = on.frees;
   time = on.time;
 }
 
@@ -328,6 +329,7 @@ asks_more g v u x p q r time k answer tells b not probed on =
       held = on.held;
       found = within_more (state g x.front) p q r answer (given_fewer p q k tells.key tells.has one.part) on.found;
       loses = loses_then p q r loses on.loses;
+      frees = frees_then p q r loses (frees_given p q k false one.part) on.frees;
       time = on.time ∙ ap (λ (y : Part). y.passed) one.part;
     }
   where
@@ -382,6 +384,22 @@ finds_last : (k : ℕ) (probes : List Probed) (one : Probed) → one.slot ≡ k 
 finds_last k [] one slot armed = inl (slot, armed)
 finds_last k (p ∷ probes) one slot armed = inr (finds_last k probes one slot armed)
 
+-- none was probed yet
+pub probes_none : (g : Settings) (v : View) (p : Part) → PartStands g v.front p → ProbesSome g v p p 0 0 v
+probes_none g v p stands = record {
+  probes = [];
+  order = omega arith;
+  settled = refl;
+  few = omega arith;
+  call = none_probed g v p stands;
+  stands = stands;
+  loses = loses_none p;
+  frees = frees_none p;
+  time = refl;
+  fewer = omega arith;
+  armed = λ k key low has. absurd (omega (arith, low));
+}
+
 -- the next has no row
 pub probes_vacant : (g : Settings) (v u : View) (p q : Part) (n m : ℕ) → ProbesSome g v p q n m u → key_in q.keys n ≡ None → ProbesSome g v p q (n + 1) m u
 probes_vacant g v u p q n m some none = record {
@@ -392,6 +410,7 @@ probes_vacant g v u p q n m some none = record {
   call = some.call;
   stands = some.stands;
   loses = some.loses;
+  frees = some.frees;
   time = some.time;
   fewer = some.fewer;
   armed = λ k key low has.
@@ -415,6 +434,7 @@ probes_stay g v u x p q r n m some one =
       call = call_push g v u x p.number some.probes last some.call (step_of g u p q n one.found x some.loses one.step);
       stands = subst (PartStands g x.front) one.part one.stands;
       loses = some.loses;
+      frees = some.frees;
       time = some.time;
       fewer = some.fewer;
       armed = λ k key low has.
@@ -438,6 +458,7 @@ probes_drop g v u x p q r n m key some has one =
       call = call_push g v u x p.number some.probes last some.call (step_of g u p q n one.found x some.loses one.step);
       stands = one.stands;
       loses = loses_then p q r some.loses loses;
+      frees = frees_then p q r some.loses some.frees (frees_given q r n false one.part);
       time = ap (λ (y : Part). y.passed) one.part ∙ some.time;
       fewer = omega (arith, some.fewer, given_fewer q r n key has one.part);
       armed = λ k seen low is.

@@ -22,6 +22,7 @@ use Rattle.ert_table.proofs.Calls.{step_takes_place, takes_place_then}
 use Rattle.ert_timers.specs.Changes.{gone_on}
 use Rattle.ert_timers.specs.Expiring.{Expires, ExpiresSome, HasExpired, HasNotExpired, HasTried, HasNotTried, IsTried, IsReady, AreDue, TriesHeld}
 use Rattle.ert_timers.specs.ExpiredLists.{Queue}
+use Rattle.ert_timers.specs.Frees.{KeepsFree}
 use Rattle.ert_timers.specs.Looking.{LooksDown}
 use Rattle.ert_timers.specs.Parts.{HoldsSched, Part, PartStands}
 use Rattle.ert_timers.specs.Passed.{LosesRows}
@@ -131,6 +132,7 @@ has_tried g v p p' q q' k to due n old old' new u w number first last rows down 
       once = some.done.once;
       held = some.done.held;
       loses = subst (LosesRows p) (sym last) some.done.loses;
+      frees = subst (KeepsFree p) (sym last) some.done.frees;
       call = takes_place_then g v u w (look ∷ []) (expiry_entries p.number some.done.tries) (step_takes_place g v look u looks.step) some.done.call;
       number = ap (λ (x : Part). x.number) last ∙ some.done.number;
       ready = subst (λ (x : Part). IsReady g w.front x to []) (sym last) (subst (IsReady g w.front q to) (no_row due n high) some.ready);
@@ -209,6 +211,7 @@ has_not_tried g v p q k to e old new u stands holds number same down rows =
     record {
       call = not_expired g v p.number k to e old new u number down rows;
       loses = subst (LosesRows p) (sym same) (loses_none p);
+      frees = subst (KeepsFree p) (sym same) (λ k was. was);
       number = ap (λ (x : Part). x.number) same;
       stands = subst (λ (x : Part). PartStands g u.front x) (sym same) (looked_stands g v p to u stands holds looks);
     }

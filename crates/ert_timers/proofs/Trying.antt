@@ -2,6 +2,7 @@
 
 use Rattle.std.proofs.Common.{◌≡◌, ℕ, ◌+◌, ◌≤◌, ℤ, pos, true, false, List, [], ◌∷◌, ◌++◌, ◌<◌, length, set, count_by, Option, Some, None, refl, sym, ap, subst, ◌∙◌, arith, append_assoc, append-nil, length-append}
 use Rattle.std.proofs.lemmas.List.{map-append}
+use Rattle.std.specs.FinSet as sets
 use Rattle.std.specs.Option.{is_some}
 use Rattle.ert_calls.proofs.Looks.{look_stepped}
 use Rattle.ert_defs.specs.Legal.{Legal}
@@ -49,6 +50,7 @@ tries_none g v p to q legal = record {
   held = tt;
   none = tt;
   loses = loses_none p;
+  frees = λ k was. was;
   fewer = omega arith;
   rows = refl;
   call = no_step g v legal;
@@ -118,6 +120,7 @@ tries_more g v p q r to n row old mid new u w some stands its due wheel one =
       held = held_push p some.tries t some.held (was_held p q row.slot (key_of row) some.loses (stands.holds.wide ∙ sym stands.holds.many) its);
       none = none_more q r row.slot some.tries t low refl mine slots keys time some.none;
       loses = loses_then p q r some.loses (loses_row q r row.slot low mine slots keys time);
+      frees = λ k was. ap (λ (x : Part). sets.contains x.free k) one.part ∙ some.frees k was;
       fewer = omega (arith, some.fewer, row_counted q r row its keys);
       rows = (later_step g u (expires_by p.number t.timer t.missed) w p.number step
           (subst (λ k. is_held u.actors (Wheel k) ≡ true) some.number wheel) (no_arm p.number t.timer t.missed)).rows ∙ some.rows;
@@ -168,6 +171,7 @@ tries_come_to g v p q to n passed old new u some up = record {
   held = some.held;
   none = holds_less q (come_to q passed) some.tries (loses_come_to q passed up) some.none;
   loses = loses_then p q (come_to q passed) some.loses (loses_come_to q passed up);
+  frees = some.frees;
   fewer = some.fewer;
   rows = some.rows;
   call = some.call;

@@ -17,6 +17,7 @@ use Rattle.ert_table.specs.Takes.{Appends, TakesPlace}
 use Rattle.ert_table.specs.declared.view.View.{View}
 use Rattle.ert_timers.specs.Changes.{let_go}
 use Rattle.ert_timers.specs.ExpiredLists.{Queue}
+use Rattle.ert_timers.specs.Frees.{KeepsFree}
 use Rattle.ert_timers.specs.Parts.{Part, PartStands, last_timer, held_row}
 use Rattle.ert_timers.specs.Passed.{HoldsEach, LosesRows}
 use Rattle.ert_timers.specs.Trying.{expired_after, TriesRows}
@@ -88,6 +89,7 @@ pub record HasTried (g : Settings) (v : View) (p q : Part) (to : ℕ) (old new :
   pub once : AreOnce tries
   pub held : HoldsEach p tries
   pub loses : LosesRows p q
+  pub frees : KeepsFree p q
   pub call : TakesPlace g v (look_entry (Sched p.number) now ∷ expiry_entries p.number tries) u
   pub number : q.number ≡ p.number
   pub ready : IsReady g u.front q to []
@@ -99,6 +101,7 @@ pub record HasTried (g : Settings) (v : View) (p q : Part) (to : ℕ) (old new :
 pub record HasNotTried (g : Settings) (v : View) (p q : Part) (e : NoMemory) (old new : Queue) (u : View) : Type 0 where
   pub call : HasNotExpired g v p.number e old new u
   pub loses : LosesRows p q
+  pub frees : KeepsFree p q
   pub number : q.number ≡ p.number
   pub stands : PartStands g u.front q
 

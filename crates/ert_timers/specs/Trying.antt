@@ -17,6 +17,7 @@ use Rattle.ert_table.specs.Calls.{IsMade}
 use Rattle.ert_table.specs.Takes.{TakesPlace}
 use Rattle.ert_table.specs.declared.view.View.{View}
 use Rattle.ert_timers.specs.ExpiredLists.{Queue}
+use Rattle.ert_timers.specs.Frees.{KeepsFree}
 use Rattle.ert_timers.specs.Parts.{Part, PartStands}
 use Rattle.ert_timers.specs.Passed.{HoldsEach, HoldsNone, LosesRows, HasPassed}
 use Rattle.ert_wheel.specs.FirstDue.{HasToMove}
@@ -43,6 +44,7 @@ pub record TriesRows (g : Settings) (v : View) (p q : Part) (to n : ℕ) (old ne
   pub held : HoldsEach p tries
   pub none : HoldsNone q tries
   pub loses : LosesRows p q
+  pub frees : KeepsFree p q
   pub fewer : count_by is_some q.keys + n ≡ count_by is_some p.keys
   pub rows : (state g u.front).rows p.number ≡ (state g v.front).rows p.number
   pub call : TakesPlace g v (expiry_entries p.number tries) u

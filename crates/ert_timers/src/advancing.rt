@@ -16,6 +16,7 @@ impl WheelPart {
     ghost use Rattle.ert_table.specs.Desks.{settings_of, view_of, front_of, Belongs};
     ghost use Rattle.ert_timers.specs.Expiring.{Expires, ExpiresSome, IsReady, IsTried, IsAdvanced, TriesHeld};
     ghost use Rattle.ert_table.specs.Calls.{IsMade};
+    ghost use Rattle.ert_timers.specs.Frees.{KeepsFree};
     ghost use Rattle.ert_timers.specs.Parts.{HoldsSched, PartStands, last_timer};
     ghost use Rattle.ert_timers.specs.Passed.{HasPassed, LosesRows};
     ghost use Rattle.ert_wheel.specs.Rows.{key_in, key_of, row_told, rows_told};
@@ -44,6 +45,7 @@ impl WheelPart {
         ensures held { IfOk result (λ to. IsMade (settings_of desk.now) (view_of pass.old) (TriesHeld self.old to) (view_of pass.new)) }
         ensures passed { IfOk result (λ to. HasPassed self.new to) }
         ensures loses { LosesRows self.old self.new }
+        ensures frees { KeepsFree self.old self.new }
     {
         let to = self.try_due(desk, pass, expired)?;
         pass.load_time(

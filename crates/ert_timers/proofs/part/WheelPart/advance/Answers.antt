@@ -36,6 +36,9 @@ returns-clause-passed c = passed c.try_due.new.self c.in_ok-to.to (none_left c.t
 pub returns-clause-loses : goal.returns-clause-loses
 returns-clause-loses c = c.in_ok-to.ensures.call.loses
 
+pub returns-clause-frees : goal.returns-clause-frees
+returns-clause-frees c = c.in_ok-to.ensures.call.frees
+
 pub returns-clause-held : goal.returns-clause-held
 returns-clause-held c =
     let tried = c.in_ok-to.ensures.call in
