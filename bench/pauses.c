@@ -8,7 +8,9 @@
  * exit of a process with as many timers. At last the longest turn of a server with as many timers over 285 seconds: of three
  * timers of a connection packets restart two, of 60 and 30 seconds, in random order, and the third is due within an hour.
  * A window of 262 seconds begins in these too. And the longest turn of 256 timers at most after a leap of an hour, in which all
- * timers are due: they were restarted in random order. */
+ * timers are due: they were restarted in random order. Then as many timers of 10,050 milliseconds, which are all restarted after 100,
+ * to one deadline: the longest turn before that, and all turns together with that in which they expire, where they were restarted
+ * from the last to the first, and the same two where they were in random order. Their messages come in the order of the restarts. */
 #define _POSIX_C_SOURCE 199309L
 
 #include <inttypes.h>
@@ -19,7 +21,7 @@
 
 #include "ertime.h"
 
-enum { SPREAD = 200000, LOOKS = 7, KINDS = 3, SERVED = 285000, FIRST = 1000, PACKETS = 100, HOUR = 3600000, PIECE = 256 };
+enum { SPREAD = 200000, LOOKS = 7, KINDS = 3, SERVED = 285000, FIRST = 1000, PACKETS = 100, HOUR = 3600000, PIECE = 256, LONG = 10050, AFTER = 100, ANEW = 10000 };
 
 static ert_world world = ERT_INIT;
 static ert_reading reading;
@@ -219,6 +221,63 @@ static double longest_piece(void) {
     return longest;
 }
 
+/* The longest turn before a deadline to which all timers are restarted in one millisecond, and all turns together. */
+static void at_once(int random) {
+    double longest = 0;
+    double last = 0;
+    double sum = 0;
+    uint32_t taken = 0;
+    ert_timer *timers = calloc(slots, sizeof *timers);
+    uint32_t *order = calloc(slots, sizeof *order);
+    if (timers == NULL || order == NULL) {
+        exit(EXIT_FAILURE);
+    }
+    for (uint32_t i = 0; i < slots; i++) {
+        ert_start start = {.when = LONG, .msg = i};
+        must(ert_world_start(&world, 0, &start, &timers[i]));
+        order[i] = slots - 1 - i;
+    }
+    for (uint32_t i = slots - 1; random && i > 0; i--) {
+        uint32_t other = (uint32_t)(drawn() % (i + 1));
+        uint32_t kept = order[i];
+        order[i] = order[other];
+        order[other] = kept;
+    }
+    for (int i = 0; i < AFTER + ANEW; i++) {
+        ert_moved moved;
+        ert_turned turned;
+        ert_mail mail;
+        if (i == AFTER) {
+            for (uint32_t k = 0; k < slots; k++) {
+                ert_start start = {.when = ANEW, .msg = order[k]};
+                must(ert_world_restart(&world, &timers[order[k]], &start));
+            }
+        }
+        reading.mono += 1000000;
+        reading.sys += 1000000;
+        must(ert_world_tick(&world, &reading, 0, &moved));
+        longest = last > longest ? last : longest;
+        double begun = nanoseconds();
+        must(ert_world_turn(&world, 0, &turned));
+        last = nanoseconds() - begun;
+        sum += last;
+        while (ert_world_take(&world, 0, &mail) == ERT_OK) {
+            if (i + 1 != AFTER + ANEW || mail.msg != order[taken]) {
+                fprintf(stderr, "a timer expired out of order\n");
+                exit(EXIT_FAILURE);
+            }
+            taken++;
+        }
+    }
+    if (taken != slots) {
+        fprintf(stderr, "%" PRIu32 " of %" PRIu32 " timers expired\n", taken, slots);
+        exit(EXIT_FAILURE);
+    }
+    printf(" %.0f %.0f", longest, sum);
+    free(order);
+    free(timers);
+}
+
 int main(int count, char **words) {
     slots = count == 2 ? (uint32_t)strtoul(words[1], NULL, 10) : 0;
     if (slots == 0) {
@@ -236,6 +295,12 @@ int main(int count, char **words) {
     printf(" %.0f", longest_turn());
     must(ert_world_close(&world));
     open_world();
-    printf(" %.0f\n", longest_piece());
+    printf(" %.0f", longest_piece());
     must(ert_world_close(&world));
+    for (int random = 0; random < 2; random++) {
+        open_world();
+        at_once(random);
+        must(ert_world_close(&world));
+    }
+    printf("\n");
 }

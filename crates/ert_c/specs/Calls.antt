@@ -160,8 +160,7 @@ pub record TurnsBy (sched : ℕ) (answer : Result Turned OutOfMemory) (old new :
   pub stays : Stays old new
   pub passed : IfOk answer (λ turned. HasPassedAt new sched turned.to)
 
--- what is told is how early a row of the wheel is due, or where the window begins in which it is: no armed timer is due
--- before it. Slots were probed until a timer was armed, and the rows of the others have gone
+-- what is told is how early a row of the wheel is due, or where a window begins: no armed timer is due before it. Slots were probed until a timer was armed, and the rows of the others have gone
 pub record LooksAheadForC (sched : ℕ) (answer : Option ℕ) (old new : Seen) : Type 0 where
   pub makes : MakesCall (λ w. By w (λ g. ProbesForNext g sched)) old new
   pub stays : Stays old new

@@ -244,8 +244,8 @@ pub record ShardTellsMail (process answer : ℕ) (old new : Owned) : Type 0 wher
   pub waiting : answer ≡ length ((state old.settings old.history).mails process).queue
   pub unchanged : new ≡ old
 
--- what is told is how early a row of the shard's wheel is due, or where the window begins in which it is: no armed timer of
--- the wheel is due before it. Slots were probed until a timer was armed, and the rows of the others have gone
+-- what is told is how early a row of the shard's wheel is due, or where a window begins: no armed timer of the wheel is due
+-- before it. Slots were probed until a timer was armed, and the rows of the others have gone
 pub record ShardLooksAhead (answer : Option ℕ) (old new : Owned) : Type 0 where
   pub makes : ShardSteps old (ShardBy old (λ g. ProbesForNext g old.share.number)) new
   pub held : IsNextHeld new.wheel answer

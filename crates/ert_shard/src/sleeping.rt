@@ -14,9 +14,9 @@ impl Shard {
     /// answers; None where no timer is held.
     ///
     /// It tells an event loop how long it may sleep: no armed timer of the wheel is due before it. It is the deadline of
-    /// a timer that is held, or the begin of a window, after the time of the last advance, in which one is due
-    /// (`ert_wheel`, `Wheel::next_due`). The shard's scheduler probes the slot of that timer: where another has cancelled it its
-    /// row goes, and the next one is asked for. After 1,024 such rows the answer may be too early for the sake of a timer
+    /// a timer that is held, or the begin of a window of 512 milliseconds or a wider one, after the time of the last advance; two
+    /// such begins are 512 milliseconds apart at least (`ert_wheel`, `Wheel::next_due`). The shard's scheduler probes the slot of
+    /// the timer that tells it: where another has cancelled it its row goes, and the next one is asked for. After 1,024 such rows the answer may be too early for the sake of a timer
     /// that another cancelled; so it may where its time is before the first that the last advance left.
     pub fn next_due(&mut self) -> Option<u64>
         ensures call { ShardSteps self.old (ShardBy self.old (λ g. ProbesForNext g self.old.share.number)) self.new }

@@ -46,8 +46,7 @@ is_nearest g s p (Some time) holds tidy told =
         highest = b.highest;
         window = b.window;
         begin = b.begin;
-        row = held_row p.number p.slots b.slot b.key;
-        armed = armed_of g s p b.slot b.key holds tidy b.has;
-        within = b.within;
+        row = held_row p.number p.slots b.some.slot b.some.key;
+        armed = armed_of g s p b.some.slot b.some.key holds tidy b.some.has;
       })
     ]

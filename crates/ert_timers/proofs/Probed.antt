@@ -1,7 +1,6 @@
 -- Slots that have a row are probed, and the rows of settled timers go.
 
-use Rattle.std.proofs.Common.{◌≡◌, ◌≢◌, ℕ, ◌+◌, ◌/◌, ◌^◌, ◌<◌, ◌≤◌, Bool, true, false, cond, List, [], ◌∷◌, ◌++◌, length, count_by, Option, Some, None, option_map, inl, inr, refl, sym, ap, subst, ◌∙◌, arith, append-nil, length-append, IfNone, IsSome}
-use Rattle.std.proofs.Math.Nat.{lt-div-mul-add}
+use Rattle.std.proofs.Common.{◌≡◌, ◌≢◌, ℕ, ◌+◌, ◌<◌, ◌≤◌, Bool, true, false, cond, List, [], ◌∷◌, ◌++◌, length, count_by, Option, Some, None, option_map, inl, inr, refl, sym, ap, subst, ◌∙◌, arith, append-nil, length-append, IfNone, IsSome}
 use Rattle.std.proofs.lemmas.Bool.{cases_eq}
 use Rattle.std.specs.Option.{is_some}
 use Rattle.std.specs.Prelude.{MatchBool}
@@ -33,7 +32,6 @@ use Rattle.ert_timers.specs.Passed.{LosesRows}
 use Rattle.ert_timers.specs.Sleeping.{AreSettled, AsksNext, DropsNext, HasLost, IsFoundNext, ProbesRow, ProbesRows, ProbesSome}
 use Rattle.ert_timers.specs.Starting.{status_shown}
 use Rattle.ert_wheel.proofs.Looking.{key_low}
-use Rattle.ert_wheel.proofs.Times.{some_wide}
 use Rattle.ert_wheel.proofs.Views.{counts_less}
 use Rattle.ert_wheel.specs.NextDue.{TellsNext}
 use Rattle.ert_wheel.specs.Rows.{key_in, told_at}
@@ -106,19 +104,16 @@ nearest_by g s p time k fits tells armed =
     } in
     elim tells.told [
       | inl at ↦ inl (record { row = held_row p.number p.slots k tells.key; armed = is; at = at })
-      | inr b ↦
-          let wide : 0 < 512 ^ b.level = some_wide b.level in
-          inr (record {
-            later = b.later;
-            level = b.level;
-            above = b.above;
-            highest = b.highest;
-            window = tells.key.deadline / 512 ^ b.level;
-            begin = b.begin;
-            row = held_row p.number p.slots k tells.key;
-            armed = is;
-            within = omega (arith, b.begin, lt-div-mul-add {a = tells.key.deadline} wide);
-          })
+      | inr b ↦ inr (record {
+        later = b.later;
+        level = b.level;
+        above = b.above;
+        highest = b.highest;
+        window = b.window;
+        begin = b.begin;
+        row = held_row p.number p.slots k tells.key;
+        armed = is;
+      })
     ]
 
 -- the row of a slot goes, and its slot is held free

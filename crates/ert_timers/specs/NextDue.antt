@@ -1,6 +1,6 @@
 -- When the next timer of a wheel may be due.
 
-use Rattle.std.specs.Prelude.{◌≡◌, ℕ, ◌+◌, ◌*◌, ◌<◌, ◌≤◌, ◌^◌, ◌⊎◌, Option, Some, None, MatchOption, slice_get}
+use Rattle.std.specs.Prelude.{◌≡◌, ℕ, ◌*◌, ◌<◌, ◌≤◌, ◌^◌, ◌⊎◌, Option, Some, None, MatchOption, slice_get}
 use Rattle.ert_defs.specs.States.{State}
 use Rattle.ert_defs.specs.Timers.{Row}
 use Rattle.ert_defs.specs.declared.timer.Status.TheVariants.{Armed}
@@ -25,7 +25,7 @@ NoneArmedBefore s w None = (row : Row) → IsArmed s w row → ⊥
 NoneArmedBefore s w (Some time) = (row : Row) → IsArmed s w row → time ≤ row.deadline
 
 -- a window of 512 milliseconds, or of a power of that, begins after the first time that wasn't passed, and some timer of
--- a wheel that is due in it is armed
+-- a wheel is armed
 pub record BeginsArmed (s : State) (w passed time : ℕ) : Type 0 where
   pub later : passed < time
   pub level : ℕ
@@ -35,9 +35,8 @@ pub record BeginsArmed (s : State) (w passed time : ℕ) : Type 0 where
   pub begin : time ≡ window * 512 ^ level
   pub row : Row
   pub armed : IsArmed s w row
-  pub within : row.deadline < time + 512 ^ level
 
--- a time is that of an armed timer, or a window with one begins there
+-- a time is that of an armed timer, or one is armed and a window begins there
 abbrev pub IsNearest : State → ℕ → ℕ → Option ℕ → Type 0
 IsNearest s w passed None = Unit {0}
 IsNearest s w passed (Some time) = SomeArmedAt s w time ⊎ BeginsArmed s w passed time

@@ -25,7 +25,7 @@ use Rattle.ert_wheel.specs.declared.row.Key.{Key}
 abbrev pub HasLost : ℕ → Part → Part → Type 0
 HasLost n p q = count_by is_some q.keys + n ≡ count_by is_some p.keys
 
--- a time that is answered is that of a timer which is armed, or the begin of a window in which one is due; or 1,024 rows
+-- a time that is answered is that of a timer which is armed; or one is armed, and it is the begin of a window; or 1,024 rows
 -- have gone, or the time is before the first that the wheel hasn't passed
 abbrev pub IsFoundNext : State → Part → Part → Option ℕ → Type 0
 IsFoundNext s p q None = Unit {0}

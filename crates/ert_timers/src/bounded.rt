@@ -7,16 +7,16 @@ use crate::part::WheelPart;
 use ert_defs::{Actor, NoMemory};
 use ert_effects::Left;
 use ert_table::{Desk, Pass, TimeCarry};
-use ert_wheel::FirstDue;
+use ert_wheel::{FirstDue, HeldRow};
 
 impl WheelPart {
     ghost use Rattle.std.specs.Option.{is_some};
-    ghost use Rattle.std.specs.Prelude.{◌≡◌, ◌≤◌, IfOk, ℕ, count_by, min};
+    ghost use Rattle.std.specs.Prelude.{◌≡◌, ◌≤◌, IfOk, ℕ, count_by, length, min, vec_capacity};
     ghost use Rattle.ert_effects.specs.SomeCalls.{AreTried};
     ghost use Rattle.ert_table.specs.Desks.{settings_of, view_of, front_of, Belongs};
     ghost use Rattle.ert_timers.specs.Parts.{HoldsSched, PartStands};
     ghost use Rattle.ert_timers.specs.Passed.{LosesRows};
-    ghost use Rattle.ert_timers.specs.Trying.{IsLooked, IsLeft, IsAdvancedSome, HasDue, IsTriedSome, LosesSome};
+    ghost use Rattle.ert_timers.specs.Trying.{IsLooked, IsLeft, IsAdvancedSome, HasDue, HasExpiredSome, IsTriedSome, LosesSome};
 
     /// Advances as `advance` does, but tries so many timers at most, and tells what is left.
     ///
@@ -45,17 +45,45 @@ impl WheelPart {
         ensures loses { LosesRows self.old self.new }
     {
         expired.reserve(self.rows_at_most(most))?;
+        let mut scratch = self.lend_list()?;
+        let answer = self.advance_with(desk, pass, most, &mut scratch, expired);
+        self.keep_list(scratch);
+        Ok(answer)
+    }
+
+    /// And so with all memory taken.
+    fn advance_with(
+        &mut self,
+        desk: &Desk,
+        pass: &mut Pass,
+        most: u32,
+        scratch: &mut Vec<HeldRow>,
+        expired: &mut ExpiredList,
+    ) -> (u64, Left)
+        requires belongs { Belongs desk.now pass.old }
+        requires holds { HoldsSched (view_of pass.old) self.old.number }
+        requires stands { PartStands (settings_of desk.now) (front_of pass.old) self.old }
+        requires room { min most (count_by is_some self.old.keys) ≤ expired.old.room }
+        requires scratch { length self.old.keys ≤ vec_capacity scratch.old }
+        ensures belongs { Belongs desk.now pass.new }
+        ensures number { self.new.number ≡ self.old.number }
+        ensures stands { PartStands (settings_of desk.now) (front_of pass.new) self.new }
+        ensures call { HasExpiredSome (settings_of desk.now) (view_of pass.old) self.old self.new most result.0 result.1 expired.old expired.new (view_of pass.new) }
+        ensures left { IsLeft self.new result.0 result.1 }
+        ensures fewer { LosesSome result.1 most self.old self.new }
+        ensures loses { LosesRows self.old self.new }
+    {
         let to = look_down(desk, pass, Actor::Sched(self.number()));
-        let left = self.try_some(desk, pass, to, most, expired);
+        let left = self.try_some(desk, pass, to, most, scratch, expired);
         if left.is_more() {
-            return Ok((to, left));
+            return (to, left);
         }
         pass.load_time(
             desk,
             Actor::Sched(self.number()),
             &TimeCarry::Advanced { to },
         );
-        Ok((to, left))
+        (to, left)
     }
 
     /// Tries so many at most of the rows that are due at `to`, in order, and tells what is left.
@@ -65,6 +93,7 @@ impl WheelPart {
         pass: &mut Pass,
         to: u64,
         most: u32,
+        scratch: &mut Vec<HeldRow>,
         expired: &mut ExpiredList,
     ) -> Left
         requires belongs { Belongs desk.now pass.old }
@@ -72,6 +101,7 @@ impl WheelPart {
         requires looked { IsLooked (settings_of desk.now) (front_of pass.old) self.old to }
         requires room { min most (count_by is_some self.old.keys) ≤ expired.old.room }
         requires few { to ≤ 8796093022207 }
+        requires scratch { length self.old.keys ≤ vec_capacity scratch.old }
         ensures belongs { Belongs desk.now pass.new }
         ensures call { IsTriedSome (settings_of desk.now) (view_of pass.old) self.old self.new to most result expired.old expired.new (view_of pass.new) }
         ensures left { IsLeft self.new to result }
@@ -79,7 +109,7 @@ impl WheelPart {
         let mut left = most;
         let mut moves = most;
         loop {
-            let row = match self.first_row_due(to, &mut moves) {
+            let row = match self.first_row_due(to, &mut moves, scratch) {
                 FirstDue::Row(row) => row,
                 FirstDue::Nothing => return Left::Nothing,
                 FirstDue::Moving => return Left::Moving,

@@ -49,7 +49,7 @@
 //! | `start` | looks at the time, stores the word of a free slot, asks whether the destination has exited | constant; where none is held free the settings' `looks` at most, or all slots where there are fewer |
 //! | `restart` | looks at the time, and exchanges the word of an armed timer for that of the next one in its slot; or takes another slot, cancels and starts | as `start` |
 //! | `advance` | looks at the time, and tries each due timer in order of deadline and then of start | the due timers and the buckets that are visited |
-//! | `advance_some` | does so with so many timers at most, and tells what is left | the timers that it tries, as many that move in the wheel, and late timers (`ert_wheel`, `Wheel::first_due`) |
+//! | `advance_some` | does so with so many timers at most, and tells what is left | the timers that it tries, as many that move in the wheel, late timers, and those of one millisecond, which are put in order once (`ert_wheel`, `Wheel::first_due`) |
 //! | `sweep` | tries each timer of a process that has exited | those timers, each once |
 //! | `held_for` | finds a timer of a process that is held | constant, amortized: a slot without a timer leaves the chain |
 //! | `forget` | drops the row of a timer that the pass has seen settled, and holds its slot free where its round has uses left | constant |
@@ -78,9 +78,9 @@
 //!
 //! It stands on `ert_defs`, `ert_effects`, `ert_words`, `ert_wheel`, `ert_table` and `ert_calls`.
 //!
-//! **`next_due`.** `World::next_due` → `WheelPart::next_due` (`sleeping.rt`) → `Wheel::next_due`: `Chains::first_used`
-//! finds the first bucket that has a row by its mark, and `early_in` tells the least deadline there, or the begin of
-//! the bucket's window. `Wheel::teller` has the slot whose row told it: the scheduler probes that (`probe_row`), and
+//! **`next_due`.** `World::next_due` → `WheelPart::next_due` (`sleeping.rt`) → `Wheel::next_due`: `first_window` finds the
+//! first buckets of a level that have rows by their marks, and `least_in` the least deadline there; where there are too
+//! many rows the begin of the next bucket's window is told. `Wheel::teller` has the slot whose row told it: the scheduler probes that (`probe_row`), and
 //! where its timer isn't armed the row goes (`forget`) and the wheel is asked again.
 //!
 //! **Choices.**

@@ -53,7 +53,7 @@ pub struct WheelPart {
 }
 
 // Most of it are the marks of the buckets.
-const _: () = prove!(size_of::<WheelPart>() == 776);
+const _: () = prove!(size_of::<WheelPart>() == 784);
 
 /// How many timers of a wheel there were.
 #[derive(Clone, Copy, Debug, PartialEq, Eq)]
@@ -94,7 +94,7 @@ impl Model for WheelPart {
 
 impl WheelPart {
     ghost use Rattle.std.specs.Option.{is_some};
-    ghost use Rattle.std.specs.Prelude.{◌≡◌, ◌<◌, ◌≤◌, IfOk, IfSome, ℕ, length, count_by, min, [], option_map};
+    ghost use Rattle.std.specs.Prelude.{◌≡◌, ◌<◌, ◌≤◌, IfOk, IfSome, ℕ, length, count_by, min, [], option_map, vec_capacity};
     ghost use Rattle.ert_defs.specs.Settings.{IsChecked};
     ghost use Rattle.ert_timers.specs.Freeing.{IsInUse};
     ghost use Rattle.ert_timers.specs.Parts.{PartStands, held_row, slot_at};
@@ -230,6 +230,17 @@ impl WheelPart {
         find_row(&mut self.wheel, process)
     }
 
+    /// The vector of an advance, empty and with room for a row of each slot. It is to be kept again (`keep_list`).
+    pub(crate) fn lend_list(&mut self) -> Result<Vec<HeldRow>, NoMemory>
+        ensures part { self.new ≡ self.old }
+        ensures room { IfOk result (λ due. length self.old.keys ≤ vec_capacity due) }
+    {
+        let mut due = mem::replace(&mut self.due, Vec::new(self.alloc));
+        due.clear();
+        due.reserve(self.wheel.slots() as usize)?;
+        Ok(due)
+    }
+
     /// The rows with a deadline up to `to`, in order of deadline and then of start, with room for their timers
     /// in the list. If memory runs out, the vector of rows is kept for the next advance, which takes no memory for it.
     #[inline(never)]
@@ -243,9 +254,7 @@ impl WheelPart {
         ensures expired { expired.new.rows ≡ expired.old.rows }
         ensures room { IfOk result (λ due. length due.items ≤ expired.new.room) }
     {
-        let mut due = mem::replace(&mut self.due, Vec::new(self.alloc));
-        due.clear();
-        due.reserve(self.wheel.slots() as usize)?;
+        let mut due = self.lend_list()?;
         self.wheel.due(to, &mut due);
         if expired.reserve(due.len()).is_err() {
             self.keep_list(due);

@@ -29,15 +29,15 @@ impl WheelPart {
     /// How early a timer may be due, in whole milliseconds since the start time, as `advance` answers; None
     /// where no timer is held.
     ///
-    /// No armed timer is due before it. It is the deadline of a timer that is held, or the begin of a window, after the
-    /// time of the last advance, in which one is due (`ert_wheel`, `Wheel::next_due`). The scheduler probes the slot of that
-    /// timer. Where another thread has cancelled it the row goes, its slot is held free where its round has uses left, and
+    /// No armed timer is due before it. It is the deadline of a timer that is held, or the begin of a window of 512 milliseconds
+    /// or a wider one, after the time of the last advance; two such begins are 512 milliseconds apart at least (`ert_wheel`,
+    /// `Wheel::next_due`). The scheduler probes the slot of the timer that tells it. Where another thread has cancelled it the row goes, its slot is held free where its round has uses left, and
     /// the next row is asked for: so that timer was armed at the probe. After 1,024 such rows the answer may be too early for
     /// the sake of a timer that was cancelled; so it may where the time is before the first that the last advance
     /// left, as where a timer was started late. It is never too late.
     ///
-    /// The answer of the wheel is kept: until time comes to it, an earlier timer is started or its own timer goes, a call is
-    /// a few comparisons and that probe.
+    /// The answer of the wheel is kept: until time comes to it, an earlier timer is started or its own timer goes or moves, a call
+    /// is a few comparisons and that probe.
     pub fn next_due(&mut self, desk: &Desk, pass: &mut Pass) -> Option<u64>
         requires belongs { Belongs desk.now pass.old }
         requires holds { HoldsSched (view_of pass.old) self.old.number }

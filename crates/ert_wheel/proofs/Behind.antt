@@ -1,43 +1,47 @@
 -- Rows that are left in the window before which time stands.
 
-use Rattle.std.proofs.Common.{◌≡◌, ◌≢◌, ℕ, suc, ◌+◌, ◌-◌, ◌*◌, ◌/◌, ◌^◌, ◌<◌, ◌≤◌, max, Bool, true, false, List, Option, Some, None, IfSome, get_or, sym, subst, ◌∙◌, ap, inl, inr, refl, arith}
-use Rattle.std.proofs.Math.Nat.{pow-succ', suc-mul, mul-le-mul_right, div-mul-le_self, div-lt_iff_lt-mul, lt-div-mul-add}
+use Rattle.std.proofs.Common.{◌≡◌, ◌≢◌, ℕ, suc, ◌+◌, ◌-◌, ◌*◌, ◌/◌, ◌^◌, ◌<◌, ◌≤◌, max, Bool, true, false, List, Option, Some, None, IfSome, sym, subst, ◌∙◌, ap, inl, inr, refl, arith}
+use Rattle.std.proofs.Math.Nat.{pow-succ', suc-mul, mul-le-mul_right, div-mul-le_self, div-lt_iff_lt-mul}
 use Rattle.std.proofs.lemmas.Bool.{cases_lt}
 use Rattle.std.proofs.lemmas.Nat.{div_below}
 use Rattle.std.specs.Bool.{OnTrue}
 use Rattle.std.specs.Option.{is_some}
-use Rattle.ert_wheel.proofs.Empties.{IsEmptying, may_empty_ahead, starts, turn}
 use Rattle.ert_wheel.proofs.Standing.{not_late}
-use Rattle.ert_wheel.proofs.Times.{later, some_wide}
-use Rattle.ert_wheel.proofs.Writes.{Sees}
+use Rattle.ert_wheel.proofs.Times.{later, one_bucket, one_window, some_wide}
+use Rattle.ert_wheel.proofs.Views.{place_is}
+use Rattle.ert_wheel.proofs.Writes.{Sees, ordered_never}
 use Rattle.ert_wheel.specs.Falling.{HasRowIn, MayFall}
 use Rattle.ert_wheel.specs.FirstDue.{HasToMove}
 use Rattle.ert_wheel.specs.Levels.{bucket_of_window, MayStand}
-use Rattle.ert_wheel.specs.Rings.{Rings, Place, AreChains, Finds}
+use Rattle.ert_wheel.specs.Rings.{Rings, Place, AreChains, StandsIn, Finds}
 use Rattle.ert_wheel.specs.NextDue.{NoneBefore}
 use Rattle.ert_wheel.specs.Rows.{key_in}
-use Rattle.ert_wheel.specs.Wheels.{no_key, held_keys, AreLevelChains}
+use Rattle.ert_wheel.specs.Wheels.{held_keys, stand_on, places, AreLevelChains}
 use Rattle.ert_wheel.specs.declared.row.Key.{Key}
+use Rattle.ert_wheel.specs.declared.row.TheConstants.{NEVER}
 
--- the newest row of the window after that of the next time is due in it
+-- the newest row that stands in the window after that of the next time is due in it or later
 row_left : (next level slot : ℕ) (chains : Rings) (stored : List Key) → 1 ≤ level → MayFall next 1 chains (held_keys chains stored)
     → ((places : ℕ → Option Place) → AreChains chains places
     → Finds chains places (bucket_of_window level (next / 512 ^ level + 1)) (2 ^ 64) (Some slot))
     → HasRowIn (held_keys chains stored) level (next / 512 ^ level + 1)
 row_left next level slot chains stored some may finds =
-    let s : IsEmptying next 1 level (next / 512 ^ level + 1) chains (held_keys chains stored) (Some slot) = starts may.are finds in
-    let t = turn chains stored no_key (may_empty_ahead next level (next / 512 ^ level + 1) some refl) may.slots s refl in
-    let key : Key = get_or stored slot no_key in
-    let d : ℕ = max key.deadline next in
-    let fits : MayStand next 1 level d =
-    subst (λ (l : ℕ). MayStand next 1 l d) t.may.stands (t.may.levelled.fit slot key t.may.has) in
-    let e : d ≡ key.deadline = not_late next level key.deadline some fits in
-    record {
-      slot = slot;
-      key = key;
-      has = t.may.has;
-      within = omega (arith, ap (λ t. t / 512 ^ level) e, t.may.near, fits.ahead some some);
-    }
+    let keys : List (Option Key) = held_keys chains stored in
+    let spot : Key → Place = stand_on next may.are.level may.are.time may.are.rank in
+    let there : StandsIn (places spot keys) (bucket_of_window level (next / 512 ^ level + 1)) slot = (finds (places spot keys) may.are.are).stands.1 in
+    let k = place_is spot (key_in keys slot) there.place there.has in
+    let key : Key = k.0 in
+    let t : ℕ = max (may.are.time key) next in
+    let fit : MayStand next 1 (may.are.level key) t = may.are.levelled.fit slot key k.1 in
+    let b = one_bucket (may.are.level key) level (t / 512 ^ may.are.level key) (next / 512 ^ level + 1) (ap (λ (p : Place). p.home) k.2 ∙ there.at_home) in
+    let e : t / 512 ^ may.are.level key ≡ t / 512 ^ level = ap (λ l. t / 512 ^ l) b.level in
+    let n : next / 512 ^ may.are.level key ≡ next / 512 ^ level = ap (λ l. next / 512 ^ l) b.level in
+    let window : t / 512 ^ level ≡ next / 512 ^ level + 1 =
+    one_window (next / 512 ^ level) (t / 512 ^ level) (next / 512 ^ level + 1) (later level next t (omega arith)) (omega arith) (omega (arith, fit.near, e, n)) (omega arith)
+    (omega (arith, b.place, e)) in
+    let in_time : t ≡ may.are.time key = not_late next (may.are.level key) (may.are.time key) (omega (arith, b.level, some)) fit in
+    let up : t ≤ key.deadline = omega (arith, in_time, may.are.levelled.early slot key k.1) in
+    record { slot = slot; key = key; has = k.1; within = omega (arith, window, later level t key.deadline up) }
 
 -- whether there is one
 pub rows_left : (next level window bucket : ℕ) (chains : Rings) (stored : List Key) (found : Option ℕ) (told : Bool) → told ≡ is_some found
@@ -93,28 +97,22 @@ begins_after next time level some less apart =
 -- where rows are left, time stands before the begin of their window
 behind : (keys : List (Option Key)) (next time level passed : ℕ) → 1 ≤ level → level ≤ 4 → BeginsAfter next time level
     → passed ≡ time / 512 ^ level * 512 ^ level - 1 → HasRowIn keys level (passed / 512 ^ level + 1) → HasToMove keys passed (time - 1)
-behind keys next time level passed some most b stands row =
-    let m : ℕ = 512 ^ level in
-    let there : row.key.deadline / m ≡ time / m = row.within ∙ ap (λ t. t / m + 1) stands ∙ b.last in
-    record {
-      on = omega (arith, stands, b.by, b.wide);
-      begins = record {
-        time = time / m * m;
-        by = omega (arith, b.by, b.wide);
-        begins = record {
-          later = omega (arith, stands, b.wide);
-          level = level;
-          above = some;
-          highest = most;
-          window = time / m;
-          begin = refl;
-          slot = row.slot;
-          key = row.key;
-          has = row.has;
-          within = omega (arith, lt-div-mul-add {a = row.key.deadline} (some_wide level), ap (λ w. w * m) there);
-        };
-      };
-    }
+behind keys next time level passed some most b stands row = record {
+  on = omega (arith, stands, b.by, b.wide);
+  begins = record {
+    time = time / 512 ^ level * 512 ^ level;
+    by = omega (arith, b.by, b.wide);
+    begins = record {
+      later = omega (arith, stands, b.wide);
+      level = level;
+      above = some;
+      highest = most;
+      window = time / 512 ^ level;
+      begin = refl;
+      some = record { slot = row.slot; key = row.key; has = row.has };
+    };
+  };
+}
 
 pub left_behind : (keys : List (Option Key)) (next time level passed : ℕ) (left : Bool) → 1 ≤ level → level ≤ 4 → BeginsAfter next time level
     → passed ≡ time / 512 ^ level * 512 ^ level - 1 → OnTrue left (HasRowIn keys level (passed / 512 ^ level + 1))
@@ -132,9 +130,9 @@ pub none_by : (keys : List (Option Key)) (time to : ℕ) → NoneBefore keys tim
 none_by keys time to none less slot = if_some (key_in keys slot) to (λ k has. omega (arith, less, none slot k has))
 
 -- the wheel after rows fell, where time stands
-pub fell : {next count floor : ℕ} {stored : List Key} {seen : List (Option Key)} {chains new : Rings}
-    → Sees next count floor stored seen chains → new.slots ≡ chains.slots → new.homes ≡ chains.homes
-    → AreLevelChains next 1 new seen → Sees next count floor stored seen new
+pub fell : {next count ordered floor : ℕ} {stored : List Key} {seen : List (Option Key)} {chains new : Rings}
+    → Sees next count ordered floor stored seen chains → new.slots ≡ chains.slots → new.homes ≡ chains.homes
+    → AreLevelChains next 1 new seen → Sees next count NEVER floor stored seen new
 fell s slots homes are = record {
   are_stored = s.are_stored;
   above = s.above;
@@ -145,6 +143,6 @@ fell s slots homes are = record {
     time = s.wheel.time;
     counts = s.wheel.counts;
     low = s.wheel.low;
-    are = are;
+    are = ordered_never s.wheel.time are;
   };
 }

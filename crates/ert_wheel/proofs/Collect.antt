@@ -30,7 +30,7 @@ pub record IsWalked (keys : List (Option Key)) (spot : Key → Place) (bucket to
   pub stands : IfSome next (InBucket keys spot bucket)
 
 -- what a look found is a slot of the bucket
-found : (chains : Rings) (keys : List (Option Key)) (spot : Key → Place) (bucket bound : ℕ) (next : Option ℕ)
+pub found : (chains : Rings) (keys : List (Option Key)) (spot : Key → Place) (bucket bound : ℕ) (next : Option ℕ)
     → FindsOldest chains (places spot keys) bucket bound next → IfSome next (InBucket keys spot bucket)
 found chains keys spot bucket bound None f = tt
 found chains keys spot bucket bound (Some slot) f =
@@ -57,7 +57,7 @@ below_first due h b o first above =
     ]
 
 -- a key of the bucket from a bound on is no older than what was found from there on
-found_low : (chains : Rings) (keys : List (Option Key)) (spot : Key → Place) (bucket bound : ℕ) (next : Option ℕ) (j : ℕ) (key : Key)
+pub found_low : (chains : Rings) (keys : List (Option Key)) (spot : Key → Place) (bucket bound : ℕ) (next : Option ℕ) (j : ℕ) (key : Key)
     → FindsOldest chains (places spot keys) bucket bound next → length keys ≡ chains.slots → key_in keys j ≡ Some key
     → (spot key).home ≡ bucket → bound ≤ (spot key).order → order_next (places spot keys) next ≤ (spot key).order
 found_low chains keys spot bucket bound None j key f slots has at high =

@@ -20,7 +20,7 @@ unfolding count_below
 count_most zero test = omega arith
 count_most (suc n) test = omega (arith, count_most n test, bit_low (test n))
 
-count_up : (n : ℕ) (test more : ℕ → Bool) → ((j : ℕ) → j < n → test j ≡ true → more j ≡ true) → count_below n test ≤ count_below n more
+pub count_up : (n : ℕ) (test more : ℕ → Bool) → ((j : ℕ) → j < n → test j ≡ true → more j ≡ true) → count_below n test ≤ count_below n more
 unfolding count_below
 count_up zero test more up = omega arith
 count_up (suc n) test more up =

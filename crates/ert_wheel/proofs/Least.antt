@@ -1,12 +1,11 @@
 -- The least deadline of a bucket, and how early one of its rows may be due.
 
-use Rattle.std.proofs.Common.{◌≡◌, ◌≢◌, ℕ, ◌+◌, ◌*◌, ◌/◌, ◌<◌, ◌≤◌, ◌^◌, ◌⊎◌, min, zero, suc, cond, count_by, List, [], ◌∷◌, Bool, true, false, Option, Some, None, IfNone, IfSome, MatchOption, length, get_or, sym, subst, ◌∙◌, ap, inl, inr, refl, arith}
+use Rattle.std.proofs.Common.{◌≡◌, ◌≢◌, ℕ, ◌+◌, ◌<◌, ◌≤◌, ◌^◌, ◌⊎◌, min, zero, suc, cond, count_by, List, [], ◌∷◌, Bool, true, false, Option, Some, None, IfNone, IfSome, MatchOption, length, get_or, sym, subst, ◌∙◌, ap, inl, inr, refl, arith}
 use Rattle.std.proofs.lemmas.Bool.{cases_eq, cases_lt}
 use Rattle.std.proofs.lemmas.List.Sums.{sum_by-cons}
 use Rattle.std.specs.Option.{is_some, IsSome}
 use Rattle.ert_wheel.proofs.Looking.{InBucket, Steps, key_low, found, at_key}
-use Rattle.ert_wheel.proofs.Views.{held_in}
-use Rattle.ert_wheel.specs.NextDue.{NoRow, HasSomeRow, IsDueIn, IsLeastIn, BeginsIn}
+use Rattle.ert_wheel.specs.NextDue.{NoRow, HasSomeRow, IsDueIn, IsLeastIn}
 use Rattle.ert_wheel.specs.Rings.{Rings, Place, AreChains, bound_of, order_of, Finds}
 use Rattle.ert_wheel.specs.Rows.{key_in}
 use Rattle.ert_wheel.specs.Wheels.{held_keys, place_of, places}
@@ -119,45 +118,14 @@ passes_all keys spot bucket bound here least is passed =
     }
 
 -- a walk without a bound isn't given up, and so it has an answer
-pub never_over : (most : Option ℕ) (over : Bool) → IfNone most (over ≡ false) → over ≡ true → IfNone most (IsSome (let none : Option ℕ = None in none))
-never_over None over never is = (let clash : true ≡ false = sym is ∙ never in absurd cc)
-never_over (Some n) over never is = tt
+pub never_over : (A : Type 0) (most : Option ℕ) (over : Bool) → IfNone most (over ≡ false) → over ≡ true → IfNone most (IsSome (let none : Option A = None in none))
+never_over A None over never is = (let clash : true ≡ false = sym is ∙ never in absurd cc)
+never_over A (Some n) over never is = tt
 
-pub is_answered : (most : Option ℕ) (least : ℕ) → IfNone most (IsSome (Some least))
+pub is_answered : {A : Type 0} (most : Option ℕ) (least : A) → IfNone most (IsSome (Some least))
 is_answered None least = refl
 is_answered (Some n) least = tt
 
-pub answer_is : (P : Type 0) {X Q : ℕ → Type 0} (answer : Option ℕ) → IsSome answer → IfSome answer X → ((n : ℕ) → X n → Q n) → MatchOption answer P Q
+pub answer_is : {A : Type 0} (P : Type 0) {X Q : A → Type 0} (answer : Option A) → IsSome answer → IfSome answer X → ((a : A) → X a → Q a) → MatchOption answer P Q
 answer_is P None some least f = (let clash : false ≡ true = some in absurd cc)
-answer_is P (Some n) some least f = f n least
-
--- a bucket in which no slot is found has no row
-pub none_in : (chains : Rings) (keys : List (Option Key)) (spot : Key → Place) (bucket bound : ℕ)
-    → length keys ≡ chains.slots → AreChains chains (places spot keys)
-    → Finds chains (places spot keys) bucket (2 ^ 64) None → IsLeastIn keys spot bucket bound bound
-none_in chains keys spot bucket bound slots are f = record {
-  low = omega arith;
-  below = λ j key has same.
-      let place : Place = spot key in
-      let at : places spot keys j ≡ Some place = at_place keys spot j key has in
-      absurd (omega (arith, f.greatest j place (omega (arith, slots, key_low keys j key has)) at same (are.orders j place at)));
-  near = inr refl;
-}
-
--- the slot that is found there tells the begin of its window
-pub begins_in : (chains : Rings) (stored : List Key) (spot : Key → Place) (bucket slot : ℕ) (d : Key)
-    → Finds chains (places spot (held_keys chains stored)) bucket (2 ^ 64) (Some slot)
-    → (slot < length stored)
-    × BeginsIn (held_keys chains stored) spot bucket ((get_or stored slot d).deadline / 512 ^ (bucket / 1024) * 512 ^ (bucket / 1024))
-begins_in chains stored spot bucket slot d f =
-    let s : InBucket (held_keys chains stored) spot bucket slot = found chains (held_keys chains stored) spot bucket (2 ^ 64) (Some slot) f in
-    let h : (slot < length stored) × (s.key ≡ get_or stored slot d) = held_in chains stored slot d s.key s.has in (
-      h.0,
-      record {
-        slot = slot;
-        key = s.key;
-        has = s.has;
-        at_home = s.at_home;
-        begin = ap (λ (k : Key). k.deadline / 512 ^ (bucket / 1024) * 512 ^ (bucket / 1024)) (sym h.1);
-      },
-    )
+answer_is P (Some a) some least f = f a least

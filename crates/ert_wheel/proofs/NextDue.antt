@@ -1,192 +1,122 @@
--- How early a row of a level above the lowest may be due: that of the first window that has one.
+-- How early a row of a level above the lowest may be due: the windows that have rows are looked at, from the first on.
 
-use Rattle.std.proofs.Common.{◌≡◌, ℕ, ◌+◌, ◌*◌, ◌/◌, ◌<◌, ◌≤◌, ◌^◌, max, min, suc, List, Option, Some, sym, subst, ◌∙◌, ap, inl, inr, arith}
-use Rattle.std.proofs.Math.Nat.{lt-div-mul-add, suc-mul, mul-le-mul_right}
+use Rattle.std.proofs.Common.{◌≡◌, ℕ, ◌+◌, ◌*◌, ◌/◌, ◌<◌, ◌≤◌, ◌^◌, max, min, List, Option, Some, sym, subst, ◌∙◌, ap, inl, inr, arith}
 use Rattle.std.proofs.lemmas.Bool.{cases_eq, cases_lt}
 use Rattle.ert_wheel.proofs.Least.{at_place}
 use Rattle.ert_wheel.proofs.Looking.{key_low}
-use Rattle.ert_wheel.proofs.Standing.{end_of, begins, not_late, stands_at, window_before_end, window_later}
-use Rattle.ert_wheel.proofs.Times.{some_wide}
+use Rattle.ert_wheel.proofs.Near.{stands_at_time}
+use Rattle.ert_wheel.proofs.Standing.{end_of, begins, window_before_end, window_later}
+use Rattle.ert_wheel.proofs.Times.{before_window, some_wide}
 use Rattle.ert_wheel.proofs.Views.{place_is}
 use Rattle.ert_wheel.specs.Levels.{bucket_of_window}
 use Rattle.ert_wheel.specs.Marks.{FirstWindow}
-use Rattle.ert_wheel.specs.NextDue.{IsDueAt, WindowBegins, IsDueIn, IsLeastIn, BeginsIn, IsEarlyIn, IsEarlyOrNever, NoneOn, NoneBefore}
-use Rattle.ert_wheel.specs.Rings.{Rings, Place, AreChains}
+use Rattle.ert_wheel.specs.NextDue.{HasSomeRow, IsLeastIn, IsEarlyOrNever, NoneOn, NoneBefore}
+use Rattle.ert_wheel.specs.Rings.{Rings, Place}
 use Rattle.ert_wheel.specs.Rows.{key_in}
 use Rattle.ert_wheel.specs.Walks.{StandOnLevels}
 use Rattle.ert_wheel.specs.Wheels.{home_on, stand_on, places}
 use Rattle.ert_wheel.specs.declared.row.Key.{Key}
 use Rattle.ert_wheel.specs.declared.row.TheConstants.{NEVER}
 
-pub due_at_of : {keys : List (Option Key)} {spot : Key → Place} {bucket time : ℕ} → IsDueIn keys spot bucket time → IsDueAt keys time
-due_at_of d = record { slot = d.slot; key = d.key; has = d.has; at = d.at }
+-- no row that stands on a level before a window is due before a time
+abbrev pub NoneUpTo : List (Option Key) → (Key → ℕ) → (Key → ℕ) → ℕ → ℕ → ℕ → ℕ → Type 0
+NoneUpTo keys levels times next level window time = (slot : ℕ) (key : Key) → key_in keys slot ≡ Some key → levels key ≡ level
+    → max (times key) next / 512 ^ level < window → time ≤ key.deadline
 
--- a time in an earlier window is before the begin of a later one
-before_window : (n w p : ℕ) → 1 ≤ p → n / p < w → n < w * p
-before_window n w p some less =
-    let up : suc (n / p) ≤ w = less in
-    omega (arith, lt-div-mul-add {a = n} some, suc-mul (n / p) p, mul-le-mul_right p up)
+module _ {next level : ℕ} {keys : List (Option Key)} {chains : Rings} {levels : Key → ℕ} (stand : StandOnLevels next chains keys levels)
+    (above : 1 ≤ level) (highest : level ≤ 4) where
+  -- a row of the level stands no later than it is due
+  up_to : (slot : ℕ) (key : Key) → key_in keys slot ≡ Some key → levels key ≡ level → max (stand.time key) next ≤ key.deadline
+  up_to slot key has on = stands_at_time stand slot key has (omega (arith, on, above))
 
--- the first window of a level above the lowest that has a row, of those after that of the next time
-pub record IsFirst (next level found : ℕ) (keys : List (Option Key)) (chains : Rings) (levels : Key → ℕ) : Type 0 where
-  pub stand : StandOnLevels next chains keys levels
-  pub above : 1 ≤ level
-  pub highest : level ≤ 4
-  pub after : next / 512 ^ level < found
-  pub first : FirstWindow chains (places (stand_on next levels stand.rank) keys) level (next / 512 ^ level + 1) (end_of level next) found
+  -- at first there are none: each is in a later window than the next time
+  pub none_first : (window time : ℕ) → window ≡ next / 512 ^ level + 1 → NoneUpTo keys levels stand.time next level window time
+  none_first window time is = λ slot key has on less.
+      let t : ℕ = max (stand.time key) next in
+      let fit = stand.levelled.fit slot key has in
+      let after : next / 512 ^ levels key < t / 512 ^ levels key = fit.ahead (omega (arith, on, above)) (omega (arith, on, above)) in
+      absurd (omega (arith, is, less, after, ap (λ l. next / 512 ^ l) on, ap (λ l. t / 512 ^ l) on))
 
-pub first_is : {next level from end found : ℕ} {keys : List (Option Key)} {chains : Rings} {levels : Key → ℕ} (stand : StandOnLevels next chains keys levels)
-    → 1 ≤ level → level ≤ 4 → from ≡ next / 512 ^ level → end ≡ end_of level next → from + 1 ≤ found
-    → ((places : ℕ → Option Place) → AreChains chains places → FirstWindow chains places level (from + 1) end found)
-    → IsFirst next level found keys chains levels
-first_is {next = next} {level = level} {from = from} {end = end} {found = found} {keys = keys} {chains = chains} {levels = levels} stand above highest now last up first = record {
-  stand = stand;
-  above = above;
-  highest = highest;
-  after = omega (arith, now, up);
-  first = subst (λ (end : ℕ). FirstWindow chains (places (stand_on next levels stand.rank) keys) level (next / 512 ^ level + 1) end found) last
-      (subst (λ (begin : ℕ). FirstWindow chains (places (stand_on next levels stand.rank) keys) level (begin + 1) end found) now
-      (first (places (stand_on next levels stand.rank) keys) stand.are));
-}
-
--- what is told of a bucket that is known by another name
-pub told_there : {keys : List (Option Key)} {spot : Key → Place} {bucket time : ℕ} (level window : ℕ) → bucket ≡ bucket_of_window level window
-    → IsEarlyIn keys spot bucket time → IsEarlyIn keys spot (bucket_of_window level window) time
-told_there {keys = keys} {spot = spot} {time = time} level window same told = subst (λ (b : ℕ). IsEarlyIn keys spot b time) same told
-
-module _ {next level found : ℕ} {keys : List (Option Key)} {chains : Rings} {levels : Key → ℕ} (f : IsFirst next level found keys chains levels) where
-  -- a row of the level is in no earlier window
-  pub window_from : (slot : ℕ) (key : Key) → key_in keys slot ≡ Some key → levels key ≡ level → found ≤ max key.deadline next / 512 ^ level
-  window_from slot key has on =
-      let t : ℕ = max key.deadline next in
-      let fit = f.stand.levelled.fit slot key has in
-      let e : t / 512 ^ levels key ≡ t / 512 ^ level = ap (λ l. t / 512 ^ l) on in
-      let n : next / 512 ^ levels key ≡ next / 512 ^ level = ap (λ l. next / 512 ^ l) on in
-      let here : next / 512 ^ levels key < t / 512 ^ levels key = fit.ahead (omega (arith, on, f.above)) (omega (arith, on, f.above)) in
-      let low = window_before_end next (levels key) t (omega (arith, f.stand.low slot key has, f.stand.time)) fit in
-      let home : home_on next levels key ≡ bucket_of_window level (t / 512 ^ level) =
-      ap (λ l. bucket_of_window l (t / 512 ^ l)) on in
-      f.first.none_below (t / 512 ^ level) slot (stand_on next levels f.stand.rank key)
-      (omega (arith, f.stand.slots, key_low keys slot key has)) (at_place keys (stand_on next levels f.stand.rank) slot key has)
-      (omega (arith, here, e, n)) (omega (arith, low, e, ap (λ l. end_of l next) on)) home
-
-  -- so none is due before a time up to the begin of that window
-  pub none_early : (time : ℕ) → time ≤ found * 512 ^ level → NoneOn keys levels level time
-  none_early time early = λ slot key has on.
-      let t : ℕ = max key.deadline next in
-      let fit = f.stand.levelled.fit slot key has in
-      let same : t ≡ key.deadline = not_late next (levels key) key.deadline (omega (arith, on, f.above)) fit in
-      omega (arith, early, same, begins level found t (window_from slot key has on))
-
-  -- and where there is none, at all
-  pub none_at_end : (time : ℕ) → end_of level next ≤ found → NoneOn keys levels level time
-  none_at_end time none = λ slot key has on.
-      let t : ℕ = max key.deadline next in
-      let low = window_before_end next (levels key) t (omega (arith, f.stand.low slot key has, f.stand.time)) (f.stand.levelled.fit slot key has) in
-      absurd (omega (arith, none, low, window_from slot key has on, ap (λ l. end_of l next) on, ap (λ l. t / 512 ^ l) on))
-
-  -- a row of the window's bucket
-  pub record IsThere (slot : ℕ) (key : Key) : Type 0 where
-    pub has : key_in keys slot ≡ Some key
-    pub at_home : home_on next levels key ≡ bucket_of_window level found
-    pub on : levels key ≡ level
-    pub window : key.deadline / 512 ^ level ≡ found
-
-  there : (slot : ℕ) (key : Key) → found < end_of level next → key_in keys slot ≡ Some key
-      → home_on next levels key ≡ bucket_of_window level found → IsThere slot key
-  there slot key low has at =
-      let t : ℕ = max key.deadline next in
-      let fit = f.stand.levelled.fit slot key has in
-      let s = stands_at next (levels key) level t found (omega arith) fit (omega (arith, f.after)) low at in
-      let same : t ≡ key.deadline = not_late next (levels key) key.deadline (omega (arith, s.level_is, f.above)) fit in
-      record { has = has; at_home = at; on = s.level_is; window = ap (λ d. d / 512 ^ level) (sym same) ∙ s.window_is }
-
-  -- there is one
-  some_there : found < end_of level next → (slot : ℕ) × (key : Key) × IsThere slot key
-  some_there low =
-      let h = f.first.has_slot low in
-      let k = place_is (stand_on next levels f.stand.rank) (key_in keys h.slot) h.stands.place h.stands.has in (
-        h.slot,
-        k.0,
-        there h.slot k.0 low k.1 (ap (λ (p : Place). p.home) k.2 ∙ h.stands.at_home),
-      )
-
-  -- it is due before the end of the window
-  within : (slot : ℕ) (key : Key) → IsThere slot key → key.deadline < found * 512 ^ level + 512 ^ level
-  within slot key is = omega (arith, lt-div-mul-add {a = key.deadline} (some_wide level), ap (λ w. w * 512 ^ level) is.window)
-
-  -- the least deadline of the bucket's rows is that of one of them
-  least_due : (time : ℕ) → found < end_of level next → IsLeastIn keys (stand_on next levels f.stand.rank) (bucket_of_window level found) NEVER time
-      → IsDueIn keys (stand_on next levels f.stand.rank) (bucket_of_window level found) time
-  least_due time low looks =
-      elim looks.near [
-        | inl due ↦ due
-        | inr e ↦
-            let s = some_there low in
-            absurd (omega (arith, e, looks.below s.0 s.1 s.2.has s.2.at_home, f.stand.low s.0 s.1 s.2.has))
+  -- windows without a row are passed over
+  pub none_skip : (window end found time : ℕ) → found ≤ end → next / 512 ^ level < window
+      → FirstWindow chains (places (stand_on next levels stand.time stand.rank) keys) level window end found
+      → NoneUpTo keys levels stand.time next level window time → NoneUpTo keys levels stand.time next level found time
+  none_skip window end found time low up first none = λ slot key has on less.
+      let t : ℕ = max (stand.time key) next in
+      elim (cases_lt (t / 512 ^ level) window) [
+        | inl before ↦ none slot key has on before
+        | inr after ↦
+            let home : home_on next levels stand.time key ≡ bucket_of_window level (t / 512 ^ level) =
+            ap (λ l. bucket_of_window l (t / 512 ^ l)) on in
+            absurd (omega (
+              arith,
+              less,
+              first.none_below (t / 512 ^ level) slot (stand_on next levels stand.time stand.rank key)
+                  (omega (arith, stand.slots, key_low keys slot key has)) (at_place keys (stand_on next levels stand.time stand.rank) slot key has)
+                  after (omega (arith, less, low)) home,
+            ))
       ]
 
-  -- and the least of the level's
-  none_least : (time : ℕ) → found < end_of level next → IsLeastIn keys (stand_on next levels f.stand.rank) (bucket_of_window level found) NEVER time
-      → NoneOn keys levels level time
-  none_least time low looks = λ slot key has on.
-      let t : ℕ = max key.deadline next in
-      let due = least_due time low looks in
-      let in_window = within due.slot due.key (there due.slot due.key low due.has due.at_home) in
-      let fit = f.stand.levelled.fit slot key has in
-      let same : t ≡ key.deadline = not_late next (levels key) key.deadline (omega (arith, on, f.above)) fit in
-      elim (cases_eq (t / 512 ^ level) found) [
+  -- the rows of a window were looked at
+  pub none_looked : (window time least bucket : ℕ) → bucket ≡ bucket_of_window level window
+      → IsLeastIn keys (stand_on next levels stand.time stand.rank) bucket NEVER least
+      → NoneUpTo keys levels stand.time next level window time → NoneUpTo keys levels stand.time next level (window + 1) (min time least)
+  none_looked window time least bucket is looks none = λ slot key has on less.
+      let t : ℕ = max (stand.time key) next in
+      elim (cases_eq (t / 512 ^ level) window) [
         | inl e ↦
-            let home : home_on next levels key ≡ bucket_of_window level found =
-            ap (λ l. bucket_of_window l (t / 512 ^ l)) on ∙ ap (bucket_of_window level) e in
-            looks.below slot key has home
-        | inr ne ↦
-            let up : suc found ≤ t / 512 ^ level = omega (arith, ne, window_from slot key has on) in
-            omega (arith, same, due.at, in_window, suc-mul found (512 ^ level), begins level (suc found) t up)
+            let home : home_on next levels stand.time key ≡ bucket =
+            ap (λ l. bucket_of_window l (t / 512 ^ l)) on ∙ (ap (bucket_of_window level) e ∙ sym is) in
+            omega (arith, looks.below slot key has home)
+        | inr ne ↦ omega (arith, none slot key has on (omega (arith, less, ne)))
       ]
 
-  -- what is told as the begin of the window is that
-  begin_is : (time : ℕ) → found < end_of level next → BeginsIn keys (stand_on next levels f.stand.rank) (bucket_of_window level found) time
-      → time ≡ found * 512 ^ level
-  begin_is time low b =
-      let e : bucket_of_window level found / 1024 ≡ level = omega arith in
-      let is = there b.slot b.key low b.has b.at_home in
-      b.begin ∙ (ap (λ l. b.key.deadline / 512 ^ l * 512 ^ l) e ∙ ap (λ w. w * 512 ^ level) is.window)
-
-  begins_there : (time : ℕ) → found < end_of level next → BeginsIn keys (stand_on next levels f.stand.rank) (bucket_of_window level found) time
-      → WindowBegins keys next time
-  begins_there time low b =
-      let is = there b.slot b.key low b.has b.at_home in
-      let begin = begin_is time low b in
-      record {
-        later = omega (arith, begin, before_window next found (512 ^ level) (some_wide level) f.after);
-        level = level;
-        above = f.above;
-        highest = f.highest;
-        window = found;
-        begin = begin;
-        slot = b.slot;
-        key = b.key;
-        has = b.has;
-        within = omega (arith, begin, within b.slot b.key is);
-      }
-
-  -- what is told of the bucket is told of the level
-  pub early_none : (time : ℕ) → found < end_of level next → IsEarlyIn keys (stand_on next levels f.stand.rank) (bucket_of_window level found) time
-      → NoneOn keys levels level time
-  early_none time low told =
-      elim told [
-        | inl looks ↦ none_least time low looks
-        | inr b ↦ none_early time (omega (arith, begin_is time low b))
+  -- a row that is left is due no earlier than its window begins
+  pub none_left : (window time sooner : ℕ) → sooner ≤ time → sooner ≤ window * 512 ^ level → NoneUpTo keys levels stand.time next level window time
+      → NoneOn keys levels level sooner
+  none_left window time sooner early begin none = λ slot key has on.
+      let t : ℕ = max (stand.time key) next in
+      elim (cases_lt (t / 512 ^ level) window) [
+        | inl before ↦ omega (arith, early, none slot key has on before)
+        | inr after ↦ omega (arith, begin, up_to slot key has on, begins level window t after)
       ]
 
-  pub early_is : (time : ℕ) → found < end_of level next → IsEarlyIn keys (stand_on next levels f.stand.rank) (bucket_of_window level found) time
-      → IsEarlyOrNever keys next time
-  early_is time low told =
-      elim told [
-        | inl looks ↦ inl (inl (due_at_of (least_due time low looks)))
-        | inr b ↦ inl (inr (begins_there time low b))
-      ]
+  -- none is left at the end
+  pub none_at_end : (window time : ℕ) → end_of level next ≤ window → NoneUpTo keys levels stand.time next level window time → NoneOn keys levels level time
+  none_at_end window time past none = λ slot key has on.
+      let t : ℕ = max (stand.time key) next in
+      let low = window_before_end next (levels key) t (omega (arith, stand.low slot key has, stand.levelled.early slot key has, stand.fits)) (stand.levelled.fit slot key has) in
+      none slot key has on (omega (arith, past, low, ap (λ l. end_of l next) on, ap (λ l. t / 512 ^ l) on))
+
+  -- where a window has a row there is one
+  pub has_there : (window end found : ℕ) → found < end
+      → FirstWindow chains (places (stand_on next levels stand.time stand.rank) keys) level window end found → HasSomeRow keys
+  has_there window end found low first =
+      let h = first.has_slot low in
+      let k = place_is (stand_on next levels stand.time stand.rank) (key_in keys h.slot) h.stands.place h.stands.has in
+      record { slot = h.slot; key = k.0; has = k.1 }
+
+-- the begin of a window of a level above the lowest
+pub begins_there : {keys : List (Option Key)} (next level window time : ℕ) → 1 ≤ level → level ≤ 4 → next / 512 ^ level < window
+    → time ≡ window * 512 ^ level → HasSomeRow keys → IsEarlyOrNever keys next time
+begins_there next level window time above highest later is some =
+    inl (inr (record {
+      later = omega (arith, is, before_window next window (512 ^ level) (some_wide level) later);
+      level = level;
+      above = above;
+      highest = highest;
+      window = window;
+      begin = is;
+      some = some;
+    }))
+
+-- the least deadline that a look found
+pub early_looked : {keys : List (Option Key)} {spot : Key → Place} {bucket least : ℕ} (next : ℕ) → IsLeastIn keys spot bucket NEVER least → IsEarlyOrNever keys next least
+early_looked next looks =
+    elim looks.near [
+      | inl due ↦ inl (inl (record { slot = due.slot; key = due.key; has = due.has; at = due.at }))
+      | inr e ↦ inr e
+    ]
 
 -- the earlier of two
 pub earlier_is : (keys : List (Option Key)) (next a b : ℕ) → IsEarlyOrNever keys next a → IsEarlyOrNever keys next b → IsEarlyOrNever keys next (min a b)
@@ -195,11 +125,6 @@ earlier_is keys next a b first second =
       | inl less ↦ let e : a ≡ min a b = omega arith in subst (λ n. IsEarlyOrNever keys next n) e first
       | inr more ↦ let e : b ≡ min a b = omega arith in subst (λ n. IsEarlyOrNever keys next n) e second
     ]
-
--- no row stands on a level before a time, if none does before a later one
-pub none_sooner : (keys : List (Option Key)) (levels : Key → ℕ) (level time sooner : ℕ) → sooner ≤ time → NoneOn keys levels level time
-    → NoneOn keys levels level sooner
-none_sooner keys levels level time sooner up none = λ slot key has on. omega (arith, up, none slot key has on)
 
 -- no row that stands below a level is due before a time
 abbrev pub NoneBelow : List (Option Key) → (Key → ℕ) → ℕ → ℕ → Type 0
@@ -221,11 +146,11 @@ none_above {next = next} {levels = levels} level time stand some early below = �
     elim (cases_lt (levels key) level) [
       | inl low ↦ below slot key has low
       | inr high ↦
-          let t : ℕ = max key.deadline next in
+          let t : ℕ = max (stand.time key) next in
           let fit = stand.levelled.fit slot key has in
-          let same : t ≡ key.deadline = not_late next (levels key) key.deadline (omega (arith, some, high)) fit in
+          let up : t ≤ key.deadline = stands_at_time stand slot key has (omega (arith, some, high)) in
           let later : next / 512 ^ level < t / 512 ^ level = window_later next level (levels key) t (omega (arith, some, high)) high fit in
-          omega (arith, early, same, begins level (next / 512 ^ level + 1) t (omega (arith, later)))
+          omega (arith, early, up, begins level (next / 512 ^ level + 1) t (omega (arith, later)))
     ]
 
 pub none_at_all : {next : ℕ} {chains : Rings} {keys : List (Option Key)} {levels : Key → ℕ} (level time : ℕ) → StandOnLevels next chains keys levels

@@ -10,7 +10,7 @@ use Rattle.ert_wheel.specs.Rings.{Rings, Place, AreChains}
 use Rattle.ert_wheel.specs.Rows.{key_in}
 use Rattle.ert_wheel.specs.Wheels.{stand_on, place_of, places}
 use Rattle.ert_wheel.specs.declared.row.Key.{Key}
-use Rattle.ert_wheel.specs.declared.row.TheConstants.{BUCKETS}
+use Rattle.ert_wheel.specs.declared.row.TheConstants.{NEVER, BUCKETS}
 
 -- none is among none, and so no slot has a place
 no_key_in : (n j : ℕ) → key_in (replicate n None) j ≡ None
@@ -26,7 +26,7 @@ no_place : (spot : Key → Place) (n j : ℕ) → places spot (replicate n None)
 no_place spot n j = ap (place_of spot) (no_key_in n j)
 
 pub opened : (slots : ℕ) (stored : List Key) (chains : Rings) → chains.slots ≡ slots → chains.homes ≡ BUCKETS → AreChains chains (λ _. None)
-    → slots < 2 ^ 32 → Sees 0 0 0 stored (replicate slots None) chains
+    → slots < 2 ^ 32 → Sees 0 0 NEVER 0 stored (replicate slots None) chains
 opened slots stored chains low homes are few =
     let none : length (replicate {A = Option Key} slots None) ≡ slots = length-replicate {A = Option Key} slots None in
     record {
@@ -41,17 +41,17 @@ opened slots stored chains low homes are few =
         low = λ j key has. (let no : None ≡ Some key = sym (no_key_in slots j) ∙ has in cc);
         are = record {
           level = λ _. 0;
+          time = λ _. 0;
           rank = λ _. 0;
           levelled = record {
             fit = λ j key has. (let no : None ≡ Some key = sym (no_key_in slots j) ∙ has in absurd cc);
-            falls = λ i j x y has. (let no : None ≡ Some x = sym (no_key_in slots i) ∙ has in absurd cc);
+            early = λ j key has. (let no : None ≡ Some key = sym (no_key_in slots j) ∙ has in absurd cc);
             once = λ i j x y has. (let no : None ≡ Some x = sym (no_key_in slots i) ∙ has in absurd cc);
-            apart = λ i j x y has. (let no : None ≡ Some x = sym (no_key_in slots i) ∙ has in absurd cc);
-            older = λ j key has. (let no : None ≡ Some key = sym (no_key_in slots j) ∙ has in absurd cc);
             bounded = λ j key has. (let no : None ≡ Some key = sym (no_key_in slots j) ∙ has in absurd cc);
             exact = λ j key has. (let no : None ≡ Some key = sym (no_key_in slots j) ∙ has in absurd cc);
           };
-          are = subst (λ (p : ℕ → Option Place). AreChains chains p) (λ i j. sym (no_place (stand_on 0 (λ _. 0) (λ _. 0)) slots j) i) are;
+          are = subst (λ (p : ℕ → Option Place). AreChains chains p) (λ i j. sym (no_place (stand_on 0 (λ _. 0) (λ _. 0) (λ _. 0)) slots j) i) are;
+          in_order = λ is i j x y has. (let no : None ≡ Some x = sym (no_key_in slots i) ∙ has in absurd cc);
         };
       };
     }

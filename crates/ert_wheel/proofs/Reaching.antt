@@ -5,7 +5,7 @@ use Rattle.std.proofs.lemmas.Bool.{cases_eq, cases_lt}
 use Rattle.std.proofs.lemmas.Bool.Decides.{nat_tests}
 use Rattle.std.specs.Option.{is_some}
 use Rattle.std.specs.Prelude.{MatchBool}
-use Rattle.ert_wheel.proofs.Near.{due_here, rank_here, time_is}
+use Rattle.ert_wheel.proofs.Near.{due_here, time_is}
 use Rattle.ert_wheel.proofs.Looking.{key_low}
 use Rattle.ert_wheel.proofs.Standing.{end_after}
 use Rattle.ert_wheel.proofs.Times.{lowest}
@@ -16,7 +16,7 @@ use Rattle.ert_wheel.specs.NextDue.{NoneBefore}
 use Rattle.ert_wheel.specs.Rings.{Rings, Place, AreChains, StandsIn, Finds}
 use Rattle.ert_wheel.specs.Rows.{key_in, key_of, row_at, row_told, comes_before}
 use Rattle.ert_wheel.specs.Walks.{StandOnLevels}
-use Rattle.ert_wheel.specs.Wheels.{held_keys, stand_on, place_of, places}
+use Rattle.ert_wheel.specs.Wheels.{held_keys, stand_on, place_of, places, InOrder}
 use Rattle.ert_wheel.specs.declared.row.HeldRow.{HeldRow}
 use Rattle.ert_wheel.specs.declared.row.Key.{Key}
 use Rattle.ert_wheel.specs.declared.row.Row.{Row}
@@ -30,30 +30,34 @@ not_before x y late order =
     ]
 
 -- what is told of the bucket of the next time is told of all
-module _ {next : ℕ} {keys : List (Option Key)} {chains : Rings} {levels : Key → ℕ} (stand : StandOnLevels next chains keys levels) (time : ℕ)
-    (none : NoneBefore keys time) where
+module _ {next : ℕ} {keys : List (Option Key)} {chains : Rings} {levels : Key → ℕ} (stand : StandOnLevels next chains keys levels)
+    (in_order : InOrder next keys stand.rank) (time : ℕ) (none : NoneBefore keys time) where
   -- the oldest row that is due at a time before which none is, is the first of all
-  first_found : (row : Row) → IsOldestDue keys (stand_on next levels stand.rank) (bucket_of_window 0 next) time row → IsFirstRowDue keys time row
+  first_found : (row : Row) → IsOldestDue keys (stand_on next levels stand.time stand.rank) (bucket_of_window 0 next) time row → IsFirstRowDue keys time row
   first_found row o = record {
     held = o.held;
     due = o.due;
     first = λ slot key has.
         let t : max row.deadline next ≡ next =
         time_is stand row.slot (key_of row) next o.held (omega arith)
-        (omega (arith, end_after 0 next (omega arith) stand.time, lowest next)) o.at_home in
+        (omega (arith, end_after 0 next (omega arith) stand.fits, lowest next)) o.at_home in
         let here : time ≤ row.deadline = none row.slot (key_of row) o.held in
         not_before (row_at slot key) row (omega (arith, none slot key has, o.due)) (λ e.
         let there = due_here stand slot key has (omega (arith, e, t)) in
-        omega (
-          arith,
-          rank_here stand row.slot (key_of row) o.held o.at_home,
-          rank_here stand slot key has there,
-          o.oldest slot key has there (omega (arith, e, o.due)),
-        ));
+        let oldest = o.oldest slot key has there (omega (arith, e, o.due)) in
+        elim (cases_lt key.order row.order) [
+          | inl older ↦
+              absurd (omega (
+                arith,
+                oldest,
+                in_order slot row.slot key (key_of row) has o.held (omega (arith, e, t)) (omega (arith, t)) older,
+              ))
+          | inr newer ↦ newer
+        ]);
   }
 
   -- where it has none that is due by a time up to the next, there is none
-  first_none : NoneDueIn keys (stand_on next levels stand.rank) (bucket_of_window 0 next) time → time ≤ next → NoRowDue keys time
+  first_none : NoneDueIn keys (stand_on next levels stand.time stand.rank) (bucket_of_window 0 next) time → time ≤ next → NoRowDue keys time
   first_none empty on = λ slot key has.
       elim (cases_lt time key.deadline) [
         | inl later ↦ later
@@ -61,8 +65,8 @@ module _ {next : ℕ} {keys : List (Option Key)} {chains : Rings} {levels : Key 
       ]
 
   first_told : (answer : Option HeldRow)
-      → MatchOption answer (NoneDueIn keys (stand_on next levels stand.rank) (bucket_of_window 0 next) time)
-      (λ row. IsOldestDue keys (stand_on next levels stand.rank) (bucket_of_window 0 next) time (row_told keys row))
+      → MatchOption answer (NoneDueIn keys (stand_on next levels stand.time stand.rank) (bucket_of_window 0 next) time)
+      (λ row. IsOldestDue keys (stand_on next levels stand.time stand.rank) (bucket_of_window 0 next) time (row_told keys row))
       → MatchOption answer (time ≤ next → NoRowDue keys time) (λ row. IsFirstRowDue keys time (row_told keys row))
   first_told None told = first_none told
   first_told (Some row) told = first_found (row_told keys row) told
@@ -75,9 +79,9 @@ module _ {next : ℕ} {keys : List (Option Key)} {chains : Rings} {levels : Key 
       → MatchOption answer (time ≤ next → NoRowDue keys time) (λ row. IsFirstRowDue keys time (row_told keys row))
   sees_first {bucket = bucket} answer lent is at looks =
       first_told answer
-      (subst (λ (b : ℕ). MatchOption answer (NoneDueIn keys (stand_on next levels stand.rank) b time) (λ row. IsOldestDue keys (stand_on next levels stand.rank) b time (row_told keys row))) at
-      (subst (λ (ks : List (Option Key)). MatchOption answer (NoneDueIn ks (stand_on next levels stand.rank) bucket time) (λ row. IsOldestDue ks (stand_on next levels stand.rank) bucket time (row_told ks row))) is
-      (looks (stand_on next levels stand.rank) (subst (λ (ks : List (Option Key)). AreChains chains (places (stand_on next levels stand.rank) ks)) (sym is) stand.are))))
+      (subst (λ (b : ℕ). MatchOption answer (NoneDueIn keys (stand_on next levels stand.time stand.rank) b time) (λ row. IsOldestDue keys (stand_on next levels stand.time stand.rank) b time (row_told keys row))) at
+      (subst (λ (ks : List (Option Key)). MatchOption answer (NoneDueIn ks (stand_on next levels stand.time stand.rank) bucket time) (λ row. IsOldestDue ks (stand_on next levels stand.time stand.rank) bucket time (row_told ks row))) is
+      (looks (stand_on next levels stand.time stand.rank) (subst (λ (ks : List (Option Key)). AreChains chains (places (stand_on next levels stand.time stand.rank) ks)) (sym is) stand.are))))
 
 -- where it has come no further than the time, some row is due
 not_past : (keys : List (Option Key)) (passed to stop : ℕ) → IsReached keys passed to stop → stop ≤ to → NoRowDue keys stop → ⊥
@@ -101,7 +105,7 @@ pub any_due : {next : ℕ} {keys : List (Option Key)} {chains : Rings} {levels :
     → ((places : ℕ → Option Place) → AreChains chains places → Finds chains places bucket (2 ^ 64) found)
     → MatchBool told (SomeRowDue keys next) (NoRowDue keys next)
 any_due {next} {keys} {chains} {levels} stand None told {bucket} is at finds =
-    let spot : Key → Place = stand_on next levels stand.rank in
+    let spot : Key → Place = stand_on next levels stand.time stand.rank in
     let f = finds (places spot keys) stand.are in
     subst (λ (b : Bool). MatchBool b (SomeRowDue keys next) (NoRowDue keys next)) (sym is) (λ slot key has.
     elim (cases_lt next key.deadline) [
@@ -116,12 +120,12 @@ any_due {next} {keys} {chains} {levels} stand None told {bucket} is at finds =
           ))
     ])
 any_due {next} {keys} {chains} {levels} stand (Some slot) told {bucket} is at finds =
-    let spot : Key → Place = stand_on next levels stand.rank in
+    let spot : Key → Place = stand_on next levels stand.time stand.rank in
     let f = finds (places spot keys) stand.are in
     let there : StandsIn (places spot keys) bucket slot = f.stands.1 in
     let k = place_is spot (key_in keys slot) there.place there.has in
     let t : max k.0.deadline next ≡ next =
-    time_is stand slot k.0 next k.1 (omega arith) (omega (arith, end_after 0 next (omega arith) stand.time, lowest next))
+    time_is stand slot k.0 next k.1 (omega arith) (omega (arith, end_after 0 next (omega arith) stand.fits, lowest next))
     (ap (λ (p : Place). p.home) k.2 ∙ there.at_home ∙ at) in
     subst (λ (b : Bool). MatchBool b (SomeRowDue keys next) (NoRowDue keys next)) (sym is)
     (record { slot = slot; key = k.0; has = k.1; by = omega (arith, t) })

@@ -105,7 +105,7 @@ met_more true k l v w h b is there =
     ]
 
 -- a test passes at most once
-passing_low : (test : Key → Bool) (o : Option Key) → passing test o ≤ 1
+pub passing_low : (test : Key → Bool) (o : Option Key) → passing test o ≤ 1
 passing_low test None = omega arith
 passing_low test (Some key) =
     elim (test key) as (λ b. cond b 1 0 ≤ 1) [ true ↦ omega arith | false ↦ omega arith ]
@@ -117,53 +117,53 @@ passing_sum p q r None sum = refl
 passing_sum p q r (Some key) sum = sum key refl
 
 -- the time of a key's window: a late one has the next time
-abbrev pub time_of : ℕ → Key → ℕ
-time_of next key = max key.deadline next
+abbrev pub time_of : ℕ → (Key → ℕ) → Key → ℕ
+time_of next times key = max (times key) next
 
 -- the due keys of the levels above one, and on it of the windows before one
-abbrev pub is_due_met : ℕ → (Key → ℕ) → ℕ → ℕ → ℕ → Key → Bool
-is_due_met next levels level window to key =
-    nat_le key.deadline to && (nat_lt level (levels key) || (nat_eq level (levels key) && nat_lt (max key.deadline next / 512 ^ level) window))
+abbrev pub is_due_met : ℕ → (Key → ℕ) → (Key → ℕ) → ℕ → ℕ → ℕ → Key → Bool
+is_due_met next levels times level window to key =
+    nat_le key.deadline to && (nat_lt level (levels key) || (nat_eq level (levels key) && nat_lt (max (times key) next / 512 ^ level) window))
 
 -- the due rows of those windows are there once, and no others
-pub record IsSeen (next : ℕ) (keys : List (Option Key)) (levels : Key → ℕ) (level window to : ℕ) (rows : List HeldRow) : Type 0 where
-  pub each : (j : ℕ) → times j (rows_told keys rows) ≡ passing (is_due_met next levels level window to) (key_in keys j)
+pub record IsSeen (next : ℕ) (keys : List (Option Key)) (levels at : Key → ℕ) (level window to : ℕ) (rows : List HeldRow) : Type 0 where
+  pub each : (j : ℕ) → times j (rows_told keys rows) ≡ passing (is_due_met next levels at level window to) (key_in keys j)
   pub are_rows : AreRows keys (rows_told keys rows)
 
 -- the level may be walked, from one window on
 module _ {next level to : ℕ} {keys : List (Option Key)} {chains : Rings} {levels : Key → ℕ} (stand : StandOnLevels next chains keys levels) where
   -- the rows of the levels above are there at first
-  pub seen_start : (from : ℕ) (rows : List HeldRow) → from ≡ next / 512 ^ level + min level 1 → AreCollected keys levels (level + 1) to rows → IsSeen next keys levels level from to rows
+  pub seen_start : (from : ℕ) (rows : List HeldRow) → from ≡ next / 512 ^ level + min level 1 → AreCollected keys levels (level + 1) to rows → IsSeen next keys levels stand.time level from to rows
   seen_start from rows is so_far = record {
     each = λ j. so_far.each j
-        ∙ passing_same (is_due_from levels (level + 1) to) (is_due_met next levels level from to) (key_in keys j) (λ key has.
-        met_first (nat_le key.deadline to) level (levels key) (time_of next key / 512 ^ level) from (λ on. first key j has on));
+        ∙ passing_same (is_due_from levels (level + 1) to) (is_due_met next levels stand.time level from to) (key_in keys j) (λ key has.
+        met_first (nat_le key.deadline to) level (levels key) (time_of next stand.time key / 512 ^ level) from (λ on. first key j has on));
     are_rows = so_far.are_rows;
   }
     where
-      first : (key : Key) (j : ℕ) → key_in keys j ≡ Some key → levels key ≡ level → from ≤ time_of next key / 512 ^ level
+      first : (key : Key) (j : ℕ) → key_in keys j ≡ Some key → levels key ≡ level → from ≤ time_of next stand.time key / 512 ^ level
       first key j has on =
           elim (cases_eq level 0) [
-            | inl e ↦ omega (arith, is, e, later level next (time_of next key) (omega arith))
+            | inl e ↦ omega (arith, is, e, later level next (time_of next stand.time key) (omega arith))
             | inr ne ↦
                 let fit = stand.levelled.fit j key has in
                 let after = fit.ahead (omega (arith, on, ne)) (omega (arith, on, ne)) in
-                omega (arith, is, after, ap (λ l. next / 512 ^ l) on, ap (λ l. time_of next key / 512 ^ l) on)
+                omega (arith, is, after, ap (λ l. next / 512 ^ l) on, ap (λ l. time_of next stand.time key / 512 ^ l) on)
           ]
 
   -- windows without a row are passed over
   pub seen_skip : (window end found : ℕ) (rows : List HeldRow) → window ≤ found → found ≤ end → end ≤ end_of level next
-      → FirstWindow chains (places (stand_on next levels stand.rank) keys) level window end found
-      → IsSeen next keys levels level window to rows → IsSeen next keys levels level found to rows
+      → FirstWindow chains (places (stand_on next levels stand.time stand.rank) keys) level window end found
+      → IsSeen next keys levels stand.time level window to rows → IsSeen next keys levels stand.time level found to rows
   seen_skip window end found rows up low few first seen = record {
     each = λ j. seen.each j
-        ∙ passing_same (is_due_met next levels level window to) (is_due_met next levels level found to) (key_in keys j) (λ key has.
-        met_skip (nat_le key.deadline to) level (levels key) (time_of next key / 512 ^ level) window found up (λ on high.
-        elim (cases_lt (time_of next key / 512 ^ level) end) [
+        ∙ passing_same (is_due_met next levels stand.time level window to) (is_due_met next levels stand.time level found to) (key_in keys j) (λ key has.
+        met_skip (nat_le key.deadline to) level (levels key) (time_of next stand.time key / 512 ^ level) window found up (λ on high.
+        elim (cases_lt (time_of next stand.time key / 512 ^ level) end) [
           | inl before ↦
-              first.none_below (time_of next key / 512 ^ level) j (stand_on next levels stand.rank key)
-              (omega (arith, stand.slots, key_low keys j key has)) (at_place keys (stand_on next levels stand.rank) j key has) high before
-              (ap (λ l. bucket_of_window l (time_of next key / 512 ^ l)) on)
+              first.none_below (time_of next stand.time key / 512 ^ level) j (stand_on next levels stand.time stand.rank key)
+              (omega (arith, stand.slots, key_low keys j key has)) (at_place keys (stand_on next levels stand.time stand.rank) j key has) high before
+              (ap (λ l. bucket_of_window l (time_of next stand.time key / 512 ^ l)) on)
           | inr after ↦ omega (arith, low, after)
         ]));
     are_rows = seen.are_rows;
@@ -171,22 +171,22 @@ module _ {next level to : ℕ} {keys : List (Option Key)} {chains : Rings} {leve
 
   -- a window more
   module _ (window : ℕ) (rows : List HeldRow) (from : next / 512 ^ level ≤ window) (low : window < end_of level next)
-      (seen : IsSeen next keys levels level window to rows) where
-    here : (key : Key) (j : ℕ) → key_in keys j ≡ Some key → home_on next levels key ≡ bucket_of_window level window
-        → StandsAt (levels key) level (time_of next key / 512 ^ level) window
-    here key j has at = stands_at next (levels key) level (time_of next key) window (omega arith) (stand.levelled.fit j key has) from low at
+      (seen : IsSeen next keys levels stand.time level window to rows) where
+    here : (key : Key) (j : ℕ) → key_in keys j ≡ Some key → home_on next levels stand.time key ≡ bucket_of_window level window
+        → StandsAt (levels key) level (time_of next stand.time key / 512 ^ level) window
+    here key j has at = stands_at next (levels key) level (time_of next stand.time key) window (omega arith) (stand.levelled.fit j key has) from low at
 
     one_more : (j : ℕ)
-        → passing (is_due_met next levels level window to) (key_in keys j) + passing (is_due_in (stand_on next levels stand.rank) (bucket_of_window level window) to) (key_in keys j)
-        ≡ passing (is_due_met next levels level (window + 1) to) (key_in keys j)
+        → passing (is_due_met next levels stand.time level window to) (key_in keys j) + passing (is_due_in (stand_on next levels stand.time stand.rank) (bucket_of_window level window) to) (key_in keys j)
+        ≡ passing (is_due_met next levels stand.time level (window + 1) to) (key_in keys j)
     one_more j =
-        passing_sum (is_due_met next levels level window to) (is_due_in (stand_on next levels stand.rank) (bucket_of_window level window) to)
-        (is_due_met next levels level (window + 1) to) (key_in keys j) (λ key has.
-        met_more (nat_le key.deadline to) level (levels key) (time_of next key / 512 ^ level) window (home_on next levels key) (bucket_of_window level window)
+        passing_sum (is_due_met next levels stand.time level window to) (is_due_in (stand_on next levels stand.time stand.rank) (bucket_of_window level window) to)
+        (is_due_met next levels stand.time level (window + 1) to) (key_in keys j) (λ key has.
+        met_more (nat_le key.deadline to) level (levels key) (time_of next stand.time key / 512 ^ level) window (home_on next levels stand.time key) (bucket_of_window level window)
         (here key j has)
-        (λ on at. ap (λ l. bucket_of_window l (time_of next key / 512 ^ l)) on ∙ ap (bucket_of_window level) at))
+        (λ on at. ap (λ l. bucket_of_window l (time_of next stand.time key / 512 ^ l)) on ∙ ap (bucket_of_window level) at))
 
-    pub may_collect : MayCollect chains keys (stand_on next levels stand.rank) (bucket_of_window level window) to rows
+    pub may_collect : MayCollect chains keys (stand_on next levels stand.time stand.rank) (bucket_of_window level window) to rows
     may_collect = record {
       slots = stand.slots;
       are = stand.are;
@@ -194,13 +194,13 @@ module _ {next level to : ℕ} {keys : List (Option Key)} {chains : Rings} {leve
         arith,
         seen.each j,
         one_more j,
-        passing_low (is_due_met next levels level (window + 1) to) (key_in keys j),
+        passing_low (is_due_met next levels stand.time level (window + 1) to) (key_in keys j),
       );
       are_rows = seen.are_rows;
     }
 
-    pub seen_more : (new : List HeldRow) → Collects keys (stand_on next levels stand.rank) (bucket_of_window level window) to rows new
-        → IsSeen next keys levels level (window + 1) to new
+    pub seen_more : (new : List HeldRow) → Collects keys (stand_on next levels stand.time stand.rank) (bucket_of_window level window) to rows new
+        → IsSeen next keys levels stand.time level (window + 1) to new
     seen_more new c = record {
       each = λ j. omega (arith, c.each j, seen.each j, one_more j);
       are_rows = c.are_rows;
@@ -208,26 +208,26 @@ module _ {next level to : ℕ} {keys : List (Option Key)} {chains : Rings} {leve
 
   -- at the end all due rows of the level are there
   pub seen_end : (window last : ℕ) (rows : List HeldRow) → last ≡ max (min to LAST) next / 512 ^ level → min (last + 1) (end_of level next) ≤ window
-      → IsSeen next keys levels level window to rows → AreCollected keys levels level to rows
+      → IsSeen next keys levels stand.time level window to rows → AreCollected keys levels level to rows
   seen_end window last rows is high seen = record {
     each = λ j. seen.each j
-        ∙ passing_same (is_due_met next levels level window to) (is_due_from levels level to) (key_in keys j) (λ key has.
-        met_last (nat_le key.deadline to) level (levels key) (time_of next key / 512 ^ level) window (λ due on. before key j has due on));
+        ∙ passing_same (is_due_met next levels stand.time level window to) (is_due_from levels level to) (key_in keys j) (λ key has.
+        met_last (nat_le key.deadline to) level (levels key) (time_of next stand.time key / 512 ^ level) window (λ due on. before key j has due on));
     are_rows = seen.are_rows;
   }
     where
-      before : (key : Key) (j : ℕ) → key_in keys j ≡ Some key → nat_le key.deadline to ≡ true → levels key ≡ level → time_of next key / 512 ^ level < window
+      before : (key : Key) (j : ℕ) → key_in keys j ≡ Some key → nat_le key.deadline to ≡ true → levels key ≡ level → time_of next stand.time key / 512 ^ level < window
       before key j has due on =
           let early : key.deadline ≤ to =
           elim (leb_tells key.deadline to) [ inl (t, e) ↦ e | inr (f, e) ↦ absurd (true≢false (sym due ∙ f)) ] in
-          let down : time_of next key ≤ max (min to LAST) next = omega (arith, early, stand.low j key has) in
-          let few = window_before_end next (levels key) (time_of next key) (omega (arith, stand.low j key has, stand.time)) (stand.levelled.fit j key has) in
+          let down : time_of next stand.time key ≤ max (min to LAST) next = omega (arith, early, stand.low j key has, stand.levelled.early j key has) in
+          let few = window_before_end next (levels key) (time_of next stand.time key) (omega (arith, stand.low j key has, stand.levelled.early j key has, stand.fits)) (stand.levelled.fit j key has) in
           omega (
             arith,
             is,
             high,
             few,
-            later level (time_of next key) (max (min to LAST) next) down,
-            ap (λ l. time_of next key / 512 ^ l) on,
+            later level (time_of next stand.time key) (max (min to LAST) next) down,
+            ap (λ l. time_of next stand.time key / 512 ^ l) on,
             ap (λ l. end_of l next) on,
           )

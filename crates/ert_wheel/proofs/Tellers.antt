@@ -1,72 +1,61 @@
 -- The row of a slot tells when the next one is due.
 
-use Rattle.std.proofs.Common.{Bool, true, false, None, option_map, subst, sym, ◌∙◌, refl, ◌≡◌, ℕ, ◌+◌, ◌*◌, ◌/◌, ◌^◌, ◌<◌, ◌≤◌, List, Option, Some, ap, inl, inr, arith}
-use Rattle.std.proofs.Math.Nat.{lt-div-mul-add, div-eq_of_lt-le}
-use Rattle.std.proofs.lemmas.Bool.{cases_eq}
+use Rattle.std.proofs.Common.{Bool, true, false, None, option_map, subst, sym, ◌∙◌, refl, ◌≡◌, ℕ, ◌-◌, ◌*◌, ◌/◌, ◌%◌, ◌^◌, ◌<◌, List, Option, Some, ap, inl, inr, arith}
 use Rattle.std.specs.Bool.{OnTrue}
-use Rattle.ert_wheel.proofs.Times.{some_wide}
+use Rattle.ert_wheel.proofs.Closer.{narrower}
 use Rattle.ert_wheel.specs.NextDue.{NoneBefore, IsNextDue, Tells, IsToldBy, TellsNext}
 use Rattle.ert_wheel.specs.Rows.{key_in, told_at}
 use Rattle.ert_wheel.specs.declared.row.HeldRow.{HeldRow}
 use Rattle.ert_wheel.specs.declared.row.Key.{Key}
 
-pub told_next : (keys : List (Option Key)) (passed time slot : ℕ) (key : Key) → NoneBefore keys time → passed < time
-    → key_in keys slot ≡ Some key → Tells key.deadline time → IsNextDue keys passed time
-told_next keys passed time slot key none later has tells = record {
-  some = record { slot = slot; key = key; has = has };
-  none_before = none;
-  near = elim (cases_eq tells.level 0) [
-    | inl lowest ↦ inl (record { slot = slot; key = key; has = has; at = at lowest })
-    | inr above ↦ inr (record {
-      later = later;
-      level = tells.level;
-      above = omega (arith, above);
-      highest = tells.highest;
-      window = key.deadline / 512 ^ tells.level;
-      begin = tells.begin;
-      slot = slot;
-      key = key;
-      has = has;
-      within = within;
-    })
-  ];
-}
-  where
-    at : tells.level ≡ 0 → key.deadline ≡ time
-    at lowest =
-        let one : 512 ^ tells.level ≡ 1 = ap (λ l. 512 ^ l) lowest in
-        omega (arith, tells.begin, ap (λ m. key.deadline / m * m) one)
-
-    within : key.deadline < time + 512 ^ tells.level
-    within =
-        let wide : 0 < 512 ^ tells.level = some_wide tells.level in
-        omega (arith, tells.begin, lt-div-mul-add {a = key.deadline} wide)
-
--- and as it is read
-pub told_row : (keys : List (Option Key)) (passed time slot : ℕ) (row : HeldRow) (yes : Bool) → NoneBefore keys time → passed < time
-    → Some row ≡ option_map (told_at slot) (key_in keys slot) → OnTrue yes (Tells row.deadline time) → OnTrue yes (IsNextDue keys passed time)
-told_row keys passed time slot row false none later is tells = tt
-told_row keys passed time slot row true none later is tells = at (key_in keys slot) refl is
-  where
-    at : (o : Option Key) → key_in keys slot ≡ o → Some row ≡ option_map (told_at slot) o → IsNextDue keys passed time
-    at None has bad = absurd cc
-    at (Some key) has is =
-        let same : row ≡ told_at slot key = cc in
-        let deadline : row.deadline ≡ key.deadline = ap (λ (r : HeldRow). r.deadline) same in
-        told_next keys passed time slot key none later has (subst (λ (d : ℕ). Tells d time) deadline tells)
-
--- a deadline of a level's window tells a time that comes later
-pub told_by : (passed time deadline : ℕ) → Tells deadline time → passed < time → IsToldBy passed time deadline
-told_by passed time deadline tells later =
-    elim (cases_eq tells.level 0) [
-      | inl lowest ↦ inl (at lowest)
-      | inr above ↦ inr (record { later = later; level = tells.level; above = omega (arith, above); highest = tells.highest; begin = tells.begin })
+-- a deadline tells a time that comes later: it is that one, or not before a window that begins then
+pub told_by : (passed time deadline : ℕ) → passed < time → Tells deadline time → IsToldBy passed time deadline
+told_by passed time deadline later tells =
+    elim tells [
+      | inl at ↦ inl at
+      | inr begins ↦ inr (record {
+        later = later;
+        level = 1;
+        above = omega arith;
+        highest = omega arith;
+        window = time / 512;
+        begin = at begins.0;
+        at_or_after = begins.1;
+      })
     ]
   where
-    at : tells.level ≡ 0 → deadline ≡ time
-    at lowest =
-        let one : 512 ^ tells.level ≡ 1 = ap (λ l. 512 ^ l) lowest in
-        omega (arith, tells.begin, ap (λ m. deadline / m * m) one)
+    at : time % 512 ≡ 0 → time ≡ time / 512 * 512 ^ 1
+    at whole = let p : ◌≡◌ {A = ℕ} (512 ^ 1) 512 = refl in omega (arith, whole, ap (λ m. time / 512 * m) p)
+
+pub tells_by : (passed time deadline : ℕ) → IsToldBy passed time deadline → Tells deadline time
+tells_by passed time deadline told =
+    elim told [
+      | inl at ↦ inl at
+      | inr b ↦
+          let n : ℕ = b.window * 512 ^ (b.level - 1) in
+          let e : time ≡ n * 512 = b.begin ∙ narrower b.window 1 b.level b.above in
+          inr (omega (arith, e), b.at_or_after)
+    ]
+
+-- where no row is due before a time, and one tells it, the next one is due then
+pub next_by : (keys : List (Option Key)) (passed time slot : ℕ) → NoneBefore keys time → TellsNext keys passed time slot → IsNextDue keys passed time
+next_by keys passed time slot none tells = record {
+  some = record { slot = slot; key = tells.key; has = tells.has };
+  none_before = none;
+  near =
+      elim tells.told [
+        | inl at ↦ inl (record { slot = slot; key = tells.key; has = tells.has; at = at })
+        | inr b ↦ inr (record {
+          later = b.later;
+          level = b.level;
+          above = b.above;
+          highest = b.highest;
+          window = b.window;
+          begin = b.begin;
+          some = record { slot = slot; key = tells.key; has = tells.has };
+        })
+      ];
+}
 
 -- the row of a slot tells a time, as it is read
 pub tells_row : (keys : List (Option Key)) (passed time slot : ℕ) (row : HeldRow) → Some row ≡ option_map (told_at slot) (key_in keys slot)
@@ -88,65 +77,32 @@ row_tells keys passed time slot row is tells =
     let same : row ≡ told_at slot tells.key = cc in
     subst (λ (d : ℕ). IsToldBy passed time d) (sym (ap (λ (r : HeldRow). r.deadline) same)) tells.told
 
--- some row tells when the next one is due
+-- where a look at its deadline finds that, no row being due before
+pub told_row : (keys : List (Option Key)) (passed time slot : ℕ) (row : HeldRow) (yes : Bool) → NoneBefore keys time → passed < time
+    → Some row ≡ option_map (told_at slot) (key_in keys slot) → (yes ≡ true → Tells row.deadline time) → OnTrue yes (IsNextDue keys passed time)
+told_row keys passed time slot row false none later is tells = tt
+told_row keys passed time slot row true none later is tells =
+    next_by keys passed time slot none (tells_row keys passed time slot row is (told_by passed time row.deadline later (tells refl)))
+
+-- some row tells when the next one is due: where a window begins then, any does
 pub some_tells : (keys : List (Option Key)) (passed time : ℕ) → IsNextDue keys passed time → (slot : ℕ) × TellsNext keys passed time slot
 some_tells keys passed time next =
     elim next.near [
       | inl due ↦ (due.slot, record { key = due.key; has = due.has; told = inl due.at })
       | inr b ↦ (
-        b.slot,
+        b.some.slot,
         record {
-          key = b.key;
-          has = b.has;
+          key = b.some.key;
+          has = b.some.has;
           told = inr (record {
             later = b.later;
             level = b.level;
             above = b.above;
             highest = b.highest;
-            begin = begins b.key.deadline time (512 ^ b.level) b.window (some_wide b.level) b.begin (next.none_before b.slot b.key b.has) b.within;
+            window = b.window;
+            begin = b.begin;
+            at_or_after = next.none_before b.some.slot b.some.key b.some.has;
           });
         },
       )
     ]
-  where
-    begins : (deadline time wide window : ℕ) → 0 < wide → time ≡ window * wide → time ≤ deadline → deadline < time + wide
-        → time ≡ deadline / wide * wide
-    begins deadline time wide window some begin low high =
-        let q : deadline / wide ≡ window = div-eq_of_lt-le {k = window} wide {m = deadline} (omega (arith, begin, low)) (omega (arith, begin, high)) in
-        begin ∙ ap (λ n. n * wide) (sym q)
-
--- and where a look at its deadline finds that
-pub told_on : (keys : List (Option Key)) (passed time slot : ℕ) (row : HeldRow) (yes : Bool) → passed < time
-    → Some row ≡ option_map (told_at slot) (key_in keys slot) → OnTrue yes (Tells row.deadline time) → OnTrue yes (TellsNext keys passed time slot)
-told_on keys passed time slot row false later is tells = tt
-told_on keys passed time slot row true later is tells =
-    tells_row keys passed time slot row is (told_by passed time row.deadline tells later)
-
--- where no row is due before a time, and one tells it, the next one is due then
-pub next_by : (keys : List (Option Key)) (passed time slot : ℕ) → NoneBefore keys time → TellsNext keys passed time slot → IsNextDue keys passed time
-next_by keys passed time slot none tells = record {
-  some = record { slot = slot; key = tells.key; has = tells.has };
-  none_before = none;
-  near =
-      elim tells.told [
-        | inl at ↦ inl (record { slot = slot; key = tells.key; has = tells.has; at = at })
-        | inr b ↦
-            let wide : 0 < 512 ^ b.level = some_wide b.level in
-            inr (record {
-              later = b.later;
-              level = b.level;
-              above = b.above;
-              highest = b.highest;
-              window = tells.key.deadline / 512 ^ b.level;
-              begin = b.begin;
-              slot = slot;
-              key = tells.key;
-              has = tells.has;
-              within = omega (arith, b.begin, lt-div-mul-add {a = tells.key.deadline} wide);
-            })
-      ];
-}
-
-pub on_true : {P : Type 0} (b : Bool) → b ≡ true → OnTrue b P → P
-on_true false is p = absurd cc
-on_true true is p = p

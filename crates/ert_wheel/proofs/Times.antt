@@ -1,7 +1,7 @@
 -- Windows of levels: how those of one level stand to those of the levels above, and to the buckets.
 
 use Rattle.std.proofs.Common.{◌≡◌, ℕ, zero, suc, ◌+◌, ◌*◌, ◌/◌, ◌%◌, ◌^◌, ◌<◌, ◌≤◌, sym, subst, ◌∙◌, ap, arith}
-use Rattle.std.proofs.Math.Nat.{pow-succ', div-div-eq-div-mul}
+use Rattle.std.proofs.Math.Nat.{pow-succ', div-div-eq-div-mul, lt-div-mul-add, suc-mul, mul-le-mul_right}
 use Rattle.ert_wheel.specs.Levels.{bucket_of_window}
 
 -- a window is never empty
@@ -17,6 +17,12 @@ above level time =
     let p : ◌≡◌ {A = ℕ} (512 ^ suc level) (512 * 512 ^ level) = pow-succ' 512 level in
     let q : 512 * 512 ^ level ≡ 512 ^ level * 512 = omega arith in
     ap (λ m. time / m) (p ∙ q) ∙ sym (div-div-eq-div-mul time (512 ^ level) 512)
+
+-- a time in an earlier window is before the begin of a later one
+pub before_window : (n w p : ℕ) → 1 ≤ p → n / p < w → n < w * p
+before_window n w p some less =
+    let up : suc (n / p) ≤ w = less in
+    omega (arith, lt-div-mul-add {a = n} some, suc-mul (n / p) p, mul-le-mul_right p up)
 
 -- the windows of the lowest level are milliseconds
 pub lowest : (time : ℕ) → time / 512 ^ 0 ≡ time
@@ -36,16 +42,6 @@ one_above low (suc more) n t same =
     let e : suc (more + low) ≡ suc more + low = omega arith in
     subst (λ (l : ℕ). n / 512 ^ l ≡ t / 512 ^ l) e
     (omega (arith, above (more + low) n, above (more + low) t, one_above low more n t same))
-
--- and times in windows that come one after the other are so, or in one window, on each level above
-pub near_above : (low more n t : ℕ) → t / 512 ^ low ≤ n / 512 ^ low + 1 → t / 512 ^ (more + low) ≤ n / 512 ^ (more + low) + 1
-near_above low zero n t near =
-    let e : low ≡ 0 + low = omega arith in
-    subst (λ (l : ℕ). t / 512 ^ l ≤ n / 512 ^ l + 1) e near
-near_above low (suc more) n t near =
-    let e : suc (more + low) ≡ suc more + low = omega arith in
-    subst (λ (l : ℕ). t / 512 ^ l ≤ n / 512 ^ l + 1) e
-    (omega (arith, above (more + low) n, above (more + low) t, near_above low more n t near))
 
 -- windows of a level that may be in use at one time have buckets of their own
 pub one_window : (next v w : ℕ) → next ≤ v → next ≤ w → v / 512 ≤ next / 512 + 1 → w / 512 ≤ next / 512 + 1

@@ -8,35 +8,35 @@ use Rattle.std.proofs.lemmas.Option.{get_or_from_slice_get}
 use Rattle.std.proofs.lemmas.List.Sums.{count_by-le-length}
 use Rattle.std.specs.Bool.{IsTrue}
 use Rattle.std.specs.Option.{is_some, IsSome}
-use Rattle.ert_wheel.proofs.Enters.{Enters, entered, entered_chains}
-use Rattle.ert_wheel.proofs.Falls.{given}
+use Rattle.ert_wheel.proofs.Enters.{IsNewest, entered, numbers_below}
 use Rattle.ert_wheel.proofs.Parts.{chains_written}
-use Rattle.ert_wheel.proofs.Staying.{KeepsSpot, stays_levelled, stays_chained}
-use Rattle.ert_wheel.proofs.Views.{AreStored, held_at, held_len, key_stored, key_alone, key_apart, held_is, key_set, stored_held, stored_set, stored_less, stored_more, chains_set, counts_more, counts_less, counts_same, place_is}
+use Rattle.ert_wheel.proofs.Renumber.{numbered}
+use Rattle.ert_wheel.proofs.Staying.{stays_put}
+use Rattle.ert_wheel.proofs.Views.{AreStored, held_at, held_len, key_stored, key_alone, key_apart, held_is, key_set, stored_held, stored_set, stored_less, stored_more, chains_set, counts_more, counts_less, counts_same}
 use Rattle.ert_wheel.specs.Kept.{KeptSlots, AreAlike}
-use Rattle.ert_wheel.specs.Levels.{IsLeastLevel, IsLeastBucket, StaysPut}
+use Rattle.ert_wheel.specs.Levels.{IsLeastBucket, StaysPut}
 use Rattle.ert_wheel.specs.Links.{next_at}
 use Rattle.ert_wheel.specs.Replacing.{MovesOrStays}
-use Rattle.ert_wheel.specs.Rings.{Rings, Place, AreChains, with_place, MayPut, Puts, MayTake, GivesUpPlace}
+use Rattle.ert_wheel.specs.Rings.{Rings, Place, MayPut, Puts, MayTake, GivesUpPlace}
 use Rattle.ert_wheel.specs.Rows.{Held, key_in, times, due_count, left_at}
 use Rattle.ert_wheel.specs.Falling.{MayMoveOn}
-use Rattle.ert_wheel.specs.Wheels.{no_key, held_keys, stand_on, place_of, places, AreLevelled, AreLevelChains, IsWheel, IsWheelKept, IsWheelAlike}
+use Rattle.ert_wheel.specs.Wheels.{no_key, held_keys, stand_on, place_of, places, AreLevelChains, AreOrderedChains, IsWheel, IsWheelKept, IsWheelAlike}
 use Rattle.ert_wheel.specs.declared.row.Key.{Key}
 use Rattle.ert_wheel.specs.declared.row.Row.{Row}
 use Rattle.ert_wheel.specs.declared.row.TheConstants.{NEVER, BUCKETS}
 
 -- a wheel as it is seen, and what it stores
-pub record Sees (next count floor : ℕ) (stored : List Key) (seen : List (Option Key)) (chains : Rings) : Type 0 where
-  pub wheel : IsWheel next count seen chains
+pub record Sees (next count ordered floor : ℕ) (stored : List Key) (seen : List (Option Key)) (chains : Rings) : Type 0 where
+  pub wheel : IsWheel next count ordered seen chains
   pub above : (slot : ℕ) (key : Key) → key_in seen slot ≡ Some key → floor ≤ key.deadline
   pub are_stored : AreStored stored seen
 
-pub sees : {T : Type 0} {next count floor : ℕ} {stored : List Key} {chains owners : Rings} {values : List T} {passed : ℕ} {held : Held T}
-    → IsWheelKept next count floor (held_keys chains stored) chains
+pub sees : {T : Type 0} {next count ordered floor : ℕ} {stored : List Key} {chains owners : Rings} {values : List T} {passed : ℕ} {held : Held T}
+    → IsWheelKept next count ordered floor (held_keys chains stored) chains
     → ◌≡◌ {A = Held T} (record { keys = held_keys chains stored; owners = owners; values = values; passed = passed }) held
-    → Sees next count floor stored held.keys chains
-sees {T} {next = next} {count = count} {floor = floor} {stored = stored} {chains = chains} w is =
-    subst (λ (h : Held T). Sees next count floor stored h.keys chains) is
+    → Sees next count ordered floor stored held.keys chains
+sees {T} {next = next} {count = count} {ordered = ordered} {floor = floor} {stored = stored} {chains = chains} w is =
+    subst (λ (h : Held T). Sees next count ordered floor stored h.keys chains) is
     (record { wheel = w.wheel; above = w.above; are_stored = stored_held chains stored })
 
 -- where a slot that is written stands
@@ -47,8 +47,8 @@ pub record IsLowIn (stored : List Key) (seen : List (Option Key)) (buckets owner
   pub low_owner : slot < owners.written
   pub is_slot : slot < owners.slots
 
-pub low_in : {T : Type 0} {next count floor : ℕ} {kept : KeptSlots T} {buckets owners : Rings} {values : List T} {passed : ℕ} {held : Held T} (slot : ℕ)
-    → IsWheelAlike next count floor kept buckets owners
+pub low_in : {T : Type 0} {next count ordered floor : ℕ} {kept : KeptSlots T} {buckets owners : Rings} {values : List T} {passed : ℕ} {held : Held T} (slot : ℕ)
+    → IsWheelAlike next count ordered floor kept buckets owners
     → ◌≡◌ {A = Held T} (record { keys = held_keys buckets kept.keys; owners = owners; values = values; passed = passed }) held
     → slot < held.owners.written → IsLowIn kept.keys held.keys buckets owners slot
 low_in {T} {kept = kept} {buckets = buckets} slot w is low =
@@ -63,8 +63,8 @@ low_in {T} {kept = kept} {buckets = buckets} slot w is low =
     }
 
 -- a slot that has a row is written
-pub row_written : {T : Type 0} {next count floor : ℕ} {kept : KeptSlots T} {buckets owners : Rings} {values : List T} {passed : ℕ} {held : Held T} (slot : ℕ) (key : Key)
-    → IsWheelAlike next count floor kept buckets owners
+pub row_written : {T : Type 0} {next count ordered floor : ℕ} {kept : KeptSlots T} {buckets owners : Rings} {values : List T} {passed : ℕ} {held : Held T} (slot : ℕ) (key : Key)
+    → IsWheelAlike next count ordered floor kept buckets owners
     → ◌≡◌ {A = Held T} (record { keys = held_keys buckets kept.keys; owners = owners; values = values; passed = passed }) held
     → key_in held.keys slot ≡ Some key → slot < held.owners.written
 row_written {T} {kept = kept} {buckets = buckets} slot key w is has =
@@ -94,47 +94,54 @@ abbrev pub passed_of : {T : Type 0} → Held T → ℕ
 passed_of h = h.passed
 
 -- what is stored, where it is told otherwise
-pub stored_as : {next count floor : ℕ} {stored other : List Key} {seen : List (Option Key)} {chains : Rings}
-    → other ≡ stored → Sees next count floor stored seen chains → Sees next count floor other seen chains
-stored_as {next = next} {count = count} {floor = floor} {seen = seen} {chains = chains} same s =
-    subst (λ (keys : List Key). Sees next count floor keys seen chains) (sym same) s
+pub stored_as : {next count ordered floor : ℕ} {stored other : List Key} {seen : List (Option Key)} {chains : Rings}
+    → other ≡ stored → Sees next count ordered floor stored seen chains → Sees next count ordered floor other seen chains
+stored_as {next = next} {count = count} {ordered = ordered} {floor = floor} {seen = seen} {chains = chains} same s =
+    subst (λ (keys : List Key). Sees next count ordered floor keys seen chains) (sym same) s
 
 -- this is held
-pub is_held : {next count floor : ℕ} {stored : List Key} {seen : List (Option Key)} {chains : Rings}
-    → Sees next count floor stored seen chains → held_keys chains stored ≡ seen
+pub is_held : {next count ordered floor : ℕ} {stored : List Key} {seen : List (Option Key)} {chains : Rings}
+    → Sees next count ordered floor stored seen chains → held_keys chains stored ≡ seen
 is_held {next = next} {stored = stored} {seen = seen} {chains = chains} s =
-    held_is chains (stand_on next s.wheel.are.level s.wheel.are.rank) stored seen s.wheel.slots s.are_stored s.wheel.are.are
+    held_is chains (stand_on next s.wheel.are.level s.wheel.are.time s.wheel.are.rank) stored seen s.wheel.slots s.are_stored s.wheel.are.are
 
-pub is_kept : {next count floor : ℕ} {stored : List Key} {seen : List (Option Key)} {chains : Rings}
-    → Sees next count floor stored seen chains → IsWheelKept next count floor (held_keys chains stored) chains
-is_kept {next = next} {count = count} {floor = floor} {chains = chains} s =
-    subst (λ (ks : List (Option Key)). IsWheelKept next count floor ks chains) (sym (is_held s)) (record { wheel = s.wheel; above = s.above })
+pub is_kept : {next count ordered floor : ℕ} {stored : List Key} {seen : List (Option Key)} {chains : Rings}
+    → Sees next count ordered floor stored seen chains → IsWheelKept next count ordered floor (held_keys chains stored) chains
+is_kept {next = next} {count = count} {ordered = ordered} {floor = floor} {chains = chains} s =
+    subst (λ (ks : List (Option Key)). IsWheelKept next count ordered floor ks chains) (sym (is_held s)) (record { wheel = s.wheel; above = s.above })
+
+-- after the next bucket was put in order
+pub sees_ordered : {T : Type 0} {next count ordered floor passed : ℕ} {stored : List Key} {chains owners new : Rings} {values : List T} {held : Held T}
+    → IsWheelKept next count ordered floor (held_keys chains stored) chains
+    → ◌≡◌ {A = Held T} (record { keys = held_keys chains stored; owners = owners; values = values; passed = passed }) held
+    → ((n : ℕ) → IsWheel next n ordered (held_keys chains stored) chains → IsWheel next n next (held_keys chains stored) new)
+    → Sees next count next floor stored held.keys new
+sees_ordered {T} {next} {count} {ordered} {floor} {passed} {stored} {chains} {owners} {new} {values} {held} w is orders =
+    subst (λ (h : Held T). Sees next count next floor stored h.keys new) is
+    (record { wheel = orders count w.wheel; above = w.above; are_stored = stored_held chains stored })
+
+-- what is held where other chains hold the same keys
+pub same_held : {T : Type 0} {keys other : List (Option Key)} {owners : Rings} {values : List T} {passed : ℕ} {held : Held T} → other ≡ keys
+    → ◌≡◌ {A = Held T} (record { keys = keys; owners = owners; values = values; passed = passed }) held
+    → ◌≡◌ {A = Held T} (record { keys = other; owners = owners; values = values; passed = passed }) held
+same_held {T} {keys} {other} {owners} {values} {passed} {held} same is =
+    ap (λ (ks : List (Option Key)). record { keys = ks; owners = owners; values = values; passed = passed }) same ∙ is
 
 -- a slot without a row can be put into a chain
-pub may_put : {next count floor : ℕ} {stored : List Key} {seen : List (Option Key)} {chains : Rings} {slot home : ℕ}
-    → Sees next count floor stored seen chains → slot < length seen → key_in seen slot ≡ None → home < BUCKETS
+pub may_put : {next count ordered floor : ℕ} {stored : List Key} {seen : List (Option Key)} {chains : Rings} {slot home : ℕ}
+    → Sees next count ordered floor stored seen chains → slot < length seen → key_in seen slot ≡ None → home < BUCKETS
     → MayPut chains slot home
 may_put {next = next} {seen = seen} s low vacant in_range = record {
-  places = places (stand_on next s.wheel.are.level s.wheel.are.rank) seen;
+  places = places (stand_on next s.wheel.are.level s.wheel.are.time s.wheel.are.rank) seen;
   are = s.wheel.are.are;
   low = omega (arith, s.wheel.slots);
   in_range = omega (arith, s.wheel.homes);
-  out = ap (place_of (stand_on next s.wheel.are.level s.wheel.are.rank)) vacant;
+  out = ap (place_of (stand_on next s.wheel.are.level s.wheel.are.time s.wheel.are.rank)) vacant;
 }
 
--- the orders that are held are below that of a newest row
-orders_below : (next : ℕ) (level rank : Key → ℕ) (keys : List (Option Key)) (order : ℕ) → AreLevelled next 1 keys level rank
-    → ((j : ℕ) → IfSome (key_in keys j) (λ key. key.order < order)) → (j : ℕ) (p : Place)
-    → places (stand_on next level rank) keys j ≡ Some p → p.order < order
-orders_below next level rank keys order a newest j p h =
-    let k = place_is (stand_on next level rank) (key_in keys j) p h in
-    let below : k.0.order < order =
-    subst (λ (o : Option Key). IfSome o (λ key. key.order < order)) k.1 (newest j) in
-    omega (arith, a.older j k.0 k.1, ap (λ (q : Place). q.order) k.2)
-
 -- the count of rows leaves room for one more where a slot has none
-pub count_fits : {next count floor : ℕ} {stored : List Key} {seen : List (Option Key)} {chains : Rings} (slot : ℕ) (key : Key)
-    → Sees next count floor stored seen chains → slot < length seen → key_in seen slot ≡ None → count + 1 < 2 ^ 32
+pub count_fits : {next count ordered floor : ℕ} {stored : List Key} {seen : List (Option Key)} {chains : Rings} (slot : ℕ) (key : Key)
+    → Sees next count ordered floor stored seen chains → slot < length seen → key_in seen slot ≡ None → count + 1 < 2 ^ 32
 count_fits {seen = seen} slot key s low vacant = omega (
   arith,
   s.wheel.counts,
@@ -151,17 +158,16 @@ pub record CanStore (seen : List (Option Key)) (slot : ℕ) (key : Key) : Type 0
   pub order : key.order < 2 ^ 64
   pub newest : (j : ℕ) → IfSome (key_in seen j) (λ k. k.order < key.order)
 
--- a row to be stored comes to its level
-enters : {next l slot : ℕ} {seen : List (Option Key)} {key : Key} → CanStore seen slot key → IsLeastLevel next l (max key.deadline next) → Enters next l seen slot key
-enters can least = record { low = can.low; newest = can.newest; order = can.order; least = least }
+is_newest : {slot : ℕ} {seen : List (Option Key)} {key : Key} → CanStore seen slot key → IsNewest seen slot key
+is_newest can = record { low = can.low; newest = can.newest; order = can.order }
 
 -- the wheel with another row of a slot, or its first
-stored_row : {next count count' floor floor' : ℕ} {stored : List Key} {seen : List (Option Key)} {chains new : Rings} {slot : ℕ} {key : Key}
-    → Sees next count floor stored seen chains → CanStore seen slot key → slot < length stored
+stored_row : {next count count' ordered floor floor' : ℕ} {stored : List Key} {seen : List (Option Key)} {chains new : Rings} {slot : ℕ} {key : Key}
+    → Sees next count ordered floor stored seen chains → CanStore seen slot key → slot < length stored
     → new.slots ≡ chains.slots → new.homes ≡ chains.homes
     → floor' ≡ min floor key.deadline → count' ≡ count_by is_some (set seen slot (Some key))
-    → AreLevelChains next 1 new (set seen slot (Some key))
-    → Sees next count' floor' (set stored slot key) (set seen slot (Some key)) new
+    → AreOrderedChains next ordered new (set seen slot (Some key))
+    → Sees next count' ordered floor' (set stored slot key) (set seen slot (Some key)) new
 stored_row {next = next} {stored = stored} {seen = seen} {new = new} {slot = slot} {key = key} s can written slots homes low' counts are = record {
   are_stored = stored_set stored seen slot key s.are_stored written can.low;
   above = λ j k has. elim (key_set seen slot (Some key) j k can.low has) [
@@ -182,119 +188,107 @@ stored_row {next = next} {stored = stored} {seen = seen} {new = new} {slot = slo
   };
 }
 
--- a newest row comes to its least bucket
-comes_in : {next count floor : ℕ} {stored : List Key} {seen : List (Option Key)} {chains : Rings} {new : Rings} {slot : ℕ} {key : Key} {home : ℕ}
-    → (s : Sees next count floor stored seen chains) → CanStore seen slot key → IsLeastBucket next (max key.deadline next) home
-    → AreChains new (with_place (places (stand_on next s.wheel.are.level s.wheel.are.rank) seen) slot (Some (record { home = home; order = key.order })))
-    → AreLevelChains next 1 new (set seen slot (Some key))
-comes_in {new = new} {key = key} {home = home} s can b are = record {
-  level = given s.wheel.are.level key.order b.level;
-  rank = given s.wheel.are.rank key.order key.order;
-  levelled = entered s.wheel.are.level s.wheel.are.rank (enters can b.least) s.wheel.are.levelled;
-  are = entered_chains s.wheel.are.level s.wheel.are.rank home new (enters can b.least) b.is are;
-}
-
 -- the wheel with a row put in
-pub inserted : {next count floor floor' : ℕ} {stored : List Key} {seen : List (Option Key)} {chains new : Rings} {slot : ℕ} {key : Key} {home : ℕ}
-    → Sees next count floor stored seen chains → CanStore seen slot key → slot < length stored → key_in seen slot ≡ None
+pub inserted : {next count ordered floor floor' : ℕ} {stored : List Key} {seen : List (Option Key)} {chains new : Rings} {slot : ℕ} {key : Key} {home : ℕ}
+    → Sees next count ordered floor stored seen chains → CanStore seen slot key → slot < length stored → key_in seen slot ≡ None
     → IsLeastBucket next (max key.deadline next) home
     → new.slots ≡ chains.slots → new.homes ≡ chains.homes → Puts chains new slot home → floor' ≡ min floor key.deadline
-    → Sees next (count + 1) floor' (set stored slot key) (set seen slot (Some key)) new
-inserted {next = next} {seen = seen} {slot = slot} {key = key} s can written vacant b slots homes puts low' =
-    let spot : Key → Place = stand_on next s.wheel.are.level s.wheel.are.rank in
+    → Sees next (count + 1) ordered floor' (set stored slot key) (set seen slot (Some key)) new
+inserted {next = next} {seen = seen} {chains = chains} {slot = slot} {key = key} s can written vacant b slots homes puts low' =
+    let a = s.wheel.are in
+    let n = numbered chains seen (stand_on next a.level a.time a.rank) s.wheel.slots s.wheel.few a.are in
     stored_row s can written slots homes low' (ap (λ n. n + 1) s.wheel.counts ∙ sym (counts_more seen slot key can.low vacant))
-    (comes_in s can b
-    (puts (places spot seen) key.order s.wheel.are.are (ap (place_of spot) vacant) can.order
-    (orders_below next s.wheel.are.level s.wheel.are.rank seen key.order s.wheel.are.levelled can.newest)))
+    (entered a n (is_newest can) b.least b.is
+    (puts (places (stand_on next a.level a.time n.rank) seen) (chains.slots + 1) n.are (ap (place_of (stand_on next a.level a.time n.rank)) vacant)
+    (omega (arith, s.wheel.slots, s.wheel.few)) (numbers_below n)))
 
 -- the key that a slot has is the one that is stored
-held_stored : {next count floor : ℕ} {stored : List Key} {seen : List (Option Key)} {chains : Rings} (slot : ℕ)
-    → Sees next count floor stored seen chains → (o : Option Key) → key_in seen slot ≡ o → IsSome o → key_in seen slot ≡ Some (get_or stored slot no_key)
+held_stored : {next count ordered floor : ℕ} {stored : List Key} {seen : List (Option Key)} {chains : Rings} (slot : ℕ)
+    → Sees next count ordered floor stored seen chains → (o : Option Key) → key_in seen slot ≡ o → IsSome o → key_in seen slot ≡ Some (get_or stored slot no_key)
 held_stored slot s None is held = absurd (true≢false (sym held))
 held_stored {stored = stored} slot s (Some key) is held =
     is ∙ ap (λ (k : Key). Some k) (sym (get_or_from_slice_get stored slot key no_key (s.are_stored slot key is)))
 
 -- the wheel with another row of a slot
-pub replaced : {next count floor floor' was : ℕ} {stored : List Key} {seen : List (Option Key)} {chains new : Rings} {slot : ℕ} {key : Key}
-    → Sees next count floor stored seen chains → CanStore seen slot key → slot < length stored → IsSome (key_in seen slot)
+pub replaced : {next count ordered floor floor' was : ℕ} {stored : List Key} {seen : List (Option Key)} {chains new : Rings} {slot : ℕ} {key : Key}
+    → Sees next count ordered floor stored seen chains → CanStore seen slot key → slot < length stored → IsSome (key_in seen slot)
     → was ≡ (get_or stored slot no_key).deadline → MovesOrStays next was (max key.deadline next) chains new slot
     → new.slots ≡ chains.slots → new.homes ≡ chains.homes → floor' ≡ min floor key.deadline
-    → Sees next count floor' (set stored slot key) (set seen slot (Some key)) new
-replaced {next = next} {stored = stored} {seen = seen} {chains = chains} {new = new} {slot = slot} {key = key} s can written held was_is moves slots homes low' =
-    let spot : Key → Place = stand_on next s.wheel.are.level s.wheel.are.rank in
+    → Sees next count ordered floor' (set stored slot key) (set seen slot (Some key)) new
+replaced {next = next} {ordered = ordered} {stored = stored} {seen = seen} {chains = chains} {new = new} {slot = slot} {key = key} s can written held was_is moves slots homes low' =
+    let a = s.wheel.are in
     stored_row s can written slots homes low' (s.wheel.counts ∙ sym (counts_same seen slot key can.low held))
     (elim moves [
       | inl stays ↦
-          let keeps : KeepsSpot next seen slot (get_or stored slot no_key) key = record {
-            low = can.low;
+          subst (λ (r : Rings). AreOrderedChains next ordered r (set seen slot (Some key))) (sym stays.same)
+          (stays_put (record {
+            new = is_newest can;
             has = held_stored slot s (key_in seen slot) refl held;
-            newest = λ j k has. subst (λ (o : Option Key). IfSome o (λ x. x.order < key.order)) has (can.newest j);
-            order = can.order;
             put = subst (λ (w : ℕ). StaysPut next w (max key.deadline next)) was_is stays.put;
-          } in
-          subst (λ (r : Rings). AreLevelChains next 1 r (set seen slot (Some key))) (sym stays.same)
-          (record {
-            level = given s.wheel.are.level key.order (s.wheel.are.level (get_or stored slot no_key));
-            rank = given s.wheel.are.rank key.order (s.wheel.are.rank (get_or stored slot no_key));
-            levelled = stays_levelled keeps s.wheel.are.levelled;
-            are = stays_chained keeps s.wheel.are.levelled chains s.wheel.are.are;
-          })
+          }) a)
       | inr m ↦
-          comes_in s can m.least
-          (m.moves (places spot seen) key.order s.wheel.are.are can.order
-          (orders_below next s.wheel.are.level s.wheel.are.rank seen key.order s.wheel.are.levelled can.newest))
+          let n = numbered chains seen (stand_on next a.level a.time a.rank) s.wheel.slots s.wheel.few a.are in
+          entered a n (is_newest can) m.least.least m.least.is
+          (m.moves (places (stand_on next a.level a.time n.rank) seen) (chains.slots + 1) n.are
+          (omega (arith, s.wheel.slots, s.wheel.few)) (numbers_below n))
     ])
 
 -- where a slot is alone it has no row, and else the one that is stored
-pub looks_alone : {next count floor : ℕ} {stored : List Key} {seen : List (Option Key)} {chains : Rings} {slot : ℕ}
-    → Sees next count floor stored seen chains → slot < length seen → next_at chains.links slot ≡ slot → key_in seen slot ≡ None
+pub looks_alone : {next count ordered floor : ℕ} {stored : List Key} {seen : List (Option Key)} {chains : Rings} {slot : ℕ}
+    → Sees next count ordered floor stored seen chains → slot < length seen → next_at chains.links slot ≡ slot → key_in seen slot ≡ None
 looks_alone {stored = stored} {chains = chains} {slot = slot} s low e =
     ap (λ (ks : List (Option Key)). key_in ks slot) (sym (is_held s)) ∙ held_at chains stored slot (omega (arith, s.wheel.slots))
     ∙ key_alone chains.links stored slot e
 
-pub looks_apart : {next count floor : ℕ} {stored : List Key} {seen : List (Option Key)} {chains : Rings} {slot : ℕ}
-    → Sees next count floor stored seen chains → slot < length seen → slot < length stored → next_at chains.links slot ≢ slot
+pub looks_apart : {next count ordered floor : ℕ} {stored : List Key} {seen : List (Option Key)} {chains : Rings} {slot : ℕ}
+    → Sees next count ordered floor stored seen chains → slot < length seen → slot < length stored → next_at chains.links slot ≢ slot
     → key_in seen slot ≡ Some (get_or stored slot no_key)
 looks_apart {stored = stored} {chains = chains} {slot = slot} s low written ne =
     ap (λ (ks : List (Option Key)). key_in ks slot) (sym (is_held s)) ∙ held_at chains stored slot (omega (arith, s.wheel.slots))
     ∙ key_apart chains.links stored slot written ne
 
-pub may_take : {next count floor : ℕ} {stored : List Key} {seen : List (Option Key)} {chains : Rings} {slot : ℕ}
-    → Sees next count floor stored seen chains → slot < length seen → MayTake chains slot
+pub may_take : {next count ordered floor : ℕ} {stored : List Key} {seen : List (Option Key)} {chains : Rings} {slot : ℕ}
+    → Sees next count ordered floor stored seen chains → slot < length seen → MayTake chains slot
 may_take {next = next} {seen = seen} s low = record {
-  places = places (stand_on next s.wheel.are.level s.wheel.are.rank) seen;
+  places = places (stand_on next s.wheel.are.level s.wheel.are.time s.wheel.are.rank) seen;
   are = s.wheel.are.are;
   low = omega (arith, s.wheel.slots);
 }
 
 -- one row at least is counted
-pub count_holds : {next count floor : ℕ} {stored : List Key} {seen : List (Option Key)} {chains : Rings} {slot : ℕ} {key : Key}
-    → Sees next count floor stored seen chains → slot < length seen → key_in seen slot ≡ Some key → 1 ≤ count
+pub count_holds : {next count ordered floor : ℕ} {stored : List Key} {seen : List (Option Key)} {chains : Rings} {slot : ℕ} {key : Key}
+    → Sees next count ordered floor stored seen chains → slot < length seen → key_in seen slot ≡ Some key → 1 ≤ count
 count_holds {seen = seen} {slot = slot} {key = key} s low held =
     omega (arith, s.wheel.counts, counts_less seen slot key low held)
 
--- the levels without it
-left_levelled : (next : ℕ) (seen : List (Option Key)) (slot : ℕ) (level rank : Key → ℕ) → slot < length seen → AreLevelled next 1 seen level rank
-    → AreLevelled next 1 (set seen slot None) level rank
-left_levelled next seen slot level rank low a =
+-- the chains without it
+left_chains : {next ordered slot : ℕ} {seen : List (Option Key)} {chains new : Rings} → slot < length seen → AreOrderedChains next ordered chains seen
+    → GivesUpPlace chains new slot → AreOrderedChains next ordered new (set seen slot None)
+left_chains {next} {ordered} {slot} {seen} {chains} {new} low a takes =
     let was : (j : ℕ) (k : Key) → key_in (set seen slot None) j ≡ Some k → key_in seen j ≡ Some k =
     λ j k has. elim (key_set seen slot None j k low has)
     [ inl (e, none) ↦ let no : None ≡ Some k = none in cc | inr (ne, was) ↦ was ] in
+    let spot : Key → Place = stand_on next a.level a.time a.rank in
     record {
-      fit = λ j k has. a.fit j k (was j k has);
-      falls = λ i j x y has has' less same. a.falls i j x y (was i x has) (was j y has') less same;
-      once = λ i j x y has has' same. a.once i j x y (was i x has) (was j y has') same;
-      apart = λ i j x y has has' same. a.apart i j x y (was i x has) (was j y has') same;
-      older = λ j k has. a.older j k (was j k has);
-      bounded = λ j k has. a.bounded j k (was j k has);
-      exact = λ j k has lowest. a.exact j k (was j k has) lowest;
+      level = a.level;
+      time = a.time;
+      rank = a.rank;
+      levelled = record {
+        fit = λ j k has. a.levelled.fit j k (was j k has);
+        early = λ j k has. a.levelled.early j k (was j k has);
+        exact = λ j k has lowest. a.levelled.exact j k (was j k has) lowest;
+        once = λ i j x y has has' same. a.levelled.once i j x y (was i x has) (was j y has') same;
+        bounded = λ j k has. a.levelled.bounded j k (was j k has);
+      };
+      are = chains_set new spot seen slot None low (takes (places spot seen) a.are);
+      in_order = λ is i j x y has has'. a.in_order is i j x y (was i x has) (was j y has');
     }
 
 -- the wheel with a row taken out
-pub removed : {next count floor : ℕ} {stored : List Key} {seen : List (Option Key)} {chains new : Rings} {slot : ℕ} {key : Key}
-    → Sees next count floor stored seen chains → slot < length seen → key_in seen slot ≡ Some key
+pub removed : {next count ordered floor : ℕ} {stored : List Key} {seen : List (Option Key)} {chains new : Rings} {slot : ℕ} {key : Key}
+    → Sees next count ordered floor stored seen chains → slot < length seen → key_in seen slot ≡ Some key
     → new.slots ≡ chains.slots → new.homes ≡ chains.homes → GivesUpPlace chains new slot
-    → Sees next (count - 1) floor stored (set seen slot None) new
+    → Sees next (count - 1) ordered floor stored (set seen slot None) new
 removed {next = next} {stored = stored} {seen = seen} {new = new} {slot = slot} {key = key} s low held slots homes takes = record {
   are_stored = stored_less stored seen slot s.are_stored low;
   above = λ j k has. elim (key_set seen slot None j k low has)
@@ -307,13 +301,7 @@ removed {next = next} {stored = stored} {seen = seen} {new = new} {slot = slot} 
     counts = omega (arith, s.wheel.counts, counts_less seen slot key low held);
     low = λ j k has. elim (key_set seen slot None j k low has)
         [ inl (e, none) ↦ let no : None ≡ Some k = none in cc | inr (ne, was) ↦ s.wheel.low j k was ];
-    are = record {
-      level = s.wheel.are.level;
-      rank = s.wheel.are.rank;
-      levelled = left_levelled next seen slot s.wheel.are.level s.wheel.are.rank low s.wheel.are.levelled;
-      are = chains_set new (stand_on next s.wheel.are.level s.wheel.are.rank) seen slot None low
-          (takes (places (stand_on next s.wheel.are.level s.wheel.are.rank) seen) s.wheel.are.are);
-    };
+    are = left_chains low s.wheel.are takes;
   };
 }
 
@@ -329,12 +317,27 @@ found_some found key some = subst (λ (o : Option Key). IsTrue true ↔ IsSome o
 pub vacant_view : (seen : List (Option Key)) (slot : ℕ) → key_in seen slot ≡ None → seen ≡ set seen slot None
 vacant_view seen slot none = sym (set-get_or seen slot None) ∙ ap (set seen slot) none
 
+-- the chains, whatever the order of a bucket
+pub level_chains : {next ordered : ℕ} {keys : List (Option Key)} {chains : Rings} → AreOrderedChains next ordered chains keys → AreLevelChains next 1 chains keys
+level_chains a = record { level = a.level; time = a.time; rank = a.rank; levelled = a.levelled; are = a.are }
+
+-- and where none is known to be in order
+pub ordered_never : {next : ℕ} {keys : List (Option Key)} {chains : Rings} → next < NEVER → AreLevelChains next 1 chains keys → AreOrderedChains next NEVER chains keys
+ordered_never early a = record {
+  level = a.level;
+  time = a.time;
+  rank = a.rank;
+  levelled = a.levelled;
+  are = a.are;
+  in_order = λ is. absurd (omega (arith, is, early));
+}
+
 -- time may move on where all that is passed is gone
-pub may_move : {next next' count : ℕ} {keys : List (Option Key)} {chains : Rings} (to : ℕ) → IsWheel next count keys chains
+pub may_move : {next next' count ordered : ℕ} {keys : List (Option Key)} {chains : Rings} (to : ℕ) → IsWheel next count ordered keys chains
     → ((j : ℕ) → IfSome (key_in keys j) (λ key. to < key.deadline)) → next ≤ next' → next' ≤ max next (to + 1)
     → next' < NEVER → MayMoveOn chains keys next next'
 may_move to w none up low fits = record {
-  may = record { slots = w.slots; few = w.few; homes = w.homes; time = w.time; low = w.low; are = w.are };
+  may = record { slots = w.slots; few = w.few; homes = w.homes; time = w.time; low = w.low; are = level_chains w.are };
   up = up;
   time = fits;
   left = λ j key has.
@@ -343,11 +346,11 @@ may_move to w none up low fits = record {
 }
 
 -- and the wheel after that
-pub moved : {next next' count floor floor' : ℕ} {stored : List Key} {seen : List (Option Key)} {chains new : Rings} (to after : ℕ)
-    → Sees next count floor stored seen chains → ((j : ℕ) → IfSome (key_in seen j) (λ key. to < key.deadline))
+pub moved : {next next' count ordered floor floor' : ℕ} {stored : List Key} {seen : List (Option Key)} {chains new : Rings} (to after : ℕ)
+    → Sees next count ordered floor stored seen chains → ((j : ℕ) → IfSome (key_in seen j) (λ key. to < key.deadline))
     → after ≤ to + 1 → floor' ≡ max floor after
     → next' < NEVER → new.slots ≡ chains.slots → new.homes ≡ chains.homes
-    → AreLevelChains next' 1 new seen → Sees next' count floor' stored seen new
+    → AreLevelChains next' 1 new seen → Sees next' count NEVER floor' stored seen new
 moved to after s none low up fits slots homes are = record {
   are_stored = s.are_stored;
   above = λ j key has.
@@ -360,13 +363,13 @@ moved to after s none low up fits slots homes are = record {
     time = fits;
     counts = s.wheel.counts;
     low = s.wheel.low;
-    are = are;
+    are = ordered_never fits are;
   };
 }
 
 -- the wheel where more slots are written
-pub grown : {next count floor : ℕ} {stored : List Key} {seen : List (Option Key)} {chains : Rings} (more : List Key) (written : ℕ)
-    → Sees next count floor stored seen chains → Sees next count floor (stored ++ more) seen (record chains { written = written })
+pub grown : {next count ordered floor : ℕ} {stored : List Key} {seen : List (Option Key)} {chains : Rings} (more : List Key) (written : ℕ)
+    → Sees next count ordered floor stored seen chains → Sees next count ordered floor (stored ++ more) seen (record chains { written = written })
 grown {next = next} {stored = stored} {seen = seen} {chains = chains} more written s = record {
   are_stored = stored_more stored more seen s.are_stored;
   above = s.above;
@@ -379,9 +382,11 @@ grown {next = next} {stored = stored} {seen = seen} {chains = chains} more writt
     low = s.wheel.low;
     are = record {
       level = s.wheel.are.level;
+      time = s.wheel.are.time;
       rank = s.wheel.are.rank;
       levelled = s.wheel.are.levelled;
-      are = chains_written chains written (places (stand_on next s.wheel.are.level s.wheel.are.rank) seen) s.wheel.are.are;
+      in_order = s.wheel.are.in_order;
+      are = chains_written chains written (places (stand_on next s.wheel.are.level s.wheel.are.time s.wheel.are.rank) seen) s.wheel.are.are;
     };
   };
 }

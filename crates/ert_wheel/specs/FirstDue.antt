@@ -26,13 +26,13 @@ pub record SomeRowDue (keys : List (Option Key)) (to : ℕ) : Type 0 where
   pub has : key_in keys slot ≡ Some key
   pub by : key.deadline ≤ to
 
--- a window of a level above the lowest, in which some row is due, begins by a time
+-- there are rows, and a window of a level above the lowest begins by a time
 pub record BeginsBy (keys : List (Option Key)) (passed to : ℕ) : Type 0 where
   pub time : ℕ
   pub by : time ≤ to
   pub begins : WindowBegins keys passed time
 
--- A row may be due by a time: one is due by then or by the next time, or a window begins by then in which one is due.
+-- A row may be due by a time: one is due by then or by the next time, or there are rows and a window begins by then.
 abbrev pub MayBeDue : List (Option Key) → ℕ → ℕ → Type 0
 MayBeDue keys passed to = SomeRowDue keys (max to passed) ⊎ BeginsBy keys passed to
 
@@ -41,7 +41,7 @@ pub record IsPast (keys : List (Option Key)) (passed to : ℕ) : Type 0 where
   pub none : NoRowDue keys to
   pub on : to < passed
 
--- A time wasn't passed: a window of a level above the lowest, in which some row is due, begins by the millisecond after it.
+-- A time wasn't passed: there are rows, and a window of a level above the lowest begins by the millisecond after it.
 pub record HasToMove (keys : List (Option Key)) (passed to : ℕ) : Type 0 where
   pub on : passed ≤ to
   pub begins : BeginsBy keys passed (to + 1)

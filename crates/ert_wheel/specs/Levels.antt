@@ -29,10 +29,8 @@ pub record IsLeastBucket (next time bucket : ℕ) : Type 0 where
   pub least : IsLeastLevel next level time
   pub is : bucket ≡ bucket_on level time
 
--- a row that was due at a time may be due at another one without a move: both are in one window of a level above the lowest,
--- which comes after the next one
+-- A row that was due at a time may be due at another one without a move: that is in no earlier window of 512 milliseconds, and
+-- the window of the first comes after the next one.
 pub record StaysPut (next was time : ℕ) : Type 0 where
-  pub level : ℕ
-  pub some : 1 ≤ level
-  pub same : was / 512 ^ level ≡ time / 512 ^ level
-  pub far : next / 512 ^ level + 1 < was / 512 ^ level
+  pub later : was / 512 ≤ time / 512
+  pub far : next / 512 + 1 < was / 512

@@ -6,6 +6,7 @@ pub mod Levels
 pub mod Links
 pub mod Marks
 pub mod NextDue
+pub mod Ordering
 pub mod Replacing
 pub mod Rings
 pub mod Rows

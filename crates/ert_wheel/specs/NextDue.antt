@@ -1,6 +1,6 @@
--- When the next row of a wheel is due, or when the window begins in which it is.
+-- When the next row of a wheel is due, or when a window begins before which none is.
 
-use Rattle.std.specs.Prelude.{◌≡◌, ℕ, ◌+◌, ◌*◌, ◌/◌, ◌<◌, ◌≤◌, ◌^◌, ◌⊎◌, List, Option, Some, None, length}
+use Rattle.std.specs.Prelude.{◌≡◌, ℕ, ◌+◌, ◌*◌, ◌/◌, ◌%◌, ◌<◌, ◌≤◌, ◌^◌, ◌⊎◌, List, Option, Some, None, length}
 use Rattle.ert_wheel.specs.Rings.{Rings, Place, AreChains}
 use Rattle.ert_wheel.specs.Rows.{key_in}
 use Rattle.ert_wheel.specs.Walks.{StandOnLevels}
@@ -29,8 +29,8 @@ pub record IsDueAt (keys : List (Option Key)) (time : ℕ) : Type 0 where
   pub has : key_in keys slot ≡ Some key
   pub at : key.deadline ≡ time
 
--- A window of a level above the lowest begins at a time after the first that wasn't passed, and some row is due in it. A
--- window of level l is 512 ^ l milliseconds wide, and begins at a multiple of that.
+-- A window of a level above the lowest begins at a time after the first that wasn't passed, and there are rows. A window of level
+-- l is 512 ^ l milliseconds wide, and begins at a multiple of that.
 pub record WindowBegins (keys : List (Option Key)) (passed time : ℕ) : Type 0 where
   pub later : passed < time
   pub level : ℕ
@@ -38,32 +38,29 @@ pub record WindowBegins (keys : List (Option Key)) (passed time : ℕ) : Type 0 
   pub highest : level ≤ 4
   pub window : ℕ
   pub begin : time ≡ window * 512 ^ level
-  pub slot : ℕ
-  pub key : Key
-  pub has : key_in keys slot ≡ Some key
-  pub within : key.deadline < time + 512 ^ level
+  pub some : HasSomeRow keys
 
--- there are rows, none is due before a time, and either one is due at it, or a window begins there that has one
+-- there are rows, none is due before a time, and either one is due at it, or a window begins there
 pub record IsNextDue (keys : List (Option Key)) (passed time : ℕ) : Type 0 where
   pub some : HasSomeRow keys
   pub none_before : NoneBefore keys time
   pub near : IsDueAt keys time ⊎ WindowBegins keys passed time
 
--- a deadline is in a window of a level that begins at a time; a window of the lowest level is the deadline itself
-pub record Tells (deadline time : ℕ) : Type 0 where
-  pub level : ℕ
-  pub highest : level ≤ 4
-  pub begin : time ≡ deadline / 512 ^ level * 512 ^ level
+-- a deadline tells a time: it is that one, or a window of 512 milliseconds begins at that time, which the deadline isn't before
+abbrev pub Tells : ℕ → ℕ → Type 0
+Tells deadline time = (deadline ≡ time) ⊎ ((time % 512 ≡ 0) × (time ≤ deadline))
 
--- a deadline is in a window of a level above the lowest that begins at a time after the first that wasn't passed
+-- a window of a level above the lowest begins at a time after the first that wasn't passed, and a deadline isn't before it
 pub record IsInWindow (passed time deadline : ℕ) : Type 0 where
   pub later : passed < time
   pub level : ℕ
   pub above : 1 ≤ level
   pub highest : level ≤ 4
-  pub begin : time ≡ deadline / 512 ^ level * 512 ^ level
+  pub window : ℕ
+  pub begin : time ≡ window * 512 ^ level
+  pub at_or_after : time ≤ deadline
 
--- a row with a deadline tells a time: it is due at it, or in a window that begins there
+-- a row with a deadline tells a time: it is due at it, or no earlier than a window that begins there
 abbrev pub IsToldBy : ℕ → ℕ → ℕ → Type 0
 IsToldBy passed time deadline = (deadline ≡ time) ⊎ IsInWindow passed time deadline
 
@@ -84,13 +81,11 @@ abbrev pub LawOfNearAnswers : Type 0
 LawOfNearAnswers = (keys : List (Option Key)) (passed time least : ℕ) → IsNextDue keys passed time
     → IsLeastDeadline keys least → least / 512 ≤ passed / 512 → time ≡ least
 
--- Answers come closer: a caller that gets the begin of a window, lets time pass up to it and asks again gets a deadline, or
--- the begin of a window of a lower level, as long as the least deadline is the same. There are four such levels, so an
--- answer that isn't a deadline comes four times at most for one least deadline, whatever rows come or go beside it.
-abbrev pub LawOfCloserAnswers : Type 0
-LawOfCloserAnswers = (was keys : List (Option Key)) (earlier passed first second least : ℕ) → NoneBefore was first
-    → NoneBefore keys second → IsLeastDeadline was least → IsLeastDeadline keys least → first ≤ passed
-    → (b : WindowBegins was earlier first) → (c : WindowBegins keys passed second) → c.level < b.level
+-- Answers that are no deadlines are rare: a caller that gets the begin of a window, lets time pass up to it and asks again gets a
+-- deadline, or a time that is 512 milliseconds later at least.
+abbrev pub LawOfRareAnswers : Type 0
+LawOfRareAnswers = (was keys : List (Option Key)) (earlier passed first second : ℕ) → WindowBegins was earlier first
+    → WindowBegins keys passed second → first ≤ passed → first + 512 ≤ second
 
 -- Answers go on: where a time was passed and no row is left that was due by it, the answer is later.
 abbrev pub LawOfLaterDue : Type 0
@@ -117,19 +112,7 @@ pub record IsLeastIn (keys : List (Option Key)) (spot : Key → Place) (bucket b
   pub below : (slot : ℕ) (key : Key) → key_in keys slot ≡ Some key → (spot key).home ≡ bucket → least ≤ key.deadline
   pub near : IsDueIn keys spot bucket least ⊎ (least ≡ bound)
 
--- a time is the begin of the window in which a row of a bucket is due, as wide as a bucket of its level is
-pub record BeginsIn (keys : List (Option Key)) (spot : Key → Place) (bucket time : ℕ) : Type 0 where
-  pub slot : ℕ
-  pub key : Key
-  pub has : key_in keys slot ≡ Some key
-  pub at_home : (spot key).home ≡ bucket
-  pub begin : time ≡ key.deadline / 512 ^ (bucket / 1024) * 512 ^ (bucket / 1024)
-
--- how early a row of a bucket may be due: the least deadline, or the begin of the bucket's window
-abbrev pub IsEarlyIn : List (Option Key) → (Key → Place) → ℕ → ℕ → Type 0
-IsEarlyIn keys spot bucket time = IsLeastIn keys spot bucket NEVER time ⊎ BeginsIn keys spot bucket time
-
--- some row is due at a time, or a window begins there that has one, or it is the end of all times
+-- some row is due at a time, or there are rows and a window begins there, or it is the end of all times
 abbrev pub IsEarlyOrNever : List (Option Key) → ℕ → ℕ → Type 0
 IsEarlyOrNever keys passed time = (IsDueAt keys time ⊎ WindowBegins keys passed time) ⊎ (time ≡ NEVER)
 

@@ -80,16 +80,6 @@ pub record MayPut (r : Rings) (slot home : ℕ) : Type 0 where
   pub in_range : home < r.homes
   pub out : places slot ≡ None
 
--- some assignment fits, in which the slot has no place and another one has
-pub record MayPutBehind (r : Rings) (slot other : ℕ) : Type 0 where
-  pub places : ℕ → Option Place
-  pub are : AreChains r places
-  pub low : slot < r.slots
-  pub low_other : other < r.slots
-  pub out : places slot ≡ None
-  pub place : Place
-  pub has : places other ≡ Some place
-
 -- in every assignment that fits, the slot gets this home, with any order above all others
 abbrev pub Puts : Rings → Rings → ℕ → ℕ → Type 0
 Puts old new slot home =
@@ -114,15 +104,6 @@ PutsOldestInHome old new slot home =
     → ((j : ℕ) (p : Place) → places j ≡ Some p → p.order ≢ order)
     → ((j : ℕ) (p : Place) → places j ≡ Some p → p.home ≡ home → order < p.order)
     → AreChains new (with_place places slot (Some (record { home = home; order = order })))
-
--- in every assignment that fits, the slot gets the home of another one, with any order that no other slot has and that comes
--- next below that one's
-abbrev pub PutsBehind : Rings → Rings → ℕ → ℕ → Type 0
-PutsBehind old new slot other =
-    (places : ℕ → Option Place) (place : Place) (order : ℕ) → AreChains old places → places slot ≡ None → places other ≡ Some place
-    → place.home < old.homes → ((j : ℕ) (p : Place) → places j ≡ Some p → p.order ≢ order) → order < place.order
-    → ((j : ℕ) (p : Place) → places j ≡ Some p → p.home ≡ place.home → p.order < place.order → p.order < order)
-    → AreChains new (with_place places slot (Some (record { home = place.home; order = order })))
 
 -- in every assignment that fits, the slot gets this home, with any order above all, whether it had a place or not
 abbrev pub MovesSlot : Rings → Rings → ℕ → ℕ → Type 0

@@ -1,6 +1,6 @@
 -- What a wheel keeps: keys by slot, and a chain of the rows of each bucket.
 
-use Rattle.std.specs.Prelude.{◌≡◌, ℕ, ◌/◌, ◌<◌, ◌≤◌, ◌^◌, List, Option, Some, None, cond, nat_eq, map, max, length, count_by, option_map}
+use Rattle.std.specs.Prelude.{◌≡◌, ℕ, ◌<◌, ◌≤◌, ◌^◌, List, Option, Some, None, cond, nat_eq, map, max, length, count_by, option_map}
 use Rattle.std.specs.List.{range_with_len, slice_get}
 use Rattle.std.specs.Option.{is_some}
 use Rattle.ert_wheel.specs.Kept.{KeptSlots, AreAlike}
@@ -24,13 +24,13 @@ held_key links stored slot = cond (nat_eq (next_at links slot) slot) None (slice
 abbrev pub held_keys : Rings → List Key → List (Option Key)
 held_keys chains stored = map (held_key chains.links stored) (range_with_len 0 chains.slots)
 
--- the bucket of a key, by the level on which it stands: a late row has the time of the next time
-abbrev pub home_on : ℕ → (Key → ℕ) → Key → ℕ
-home_on next level key = bucket_on (level key) (max key.deadline next)
+-- the bucket of a key, by the level and the time at which it stands: a late row has the time of the next time
+abbrev pub home_on : ℕ → (Key → ℕ) → (Key → ℕ) → Key → ℕ
+home_on next level time key = bucket_on (level key) (max (time key) next)
 
 -- and its place there, by its rank in the chain
-abbrev pub stand_on : ℕ → (Key → ℕ) → (Key → ℕ) → Key → Place
-stand_on next level rank key = record { home = home_on next level key; order = rank key }
+abbrev pub stand_on : ℕ → (Key → ℕ) → (Key → ℕ) → (Key → ℕ) → Key → Place
+stand_on next level time rank key = record { home = home_on next level time key; order = rank key }
 
 -- where a key stands
 abbrev pub place_of : (Key → Place) → Option Key → Option Place
@@ -40,43 +40,53 @@ place_of spot = option_map spot
 abbrev pub places : (Key → Place) → List (Option Key) → ℕ → Option Place
 places spot keys slot = place_of spot (key_in keys slot)
 
--- Each key stands on a level on which it may. Of two that are in one window of a level, where one stands on that level and
--- one below it, the rank of the one below is greater.
--- A rank is the order that the slot had when it came to a chain, so it is that of no other key; on the lowest level it is the
--- order of the key itself.
-pub record AreLevelled (next high : ℕ) (keys : List (Option Key)) (level rank : Key → ℕ) : Type 0 where
-  pub fit : (slot : ℕ) (key : Key) → key_in keys slot ≡ Some key → MayStand next high (level key) (max key.deadline next)
-  pub falls : (i j : ℕ) (x y : Key) → key_in keys i ≡ Some x → key_in keys j ≡ Some y → level y < level x
-      → max x.deadline next / 512 ^ level x ≡ max y.deadline next / 512 ^ level x → rank x < rank y
+-- Each key stands on a level on which it may, at a time that is no later than it is due: on the lowest level when it is due.
+-- No two have one order.
+pub record AreLevelled (next high : ℕ) (keys : List (Option Key)) (level time : Key → ℕ) : Type 0 where
+  pub fit : (slot : ℕ) (key : Key) → key_in keys slot ≡ Some key → MayStand next high (level key) (max (time key) next)
+  pub early : (slot : ℕ) (key : Key) → key_in keys slot ≡ Some key → time key ≤ key.deadline
+  pub exact : (slot : ℕ) (key : Key) → key_in keys slot ≡ Some key → level key ≡ 0 → time key ≡ key.deadline
   pub once : (i j : ℕ) (x y : Key) → key_in keys i ≡ Some x → key_in keys j ≡ Some y → x.order ≡ y.order → i ≡ j
-  pub apart : (i j : ℕ) (x y : Key) → key_in keys i ≡ Some x → key_in keys j ≡ Some y → rank x ≡ y.order → i ≡ j
-  pub older : (slot : ℕ) (key : Key) → key_in keys slot ≡ Some key → rank key ≤ key.order
   pub bounded : (slot : ℕ) (key : Key) → key_in keys slot ≡ Some key → key.order < 2 ^ 64
-  pub exact : (slot : ℕ) (key : Key) → key_in keys slot ≡ Some key → level key ≡ 0 → rank key ≡ key.order
 
--- the chains are those of the buckets, by some levels and ranks of the keys
+-- the chains are those of the buckets, by some levels, times and ranks of the keys
 pub record AreLevelChains (next high : ℕ) (chains : Rings) (keys : List (Option Key)) : Type 0 where
   pub level : Key → ℕ
+  pub time : Key → ℕ
   pub rank : Key → ℕ
-  pub levelled : AreLevelled next high keys level rank
-  pub are : AreChains chains (places (stand_on next level rank) keys)
+  pub levelled : AreLevelled next high keys level time
+  pub are : AreChains chains (places (stand_on next level time rank) keys)
+
+-- of the rows that are due by the next time the older ones have the lower ranks
+abbrev pub InOrder : ℕ → List (Option Key) → (Key → ℕ) → Type 0
+InOrder next keys rank = (i j : ℕ) (x y : Key) → key_in keys i ≡ Some x → key_in keys j ≡ Some y
+    → x.deadline ≤ next → y.deadline ≤ next → x.order < y.order → rank x < rank y
+
+-- the same, and where the bucket of the next time was put in order it is so
+pub record AreOrderedChains (next ordered : ℕ) (chains : Rings) (keys : List (Option Key)) : Type 0 where
+  pub level : Key → ℕ
+  pub time : Key → ℕ
+  pub rank : Key → ℕ
+  pub levelled : AreLevelled next 1 keys level time
+  pub are : AreChains chains (places (stand_on next level time rank) keys)
+  pub in_order : ordered ≡ next → InOrder next keys rank
 
 -- the chains are those of the buckets, and the count is that of the rows
-pub record IsWheel (next_time count : ℕ) (keys : List (Option Key)) (chains : Rings) : Type 0 where
+pub record IsWheel (next_time count ordered : ℕ) (keys : List (Option Key)) (chains : Rings) : Type 0 where
   pub slots : length keys ≡ chains.slots
   pub few : length keys < 2 ^ 32
   pub homes : chains.homes ≡ BUCKETS
   pub time : next_time < NEVER
   pub counts : count ≡ count_by is_some keys
   pub low : (slot : ℕ) (key : Key) → key_in keys slot ≡ Some key → key.deadline < NEVER
-  pub are : AreLevelChains next_time 1 chains keys
+  pub are : AreOrderedChains next_time ordered chains keys
 
 -- and no row is due before a floor
-pub record IsWheelKept (next_time count floor : ℕ) (keys : List (Option Key)) (chains : Rings) : Type 0 where
-  pub wheel : IsWheel next_time count keys chains
+pub record IsWheelKept (next_time count ordered floor : ℕ) (keys : List (Option Key)) (chains : Rings) : Type 0 where
+  pub wheel : IsWheel next_time count ordered keys chains
   pub above : (slot : ℕ) (key : Key) → key_in keys slot ≡ Some key → floor ≤ key.deadline
 
 -- and each slot that is written is so everywhere
-pub record IsWheelAlike {T : Type 0} (next_time count floor : ℕ) (kept : KeptSlots T) (buckets owners : Rings) : Type 0 where
-  pub rows : IsWheelKept next_time count floor (held_keys buckets kept.keys) buckets
+pub record IsWheelAlike {T : Type 0} (next_time count ordered floor : ℕ) (kept : KeptSlots T) (buckets owners : Rings) : Type 0 where
+  pub rows : IsWheelKept next_time count ordered floor (held_keys buckets kept.keys) buckets
   pub alike : AreAlike kept buckets owners

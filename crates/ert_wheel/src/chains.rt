@@ -36,7 +36,7 @@ impl Chains {
     ghost use Rattle.std.specs.Prelude.{◌≡◌, ◌↔◌, ◌+◌, ◌<◌, ◌≤◌, ◌^◌, ℕ, Option, Some, None, IfOk, IfSome, IsTrue, MatchOption};
     ghost use Rattle.ert_wheel.specs.Chained.{Spliced, Unspliced};
     ghost use Rattle.ert_wheel.specs.Links.{next_at, prev_at, place_slot};
-    ghost use Rattle.ert_wheel.specs.Rings.{Place, AreChains, MayPut, Puts, PutsInHome, PutsOldestInHome, MayPutBehind, PutsBehind, MayTake, GivesUpPlace, node_slot, Finds, FindsOldest};
+    ghost use Rattle.ert_wheel.specs.Rings.{Place, AreChains, MayPut, Puts, PutsInHome, PutsOldestInHome, MayTake, GivesUpPlace, node_slot, Finds, FindsOldest};
     ghost use Rattle.ert_wheel.specs.Rings.{IsOnlyOf, HasOthers};
 
     /// All chains empty, and no slot written. No call takes memory after this.
@@ -109,24 +109,6 @@ impl Chains {
         let node = self.homes + slot;
         let last = prev_of(&self.links, home);
         link_in(&mut self.links, last, node);
-    }
-
-    /// Puts a slot that is in no chain into that of another, as the next older one.
-    #[inline]
-    pub fn put_behind(&mut self, slot: u32, other: u32)
-        requires may { MayPutBehind self.old slot other }
-        requires slot { slot < self.old.written }
-        requires other { other < self.old.written }
-        ensures slots { self.new.slots ≡ self.old.slots }
-        ensures homes { self.new.homes ≡ self.old.homes }
-        ensures written { self.new.written ≡ self.old.written }
-        ensures behind { PutsBehind self.old self.new slot other }
-        ensures spliced { Spliced (next_at self.old.links) (prev_at self.old.links)
-            (next_at self.new.links) (prev_at self.new.links) other slot }
-    {
-        let node = self.homes + slot;
-        let before = self.homes + other;
-        link_in(&mut self.links, before, node);
     }
 
     /// Takes a slot out of its chain, where it is in one.

@@ -1,8 +1,9 @@
-ghost use Rattle.ert_wheel.specs.NextDue.{LawOfNearAnswers, LawOfCloserAnswers, LawOfLaterDue};
+ghost use Rattle.ert_wheel.specs.NextDue.{LawOfNearAnswers, LawOfRareAnswers, LawOfLaterDue};
 
-/// What `Wheel::next_due` answers is exact where it is near, comes closer where it is far, and goes on with time.
-pub fn answers_come_closer()
+/// What `Wheel::next_due` answers is exact where it is near, is a deadline but once for each window of 512 milliseconds, and goes
+/// on with time.
+pub fn answers_are_rare()
     ensures near { LawOfNearAnswers }
-    ensures closer { LawOfCloserAnswers }
+    ensures rare { LawOfRareAnswers }
     ensures later { LawOfLaterDue }
 {}

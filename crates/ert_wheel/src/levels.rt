@@ -5,14 +5,18 @@ ghost use Rattle.ert_wheel.specs.NextDue.{NoneBefore, MayLookAbove, IsEarlyOrNev
 ghost use Rattle.ert_wheel.specs.Walks.{StandOnLevels, AreCollected, MayCollectLevel, MayLook};
 ghost use Rattle.ert_wheel.specs.Wheels.{held_keys};
 ghost use Rattle.ert_wheel.specs.declared.row.Key.{Key};
-ghost use Rattle.ert_wheel.specs.declared.row.TheConstants.{NEVER};
+ghost use Rattle.ert_wheel.specs.declared.row.TheConstants.{BUCKETS};
 
 use crate::kept::Kept;
 use crate::keyed::Keyed;
 use crate::marked::MarkedChains;
 use crate::row::{HeldRow, LAST};
-use crate::walk::{collect, early_in};
+use crate::telling::Early;
+use crate::walk::{collect, least_in};
 use crate::windows::{begin_of, bucket_of_window, window_on, windows_end};
+
+/// So many rows of a level are looked at, to tell how early one may be due.
+const FEW: u32 = 64;
 
 /// Adds the due rows of a level, where those of the levels above are there.
 pub fn collect_level<T: Keyed>(
@@ -49,18 +53,18 @@ pub fn early_above<T: Keyed>(
     chains: &MarkedChains,
     kept: &Kept<T>,
     next_time: u64,
-    near: u64,
-) -> u64
-    requires may { MayLookAbove next_time chains.now (held_keys chains.now kept.now.keys) near }
+    near: Early,
+) -> Early
+    requires may { MayLookAbove next_time chains.now (held_keys chains.now kept.now.keys) near.time }
     requires kept { length kept.now.keys ≡ chains.now.written }
-    ensures none_before { NoneBefore (held_keys chains.now kept.now.keys) result }
-    ensures early { IsEarlyOrNever (held_keys chains.now kept.now.keys) next_time result }
+    ensures none_before { NoneBefore (held_keys chains.now kept.now.keys) result.time }
+    ensures early { IsEarlyOrNever (held_keys chains.now kept.now.keys) next_time result.time }
 {
     let mut earliest = near;
     let mut level = 1;
     while level <= 4 {
         // No row of this level or of one above is in an earlier window.
-        if begin_of(level, window_on(level, next_time) + 1) >= earliest {
+        if begin_of(level, window_on(level, next_time) + 1) >= earliest.time {
             return earliest;
         }
         earliest = early_on(chains, kept, level, next_time, earliest);
@@ -70,32 +74,51 @@ pub fn early_above<T: Keyed>(
 }
 
 /// The earlier of a time and of how early a row of a level above the lowest may be due.
+///
+/// The rows of the level's windows that begin before are looked at, `FEW` at most. Where there are more, that is the begin of a
+/// window: its rows may be due then, and those of the windows before it are later.
 fn early_on<T: Keyed>(
     chains: &MarkedChains,
     kept: &Kept<T>,
     level: u32,
     next_time: u64,
-    before: u64,
-) -> u64
+    before: Early,
+) -> Early
     requires level { 1 ≤ level }
     requires highest { level ≤ 4 }
     requires may { MayLook next_time chains.now (held_keys chains.now kept.now.keys) }
-    requires early { IsEarlyOrNever (held_keys chains.now kept.now.keys) next_time before }
+    requires early { IsEarlyOrNever (held_keys chains.now kept.now.keys) next_time before.time }
     requires kept { length kept.now.keys ≡ chains.now.written }
-    ensures low { result ≤ before }
-    ensures early { IsEarlyOrNever (held_keys chains.now kept.now.keys) next_time result }
+    ensures low { result.time ≤ before.time }
+    ensures early { IsEarlyOrNever (held_keys chains.now kept.now.keys) next_time result.time }
     ensures none { (levels : Key → ℕ)
         → StandOnLevels next_time chains.now (held_keys chains.now kept.now.keys) levels
-        → NoneOn (held_keys chains.now kept.now.keys) levels level result }
+        → NoneOn (held_keys chains.now kept.now.keys) levels level result.time }
 {
-    let from = window_on(level, next_time) + 1;
     let end = windows_end(level, next_time);
-    let window = chains.first_window(level, from, end);
-    if window == end {
-        return before;
+    let mut earliest = before;
+    let mut seen = 0;
+    let mut window = chains.first_window(level, window_on(level, next_time) + 1, end);
+    while window < end {
+        let begin = begin_of(level, window);
+        if begin >= earliest.time {
+            return earliest;
+        }
+        let bucket = bucket_of_window(level, window);
+        let Some(least) = least_in(chains, kept, bucket, Some(FEW), &mut seen) else {
+            return begin_in(chains, bucket, begin);
+        };
+        earliest = earliest.earlier(least);
+        window = chains.first_window(level, window + 1, end);
     }
-    if begin_of(level, window) >= before {
-        return before;
-    }
-    early_in(chains, kept, bucket_of_window(level, window)).min(before)
+    earliest
+}
+
+/// A time, as a row of a bucket tells it.
+pub fn begin_in(chains: &MarkedChains, bucket: u32, time: u64) -> Early
+    requires { bucket < BUCKETS }
+    ensures { result.time ≡ time }
+{
+    let slot = chains.newest(bucket).unwrap_or(0);
+    Early { time, slot }
 }

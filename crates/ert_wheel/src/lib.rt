@@ -27,10 +27,11 @@
 //! moves to a lower level, what its expiry will read comes into the caches. A row's order is its rank among all rows that were
 //! put in, as the user counts them.
 //!
-//! **Another row of a slot** (`replace`) takes the place of the one before it. Where both are due in one window of 512
-//! milliseconds, the slot stays in its bucket, and no link is written: the window's rows come to the lowest level later, and there
-//! into order. So it is in one of 262,144 milliseconds, for rows that far away; and where the slot is the newest of the
-//! bucket to which the new row belongs, as where a timer is moved on again and again.
+//! **Another row of a slot** (`replace`) takes the place of the one before it. Where it is due in no earlier window of 512
+//! milliseconds than that one, and that window comes after the next one, the slot stays in its bucket, and no link is written: when
+//! time comes to the bucket the row goes to that of its deadline. So a timer that each packet of a connection moves on stays where
+//! it is until the time at which it was due at first, and then moves once. The slot stays too where it is the newest of the bucket
+//! to which the new row belongs.
 //!
 //! **Levels** (`Wheel`). A wheel has 4,288 buckets, 1,024 on each of four levels and 192 on the highest. A bucket of
 //! the lowest level is a millisecond; one of the next is a window of 512 milliseconds, and so on: a bucket of each level
@@ -48,17 +49,21 @@
 //! A row that is late has the bucket of the next time itself. The 192 are for deadlines of up to 418 years of
 //! milliseconds.
 //!
-//! **Rows fall** (`falling`) to the level below as time goes on, each at most once from each level. When time comes into the
-//! window of a bucket, all rows that are left in it fall. Before that some fall ahead of time, out of the bucket of the next
+//! A row stands in the bucket of its deadline, or of an earlier time: where it stands is no later than it is due (`AreLevelled`). One
+//! whose slot stayed where it was may so stand too early. On the lowest level no row does, since no slot stays there.
+//!
+//! **Rows fall** (`falling`) to lower levels as time goes on. When time comes into the window of a bucket, each row that is left in
+//! it goes to the least bucket of its deadline. That is on a lower level, but for a row that stood too early: it may go to a later
+//! window of the same level or of one above. Where time leaps it comes from the begin of one window that has rows to that of the
+//! next, so that no such row is passed. Before time comes into a window some rows fall ahead of time, out of the bucket of the next
 //! window: so many for each millisecond that passes as leave few for the begin of the window, at first few and then more.
 //! How many fall ahead is a matter of speed alone: whether a row has fallen yet changes no answer.
 //!
-//! A chain has its slots by rank: the order that the slot's row had when the slot came to that chain, or the same that it had in the
-//! one above it. The newest slot of a bucket falls first, and it comes to the oldest end of the bucket below. New rows come to the
-//! newest end there. So of the rows of one window those on a higher level have the lower ranks (`AreLevelled`). On the lowest level
-//! a rank is the order of the row itself: a row that falls there comes behind the oldest that is newer, which is mostly the
-//! oldest of its bucket. So the rows of a millisecond are in order of start. A fall costs as much as a start does in the
-//! wheel, with two misses of the caches where there are many rows.
+//! The newest slot of a bucket falls first, and it comes to the oldest end of the bucket below. New rows come to the newest end. So
+//! a bucket's rows mostly stand in order of start, but where some were replaced. No clause needs that: a chain is a set of slots.
+//! Whoever tells rows puts them in order: a step of time sorts those that are due, and `first_due` puts the bucket of the next time in order
+//! (`ordering`) when the first row of it is asked for. A fall costs as much as a start does in the wheel, with two misses of the
+//! caches where there are many rows.
 //!
 //! **Marks** (`Marks`, `MarkedChains`). A bit for each bucket tells whether it has a slot: a put into an empty one sets
 //! it, and a take of the only slot clears it. All other puts and takes leave the bits alone. One more word has a bit
@@ -68,30 +73,33 @@
 //! **A step of time** visits the buckets that have rows: on each level those of the windows up to that of the time that it
 //! comes to, and each from its oldest row to its newest. A sort by deadline and then by order puts all into order: an order is
 //! read only where two deadlines are the same. It takes no memory, and one pass where the rows come in order already, as
-//! they do from the lowest level where no row was late. Where the time that it comes to is in the next time's window of 512
+//! they mostly do from the lowest level. Where the time that it comes to is in the next time's window of 512
 //! milliseconds, all that are due stand on the lowest level.
 //!
 //! **The next due row** (`next_due`) is in the first bucket of a level that has one. On the lowest level the bucket tells its
 //! deadline; in the next time's window of 512 milliseconds this is the answer, since no row of another level is there.
-//! Else a row above may be earlier. Level by level, until no window that is left begins before what is known, the rows of
-//! the first bucket that has one are looked at, 64 at most. Where there are more the begin of the bucket's window is told:
-//! when time comes to it, the bucket's rows go to lower levels, and the next answer is closer. Late rows
+//! Else a row above may be earlier. Level by level, the rows of the first buckets that have some are looked at, as long as a
+//! bucket's window begins before what is known, and 64 rows of a level at most. Where there are more, the begin of the window that
+//! comes next is told: when time comes to it, the bucket's rows go to where they are due. So a loop wakes early once at most for each
+//! window of 512 milliseconds (`answers_are_rare`), and not at all for a few rows that stand too early. Late rows
 //! have the bucket of the next time and deadlines of any age, so all rows of that bucket are looked at where a late one was
 //! put in since the next time moved on. A floor below all deadlines tells whether that was so. Those rows are due at once,
-//! or at the next millisecond, so that the next advance takes them. The answer becomes the floor, and the slot of the row that
-//! tells it is kept: while that row is there and time hasn't come to it, the answer stays, and an advance before it looks at
+//! or at the next millisecond, so that the next advance takes them. The answer becomes the floor, and the slot of a row that
+//! tells it is kept: while that row stays there and time hasn't come to it, the answer stays, and an advance before it looks at
 //! nothing else.
 //!
 //! **The first due row** (`first_due`) is told one at a time, for whoever may not take all that are due at once. Time moves
 //! on to the least deadline first, where that is due. Then the row is in the bucket of the next time: the oldest that has
-//! that deadline. This is the bucket's oldest row, but where rows were put in late; the floor tells their least deadline
-//! once it was looked for. So a call looks at one row, and at all of that bucket once for each deadline of late rows. A
-//! late row that is older than another and has a later deadline is looked at before that one. Where no row is due, time
-//! passes the time that was asked for.
+//! that deadline. The bucket is put in order of start once, when time has come to it: where it isn't so already, its rows are
+//! sorted in a vector that the caller lends. Then this is the bucket's oldest row, but where rows were put in late; the floor tells
+//! their least deadline once it was looked for. So a call looks at one row, and at all of that bucket once for each time and once
+//! for each deadline of late rows. A late row that is older than another and has a later deadline is looked at before that one. Where
+//! no row is due, time passes the time that was asked for.
 //!
 //! So many rows at most fall in such a call, whatever time has leapt. Before time comes into another window of a level it
 //! stands in the last millisecond before that, until the bucket of the window is empty: the windows of the highest level
-//! first, so four times at most. Where more rows are left than may fall the call says so, and the next one goes on there.
+//! first, so four times at most. Where more rows are left than may fall the call says so, and the next one goes on there. Rows of
+//! the windows between stood too early; they move without a stop, and on each level there are no more than `next_due` looks at.
 //!
 //! **Owners.** `own` puts a slot into the chain of an owner as its newest, `disown` takes it out, `is_owned` tells whether
 //! it is in one, and `newest_owned` tells the newest of an owner. This hangs on no row: a slot may have an owner without a row, and a row without an owner.
@@ -124,9 +132,12 @@
 //!   of a full bucket were looked at in vain: more work than the three restarts of a packet. `next_due` keeps its
 //!   answer as the floor below which no row is due, and the slot of a row that tells it. A later call looks at that row
 //!   alone, as long as time hasn't come to the answer: if it is still there, with its deadline in the window that
-//!   begins then, the answer stands. An earlier row that is put in is the next answer. A removal writes nothing for it.
+//!   begins then or after it, the answer stands. An earlier row that is put in is the next answer. A removal writes nothing for it.
 //!   So it takes the wheel by `&mut`, though it changes nothing that a contract shows. A turn before the floor is one
-//!   comparison. The price: Where the row that told it is restarted, the next call looks anew.
+//!   comparison. The price: Where the row that told it moves to another bucket, the next call looks anew.
+//! - **A row stays where it is when it is restarted to a later window.** A server restarts most timers before they are due.
+//!   Where each restart moved the row, it missed the caches four times. The price: A row moves once more when time comes to where it
+//!   stands, a loop may wake early once for each window, and orders are kept with the rows, since the chains don't tell them.
 //! - **Records begin where the allocator puts them.** The allocator gives a large block at 16 modulo 64, so a record
 //!   may lie on two lines of the caches. It stays so. The toolchain has no alignment to ask for: it refuses
 //!   `repr(align)`, `Global` refuses an alignment above 16, and an allocator of the repository's own would be unsafe
@@ -145,6 +156,7 @@ mod links;
 mod marked;
 mod marks;
 mod oldest;
+mod ordering;
 mod row;
 mod sorting;
 mod telling;
@@ -153,6 +165,6 @@ mod wheel;
 mod windows;
 
 pub use keyed::Keyed;
-pub use laws::answers_come_closer;
+pub use laws::answers_are_rare;
 pub use row::{BUCKETS, FirstDue, HeldRow, Key, Row};
 pub use wheel::Wheel;

@@ -29,7 +29,7 @@ impl MarkedChains {
     ghost use Rattle.std.specs.Prelude.{◌≡◌, ◌↔◌, ◌+◌, ◌*◌, ◌<◌, ◌≤◌, ◌^◌, ℕ, Option, None, IfOk, IfSome, IsTrue};
     ghost use Rattle.ert_wheel.specs.Links.{next_at, prev_at};
     ghost use Rattle.ert_wheel.specs.Marks.{FirstUsed, FirstWindow};
-    ghost use Rattle.ert_wheel.specs.Rings.{Place, AreChains, MayPut, Puts, PutsInHome, PutsOldestInHome, MayPutBehind, PutsBehind, MayTake, GivesUpPlace, MovesSlot, node_slot, Finds, FindsOldest};
+    ghost use Rattle.ert_wheel.specs.Rings.{Place, AreChains, MayPut, Puts, PutsInHome, PutsOldestInHome, MayTake, GivesUpPlace, MovesSlot, node_slot, Finds, FindsOldest};
     ghost use Rattle.ert_wheel.specs.declared.row.TheConstants.{BUCKETS, NEVER};
 
     /// All chains empty, and no slot written. No call takes memory after this.
@@ -93,20 +93,6 @@ impl MarkedChains {
     {
         self.chains.put_oldest(slot, home);
         self.marks.set(home);
-    }
-
-    /// Puts a slot that is in no chain into that of another, as the next older one.
-    #[inline]
-    pub fn put_behind(&mut self, slot: u32, other: u32)
-        requires may { MayPutBehind self.old slot other }
-        requires slot { slot < self.old.written }
-        requires other { other < self.old.written }
-        ensures slots { self.new.slots ≡ self.old.slots }
-        ensures homes { self.new.homes ≡ self.old.homes }
-        ensures written { self.new.written ≡ self.old.written }
-        ensures behind { PutsBehind self.old self.new slot other }
-    {
-        self.chains.put_behind(slot, other);
     }
 
     /// Takes a slot out of its chain, where it is in one.

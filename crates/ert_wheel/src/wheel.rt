@@ -5,7 +5,7 @@ use crate::falling::move_on;
 use crate::kept::Kept;
 use crate::keyed::Keyed;
 use crate::marked::MarkedChains;
-use crate::row::{HeldRow, LAST, Row};
+use crate::row::{HeldRow, LAST, NEVER, Row};
 use crate::windows::bucket;
 use ert_defs::NoMemory;
 use std::alloc::Global;
@@ -44,6 +44,8 @@ pub struct Wheel<T: Keyed> {
     len: u32,
     // How many rows have fallen from the next window of level 1 ahead of time.
     fallen: u32,
+    // The time whose bucket is in order of start; `NEVER` where none is.
+    ordered: u64,
     kept: Kept<T>,
     buckets: MarkedChains,
     owners: Chains,
@@ -62,7 +64,7 @@ impl<T: Keyed> Model for Wheel<T> {
       passed = w.next_time;
     } };
 
-    ghost invariant = { λ w. IsWheelAlike w.next_time w.len w.floor w.kept w.buckets w.owners };
+    ghost invariant = { λ w. IsWheelAlike w.next_time w.len w.ordered w.floor w.kept w.buckets w.owners };
 }
 
 impl<T: Keyed> Wheel<T> {
@@ -98,6 +100,7 @@ impl<T: Keyed> Wheel<T> {
             teller: 0,
             len: 0,
             fallen: 0,
+            ordered: NEVER,
             kept,
             buckets,
             owners,
@@ -283,7 +286,7 @@ impl<T: Keyed> Wheel<T> {
     }
 
     /// Tells that nothing is left up to `to`: no later call looks at a time up to it again. Where this comes into
-    /// another window of a level, the rows that are left in its bucket fall to the level below; before that some fall ahead of
+    /// other windows of a level, the rows that are left in their buckets go to those of their deadlines; before that some do ahead of
     /// time, in each millisecond that passes.
     ///
     /// A wheel that isn't told so gives the same rows, but looks at more and more buckets.
@@ -300,6 +303,7 @@ impl<T: Keyed> Wheel<T> {
         let next_time = was.max(after);
         self.fallen = move_on(&mut self.buckets, &self.kept, was, next_time, self.fallen);
         self.next_time = next_time;
+        self.ordered = NEVER;
         self.floor = self.floor.max(after);
     }
 

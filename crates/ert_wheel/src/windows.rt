@@ -100,12 +100,3 @@ pub fn windows_end(level: u32, next_time: u64) -> u64
 {
     (((window_on(level, next_time) >> 9) + 2) << 9).min(window_on(level, NEVER))
 }
-
-/// The begin of the window of a level in which a time stands.
-#[inline]
-pub fn window_begin(time: u64, level: u32) -> u64
-    requires { level ≤ 4 }
-    ensures { result ≡ time / 512 ^ level * 512 ^ level }
-{
-    time >> (level * 9) << (level * 9)
-}

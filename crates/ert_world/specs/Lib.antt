@@ -4,6 +4,7 @@ pub mod Counted
 pub mod DueTurns
 pub mod Frees
 pub mod Held
+pub mod Known
 pub mod Laws
 pub mod Mailing
 pub mod Openings

@@ -9,7 +9,7 @@ use Rattle.ert_wheel.specs.Rows.{key_in}
 use Rattle.ert_wheel.specs.declared.row.Key.{Key}
 use Rattle.ert_world.specs.Worlds.{Seen, Goes, By}
 
--- a time that is answered is that of a timer which is armed, or the begin of a window in which one is due; or 1,024 rows of
+-- a time that is answered is that of a timer which is armed; or one is armed, and it is the begin of a window; or 1,024 rows of
 -- the wheel have gone, or the time is before the first that the wheel hasn't passed
 abbrev pub IsFoundAt : Seen → Seen → ℕ → Option ℕ → Type 0
 IsFoundAt old new i answer =

@@ -101,8 +101,8 @@ pub record AreKept (d : Desk) (p : Pass) (next : ℕ) (parts : AllParts) : Type 
 abbrev pub IsNextHeldAt : Seen → ℕ → Option ℕ → Type 0
 IsNextHeldAt w i answer = (d : Part) → IsNextHeld (slice_index_or w.wheels i d) answer
 
--- where no seat was given out, a time that is answered is that of an armed timer, or the begin of a window, after the
--- first time that the wheel hasn't passed, in which one is due
+-- where no seat was given out, a time that is answered is that of an armed timer; or one is armed, and it is the begin of a
+-- window, after the first time that the wheel hasn't passed
 abbrev pub IsNearestAt : Seen → ℕ → Option ℕ → Type 0
 IsNearestAt w i answer = w.next ≡ 1
     → (d : Part) → IsNearest (state w.settings w.history) i (slice_index_or w.wheels i d).passed answer

@@ -14,9 +14,9 @@ impl World {
     /// `advance` answers; None where no timer is held.
     ///
     /// It tells an event loop how long it may sleep (as `uv_backend_timeout` of libuv): no armed timer is due
-    /// before it. It is the deadline of a timer, or the begin of a window, after the time of the last advance, in which
-    /// one is due (`ert_wheel`, `Wheel::next_due`). The scheduler probes the slot of that timer: where a seat has cancelled it
-    /// its row goes, and the next one is asked for. After 1,024 such rows the answer may be too early for the sake of
+    /// before it. It is the deadline of a timer, or the begin of a window of 512 milliseconds or a wider one, after the time of
+    /// the last advance; two such begins are 512 milliseconds apart at least (`ert_wheel`, `Wheel::next_due`). The scheduler
+    /// probes the slot of the timer that tells it: where a seat has cancelled it its row goes, and the next one is asked for. After 1,024 such rows the answer may be too early for the sake of
     /// a timer that a seat cancelled; so it may where its time is before the first that the last advance left.
     pub fn next_due(&mut self, sched: u32) -> Option<u64>
         requires { sched < self.old.settings.schedulers }

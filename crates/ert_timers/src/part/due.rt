@@ -3,13 +3,13 @@ ghost use Rattle.std.specs.Prelude.{◌≡◌};
 
 use super::WheelPart;
 use ert_defs::TimerRef;
-use ert_wheel::FirstDue;
+use ert_wheel::{FirstDue, HeldRow};
 
 impl WheelPart {
     ghost use Rattle.std.specs.Bool.{OnTrue};
     ghost use Rattle.ert_timers.specs.Expiring.{AreDue};
     ghost use Rattle.std.specs.Option.{is_some};
-    ghost use Rattle.std.specs.Prelude.{◌≡◌, ◌<◌, ◌≤◌, IfNone, IfSome, MatchOption, Some, [], count_by, length, min};
+    ghost use Rattle.std.specs.Prelude.{◌≡◌, ◌<◌, ◌≤◌, IfNone, IfSome, MatchOption, Some, [], count_by, length, min, vec_capacity};
     ghost use Rattle.ert_timers.specs.NextDue.{IsNextHeld};
     ghost use Rattle.ert_timers.specs.Parts.{last_timer};
     ghost use Rattle.ert_timers.specs.Trying.{come_to};
@@ -17,14 +17,22 @@ impl WheelPart {
     ghost use Rattle.ert_wheel.specs.FirstDue.{IsFirstTold};
 
     /// The first row that is due at `to`, by deadline and then by start, where so many rows at most may move to lower levels of
-    /// the wheel; they are counted down. The time of the wheel goes on with it, and past `to` where no row is due.
-    pub(crate) fn first_row_due(&mut self, to: u64, moves: &mut u32) -> FirstDue
-        requires { to ≤ 8796093022207 }
+    /// the wheel; they are counted down. The time of the wheel goes on with it, and past `to` where no row is due. `scratch` is the
+    /// vector of an advance: rows of one deadline are put in order of start there.
+    pub(crate) fn first_row_due(
+        &mut self,
+        to: u64,
+        moves: &mut u32,
+        scratch: &mut Vec<HeldRow>,
+    ) -> FirstDue
+        requires to { to ≤ 8796093022207 }
+        requires room { length self.old.keys ≤ vec_capacity scratch.old }
         ensures part { self.new ≡ come_to self.old self.new.passed }
         ensures time { self.old.passed ≤ self.new.passed }
         ensures first { IsFirstTold self.old.keys self.new.passed to result }
+        ensures capacity { vec_capacity scratch.new ≡ vec_capacity scratch.old }
     {
-        self.wheel.first_due(to, moves)
+        self.wheel.first_due(to, moves, scratch)
     }
 
     /// Whether no row is due at `to`, as far as the buckets tell: where it is false, one may be.

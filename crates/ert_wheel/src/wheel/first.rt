@@ -5,18 +5,19 @@ use super::Wheel;
 use crate::falling::{fall_before, fall_on};
 use crate::keyed::Keyed;
 use crate::oldest::oldest_due;
-use crate::row::{FirstDue, HeldRow, LAST};
+use crate::ordering::order_next;
+use crate::row::{FirstDue, HeldRow, LAST, NEVER};
 use crate::windows::{begin_of, bucket_of_window, window_on};
 
 impl<T: Keyed> Wheel<T> {
     ghost use Rattle.std.specs.Bool.{OnTrue};
-    ghost use Rattle.std.specs.Prelude.{◌≡◌, ◌+◌, ◌-◌, ◌<◌, ◌≤◌, ℕ, IfSome, MatchBool, MatchOption, max, min};
+    ghost use Rattle.std.specs.Prelude.{◌≡◌, ◌+◌, ◌-◌, ◌<◌, ◌≤◌, ℕ, IfSome, MatchBool, MatchOption, length, max, min, vec_capacity};
     ghost use Rattle.ert_wheel.specs.FirstDue.{NoRowDue, HasToMove, IsFirstRowDue, IsFirstTold, IsNextStop, IsReached, MayBeDue, SomeRowDue};
     ghost use Rattle.ert_wheel.specs.NextDue.{NoneBefore};
     ghost use Rattle.ert_wheel.specs.Rows.{key_in, row_told};
     ghost use Rattle.ert_wheel.specs.declared.row.TheConstants.{LAST};
 
-    /// Whether a row may be due at `to`: one is due by then or by the next time, or a window begins by then that has one. False
+    /// Whether a row may be due at `to`: one is due by then or by the next time, or a window begins by then where rows stand. False
     /// comes only where none is due by then.
     ///
     /// Before the time that `next_due` told last it is one comparison, and up to the next time one look at a bucket. Within the
@@ -54,23 +55,27 @@ impl<T: Keyed> Wheel<T> {
         ensures { MatchBool result (MayBeDue self.now.keys self.now.passed to) (NoRowDue self.now.keys to) }
     {
         match self.earliest() {
-            Some(time) => time <= to,
+            Some(early) => early.time <= to,
             None => false,
         }
     }
 
     /// The first row, by deadline and then by order, where its deadline is at most `to`. It stays in the wheel. Where no row is
-    /// due by then, time passes `to`.
+    /// due by then, time passes `to`. `scratch` has room for one row of each slot; what is in it means nothing.
     ///
     /// Time moves on to the row's deadline, where that is later than the next time. Before it comes into another window of a
     /// level the rows of the window's bucket fall, so many at most as `moves` has, which are counted down. Where more are
     /// left time stands in the last millisecond before the window: the next call goes on there. Each row falls once from each
-    /// level at most.
+    /// level at most, and a row that was replaced once more. Rows that stand too early in the windows between are counted too, but
+    /// don't hold time up: on each level there are no more than `next_due` looks at.
     ///
-    /// The other work is constant, but where rows were put in late since time moved on. Then it looks at the rows of the next
-    /// time's bucket that are older than the first, and at all of them where a row is the first with its deadline.
-    pub fn first_due(&mut self, to: u64, moves: &mut u32) -> FirstDue
-        requires { to < LAST }
+    /// The bucket of the next time is put in order of start once, when the first row of it is asked for. That is a walk over it where
+    /// its rows came in order, and else a sort. The other work is constant, but where rows were put in late since time moved on. Then
+    /// it looks at the rows of the next time's bucket that are older than the first, and at all of them where a row is the first
+    /// with its deadline.
+    pub fn first_due(&mut self, to: u64, moves: &mut u32, scratch: &mut Vec<HeldRow>) -> FirstDue
+        requires to { to < LAST }
+        requires room { length self.old.keys ≤ vec_capacity scratch.old }
         ensures first { IsFirstTold self.old.keys self.new.passed to result }
         ensures keys { self.new.keys ≡ self.old.keys }
         ensures owners { self.new.owners ≡ self.old.owners }
@@ -78,14 +83,16 @@ impl<T: Keyed> Wheel<T> {
         ensures passed { self.old.passed ≤ self.new.passed }
         ensures no_further { self.new.passed ≤ max self.old.passed (to + 1) }
         ensures fewer { moves.new ≤ moves.old }
+        ensures capacity { vec_capacity scratch.new ≡ vec_capacity scratch.old }
     {
-        if let Some(row) = self.first_at(self.floor) {
+        let floor = self.floor;
+        if let Some(row) = self.first_at(floor, scratch) {
             if row.deadline <= to {
                 return FirstDue::Row(row);
             }
         }
         match self.reach(to, moves) {
-            Some(stop) => self.first_by(stop, to),
+            Some(stop) => self.first_by(stop, to, scratch),
             None => FirstDue::Moving,
         }
     }
@@ -113,16 +120,18 @@ impl<T: Keyed> Wheel<T> {
     }
 
     /// The first row that is due by `to`, where time has come to its deadline, or past `to`.
-    fn first_by(&mut self, reached: u64, to: u64) -> FirstDue
-        requires { IsReached self.old.keys self.old.passed to reached }
+    fn first_by(&mut self, reached: u64, to: u64, scratch: &mut Vec<HeldRow>) -> FirstDue
+        requires reached { IsReached self.old.keys self.old.passed to reached }
+        requires room { length self.old.keys ≤ vec_capacity scratch.old }
         ensures first { IsFirstTold self.old.keys self.new.passed to result }
         ensures same { self.new ≡ self.old }
+        ensures capacity { vec_capacity scratch.new ≡ vec_capacity scratch.old }
     {
         if reached > to {
             return FirstDue::Nothing;
         }
         self.floor = self.floor.max(reached);
-        match self.first_at(reached) {
+        match self.first_at(reached, scratch) {
             Some(row) => FirstDue::Row(row),
             None => FirstDue::Nothing,
         }
@@ -131,10 +140,21 @@ impl<T: Keyed> Wheel<T> {
     /// The first row where it is due at a time before which none is; None where none is due at that time, if this is no later
     /// than the next time.
     #[inline]
-    fn first_at(&self, time: u64) -> Option<HeldRow>
-        requires { NoneBefore self.now.keys time }
-        ensures { MatchOption result (time ≤ self.now.passed → NoRowDue self.now.keys time) (λ row. IsFirstRowDue self.now.keys time (row_told self.now.keys row)) }
+    fn first_at(&mut self, time: u64, scratch: &mut Vec<HeldRow>) -> Option<HeldRow>
+        requires before { NoneBefore self.old.keys time }
+        requires room { length self.old.keys ≤ vec_capacity scratch.old }
+        ensures first { MatchOption result (time ≤ self.old.passed → NoRowDue self.old.keys time) (λ row. IsFirstRowDue self.old.keys time (row_told self.old.keys row)) }
+        ensures same { self.new ≡ self.old }
+        ensures capacity { vec_capacity scratch.new ≡ vec_capacity scratch.old }
     {
+        order_next(
+            &mut self.buckets,
+            &self.kept,
+            self.ordered,
+            self.next_time,
+            scratch,
+        );
+        self.ordered = self.next_time;
         oldest_due(
             &self.buckets,
             &self.kept,
@@ -149,7 +169,7 @@ impl<T: Keyed> Wheel<T> {
         ensures { IsNextStop self.now.keys self.now.passed to result }
     {
         match self.earliest() {
-            Some(time) => time.min(to + 1),
+            Some(early) => early.time.min(to + 1),
             None => to + 1,
         }
     }
@@ -204,8 +224,8 @@ impl<T: Keyed> Wheel<T> {
             return false;
         }
         let begin = begin_of(level, window);
-        let mut none = 0;
-        self.pass_slowly(begin - 2, &mut none);
+        self.pass_slowly(begin - 2, moves);
+        self.ordered = NEVER;
         fall_before(&mut self.buckets, &self.kept, self.next_time, level, moves)
     }
 
@@ -230,6 +250,7 @@ impl<T: Keyed> Wheel<T> {
             moves,
         );
         self.next_time = next_time;
+        self.ordered = NEVER;
         self.floor = self.floor.max(after);
     }
 }

@@ -1,9 +1,9 @@
 //! When the next row is due.
 use super::Wheel;
 use crate::keyed::Keyed;
-use crate::levels::early_above;
+use crate::levels::{begin_in, early_above};
 use crate::row::NEVER;
-use crate::telling::{find_teller, is_told_by, tells};
+use crate::telling::{Early, is_told_by, tells};
 use crate::walk::least_in;
 use crate::windows::{bucket_of_window, windows_end};
 
@@ -15,17 +15,18 @@ impl<T: Keyed> Wheel<T> {
 
     /// How early the next row may be due, in milliseconds; None exactly where there is no row.
     ///
-    /// No row has an earlier deadline. The answer is a row's deadline, or the begin of a window, after the first time
-    /// that wasn't passed, in which a row is due: of 512 milliseconds, of 262,144, and so on. So it is exact where the
-    /// least deadline stands in that time's window of 512 milliseconds. Whoever lets time pass up to it and asks again is
-    /// told a narrower window, and at last the deadline: after four such answers at most, however far it is.
+    /// No row has an earlier deadline: the answer is never late. It is a row's deadline, or the begin of a window of 512 milliseconds
+    /// or of a wider one, after the first time that wasn't passed, in which a row stands. So it is exact where the least deadline is
+    /// in that time's window of 512 milliseconds. A row stands no later than it is due: one that was replaced may stand where it was
+    /// due before. Whoever lets time pass up to the answer and asks again is told a deadline, or a time that is 512 milliseconds
+    /// later at least: so a loop wakes early once at most for each window in which rows stand.
     ///
-    /// It looks at the first window that has a row, of each level that may have an earlier one, and there at 64 rows at most;
+    /// It looks at the windows of each level that have rows and may have the earliest, and there at 64 rows of each level at most;
     /// where these are all, the answer is exact. Only where a row was put in late since the last pass does it look at each late
     /// row, and at those of the next time.
     ///
     /// The answer is kept, with the slot whose row told it. Until time comes to it, an earlier row is put in or that slot's row
-    /// goes or moves on, a call is a few comparisons.
+    /// goes or moves to another bucket, a call is a few comparisons.
     pub fn next_due(&mut self) -> Option<u64>
         ensures due { MatchOption result (NoRow self.old.keys) (IsNextDue self.old.keys self.old.passed) }
         ensures keys { self.new.keys ≡ self.old.keys }
@@ -36,10 +37,10 @@ impl<T: Keyed> Wheel<T> {
         if self.is_told(self.floor) {
             return Some(self.floor);
         }
-        let time = self.earliest()?;
-        self.floor = time;
-        self.teller = find_teller(&self.buckets, &self.kept, time);
-        Some(time)
+        let early = self.earliest()?;
+        self.floor = early.time;
+        self.teller = early.slot;
+        Some(early.time)
     }
 
     /// Whether a time before which no row is due is when the next one is, as far as the row of the kept slot tells.
@@ -57,8 +58,8 @@ impl<T: Keyed> Wheel<T> {
         }
     }
 
-    /// The slot of a row that tells when the next one is due: it is due at that time, or in a window that begins then. None
-    /// only where the time is before the first that wasn't passed, as where a row was put in late.
+    /// The slot of a row that tells when the next one is due: it is due at that time, or no earlier than a window that begins then.
+    /// None only where the time is before the first that wasn't passed, as where a row was put in late.
     ///
     /// After `next_due` it is the slot that is kept: a few comparisons. Only where that has no such row does it go over the
     /// slots.
@@ -91,18 +92,16 @@ impl<T: Keyed> Wheel<T> {
         }
     }
 
-    /// Whether a slot is written whose row tells a time, as far as it is seen at once.
+    /// Whether a slot is written whose row tells a time.
     #[inline]
     fn tells_next(&self, slot: u32, time: u64) -> bool
-        ensures { OnTrue result (TellsNext self.now.keys self.now.passed time slot) }
+        ensures { IsTrue result ↔ TellsNext self.now.keys self.now.passed time slot }
     {
         if slot as usize >= self.kept.len() {
             return false;
         }
         match self.row(slot) {
-            Some(row) => {
-                row.deadline == time || time > self.next_time && tells(row.deadline, time)
-            }
+            Some(row) => is_told_by(self.next_time, time, row.deadline),
             None => false,
         }
     }
@@ -116,27 +115,16 @@ impl<T: Keyed> Wheel<T> {
         ensures found { IsSome result }
     {
         for slot in 0..self.kept.len() as u32 {
-            if self.is_teller(slot, time) {
+            if self.tells_next(slot, time) {
                 return Some(slot);
             }
         }
         None
     }
 
-    /// Whether the row of a slot tells a time.
-    fn is_teller(&self, slot: u32, time: u64) -> bool
-        requires { slot < self.now.owners.written }
-        ensures { IsTrue result ↔ TellsNext self.now.keys self.now.passed time slot }
-    {
-        match self.row(slot) {
-            Some(row) => is_told_by(self.next_time, time, row.deadline),
-            None => false,
-        }
-    }
-
-    /// How early the next row may be due.
-    pub(super) fn earliest(&self) -> Option<u64>
-        ensures { MatchOption result (NoRow self.now.keys) (IsNextDue self.now.keys self.now.passed) }
+    /// How early the next row may be due, and a slot that tells it.
+    pub(super) fn earliest(&self) -> Option<Early>
+        ensures { MatchOption result (NoRow self.now.keys) (λ early. IsNextDue self.now.keys self.now.passed early.time) }
     {
         if self.is_empty() {
             return None;
@@ -146,24 +134,32 @@ impl<T: Keyed> Wheel<T> {
         if near == self.next_time {
             return self.due_at_once();
         }
+        if near == end {
+            let never = Early {
+                time: NEVER,
+                slot: 0,
+            };
+            return Some(early_above(&self.buckets, &self.kept, self.next_time, never));
+        }
+        let first = begin_in(&self.buckets, bucket_of_window(0, near), near);
         // In the next time's window of 512 milliseconds all rows stand on the lowest level.
         if near >> 9 == self.next_time >> 9 {
-            return Some(near);
+            return Some(first);
         }
-        let near = if near < end { near } else { NEVER };
-        Some(early_above(&self.buckets, &self.kept, self.next_time, near))
+        Some(early_above(&self.buckets, &self.kept, self.next_time, first))
     }
 
     /// The least deadline, where a row is late or due at the next time.
     #[inline]
-    fn due_at_once(&self) -> Option<u64>
+    fn due_at_once(&self) -> Option<Early>
         requires { SomeRowDue self.now.keys self.now.passed }
-        ensures { MatchOption result (NoRow self.now.keys) (IsNextDue self.now.keys self.now.passed) }
+        ensures { MatchOption result (NoRow self.now.keys) (λ early. IsNextDue self.now.keys self.now.passed early.time) }
     {
-        if self.floor >= self.next_time {
-            return Some(self.next_time);
-        }
         let home = bucket_of_window(0, self.next_time);
-        least_in(&self.buckets, &self.kept, home, None)
+        if self.floor >= self.next_time {
+            return Some(begin_in(&self.buckets, home, self.next_time));
+        }
+        let mut seen = 0;
+        least_in(&self.buckets, &self.kept, home, None, &mut seen)
     }
 }

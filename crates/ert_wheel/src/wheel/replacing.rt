@@ -1,6 +1,6 @@
 //! A slot's row that another takes the place of.
 ghost use Rattle.std.specs.Bool.{OnTrue};
-ghost use Rattle.std.specs.Prelude.{◌≡◌, ◌<◌, ◌≤◌};
+ghost use Rattle.std.specs.Prelude.{◌≡◌, ◌<◌, max};
 ghost use Rattle.ert_wheel.specs.Levels.{StaysPut};
 ghost use Rattle.ert_wheel.specs.Replacing.{MovesOrStays};
 ghost use Rattle.ert_wheel.specs.Rings.{MayTake};
@@ -10,7 +10,7 @@ use super::{Wheel, lower};
 use crate::keyed::Keyed;
 use crate::marked::MarkedChains;
 use crate::row::Row;
-use crate::windows::{bucket, window_on};
+use crate::windows::bucket;
 
 impl<T: Keyed> Wheel<T> {
     ghost use Rattle.std.specs.Prelude.{◌≡◌, ◌<◌, ℕ, Some, IfSome, IsSome, slice_set};
@@ -21,8 +21,8 @@ impl<T: Keyed> Wheel<T> {
     /// `remove` and an `insert` do.
     /// The order is above that of every row that is held.
     ///
-    /// No chain is written where both rows are due in one window of 512 milliseconds that comes after the next one, or in one of
-    /// 262,144 milliseconds, or where the slot is the newest of the bucket to which the row belongs.
+    /// No chain is written where the row is due in no earlier window of 512 milliseconds than the one before it, if that window
+    /// comes after the next one, or where the slot is the newest of the bucket to which the row belongs.
     #[inline(always)]
     pub fn replace(&mut self, row: Row, value: T)
         requires slot { row.slot < self.old.owners.written }
@@ -36,49 +36,48 @@ impl<T: Keyed> Wheel<T> {
         ensures passed { self.new.passed ≡ self.old.passed }
     {
         let was = self.kept.deadline(row.slot);
-        let time = row.deadline.max(self.next_time);
-        move_row(&mut self.buckets, self.next_time, was, time, row.slot);
+        move_row(
+            &mut self.buckets,
+            &mut self.teller,
+            self.next_time,
+            was,
+            row,
+        );
         self.kept.set(row.slot, value);
         lower(&mut self.floor, &mut self.teller, row);
     }
 }
 
-/// Moves a slot to the bucket of a time, from that of another one, where it doesn't stay put.
+/// Moves a slot to the bucket of its row, from that of another one that was due at a time, where it doesn't stay put. A slot that
+/// moves doesn't tell any more when the next row is due.
 #[inline(always)]
-fn move_row(chains: &mut MarkedChains, next_time: u64, was: u64, time: u64, slot: u32)
-    requires may { MayTake chains.old slot }
-    requires written { slot < chains.old.written }
-    requires later { next_time ≤ time }
-    requires low { time < NEVER }
+fn move_row(chains: &mut MarkedChains, teller: &mut u32, next_time: u64, was: u64, row: Row)
+    requires may { MayTake chains.old row.slot }
+    requires written { row.slot < chains.old.written }
+    requires next { next_time < NEVER }
+    requires deadline { row.deadline < NEVER }
     ensures slots { chains.new.slots ≡ chains.old.slots }
     ensures homes { chains.new.homes ≡ chains.old.homes }
     ensures written { chains.new.written ≡ chains.old.written }
-    ensures moves { MovesOrStays next_time was time chains.old chains.new slot }
+    ensures moves { MovesOrStays next_time was (max row.deadline next_time) chains.old chains.new row.slot }
 {
-    if stays_put(next_time, was, time) {
+    if stays_put(next_time, was, row.deadline) {
         return;
     }
-    chains.renew(slot, bucket(next_time, time));
+    let home = bucket(next_time, row.deadline.max(next_time));
+    chains.renew(row.slot, home);
+    if *teller == row.slot {
+        *teller = u32::MAX;
+    }
 }
 
 /// Whether a row that was due at one time stays where it is if it is due at another one.
 ///
-/// Both are in one window of a level that is too far for the level below. So the row stands on that level or on one above it, and
-/// both times have one bucket on each of these.
+/// It stands above the lowest level, and no later than it is due at either time. When time comes to its window, it goes to the
+/// bucket of its deadline.
 #[inline(always)]
 fn stays_put(next_time: u64, was: u64, time: u64) -> bool
     ensures { OnTrue result (StaysPut next_time was time) }
 {
-    stays_from(1, next_time, was, time) || stays_from(2, next_time, was, time)
-}
-
-/// And whether that is so of a level.
-#[inline(always)]
-fn stays_from(level: u32, next_time: u64, was: u64, time: u64) -> bool
-    requires some { 1 ≤ level }
-    requires highest { level ≤ 4 }
-    ensures { OnTrue result (StaysPut next_time was time) }
-{
-    let window = window_on(level, was);
-    window == window_on(level, time) && window.saturating_sub(window_on(level, next_time)) > 1
+    was >> 9 > (next_time >> 9) + 1 && was >> 9 <= time >> 9
 }

@@ -15,7 +15,7 @@ first_window-window-requires-clause-from g c =
       c.min-end.ensures,
       c.window_on-last.ensures,
       c.windows_end.ensures,
-      end_after c.args.level c.args.next_time c.requires.level c.requires.may.stand.time,
+      end_after c.args.level c.args.next_time c.requires.level c.requires.may.stand.fits,
       later c.args.level c.args.next_time c.max.result (omega (arith, c.max.ensures)),
     )
 
@@ -27,7 +27,7 @@ loop-window-init g c = record {
   sees = λ levels stand so_far.
       seen_skip stand (c.window_on.result + c.min.result) c.min-end.result c.first_window-window.result c.args.rows.now.items c.first_window-window.ensures.up c.first_window-window.ensures.low
       (omega (arith, c.min-end.ensures, c.windows_end.ensures))
-      (c.first_window-window.ensures.first (places (stand_on c.args.next_time levels stand.rank) (held_keys c.args.chains.now c.args.kept.now.keys)) stand.are)
+      (c.first_window-window.ensures.first (places (stand_on c.args.next_time levels stand.time stand.rank) (held_keys c.args.chains.now c.args.kept.now.keys)) stand.are)
       (seen_start stand (c.window_on.result + c.min.result) c.args.rows.now.items (omega (arith, c.window_on.ensures, c.min.ensures)) so_far);
 }
 
@@ -35,7 +35,7 @@ pub collect-requires-clause-may : goal.collect-requires-clause-may
 collect-requires-clause-may g c =
     let keys = held_keys c.args.chains.now c.args.kept.now.keys in
     let may = c.requires.may in
-    let spot = stand_on c.args.next_time may.level may.stand.rank in
+    let spot = stand_on c.args.next_time may.level may.stand.time may.stand.rank in
     let low : c.loop-window.window < end_of c.args.level c.args.next_time = omega (arith, c.loop-window-test.true, c.min-end.ensures, c.windows_end.ensures) in
     record {
       spot = spot;
@@ -55,7 +55,7 @@ loop-window-preserved g c = record {
   low = c.first_window-window-in-loop-window.ensures.low;
   sees = λ levels stand so_far.
       let keys = held_keys c.args.chains.now c.args.kept.now.keys in
-      let spot = stand_on c.args.next_time levels stand.rank in
+      let spot = stand_on c.args.next_time levels stand.time stand.rank in
       let low : c.loop-window.window < end_of c.args.level c.args.next_time = omega (arith, c.loop-window-test.true, c.min-end.ensures, c.windows_end.ensures) in
       let seen = c.loop-window.invariant.sees levels stand so_far in
       let collects = subst (λ (b : ℕ). MayCollect c.args.chains.now keys spot b c.args.to c.loop-window.rows.items

@@ -15,10 +15,10 @@ pub record Looked (level : ℕ) (early below : Type 0) : Type 0 where
 
 abbrev pub invariant-loop-level : goal.invariant-loop-level
 invariant-loop-level g l =
-    Looked l.level (IsEarlyOrNever (held_keys l.chains l.kept.keys) l.next_time l.earliest)
+    Looked l.level (IsEarlyOrNever (held_keys l.chains l.kept.keys) l.next_time l.earliest.time)
     ((levels : Key → ℕ) → StandOnLevels l.next_time l.chains (held_keys l.chains l.kept.keys) levels
-    → NoneOn (held_keys l.chains l.kept.keys) levels 0 l.near
-    → NoneBelow (held_keys l.chains l.kept.keys) levels l.level l.earliest)
+    → NoneOn (held_keys l.chains l.kept.keys) levels 0 l.fn.near.time
+    → NoneBelow (held_keys l.chains l.kept.keys) levels l.level l.earliest.time)
 
 abbrev pub decreases-loop-level : goal.decreases-loop-level
 decreases-loop-level g l = 5 - l.level

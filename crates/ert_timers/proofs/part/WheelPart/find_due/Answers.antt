@@ -1,4 +1,4 @@
-use Rattle.std.proofs.Common.{subst}
+use Rattle.std.proofs.Common.{subst, ◌∙◌}
 use Rattle.ert_timers.specs.Expiring.{AreDue}
 use Rattle.ert_timers.specs.Parts.{Part}
 use Rattle.ert_timers.proofs.Trials.{are_due}
@@ -7,5 +7,5 @@ use Rattle.ert_wheel.specs.Rows.{rows_told}
 
 pub returns-clause-due : goal.returns-clause-due
 returns-clause-due c =
-    subst (λ (p : Part). AreDue p c.args.to (rows_told p.keys c.due.new.out.items)) c.self.view_is
+    subst (λ (p : Part). AreDue p c.args.to (rows_told p.keys c.due.new.out.items)) (c.self.view_is ∙ c.lend_list.ensures.part)
     (are_due _ c.args.to (rows_told c.self.inside.wheel.keys c.due.new.out.items) c.due.ensures.each c.due.ensures.rows c.due.ensures.sorted)

@@ -1,4 +1,5 @@
-use Rattle.std.proofs.Common.{◌≡◌, ◌+◌, ◌-◌, ap, subst, sym, arith, count_by}
+use Rattle.std.proofs.Common.{◌≡◌, ◌+◌, ◌-◌, None, ap, subst, sym, arith, count_by, length}
+use Rattle.std.proofs.lemmas.List.{length-set}
 use Rattle.std.specs.Option.{is_some}
 use Rattle.ert_table.specs.Desks.{settings_of, view_of}
 use Rattle.ert_timers.specs.Parts.{HoldsSched, Part}
@@ -24,6 +25,7 @@ loop-row-init c =
       looked = c.requires.looked;
       few = omega arith;
       room = c.requires.room;
+      spare = c.requires.scratch;
     }
 
 pub returns-then-left-eq0-clause-call : goal.returns-then-left-eq0-clause-call
@@ -93,6 +95,14 @@ loop-row-preserved c =
         one.room,
         row_counted q c.expire.new.self row first.held (ap (λ (p : Part). p.keys) one.part),
         ap (λ (p : Part). count_by is_some p.keys) part,
+      );
+      spare = omega (
+        arith,
+        c.loop-row.invariant.spare,
+        c.first_row_due.ensures.capacity,
+        ap (λ (p : Part). length p.keys) part,
+        ap (λ (p : Part). length p.keys) one.part,
+        length-set q.keys row.slot None,
       );
     }
 

@@ -1,4 +1,4 @@
-use Rattle.std.proofs.Common.{◌-◌, ◌≤◌, min, count_by}
+use Rattle.std.proofs.Common.{◌-◌, ◌≤◌, min, count_by, length, vec_capacity}
 use Rattle.std.specs.Option.{is_some}
 use Rattle.ert_table.specs.Desks.{settings_of, view_of, Belongs}
 use Rattle.ert_timers.specs.Parts.{HoldsSched}
@@ -13,6 +13,7 @@ invariant-loop-row l = record {
   looked : IsLooked (settings_of l.desk) (view_of l.pass).front l.self l.to;
   few : l.left ≤ l.most;
   room : min l.left (count_by is_some l.self.keys) ≤ l.expired.room;
+  spare : length l.self.keys ≤ vec_capacity l.scratch;
 }
 
 abbrev pub decreases-loop-row : goal.decreases-loop-row

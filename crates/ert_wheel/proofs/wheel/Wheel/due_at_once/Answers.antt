@@ -14,8 +14,9 @@ returns-then-self g c =
     let keys = c.args.self.now.keys in
     let next = c.self.inside.next_time in
     let s = sees c.self.invariant.rows c.self.view_is in
-    subst (λ (n : ℕ). IsNextDue keys n next) (ap passed_of c.self.view_is)
-    (due_next keys next c.self.inside.floor (subst (λ (n : ℕ). SomeRowDue keys n) (sym (ap passed_of c.self.view_is)) c.requires) s.above c.if-self.true)
+    subst (λ (n : ℕ). IsNextDue keys n c.begin_in.result.time) (ap passed_of c.self.view_is)
+    (subst (λ (n : ℕ). IsNextDue keys next n) (sym c.begin_in.ensures)
+    (due_next keys next c.self.inside.floor (subst (λ (n : ℕ). SomeRowDue keys n) (sym (ap passed_of c.self.view_is)) c.requires) s.above c.if-self.true))
 
 pub returns : goal.returns
 returns g c =
@@ -24,7 +25,7 @@ returns g c =
     let look = wheel_stands (sees c.self.invariant.rows c.self.view_is).wheel in
     let due = subst (λ (n : ℕ). SomeRowDue keys n) (sym (ap passed_of c.self.view_is)) c.requires in
     answer_is (NoRow keys) c.least_in.result c.least_in.ensures.all c.least_in.ensures.least (λ least looked.
-    subst (λ (n : ℕ). IsNextDue keys n least) (ap passed_of c.self.view_is)
-    (least_here look.stand least due
-    (subst (λ (b : ℕ). IsLeastIn keys (stand_on next look.level look.stand.rank) b NEVER least) c.bucket_of_window-home.ensures.is
+    subst (λ (n : ℕ). IsNextDue keys n least.time) (ap passed_of c.self.view_is)
+    (least_here look.stand least.time due
+    (subst (λ (b : ℕ). IsLeastIn keys (stand_on next look.level look.stand.time look.stand.rank) b NEVER least.time) c.bucket_of_window-home.ensures.is
     (least_seen c.self.inside.kept.keys look.stand (ap keys_of c.self.view_is) looked))))

@@ -16,7 +16,7 @@ loop-slot-preserved g c = λ slot low tells.
       | inl here ↦
           let keys = c.args.self.now.keys in
           let told = subst (λ (k : ℕ). TellsNext keys c.args.self.now.passed c.args.time k) here tells in
-          let yes : true ≡ false = sym (c.is_teller.ensures.1 told) ∙ c.if-is_teller.false in
+          let yes : true ≡ false = sym (c.tells_next.ensures.1 told) ∙ c.if-tells_next.false in
           absurd cc
       | inr other ↦ c.loop-slot.invariant slot (omega (arith, low, other)) tells
     ]

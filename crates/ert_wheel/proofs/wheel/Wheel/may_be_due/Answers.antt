@@ -13,10 +13,10 @@ returns g c =
     let keys = c.args.self.now.keys in
     let next = c.self.inside.next_time in
     let look = wheel_stands (sees c.self.invariant.rows c.self.view_is).wheel in
-    let first = c.first_window.ensures.first (places (stand_on next look.level look.stand.rank) keys) look.stand.are in
+    let first = c.first_window.ensures.first (places (stand_on next look.level look.stand.time look.stand.rank) keys) look.stand.are in
     let later : next < c.args.to = omega (arith, c.if-to-self-2.false) in
     let near : c.args.to / 512 ≤ next / 512 = omega (arith, c.if-to-self-3.false) in
-    let few : c.args.to + 1 ≤ end_of 0 next = omega (arith, near, end_lowest next, look.stand.time) in
+    let few : c.args.to + 1 ≤ end_of 0 next = omega (arith, near, end_lowest next, look.stand.fits) in
     let end : c.args.to + 1 ≡ max c.args.to next + 1 = omega (arith, later) in
     subst (λ (n : ℕ). MatchBool (nat_lt c.first_window.result (c.args.to + 1)) (MayBeDue keys n c.args.to) (NoRowDue keys c.args.to)) (ap passed_of c.self.view_is)
     (may_be_near look.stand first c.first_window.ensures.up c.first_window.ensures.low few c.args.to near end)

@@ -11,7 +11,7 @@ pub invariant_of-self : goal.invariant_of-self
 invariant_of-self g c = record {
   rows = record {
     wheel = c.self.invariant.rows.wheel;
-    above = subst (λ (keys : List (Option Key)). NoneBefore keys c.in_ok-time.time) (sym (ap keys_of c.self.view_is)) c.in_ok-time.ensures.none_before;
+    above = subst (λ (keys : List (Option Key)). NoneBefore keys c.in_ok-early.early.time) (sym (ap keys_of c.self.view_is)) c.in_ok-early.ensures.none_before;
   };
   alike = c.self.invariant.alike;
 }

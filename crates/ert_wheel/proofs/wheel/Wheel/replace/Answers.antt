@@ -1,8 +1,7 @@
-use Rattle.std.proofs.Common.{ℕ, ap, set, subst, ◌∙◌, length, arith, refl}
+use Rattle.std.proofs.Common.{ap, set, ◌∙◌, length, arith, refl}
 use Rattle.std.proofs.lemmas.List.{length-set}
 use Rattle.ert_wheel.proofs.Writes.{sees, low_in, alike_after, is_held, is_kept, may_take, replaced, stored_as}
 use Rattle.ert_wheel.proofs.wheel.Wheel.replace.Goals as goal
-use Rattle.ert_wheel.specs.Replacing.{MovesOrStays}
 
 pub move_row-requires-clause-may : goal.move_row-requires-clause-may
 move_row-requires-clause-may g c = may_take (sees c.self.invariant.rows c.self.view_is) (low_in c.args.row.slot c.self.invariant c.self.view_is c.requires.slot).low_key
@@ -23,7 +22,7 @@ invariant_of-self g c = record {
         newest = c.requires.newest;
       })
       (low_in c.args.row.slot c.self.invariant c.self.view_is c.requires.slot).low_record
-      c.requires.held c.deadline-was.ensures (subst (λ (t : ℕ). MovesOrStays c.self.inside.next_time c.deadline-was.result t c.self.inside.buckets c.move_row.new.chains c.args.row.slot) c.max-time.ensures c.move_row.ensures.moves) c.move_row.ensures.slots c.move_row.ensures.homes c.lower.ensures));
+      c.requires.held c.deadline-was.ensures c.move_row.ensures.moves c.move_row.ensures.slots c.move_row.ensures.homes c.lower.ensures));
   alike = alike_after c.self.invariant.alike (ap length c.set.ensures.keys ∙ length-set c.self.inside.kept.keys c.args.row.slot _) c.set.ensures.room c.move_row.ensures.slots c.move_row.ensures.written refl refl;
 }
 
@@ -37,7 +36,7 @@ returns-clause-keys g c =
       newest = c.requires.newest;
     })
     (low_in c.args.row.slot c.self.invariant c.self.view_is c.requires.slot).low_record
-    c.requires.held c.deadline-was.ensures (subst (λ (t : ℕ). MovesOrStays c.self.inside.next_time c.deadline-was.result t c.self.inside.buckets c.move_row.new.chains c.args.row.slot) c.max-time.ensures c.move_row.ensures.moves) c.move_row.ensures.slots c.move_row.ensures.homes c.lower.ensures))
+    c.requires.held c.deadline-was.ensures c.move_row.ensures.moves c.move_row.ensures.slots c.move_row.ensures.homes c.lower.ensures))
 
 pub deadline-was-requires : goal.deadline-was-requires
 deadline-was-requires g c = (low_in c.args.row.slot c.self.invariant c.self.view_is c.requires.slot).low_record

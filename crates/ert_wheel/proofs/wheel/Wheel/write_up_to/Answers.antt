@@ -20,7 +20,7 @@ invariant_of-self g c =
     let owners_many = ap (λ (r : Rings). r.slots) c.write_up_to-3.ensures in
     record {
       rows = is_kept (stored_as c.write_up_to.ensures.keys
-          (subst (λ (r : Rings). Sees w.next_time w.len w.floor (w.kept.keys ++ more) c.args.self.now.keys r) (sym c.write_up_to-2.ensures)
+          (subst (λ (r : Rings). Sees w.next_time w.len w.ordered w.floor (w.kept.keys ++ more) c.args.self.now.keys r) (sym c.write_up_to-2.ensures)
           (grown more c.args.count s)));
       alike = record {
         records = omega (arith, kept, buckets, length-append w.kept.keys more, length-replicate (c.args.count - length w.kept.keys) (g.T.Keyed.key c.args.value), a.records, a.owned, owned, c.requires.more);
@@ -36,7 +36,7 @@ returns-clause-keys g c =
     let w = c.self.inside in
     let more = replicate (c.args.count - length w.kept.keys) (g.T.Keyed.key c.args.value) in
     is_held (stored_as c.write_up_to.ensures.keys
-    (subst (λ (r : Rings). Sees w.next_time w.len w.floor (w.kept.keys ++ more) c.args.self.now.keys r) (sym c.write_up_to-2.ensures)
+    (subst (λ (r : Rings). Sees w.next_time w.len w.ordered w.floor (w.kept.keys ++ more) c.args.self.now.keys r) (sym c.write_up_to-2.ensures)
     (grown more c.args.count (sees c.self.invariant.rows c.self.view_is))))
 
 pub returns-clause-owners : goal.returns-clause-owners
