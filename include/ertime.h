@@ -6,12 +6,12 @@
  * operating system and passes what it read, asks what is due, and takes the messages of timers that have
  * expired.
  *
- * The words. A service (`ert_world`) is one clock with its timers. A scheduler is a timer wheel and the turn that
+ * The words. A world (`ert_world`) is one clock with its timers. A scheduler is a timer wheel and the turn that
  * expires its timers; a process is a mailbox, from which the program takes their messages. One scheduler and one
  * process are enough for a server: the message of a timer can be a pointer to its connection.
  *
  * Conventions. Each call returns a status: ERT_OK, or a negative number that says why the call did nothing.
- * After a refusal nothing has changed, neither the service nor what the out parameters point to, unless the text
+ * After a refusal nothing has changed, neither the world nor what the out parameters point to, unless the text
  * of a call says otherwise. Times are in nanoseconds if their type is int64_t, and in milliseconds if the text
  * says so. Processes, schedulers and slots are numbers from 0. A flag of type uint32_t is on if it is not 0.
  *
@@ -19,14 +19,14 @@
  * moved while it is open. What lies behind it belongs to the library from ert_world_open to ert_world_close, and
  * from ert_seat_open to ert_seat_close, and comes from malloc. No other call keeps a pointer that it was passed.
  *
- * Threads. A handle must not be used by two threads at the same time. A service has one handle for every call,
+ * Threads. A handle must not be used by two threads at the same time. A world has one handle for every call,
  * ert_world; if several threads make these calls, the program must guard it with a mutex. Some calls need no lock
  * and are made through a seat: with an ert_seat of its own a thread reads the time, cancels and reads timers, and
- * asks whether a process is alive, while others call through the service's handle and through other seats. It
- * never blocks. A service gives out settings.callers - 1 seats. Any handle may go from one thread to another, as a
- * mutex or pthread_create takes it there. Services that were opened apart share nothing.
+ * asks whether a process is alive, while others call through the world's handle and through other seats. It
+ * never blocks. A world gives out settings.callers - 1 seats. Any handle may go from one thread to another, as a
+ * mutex or pthread_create passes it there. Worlds that were opened apart share nothing.
  *
- * A thread per core. A service can be divided among threads instead, so that each starts its own timers and makes its
+ * A thread per core. A world can be divided among threads instead, so that each starts its own timers and makes its
  * own turns, beside all others and without a lock: see "Hub and shards" at the end of this file.
  *
  * Where a call may be made, and what happens around it:
@@ -34,9 +34,9 @@
  *   another thread    ert_world, ert_hub: one thread at a time. ert_seat, ert_shard: its own thread, beside all others.
  *   signal handler    no call. Set a flag or write to an eventfd, and call from the loop. A handler that interrupts
  *                     a call and returns does no harm; one that leaves it by longjmp breaks the handle.
- *   fork              the child has a copy of the service, which goes on apart from the parent's. If the process had
+ *   fork              the child has a copy of the world, which goes on apart from the parent's. If the process had
  *                     several threads, the child must make no call, and not close it. exec and _exit are safe.
- *   exec              the service is gone, as all memory. It has no descriptor, lock, thread or file.
+ *   exec              the world is gone, as all memory. It has no descriptor, lock, thread or file.
  *   suspend, stop     nothing is lost: the first tick afterwards moves time on, and each timer that is due expires
  *                     once, in order of deadline. Whether the sleep counts is up to the clock passed as `mono`.
  *   cancelled thread  no call is a cancellation point. A thread with asynchronous cancellation must make none.
@@ -49,7 +49,7 @@
  *
  * What is proved. Each call has a contract, against which its code was proved (docs/PROVED.md in the sources). Two things
  * that this header says stand in no contract. Order between threads: if one call returned before another began, on
- * whatever threads and through whatever handles of a service, the later one knows what the earlier one did. This is an
+ * whatever threads and through whatever handles of a world, the later one knows what the earlier one did. This is an
  * argument from the order of the atomic steps (docs/THEOREM.md), and tested on logs of threads. Memory in turns: that
  * ert_world_serve, ert_world_advance, ert_world_deliver, the turns, and those of a shard, never return ERT_NO_MEMORY if
  * there is room, is tested by turns with every allocation refused. Proved is that they return it without a loss, and of a
@@ -105,7 +105,8 @@ uint32_t ert_version(void);
 #define ERT_OFFSET_WIDE (-9) /* the time offset would be -2^62 or less, or 2^62 or more */
 #define ERT_RANGE (-10)      /* there is no such process or scheduler */
 #define ERT_BAD_TIME (-11)   /* no timer can be due then */
-#define ERT_FULL (-12)       /* no slot of the wheel can take a timer, or the process can have no further monitor */
+#define ERT_FULL (-12)       /* no slot that the start looked at can take a timer, or the process can have no further
+                                monitor */
 #define ERT_NO_TIMER (-13)   /* the timer is not armed */
 #define ERT_EMPTY (-14)      /* there is no message, or no timer */
 #define ERT_EXITED (-15)     /* the process has exited */
@@ -132,7 +133,7 @@ static inline const char *ert_status_text(int32_t status) {
     case ERT_OFFSET_WIDE: return "ERT_OFFSET_WIDE: the time offset would be out of range";
     case ERT_RANGE: return "ERT_RANGE: no such process or scheduler";
     case ERT_BAD_TIME: return "ERT_BAD_TIME: no timer can be due then";
-    case ERT_FULL: return "ERT_FULL: no slot is available, or no further monitor";
+    case ERT_FULL: return "ERT_FULL: no available slot was found, or no further monitor";
     case ERT_NO_TIMER: return "ERT_NO_TIMER: the timer is not armed";
     case ERT_EMPTY: return "ERT_EMPTY: there is no message, or no timer";
     case ERT_EXITED: return "ERT_EXITED: the process has exited";
@@ -144,7 +145,7 @@ static inline const char *ert_status_text(int32_t status) {
     }
 }
 
-/* A handle of a service. It begins as ERT_INIT, which is all zero. Its fields are private. */
+/* A handle of a world. It begins as ERT_INIT, which is all zero. Its fields are private. */
 typedef struct {
     void *at_;
     bool live_;
@@ -175,7 +176,7 @@ typedef struct {
 #define ERT_MULTI_WARP 2
 
 /*
- * What a service is opened with. ert_settings_init fills it with the recommended settings.
+ * What a world is opened with. ert_settings_init fills it with the recommended settings.
  *
  * For plain timers on the monotonic clock set `mode` to ERT_MULTI_WARP and `correction` to 1: then monotonic time and
  * timers go as CLOCK_MONOTONIC does, whatever happens to the system clock within the limits of ERT_BAD_READING.
@@ -207,8 +208,8 @@ typedef struct {
  * Fills settings with the recommended ones: plain timers on the monotonic clock, for one event loop.
  *
  * Multi time warp mode with time correction, one scheduler, one process, 1,024 slots, no seats, 64 looks, monotonic
- * time 0 at the opening. `first` is a reading of the clocks. Every field is set, so that none is left to chance: change those
- * that you want otherwise, and then call ert_world_open. It is in the header, and calls nothing.
+ * time 0 at the opening. `first` is a reading of the clocks. Every field is set, so that none is left to chance: change
+ * those that you want otherwise, and then call ert_world_open. It is in the header, and calls nothing.
  */
 static inline void ert_settings_init(ert_settings *settings, const ert_reading *first) {
     settings->size = (uint32_t)sizeof *settings;
@@ -242,7 +243,7 @@ typedef struct {
 
 /* The name of a timer. It is never used twice. An unknown name is treated as that of a timer that is not armed. */
 typedef struct {
-    uint32_t wheel;
+    uint32_t wheel; /* the scheduler on whose wheel it was started */
     uint32_t slot;
     uint64_t generation; /* which use of the slot it is; neither its value nor its order means anything */
 } ert_timer;
@@ -250,7 +251,7 @@ typedef struct {
 /* What a timer is started with. */
 typedef struct {
     int64_t when;      /* milliseconds after the last tick, or a monotonic time in milliseconds */
-    uint64_t msg;      /* a number, or the bits of a pointer, which the library hands back and does not follow */
+    uint64_t msg;      /* a number, or the bits of a pointer, which the library returns and does not follow */
     uint32_t absolute; /* whether `when` is a time */
     uint32_t bare;     /* whether the message comes without the timer's name (`send_after`) */
     uint32_t dest;     /* the process that gets the message */
@@ -259,12 +260,12 @@ typedef struct {
 /*
  * A timer that repeats at a fixed rate. Its deadlines are `start.when`, one period after that, two periods, .. whatever
  * the time is when each of its timers is started: so it does not drift. A program starts the first timer with `start`,
- * and when it takes the message of one it starts the next with ert_interval_next or ert_interval_skip, on a world or on
+ * and when it takes the message of one it starts the next with ert_repeat_next or ert_repeat_skip, on a world or on
  * a shard. With deadlines at 10, 15, 20, .. and turns at 10 and 27:
  *
  *     deadlines                10    15    20    25    30
- *     ert_interval_next        10    27    27    27          each is met, in a turn of its own; then 30 is armed
- *     ert_interval_skip        10    27                      20 and 25 are left out; then 30 is armed
+ *     ert_repeat_next          10    27    27    27          each is met, in a turn of its own; then 30 is armed
+ *     ert_repeat_skip          10    27                      20 and 25 are left out; then 30 is armed
  *
  * Both are in the header, and call nothing. A deadline that no timer can have is refused by the start (ERT_BAD_TIME), and
  * so is each after the first if the period is below 1. A start that was refused can be made again with `start`.
@@ -272,33 +273,33 @@ typedef struct {
 typedef struct {
     ert_start start; /* what the timer is started with; `absolute` is 1 */
     int64_t period;  /* milliseconds, 1 or more */
-} ert_interval;
+} ert_repeat;
 
 /*
- * Goes on to the next deadline of an interval, whether it has passed or not, and returns what its next timer is started
- * with.
+ * Goes on to the next deadline of a repeating timer, whether it has passed or not, and returns what its next timer is
+ * started with.
  */
-static inline const ert_start *ert_interval_next(ert_interval *interval) {
-    int64_t due = interval->start.when;
-    int is_none = interval->period < 1 || due > INT64_MAX - interval->period;
-    interval->start.when = is_none ? INT64_MAX : due + interval->period;
-    return &interval->start;
+static inline const ert_start *ert_repeat_next(ert_repeat *repeat) {
+    int64_t due = repeat->start.when;
+    int is_none = repeat->period < 1 || due > INT64_MAX - repeat->period;
+    repeat->start.when = is_none ? INT64_MAX : due + repeat->period;
+    return &repeat->start;
 }
 
 /*
- * Goes on to the first deadline of an interval after `now`, a monotonic time in milliseconds (`to` of a turn, if the
- * start time is 0), but by one period at least. Writes how many deadlines it left out to `left_out`, and returns what
- * its next timer is started with.
+ * Goes on to the first deadline of a repeating timer after `now`, a monotonic time in milliseconds (`to` of a turn, if
+ * the start time is 0), but by one period at least. Writes how many deadlines it left out to `left_out`, and returns
+ * what its next timer is started with.
  */
-static inline const ert_start *ert_interval_skip(ert_interval *interval, int64_t now, uint64_t *left_out) {
-    int64_t due = interval->start.when;
+static inline const ert_start *ert_repeat_skip(ert_repeat *repeat, int64_t now, uint64_t *left_out) {
+    int64_t due = repeat->start.when;
     *left_out = 0;
-    if (now > due && interval->period >= 1) {
+    if (now > due && repeat->period >= 1) {
         uint64_t late = (uint64_t)now - (uint64_t)due;
-        *left_out = late / (uint64_t)interval->period;
-        interval->start.when = (int64_t)((uint64_t)now - late % (uint64_t)interval->period);
+        *left_out = late / (uint64_t)repeat->period;
+        repeat->start.when = (int64_t)((uint64_t)now - late % (uint64_t)repeat->period);
     }
-    return ert_interval_next(interval);
+    return ert_repeat_next(repeat);
 }
 
 /* What a scheduler did. `to` is in milliseconds since the start time. */
@@ -375,9 +376,9 @@ typedef struct {
 } ert_request;
 
 /*
- * Opens a service behind a closed handle.
+ * Opens a world behind a closed handle.
  *
- * The service has no timer and no message, and its monotonic time is `start`. All memory that timers need
+ * The world has no timer and no message, and its monotonic time is `start`. All memory that timers need
  * is allocated here: some 36 KB for each scheduler, and some 100 bytes for each slot and for each process
  * (docs/EMBEDDING.md has a table). Later only messages, requests, monitors and expired timers that wait take more,
  * and seats.
@@ -403,7 +404,7 @@ int32_t ert_world_open(ert_world *world, const ert_settings *settings);
 int32_t ert_world_close(ert_world *world);
 
 /*
- * Takes a reading of the clocks of the operating system: monotonic time moves on by it.
+ * Passes a reading of the clocks of the operating system to the world: monotonic time moves on by it.
  *
  * Call it once for each pass of an event loop, before the turns of the schedulers, and before a start that must
  * count from now. A `mono` below that of an earlier reading counts as that one. A tick makes a check of the two
@@ -468,16 +469,16 @@ int32_t ert_world_time_offset(ert_world *world, ert_offset *offset);
  * message goes to the mailbox of `dest`: ERT_TIMEOUT, or ERT_BARE if `bare` is not 0. A timer for a process that
  * has exited is started and cancelled at once.
  *
- * Writes the timer's name to `timer`. ERT_RANGE: there is no scheduler `sched` or no process `dest`.
- * ERT_BAD_TIME: `when` is negative, or the deadline outside 0 to 8,796,093,022,207 milliseconds after the
- * start time. ERT_FULL: no slot of the wheel is available. A slot that was used 262,143 times is unavailable until
- * the deadlines of these timers have passed; ert_world_ready tells when. (Or the wheel has had 2^53 timers.) If the wheel
- * has more slots than settings.looks, only that many were searched: another slot may be available, but only one whose
- * timer a seat has cancelled, or for which the deadlines that it waited for have just passed. The next starts look at
- * the others. ERT_CLOSED. No memory. Constant work if a slot is known to be free; otherwise `looks` slots of the wheel
- * are looked at, or all if there are fewer, at some 2 ns each.
+ * Writes the timer's name to `timer`. ERT_RANGE: there is no scheduler `scheduler` or no process `dest`. ERT_BAD_TIME:
+ * `when` is negative, or the deadline outside 0 to 8,796,093,022,207 milliseconds after the start time. ERT_FULL: no
+ * available slot was found. A slot that was used 262,143 times is unavailable until the deadlines of these timers have
+ * passed; ert_world_ready returns that time. (Or the wheel has had 2^53 timers.) If the wheel has more slots than
+ * settings.looks, only that many were searched: another slot may be available, but only one whose timer a seat has
+ * cancelled, or for which the deadlines that it waited for have just passed. The next starts look at the others.
+ * ERT_CLOSED. No memory. Constant work if a slot is known to be free; otherwise `looks` slots of the wheel are looked
+ * at, or all if there are fewer, at some 2 ns each.
  */
-int32_t ert_world_start(ert_world *world, uint32_t sched, const ert_start *start, ert_timer *timer);
+int32_t ert_world_start(ert_world *world, uint32_t scheduler, const ert_start *start, ert_timer *timer);
 
 /*
  * Reports how many slots the wheel of a scheduler has available.
@@ -489,7 +490,7 @@ int32_t ert_world_start(ert_world *world, uint32_t sched, const ert_start *start
  *
  * ERT_RANGE: there is no such scheduler. ERT_CLOSED. It looks at each slot of the wheel once; no memory.
  */
-int32_t ert_world_ready(ert_world *world, uint32_t sched, uint32_t *room, uint64_t *ready);
+int32_t ert_world_ready(ert_world *world, uint32_t scheduler, uint32_t *room, uint64_t *ready);
 
 /*
  * Cancels a timer (`erlang:cancel_timer`).
@@ -525,14 +526,14 @@ int32_t ert_world_restart(ert_world *world, ert_timer *timer, const ert_start *s
 int32_t ert_world_read(ert_world *world, const ert_timer *timer, uint64_t *left);
 
 /*
- * Reports how many timers the wheel of a scheduler holds: writes it to `held`.
+ * Reports how many timers are on the wheel of a scheduler: writes it to `held`.
  *
- * They are the timers that are armed. If seats were given out, a timer that a seat cancelled is held too, until it
- * would have been due.
+ * They are the timers that are armed. If seats were given out, a timer that a seat cancelled counts too, until
+ * it would have been due.
  *
  * ERT_RANGE: there is no such scheduler. ERT_CLOSED. It changes nothing. Constant work; no memory.
  */
-int32_t ert_world_held(ert_world *world, uint32_t sched, uint64_t *held);
+int32_t ert_world_held(ert_world *world, uint32_t scheduler, uint64_t *held);
 
 /*
  * Reports how many expired timers of a scheduler wait to be delivered: writes it to `expired`.
@@ -541,7 +542,7 @@ int32_t ert_world_held(ert_world *world, uint32_t sched, uint64_t *held);
  *
  * ERT_RANGE: there is no such scheduler. ERT_CLOSED. It changes nothing. Constant work; no memory.
  */
-int32_t ert_world_expired(ert_world *world, uint32_t sched, uint64_t *expired);
+int32_t ert_world_expired(ert_world *world, uint32_t scheduler, uint64_t *expired);
 
 /*
  * Reports how many messages are in the mailbox of a process: writes it to `count`.
@@ -608,7 +609,7 @@ int32_t ert_world_take(ert_world *world, uint32_t process, ert_mail *mail);
 /*
  * Takes the first messages of a process, at most `room`, and writes them to `mails` in their order.
  *
- * Writes to `count` how many there are; the rest of `mails` is as it was. The status tells how it ended, and the
+ * Writes to `count` how many there are; the rest of `mails` is as it was. The status says how it ended, and the
  * messages were taken in each case: ERT_OK, `room` of them, and more may be there; ERT_EMPTY, the mailbox is empty now;
  * ERT_EXITED, the process has exited. So a program goes on until the status is not ERT_OK. `mails` has place for `room`
  * messages, and may not be null.
@@ -621,10 +622,10 @@ int32_t ert_world_take_some(ert_world *world, uint32_t process, ert_mail *mails,
 /*
  * Finds a process that has messages and hasn't exited, and writes its number to `process`.
  *
- * ERT_EMPTY is returned exactly if there is none. Each process has its turn: the next call finds another one, if another
- * has messages. So after a turn a program asks until ERT_EMPTY, and takes the messages of each process that it is told,
- * without a call for each process that has none. The messages of a process that has exited can't be taken, and it isn't
- * found: a program that wants them takes them before ert_world_exit.
+ * ERT_EMPTY is returned exactly if there is none. Each process has its turn: the next call finds another one, if
+ * another has messages. So after a turn a program asks until ERT_EMPTY, and takes the messages of each process that the
+ * call returns, without a call for each process that has none. The messages of a process that has exited can't be
+ * taken, and it isn't found: a program that wants them takes them before ert_world_exit.
  *
  * ERT_NO_MEMORY: there was no memory for the first such call of the world, which makes a list of the processes, 5 bytes
  * for each; nothing has changed, and the call can be made again. ERT_CLOSED. Otherwise constant work, amortized: a step
@@ -635,9 +636,9 @@ int32_t ert_world_next_mail(ert_world *world, uint32_t *process);
 /*
  * Makes room in the mailbox of a process for `count` messages more than it has.
  *
- * Until `count` messages were put there, ert_world_deliver and ert_world_serve need no memory for it. A mailbox has no room at
- * first, gets more when a message is put that finds none, and keeps it when messages are taken. So a program that must get
- * its messages in time makes the room ahead, for the most that can wait at once.
+ * Until `count` messages were put there, ert_world_deliver and ert_world_serve need no memory for it. A mailbox has no
+ * room at first, gets more when a message is put that finds none, and keeps it when messages are taken. So a program
+ * that must get its messages in time makes the room ahead, for the most that can wait at once.
  *
  * ERT_NO_MEMORY: there is not as much memory; the mailbox has the room that it had. ERT_RANGE: there is no such process.
  * ERT_CLOSED. If there is the room already, constant work and no memory; otherwise work for the messages in the mailbox.
@@ -648,9 +649,9 @@ int32_t ert_world_reserve_mail(ert_world *world, uint32_t process, size_t count)
  * Gives back the memory of the mailbox of a process that its messages don't need, which a burst of them took: all of it,
  * if it is empty.
  *
- * ERT_NO_MEMORY: the allocator had no smaller block to move the messages to; nothing has changed, and the call can be made
- * again. It is never returned if the mailbox is empty. ERT_RANGE: there is no such process. ERT_CLOSED. Work for the
- * messages in the mailbox.
+ * ERT_NO_MEMORY: the allocator had no smaller block to move the messages to; nothing has changed, and the call can be
+ * made again. It is never returned if the mailbox is empty. ERT_RANGE: there is no such process. ERT_CLOSED. Work for
+ * the messages in the mailbox.
  */
 int32_t ert_world_shrink_mail(ert_world *world, uint32_t process);
 
@@ -676,15 +677,15 @@ int32_t ert_world_monitor(ert_world *world, uint32_t process, uint32_t *monitor)
 int32_t ert_world_demonitor(ert_world *world, uint32_t process, uint32_t monitor);
 
 /*
- * Notifies the monitors of a process of the time offset: one message ERT_CHANGE for each that was last told another
- * one. Writes how many there were to `told`.
+ * Notifies the monitors of a process of the time offset: one message ERT_CHANGE for each whose last message, or
+ * making, had another one. Writes how many messages were sent to `sent`.
  *
  * Call it for each process with monitors, after a tick or a finalization that set the offset.
  *
  * ERT_NO_MEMORY: nothing has changed, and the call can be made again. ERT_RANGE: there is no such process.
  * ERT_CLOSED.
  */
-int32_t ert_world_notify(ert_world *world, uint32_t process, uint32_t *told);
+int32_t ert_world_notify(ert_world *world, uint32_t process, uint32_t *sent);
 
 /*
  * Serves one request of a scheduler: one that an earlier call could not finish, or the first of its inbox.
@@ -694,7 +695,7 @@ int32_t ert_world_notify(ert_world *world, uint32_t process, uint32_t *told);
  * ERT_NO_MEMORY: the request stays, and is served by the next call; it never comes if there is room in the mailbox of
  * `reply_to` (ert_world_reserve_mail). ERT_RANGE: there is no such scheduler. ERT_CLOSED.
  */
-int32_t ert_world_serve(ert_world *world, uint32_t sched, uint32_t *served);
+int32_t ert_world_serve(ert_world *world, uint32_t scheduler, uint32_t *served);
 
 /*
  * Expires every timer of a scheduler's wheel that is due at the current monotonic time.
@@ -706,7 +707,7 @@ int32_t ert_world_serve(ert_world *world, uint32_t sched, uint32_t *served);
  * (ert_world_reserve_expired). ERT_RANGE: there is no such scheduler. ERT_CLOSED. Work for the due timers and the
  * milliseconds since the last advance.
  */
-int32_t ert_world_advance(ert_world *world, uint32_t sched, ert_advanced *advanced);
+int32_t ert_world_advance(ert_world *world, uint32_t scheduler, ert_advanced *advanced);
 
 /*
  * Delivers the expired timers of a scheduler: each message is put into the mailbox of its process, or
@@ -718,7 +719,7 @@ int32_t ert_world_advance(ert_world *world, uint32_t sched, ert_advanced *advanc
  * is not reported then. It never comes if there is room in the mailbox of each of their processes
  * (ert_world_reserve_mail). ERT_RANGE: there is no such scheduler. ERT_CLOSED.
  */
-int32_t ert_world_deliver(ert_world *world, uint32_t sched, ert_delivered *delivered);
+int32_t ert_world_deliver(ert_world *world, uint32_t scheduler, ert_delivered *delivered);
 
 /*
  * Makes a turn of a scheduler: serves its requests, 64 at most, advances its wheel, and delivers what has
@@ -726,22 +727,22 @@ int32_t ert_world_deliver(ert_world *world, uint32_t sched, ert_delivered *deliv
  *
  * Writes what it did to `turned`.
  *
- * ERT_NO_MEMORY: what was done stays done and is not reported, and the next turn goes on: nothing is lost. The advance needs
- * room in the list of expired timers, which ert_world_reserve_expired makes ahead, and the messages need room in their
- * mailboxes, which ert_world_reserve_mail makes ahead; if there is both, it never comes. ERT_RANGE: there is no such
- * scheduler. ERT_CLOSED.
+ * ERT_NO_MEMORY: what was done stays done and is not reported, and the next turn goes on: nothing is lost. The advance
+ * needs room in the list of expired timers, which ert_world_reserve_expired makes ahead, and the messages need room in
+ * their mailboxes, which ert_world_reserve_mail makes ahead; if there is both, it never comes. ERT_RANGE: there is no
+ * such scheduler. ERT_CLOSED.
  */
-int32_t ert_world_turn(ert_world *world, uint32_t sched, ert_turned *turned);
+int32_t ert_world_turn(ert_world *world, uint32_t scheduler, ert_turned *turned);
 
 /*
  * Makes a turn of a scheduler in which at most `most` timers expire and at most `most` expired timers are delivered.
  *
  * A loop in which very many timers can be due at once takes them in several passes, and handles its input between them.
- * Writes what it did to `turned`: `more` is 1 if timers are left that are due by `to` or have expired, or if the wheel has
- * not come to `to` because timers have to move within it first, and then the loop should not sleep, but make another turn.
- * That goes on with them, in order of deadline and then of start. If `more` is 0, no timer of the wheel is due by `to`, as
- * after ert_world_turn, and none has expired. The turn serves up to 64 requests, as ert_world_turn does. With `most` 0 no
- * timer expires or moves, and it tells whether there is more.
+ * Writes what it did to `turned`: `more` is 1 if timers are left that are due by `to` or have expired, or if the wheel
+ * has not come to `to` because timers have to move within it first, and then the loop should not sleep, but make
+ * another turn. That goes on with them, in order of deadline and then of start. If `more` is 0, no timer of the wheel
+ * is due by `to`, as after ert_world_turn, and none has expired. The turn serves up to 64 requests, as ert_world_turn
+ * does. With `most` 0 no timer expires or moves, and the call only reports whether there is more.
  *
  * The work is in proportion to `most`, with two exceptions. Timers move within the wheel as their deadlines come near, at
  * most `most` in a turn: if turns follow each other, a few in each millisecond; after a sleep, those of the windows that
@@ -750,10 +751,10 @@ int32_t ert_world_turn(ert_world *world, uint32_t sched, ert_turned *turned);
  * started when their deadline had passed are all looked at once for each deadline among them, and more often if they were
  * not started in order of deadline.
  *
- * ERT_NO_MEMORY: as of ert_world_turn, but that the list needs room for `most` timers, or for all that the wheel holds if
- * those are fewer. ERT_RANGE: there is no such scheduler. ERT_CLOSED.
+ * ERT_NO_MEMORY: as of ert_world_turn, but that the list needs room for `most` timers, or for all that are on the wheel
+ * if those are fewer. ERT_RANGE: there is no such scheduler. ERT_CLOSED.
  */
-int32_t ert_world_turn_some(ert_world *world, uint32_t sched, uint32_t most, ert_turned_some *turned);
+int32_t ert_world_turn_some(ert_world *world, uint32_t scheduler, uint32_t most, ert_turned_some *turned);
 
 /*
  * Returns the earliest time at which a timer of a scheduler can be due, in milliseconds since the start time, as `to`
@@ -767,68 +768,69 @@ int32_t ert_world_turn_some(ert_world *world, uint32_t sched, uint32_t most, ert
  * was restarted, in that of an earlier deadline. After a turn at the beginning of a window the answer is a deadline, or at
  * least 512 milliseconds later. So a loop wakes early once in 512 milliseconds at most, and not at all for few timers. A
  * timer that was cancelled through a seat doesn't wake it: the call looks whether the timer of the answer is armed, and if
- * it isn't, lets go of it and goes on with the next, at 1,024 timers at most. Only after as many, or if `due` is not after
+ * it isn't, drops it and goes on with the next, at 1,024 timers at most. Only after as many, or if `due` is not after
  * the last turn's `to`, may `due` be too early because of such a timer.
  *
  * ERT_EMPTY: no timer is armed, and `due` is as it was. ERT_RANGE: there is no such scheduler. ERT_CLOSED.
- * No memory. The answer is kept: until time comes to it, an earlier timer is started, or the timer that it is of is
+ * No memory. The answer is cached: until time comes to it, an earlier timer is started, or the timer that it is of is
  * cancelled or moves within the wheel, a call takes a few comparisons and a look at that timer. Else it looks at 64 timers
  * at most on each level of the wheel, and only if a timer was started whose deadline had passed at all that are due at the
- * next turn; and again for each timer that it lets go.
+ * next turn; and again for each timer that it drops.
  */
-int32_t ert_world_next_due(ert_world *world, uint32_t sched, uint64_t *due);
+int32_t ert_world_next_due(ert_world *world, uint32_t scheduler, uint64_t *due);
 
 /*
- * Lets go of all timers of a scheduler's wheel that were cancelled through seats, and returns how many they were. Their
- * slots can be used again, and ert_world_held counts them no more. ert_world_next_due does so for the timers that are due
- * next; this is for a service whose seats cancel many that are due far ahead.
+ * Drops all timers of a scheduler's wheel that were cancelled through seats, and writes how many there were to
+ * `dropped`. Their slots can be used again, and ert_world_held counts them no more. ert_world_next_due does so for the
+ * timers that are due next; this is for a world whose seats cancel many that are due far ahead.
  *
- * ERT_RANGE: there is no such scheduler, and `dropped` is as it was. ERT_CLOSED. Work for all slots of the wheel; no memory.
+ * ERT_RANGE: there is no such scheduler, and `dropped` is as it was. ERT_CLOSED. Work for all slots of the wheel; no
+ * memory.
  */
-int32_t ert_world_drop_settled(ert_world *world, uint32_t sched, uint64_t *dropped);
+int32_t ert_world_drop_settled(ert_world *world, uint32_t scheduler, uint64_t *dropped);
 
 /*
  * Makes room in the list of expired timers of a scheduler for `count` more than wait in it.
  *
- * Until `count` timers were due, ert_world_advance needs no memory; a timer that a seat cancelled counts when it would have been
- * due. The list has no room at first, gets more when timers expire that find none, and keeps it when ert_world_deliver takes
- * them out. So a program that must get its messages in time makes the room ahead, for the most that can be due at once and
- * wait: if none waits yet, room for `slots` of the settings is enough for good. With room in the mailboxes
- * (ert_world_reserve_mail) its turns take no memory.
+ * Until `count` timers were due, ert_world_advance needs no memory; a timer that a seat cancelled counts when it would
+ * have been due. The list has no room at first, gets more when timers expire that find none, and keeps it when
+ * ert_world_deliver takes them out. So a program that must get its messages in time makes the room ahead, for the most
+ * that can be due at once and wait: if none waits yet, room for `slots` of the settings is enough for good. With room
+ * in the mailboxes (ert_world_reserve_mail) its turns take no memory.
  *
  * ERT_NO_MEMORY: there is not as much memory; the list has the room that it had. ERT_RANGE: there is no such scheduler.
  * ERT_CLOSED. If there is the room already, constant work and no memory; otherwise work for the timers in the list.
  */
-int32_t ert_world_reserve_expired(ert_world *world, uint32_t sched, size_t count);
+int32_t ert_world_reserve_expired(ert_world *world, uint32_t scheduler, size_t count);
 
 /*
  * Gives back the memory of the list of expired timers of a scheduler that those which wait don't need, which a burst of
  * timers took: all of it, if none waits.
  *
- * ERT_NO_MEMORY: the allocator had no smaller block to move the timers to; nothing has changed, and the call can be made
- * again. It is never returned if none waits. ERT_RANGE: there is no such scheduler. ERT_CLOSED. Work for the timers in the
- * list.
+ * ERT_NO_MEMORY: the allocator had no smaller block to move the timers to; nothing has changed, and the call can be
+ * made again. It is never returned if none waits. ERT_RANGE: there is no such scheduler. ERT_CLOSED. Work for the
+ * timers in the list.
  */
-int32_t ert_world_shrink_expired(ert_world *world, uint32_t sched);
+int32_t ert_world_shrink_expired(ert_world *world, uint32_t scheduler);
 
 /*
- * Opens a seat of a service behind a closed handle: its next caller, for the use of one thread at a time.
+ * Opens a seat of a world behind a closed handle: its next caller, for the use of one thread at a time.
  *
- * The call uses both handles: make it as every call through the service's handle is made, and hand the seat to
- * its thread afterwards. A seat belongs to its service for good, and outlives the close of that. Its caller
- * is not given out again, not even once the seat is closed.
+ * The call uses both handles: make it as every call through the world's handle is made, and pass the seat to
+ * its thread afterwards. A seat belongs to its world for good, and outlives its close. Its caller
+ * is not assigned again, not even once the seat is closed.
  *
- * ERT_OPEN: the seat's handle is open. ERT_CLOSED: the service's is closed. ERT_NO_SEAT: each of callers 1 to
+ * ERT_OPEN: the seat's handle is open. ERT_CLOSED: the world's is closed. ERT_NO_SEAT: each of callers 1 to
  * settings.callers - 1 was given a seat. ERT_NO_MEMORY: a later call can give the caller a seat. After each of
  * these nothing has changed behind either handle. Constant work; one small allocation.
  */
 int32_t ert_seat_open(ert_seat *seat, ert_world *world);
 
 /*
- * Closes a seat, on any thread, and frees its memory; with the last handle of a closed service also what
+ * Closes a seat, on any thread, and frees its memory; with the last handle of a closed world also what
  * all of them shared.
  *
- * The service and its other seats go on, and nothing that the seat did is undone: timers that it cancelled stay
+ * The world and its other seats go on, and nothing that the seat did is undone: timers that it cancelled stay
  * cancelled.
  *
  * The handle is as ERT_INIT makes it, and can be opened again, as another caller. ERT_CLOSED: the handle was
@@ -869,9 +871,9 @@ int32_t ert_seat_time_offset(ert_seat *seat, ert_offset *offset);
 /*
  * Cancels a timer, as ert_world_cancel does, whichever thread started it.
  *
- * Of all cancels and the expiry of a timer exactly one ends it. If it was this call, it returns ERT_OK and writes
- * the milliseconds that were left to `left`, and the timer's message never comes. The wheel is not told: it keeps
- * the timer's slot until the timer would have been due, or until a start that finds no other free slot looks for it.
+ * Of all cancels and the expiry of a timer exactly one ends it. If it was this call, it returns ERT_OK and writes the
+ * milliseconds that were left to `left`, and the timer's message never comes. The wheel doesn't notice: the timer's
+ * slot stays in use until the timer would have been due, or until a start that finds no other free slot searches it.
  *
  * ERT_NO_TIMER: the timer is not armed: it has expired, was cancelled, or never existed; `left` is as it was.
  * ERT_CLOSED. Constant work: two loads, and one exchange if the timer is armed; no memory.
@@ -897,7 +899,7 @@ int32_t ert_seat_read(ert_seat *seat, const ert_timer *timer, uint64_t *left);
 int32_t ert_seat_is_alive(ert_seat *seat, uint32_t process, uint32_t *alive);
 
 /*
- * Hub and shards: a service that is divided among threads.
+ * Hub and shards: a world that is divided among threads.
  *
  * A hub (`ert_hub`) has the clock. A shard (`ert_shard`) has one scheduler with its wheel, and some processes with their
  * mailboxes: as much as a thread with an event loop needs. Each thread starts timers on its own shard, for processes of
@@ -908,13 +910,13 @@ int32_t ert_seat_is_alive(ert_seat *seat, uint32_t process, uint32_t *alive);
  *     settings.callers = threads + 1;             one for each shard, and caller 0 for the hub; more for seats (ert_hub_seat)
  *     ert_hub_open(&hub, &settings);
  *     for (i = 0; i < threads; i++) {
- *         ert_hub_shard(&hub, &shards[i], 1);     and then hand the shard to its thread
+ *         ert_hub_shard(&hub, &shards[i], 1);     and then pass the shard to its thread
  *     }
  *
  * A shard cancels and reads the timers of all shards, by their names: of all cancels and the expiry of a timer exactly
- * one ends it, whichever threads they come from. The wheel of another shard is not told: it keeps the timer's slot until
- * the timer would have been due, or until a start that finds no other free slot looks for it. So if threads are to end
- * one another's timers, have one shard's thread start the timer and any thread cancel it.
+ * one ends it, whichever threads they come from. The wheel of another shard doesn't notice: the timer's slot stays in
+ * use until the timer would have been due, or until a start that finds no other free slot searches it. So if threads
+ * are to end one another's timers, have one shard's thread start the timer and any thread cancel it.
  *
  * Time moves by ert_hub_tick alone, for all shards at once. One thread can tick, or whoever wakes does, under a lock of
  * the program around the hub. Who doesn't get it need not wait, since another thread is ticking:
@@ -929,13 +931,15 @@ int32_t ert_seat_is_alive(ert_seat *seat, uint32_t process, uint32_t *alive);
  * The clocks are read under the lock, so that the readings come in order. A thread that sleeps until ert_shard_next_due
  * has to look at the time when it wakes, as this does: it may have been the only one that was awake.
  *
- * Memory. ert_hub_open allocates and writes what the wheels of all shards need, and ert_hub_shard a block for each shard.
- * What comes later belongs to the thread that calls: mailboxes, monitors and expired timers that wait. What the threads
- * share while they run are the words of the clock, of processes and of timers; those of a wheel are on cache lines apart
- * from all others. Calls read handles and don't write them, so handles may lie in one array.
+ * Memory. ert_hub_open allocates and writes what the wheels of all shards need, and ert_hub_shard a block for each
+ * shard. What comes later belongs to the thread that calls: mailboxes, monitors and expired timers that wait. What the
+ * threads share while they run are the words of the clock, of processes and of timers; those of a wheel are on cache
+ * lines apart from all others. On a machine with several memory nodes, what a wheel has of a slot lies on the node of
+ * the thread that first uses the slot, and what threads share on that of the thread that opened the hub. Calls read
+ * handles and don't write them, so handles may lie in one array.
  *
- * A handle of either kind begins as ERT_INIT, and what is said of handles, threads and forks at the beginning of this file
- * is so for these too: a hub and each shard are used by one thread at a time.
+ * A handle of either kind begins as ERT_INIT, and what is said of handles, threads and forks at the beginning of this
+ * file is so for these too: a hub and each shard are used by one thread at a time.
  */
 
 /* A handle of a hub. It begins as ERT_INIT, which is all zero. Its fields are private. */
@@ -951,7 +955,7 @@ typedef struct {
 } ert_shard;
 
 /*
- * Opens a service that is to be divided among threads, and its hub behind a closed handle.
+ * Opens a world that is to be divided among threads, and its hub behind a closed handle.
  *
  * It is the same as ert_world_open in all but the handle: the settings, the memory and the statuses. Each scheduler of
  * the settings can go to a shard, and needs a caller of its own: `callers` has to be above `schedulers`.
@@ -963,7 +967,7 @@ typedef struct {
 int32_t ert_hub_open(ert_hub *hub, const ert_settings *settings);
 
 /*
- * Closes a hub, on any thread, and frees its memory; with the last handle of a service also what all of them share.
+ * Closes a hub, on any thread, and frees its memory; with the last handle of a world also what all of them share.
  *
  * Shards stay open: their clock stands still, so nothing more expires, and they can still start, cancel and read timers.
  * Close the shards first, or after it; the order does not matter.
@@ -973,11 +977,11 @@ int32_t ert_hub_open(ert_hub *hub, const ert_settings *settings);
 int32_t ert_hub_close(ert_hub *hub);
 
 /*
- * Gives the next caller after those of the schedulers a seat, behind a closed handle: `settings.callers` less
- * `settings.schedulers + 1` seats in all. A thread that has one tells the time, and cancels and reads the timers of all
+ * Opens a seat behind a closed handle, for the next caller after those of the schedulers: `settings.callers` less
+ * `settings.schedulers + 1` seats in all. A thread that has one reads the time, and cancels and reads the timers of all
  * shards, by the calls of a seat (ert_seat_..), beside the hub, all shards and all other seats.
  *
- * The call uses both handles: make it as every call of the hub is made, and hand the seat to its thread afterwards. A
+ * The call uses both handles: make it as every call of the hub is made, and pass the seat to its thread afterwards. A
  * caller is given out once: closing a seat does not give it back.
  *
  * ERT_OPEN: the seat's handle is open. ERT_CLOSED: the hub's is closed. ERT_NO_SEAT: each of these callers has a seat.
@@ -987,26 +991,26 @@ int32_t ert_hub_close(ert_hub *hub);
 int32_t ert_hub_seat(ert_hub *hub, ert_seat *seat);
 
 /*
- * Gives a scheduler to a shard behind a closed handle, with so many processes: the last scheduler and the last processes
- * that the hub has left.
+ * Opens a shard behind a closed handle, with the last scheduler that the hub has left, and the last `processes` of its
+ * processes.
  *
- * The call uses both handles: make it as every call of the hub is made, and hand the shard to its thread afterwards. So
- * the shard that is given first has the scheduler of the greatest number; ert_shard_processes tells which processes it
- * has. It may be none, and then the shard starts no timers. A shard keeps what it was given until it is closed.
+ * The call uses both handles: make it as every call of the hub is made, and pass the shard to its thread afterwards. So
+ * the shard that is given first has the scheduler of the greatest number; ert_shard_processes returns which processes
+ * it has. If `processes` is 0, the shard starts no timers. Until it is closed they are its own.
  *
- * ERT_OPEN: the shard's handle is open. ERT_CLOSED: the hub's is closed. ERT_NO_SHARD: no scheduler is left. ERT_RANGE: the
- * hub has not so many processes left. ERT_NO_MEMORY: out of memory; a later call can give the shard. After each of these
- * nothing is lost, and nothing has changed behind either handle. Work for these processes and for the schedulers that are
- * left; a few small allocations.
+ * ERT_OPEN: the shard's handle is open. ERT_CLOSED: the hub's is closed. ERT_NO_SHARD: no scheduler is left. ERT_RANGE:
+ * the hub has not so many processes left. ERT_NO_MEMORY: out of memory; a later call can give the shard. After each of
+ * these nothing is lost, and nothing has changed behind either handle. Work for these processes and for the schedulers
+ * that are left; a few small allocations.
  */
 int32_t ert_hub_shard(ert_hub *hub, ert_shard *shard, uint32_t processes);
 
 /*
- * Takes a reading of the clocks of the operating system: monotonic time moves on by it for the hub and for all shards, as
- * by ert_world_tick.
+ * Passes a reading of the clocks of the operating system to the hub: monotonic time moves on by it for the hub and for
+ * all shards, as by ert_world_tick.
  *
  * Other threads see the new time by their next call. If one call returned before another began, through whatever handles
- * of the service, the later one never sees an earlier time.
+ * of the world, the later one never sees an earlier time.
  *
  * Writes what it did to `moved`. ERT_BAD_READING and ERT_OFFSET_WIDE: refused, and the clock is as it was. ERT_CLOSED.
  * Constant work; no memory.
@@ -1043,10 +1047,10 @@ int32_t ert_hub_system_time(ert_hub *hub, int64_t *time);
 int32_t ert_hub_time_offset(ert_hub *hub, ert_offset *offset);
 
 /*
- * Cancels a timer of whatever shard, beside all threads, as ert_seat_cancel does: the wheel is not told.
+ * Cancels a timer of whatever shard, beside all threads, as ert_seat_cancel does: the wheel doesn't notice.
  *
- * Writes the milliseconds that were left to `left`. ERT_NO_TIMER: the timer is not armed; `left` is as it was. ERT_CLOSED.
- * Constant work: two loads, and one exchange if the timer is armed; no memory.
+ * Writes the milliseconds that were left to `left`. ERT_NO_TIMER: the timer is not armed; `left` is as it was.
+ * ERT_CLOSED. Constant work: two loads, and one exchange if the timer is armed; no memory.
  */
 int32_t ert_hub_cancel(ert_hub *hub, const ert_timer *timer, uint64_t *left);
 
@@ -1058,7 +1062,7 @@ int32_t ert_hub_cancel(ert_hub *hub, const ert_timer *timer, uint64_t *left);
 int32_t ert_hub_read(ert_hub *hub, const ert_timer *timer, uint64_t *left);
 
 /*
- * Closes a shard, on any thread, and frees its memory; with the last handle of a service also what all of them share.
+ * Closes a shard, on any thread, and frees its memory; with the last handle of a world also what all of them share.
  *
  * Nothing that the shard did is undone: its armed timers stay armed, so that others can cancel and read them, and never
  * expire. Messages that were not taken are discarded, and what their `msg` points to is not freed. Its scheduler and its
@@ -1069,7 +1073,7 @@ int32_t ert_hub_read(ert_hub *hub, const ert_timer *timer, uint64_t *left);
 int32_t ert_shard_close(ert_shard *shard);
 
 /*
- * Tells which processes are of a shard: writes the first of them to `from`, and the first after them to `to`.
+ * Reports which processes a shard has: writes the first of them to `from`, and the first after them to `to`.
  *
  * If both are the same, it has none. ERT_CLOSED. It changes nothing. Constant work; no memory.
  */
@@ -1101,11 +1105,12 @@ int32_t ert_shard_time_offset(ert_shard *shard, ert_offset *offset);
 /*
  * Starts a timer on the wheel of a shard, for a process of the shard, as ert_world_start does.
  *
- * Writes the timer's name to `timer`. ERT_RANGE: the process `dest` is not of the shard. ERT_BAD_TIME: `when` is negative,
- * or the deadline outside 0 to 8,796,093,022,207 milliseconds after the start time. ERT_FULL: no slot of the wheel is
- * available; if the wheel has more slots than settings.looks, none of that many that were searched (the next starts search
- * the others). A search finds the slots whose timers other shards have cancelled. ERT_CLOSED. No memory. Constant work if a slot is known to be free;
- * otherwise `looks` slots of the wheel are looked at, or all if there are fewer.
+ * Writes the timer's name to `timer`. ERT_RANGE: the process `dest` is not of the shard. ERT_BAD_TIME: `when` is
+ * negative, or the deadline outside 0 to 8,796,093,022,207 milliseconds after the start time. ERT_FULL: no slot of the
+ * wheel is available; if the wheel has more slots than settings.looks, none of that many that were searched (the next
+ * starts search the others). A search finds the slots whose timers other shards have cancelled. ERT_CLOSED. No memory.
+ * Constant work if a slot is known to be free; otherwise `looks` slots of the wheel are looked at, or all if there are
+ * fewer.
  */
 int32_t ert_shard_start(ert_shard *shard, const ert_start *start, ert_timer *timer);
 
@@ -1113,14 +1118,15 @@ int32_t ert_shard_start(ert_shard *shard, const ert_start *start, ert_timer *tim
  * Restarts a timer that is armed, whichever shard started it: it gets a new deadline and a new name, as of
  * ert_world_restart.
  *
- * The timer is cancelled, and one is started on the wheel of this shard with all that `start` says: mostly in its slot if it
- * is of this shard. If it is of another one, that keeps the slot as after ert_shard_cancel. Writes the new name over the old
- * one in `timer`.
+ * The timer is cancelled, and one is started on the wheel of this shard with all that `start` says: mostly in its slot
+ * if it is of this shard. If it is of another one, its slot there stays in use as after ert_shard_cancel. Writes the
+ * new name over the old one in `timer`.
  *
  * After each error the timer is as it was, armed or not, and so is `timer`. ERT_RANGE: the process `dest` is not of the
- * shard. ERT_BAD_TIME: as of ert_shard_start. ERT_NO_TIMER: the timer is not armed: it has expired, was cancelled, or never
- * existed. ERT_FULL: the timer is of another shard, or its slot has been used 262,143 times, and no slot of this shard's
- * wheel is available, as of ert_shard_start. ERT_CLOSED. Work as of ert_shard_cancel and ert_shard_start at most; no memory.
+ * shard. ERT_BAD_TIME: as of ert_shard_start. ERT_NO_TIMER: the timer is not armed: it has expired, was cancelled, or
+ * never existed. ERT_FULL: the timer is of another shard, or its slot has been used 262,143 times, and no slot of this
+ * shard's wheel is available, as of ert_shard_start. ERT_CLOSED. Work as of ert_shard_cancel and ert_shard_start at
+ * most; no memory.
  */
 int32_t ert_shard_restart(ert_shard *shard, ert_timer *timer, const ert_start *start);
 
@@ -1128,8 +1134,8 @@ int32_t ert_shard_restart(ert_shard *shard, ert_timer *timer, const ert_start *s
  * Cancels a timer, whichever shard started it.
  *
  * After it the timer's message never comes. Writes the milliseconds that were left to `left`: 0 if it was due and had not
- * expired. If the timer is of this shard, its slot can be used again; if it is of another one, that keeps the slot until
- * the timer would have been due, or until a start that finds no other free slot looks for it.
+ * expired. If the timer is of this shard, its slot can be used again; if it is of another one, the slot stays in use
+ * until the timer would have been due, or until a start that finds no other free slot searches it.
  *
  * ERT_NO_TIMER: the timer is not armed: it has expired, was cancelled, or never existed; `left` is as it was. ERT_CLOSED.
  * Constant work; no memory.
@@ -1146,7 +1152,7 @@ int32_t ert_shard_cancel(ert_shard *shard, const ert_timer *timer, uint64_t *lef
 int32_t ert_shard_read(ert_shard *shard, const ert_timer *timer, uint64_t *left);
 
 /*
- * Reports how many timers the wheel of the shard holds: writes it to `held`.
+ * Reports how many timers are on the wheel of the shard: writes it to `held`.
  *
  * They are the timers that are armed, and those that another thread cancelled, until they would have been due.
  *
@@ -1164,8 +1170,8 @@ int32_t ert_shard_held(ert_shard *shard, uint64_t *held);
 int32_t ert_shard_expired(ert_shard *shard, uint64_t *expired);
 
 /*
- * Reports how many messages are in the mailbox of a process of the shard: writes it to `count`. Messages of a process that
- * has exited count too.
+ * Reports how many messages are in the mailbox of a process of the shard: writes it to `count`. Messages of a process
+ * that has exited count too.
  *
  * ERT_RANGE: the process is not of the shard. ERT_CLOSED. It changes nothing. Constant work; no memory.
  */
@@ -1181,8 +1187,8 @@ int32_t ert_shard_is_alive(ert_shard *shard, uint32_t process, uint32_t *alive);
 /*
  * Makes a process of the shard exit, and cancels all timers whose message would go to it: they are all of this shard.
  *
- * Sets `first` to 1 if the process had not exited before. Otherwise it sets it to 0 and does nothing else. Messages in its
- * mailbox can no longer be taken, and a timer that expired and was not delivered is discarded.
+ * Sets `first` to 1 if the process had not exited before. Otherwise it sets it to 0 and does nothing else. Messages in
+ * its mailbox can no longer be taken, and a timer that expired and was not delivered is discarded.
  *
  * ERT_RANGE: the process is not of the shard. ERT_CLOSED. Work for those timers; no memory.
  */
@@ -1200,7 +1206,7 @@ int32_t ert_shard_take(ert_shard *shard, uint32_t process, ert_mail *mail);
  * Takes the first messages of a process of the shard, at most `room`, as ert_world_take_some does, and writes them to
  * `mails` in their order and how many there are to `count`.
  *
- * The status tells how it ended, and the messages were taken in each case: ERT_OK, `room` of them, and more may be there;
+ * The status says how it ended, and the messages were taken in each case: ERT_OK, `room` of them, and more may be there;
  * ERT_EMPTY, the mailbox is empty now; ERT_EXITED, the process has exited. `mails` has place for `room` messages, and may
  * not be null.
  *
@@ -1216,9 +1222,9 @@ int32_t ert_shard_take_some(ert_shard *shard, uint32_t process, ert_mail *mails,
  * ERT_EMPTY is returned exactly if there is none. Each process has its turn: the next call finds another one, if another
  * has messages.
  *
- * ERT_NO_MEMORY: there was no memory for the first such call of the shard, which makes a list of its processes, 5 bytes for
- * each; nothing has changed, and the call can be made again. ERT_CLOSED. Otherwise constant work, amortized: a step for
- * each process of the shard whose mailbox got messages since it was found empty or exited; no memory.
+ * ERT_NO_MEMORY: there was no memory for the first such call of the shard, which makes a list of its processes, 5 bytes
+ * for each; nothing has changed, and the call can be made again. ERT_CLOSED. Otherwise constant work, amortized: a step
+ * for each process of the shard whose mailbox got messages since it was found empty or exited; no memory.
  */
 int32_t ert_shard_next_mail(ert_shard *shard, uint32_t *process);
 
@@ -1246,16 +1252,16 @@ int32_t ert_shard_shrink_mail(ert_shard *shard, uint32_t process);
  *
  * The timer may be of any shard: one of another shard is cancelled as by ert_shard_cancel.
  *
- * ERT_BAD_KIND: `kind` is neither ERT_CANCEL nor ERT_READ; this is tested first. ERT_RANGE: the process `reply_to` is not of
- * the shard. ERT_NO_MEMORY: nothing has changed, and the call can be made again. ERT_CLOSED.
+ * ERT_BAD_KIND: `kind` is neither ERT_CANCEL nor ERT_READ; this is tested first. ERT_RANGE: the process `reply_to` is
+ * not of the shard. ERT_NO_MEMORY: nothing has changed, and the call can be made again. ERT_CLOSED.
  */
 int32_t ert_shard_ask(ert_shard *shard, const ert_request *request);
 
 /*
  * Serves one request of the shard, as ert_world_serve does, and writes 1 to `served`, or 0 if there was none.
  *
- * ERT_NO_MEMORY: the request stays, and is served by the next call. ERT_RANGE: its answer would go to a process of another
- * shard; this never comes, since a shard takes requests for its own processes alone. ERT_CLOSED.
+ * ERT_NO_MEMORY: the request stays, and is served by the next call. ERT_RANGE: its answer would go to a process of
+ * another shard; this never comes, since a shard takes requests for its own processes alone. ERT_CLOSED.
  */
 int32_t ert_shard_serve(ert_shard *shard, uint32_t *served);
 
@@ -1275,20 +1281,20 @@ int32_t ert_shard_monitor(ert_shard *shard, uint32_t process, uint32_t *monitor)
 int32_t ert_shard_demonitor(ert_shard *shard, uint32_t process, uint32_t monitor);
 
 /*
- * Notifies the monitors of a process of the shard of the time offset, as ert_world_notify does, and writes how many there
- * were to `told`.
+ * Notifies the monitors of a process of the shard of the time offset, as ert_world_notify does, and writes how many
+ * messages were sent to `sent`.
  *
  * ERT_NO_MEMORY: nothing has changed, and the call can be made again. ERT_RANGE: the process is not of the shard.
  * ERT_CLOSED.
  */
-int32_t ert_shard_notify(ert_shard *shard, uint32_t process, uint32_t *told);
+int32_t ert_shard_notify(ert_shard *shard, uint32_t process, uint32_t *sent);
 
 /*
  * Expires every timer of the shard that is due at the current monotonic time, as ert_world_advance does.
  *
- * Writes how many there were, and that time, to `advanced`. ERT_NO_MEMORY: none has expired; it never comes if there is room
- * in the list of expired timers for those that are due (ert_shard_reserve_expired). ERT_CLOSED. Work for the due timers and
- * the milliseconds since the last advance.
+ * Writes how many there were, and that time, to `advanced`. ERT_NO_MEMORY: none has expired; it never comes if there is
+ * room in the list of expired timers for those that are due (ert_shard_reserve_expired). ERT_CLOSED. Work for the due
+ * timers and the milliseconds since the last advance.
  */
 int32_t ert_shard_advance(ert_shard *shard, ert_advanced *advanced);
 
@@ -1301,11 +1307,11 @@ int32_t ert_shard_advance(ert_shard *shard, ert_advanced *advanced);
 int32_t ert_shard_deliver(ert_shard *shard, ert_delivered *delivered);
 
 /*
- * Makes a turn of the shard: serves at most 64 of its requests, advances its wheel, and delivers what has expired. This is
- * the call for the event loop of its thread.
+ * Makes a turn of the shard: serves at most 64 of its requests, advances its wheel, and delivers what has expired. This
+ * is the call for the event loop of its thread.
  *
- * Writes what it did to `turned`. ERT_NO_MEMORY: what was done stays done and is not reported, and the next turn goes on; it
- * never comes if there is room in the list of expired timers (ert_shard_reserve_expired) and in the mailboxes
+ * Writes what it did to `turned`. ERT_NO_MEMORY: what was done stays done and is not reported, and the next turn goes
+ * on; it never comes if there is room in the list of expired timers (ert_shard_reserve_expired) and in the mailboxes
  * (ert_shard_reserve_mail). ERT_CLOSED.
  */
 int32_t ert_shard_turn(ert_shard *shard, ert_turned *turned);
@@ -1314,14 +1320,14 @@ int32_t ert_shard_turn(ert_shard *shard, ert_turned *turned);
  * Makes a turn of the shard in which at most `most` timers expire and at most `most` expired timers are delivered, as
  * ert_world_turn_some does.
  *
- * Writes what it did to `turned`: `more` is 1 if timers are left that are due by `to` or have expired, or if the wheel has
- * not come to `to` because timers have to move within it first, and then the thread should not sleep, but make another turn,
- * which goes on with them. If `more` is 0, no timer of the shard is due by `to`, and none has expired. With `most` 0 it
- * serves requests and tells whether there is more. A timer that another thread cancelled counts as one of the `most` if it
- * would be due.
+ * Writes what it did to `turned`: `more` is 1 if timers are left that are due by `to` or have expired, or if the wheel
+ * has not come to `to` because timers have to move within it first, and then the thread should not sleep, but make
+ * another turn, which goes on with them. If `more` is 0, no timer of the shard is due by `to`, and none has expired.
+ * With `most` 0 it serves requests and reports whether there is more. A timer that another thread cancelled counts as
+ * one of the `most` if it would be due.
  *
- * ERT_NO_MEMORY: as of ert_shard_turn, but that the list needs room for `most` timers, or for all that the wheel holds if
- * those are fewer. ERT_CLOSED. Work as of ert_world_turn_some.
+ * ERT_NO_MEMORY: as of ert_shard_turn, but that the list needs room for `most` timers, or for all that are on the wheel
+ * if those are fewer. ERT_CLOSED. Work as of ert_world_turn_some.
  */
 int32_t ert_shard_turn_some(ert_shard *shard, uint32_t most, ert_turned_some *turned);
 
@@ -1331,12 +1337,12 @@ int32_t ert_shard_turn_some(ert_shard *shard, uint32_t most, ert_turned_some *tu
  *
  * What ert_world_next_due says of it holds here too, of the timers that other threads cancelled.
  *
- * ERT_EMPTY: the wheel holds no timer, and `due` is as it was. ERT_CLOSED. Work as of ert_world_next_due.
+ * ERT_EMPTY: no timer is on the wheel, and `due` is as it was. ERT_CLOSED. Work as of ert_world_next_due.
  */
 int32_t ert_shard_next_due(ert_shard *shard, uint64_t *due);
 
 /*
- * Lets go of all timers of the shard's wheel that other threads cancelled, and returns how many they were, as
+ * Drops all timers of the shard's wheel that other threads cancelled, and writes how many there were to `dropped`, as
  * ert_world_drop_settled does.
  *
  * ERT_CLOSED. Work for all slots of the wheel; no memory.
@@ -1344,9 +1350,9 @@ int32_t ert_shard_next_due(ert_shard *shard, uint64_t *due);
 int32_t ert_shard_drop_settled(ert_shard *shard, uint64_t *dropped);
 
 /*
- * Makes room in the list of expired timers of the shard for `count` more than wait in it, as ert_world_reserve_expired does:
- * until `count` were due, ert_shard_advance needs no memory. If none waits yet, room for `slots` of the settings is enough
- * for good.
+ * Makes room in the list of expired timers of the shard for `count` more than wait in it, as ert_world_reserve_expired
+ * does: until `count` were due, ert_shard_advance needs no memory. If none waits yet, room for `slots` of the settings
+ * is enough for good.
  *
  * ERT_NO_MEMORY: there is not as much memory; the list has the room that it had. ERT_CLOSED. Work as of
  * ert_world_reserve_expired.

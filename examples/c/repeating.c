@@ -34,7 +34,7 @@ static void start(ert_world *world, const ert_start *what) {
 }
 
 /* Makes turns until no timer is due, and says what came. A deadline that has passed is due at the next turn. */
-static void pass(ert_world *world, ert_interval *each, ert_interval *latest) {
+static void pass(ert_world *world, ert_repeat *each, ert_repeat *latest) {
     uint64_t left_out;
     ert_turned turned;
     ert_mail mail;
@@ -45,10 +45,10 @@ static void pass(ert_world *world, ert_interval *each, ert_interval *latest) {
         while (ert_world_take(world, PROCESS, &mail) == ERT_OK) {
             if (mail.msg == EACH) {
                 printf("%4" PRId64 " ms: each, due at %" PRId64 "\n", now, each->start.when);
-                start(world, ert_interval_next(each));
+                start(world, ert_repeat_next(each));
             } else {
                 printf("%4" PRId64 " ms: latest, due at %" PRId64, now, latest->start.when);
-                start(world, ert_interval_skip(latest, now, &left_out));
+                start(world, ert_repeat_skip(latest, now, &left_out));
                 printf(", %" PRIu64 " left out\n", left_out);
             }
         }
@@ -60,8 +60,8 @@ static void repeating(void) {
     ert_reading first = {0, 0};
     ert_settings settings;
     ert_moved moved;
-    ert_interval each = {{.when = 100, .absolute = 1, .msg = EACH, .dest = PROCESS}, 100};
-    ert_interval latest = {{.when = 100, .absolute = 1, .msg = LATEST, .dest = PROCESS}, 100};
+    ert_repeat each = {{.when = 100, .absolute = 1, .msg = EACH, .dest = PROCESS}, 100};
+    ert_repeat latest = {{.when = 100, .absolute = 1, .msg = LATEST, .dest = PROCESS}, 100};
     /* The turn at 350 ms comes late: at 200 and at 300 there was none. */
     static const int64_t turns[] = {100, 350, 400};
     ert_settings_init(&settings, &first);

@@ -1,9 +1,9 @@
 /*
- * A thread per core: a TCP server whose threads each have a shard of one service. Every thread accepts connections of
+ * A thread per core: a TCP server whose threads each have a shard of one world. Every thread accepts connections of
  * its own, echoes what they send, and has two timers for each: an idle timeout, which traffic restarts, and a retry.
  * Any thread may close a connection of another one, by cancelling its idle timeout.
  *
- * Who ends the idle timeout of a connection ends the connection, and the service says who that was: of the cancel by the
+ * Who ends the idle timeout of a connection ends the connection, and the library says who that was: of the cancel by the
  * connection's own thread, the cancel by another one, and the expiry exactly one happens. So no lock guards a connection.
  * It is freed once each timer that was started for it has come back: by a cancel, by its message, or from the thread
  * that cancelled it.
@@ -366,7 +366,7 @@ static void open_worker(worker *w) {
     }
 }
 
-static void open_service(void) {
+static void open_world(void) {
     long processors = sysconf(_SC_NPROCESSORS_ONLN);
     threads = processors < 2 ? 2 : processors > MOST_THREADS ? MOST_THREADS : (int)processors;
     ert_reading first = read_clocks();
@@ -455,7 +455,7 @@ static void close_worker(worker *w) {
 int main(int count, char **words) {
     clients = count > 1 ? atoi(words[1]) : CLIENTS;
     alarm(LONGEST_RUN);
-    open_service();
+    open_world();
     for (int i = 0; i < threads; i++) {
         if (pthread_create(&workers[i].thread, NULL, serve, &workers[i]) != 0) {
             fail("pthread_create");

@@ -411,8 +411,10 @@ test(Fun) ->
 %% whatever happens. Answers what the function does, and raises what it raises.
 %%
 %% <ul>
-%% <li>The options are those of {@link open/1}. With `advance => auto' the time goes on by itself, and a real time of `limit'
-%%     milliseconds, by default 60,000, isn't exceeded.</li>
+%% <li>The options are those of {@link open/1}, and `schedule', faults of time ({@link ertime_faults}), `always' and `deterministic'
+%%     as of {@link seeds/3}, and `seen': with `false' nothing is printed of what the clock has seen of a test that fails. With
+%%     `advance => auto' the time goes on by itself, and a real time of `limit' milliseconds, by default 60,000, isn't
+%%     exceeded.</li>
 %% <li>A test that waits for a time which nobody lets pass, in a `receive .. after' of transformed code or in a call of somebody
 %%     who does, fails by `{nobody_advances, [{Pid, Info}]}' after two seconds, and by `sleep' at once.</li>
 %% <li>Processes that are linked to the test end with it, its mailbox and its dictionary are its own.</li>
@@ -439,6 +441,10 @@ test(Options, Fun) ->
 %% @doc Runs a test under the clocks of many seeds, each with faults of time that its seed draws ({@link ertime_faults}). Where one
 %% fails, the faults are made fewer and smaller as long as it still fails, and printed as terms to paste; then this raises what
 %% the test raised.
+%%
+%% First the test runs without a fault, so that one which fails anyway is reported as such; two of three faults are drawn to meet a
+%% moment in which the test has timers due. Processes that are linked to a run end with it, and any other that the test, or one of
+%% its processes, has spawned is killed. What all runs but the first and the last print and log is dropped.
 %%
 %% The seeds are a count, `{From, To}' or a list. The options are those of {@link test/2}, where the time goes on by itself in
 %% multi time warp mode if they say nothing else, and

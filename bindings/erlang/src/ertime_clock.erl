@@ -24,13 +24,15 @@ open() ->
 %% <li>`correction': whether time correction is on, as it is by default;</li>
 %% <li>`start': monotonic time at the opening in nanoseconds, a multiple of a million, by default a great negative number, as in
 %%     the runtime: -288,230,376,151 seconds;</li>
-%% <li>`os_time': what the OS system clock tells at the opening, in nanoseconds or with a unit, by default the beginning of
-%%     2026;</li>
-%% <li>`slots': how many timers there can be at a time, by default 1,024; memory for them is taken here, and a start for which
+%% <li>`os_time': what the OS system clock shows at the opening, in nanoseconds or with a unit, from 1896-12-06 to 2043-01-25, by
+%%     default the beginning of 2026;</li>
+%% <li>`slots': how many timers there can be at a time, at most 262,144, by default 1,024; memory for them is taken here, and a start for which
 %%     there is no slot raises `system_limit';</li>
 %% <li>`drift': by how many parts per million the OS system clock runs faster than the OS monotonic clock, by default 0;</li>
 %% <li>`advance': `by_hand', or `auto' for a clock that goes on by itself, as with {@link advance/2};</li>
-%% <li>`limit': how many milliseconds of real time `auto' may take, by default `infinity';</li>
+%% <li>`limit': how many milliseconds of real time `auto' may take, by default `infinity'. Past it the process that called ends by
+%%     `{real_time_limit, Milliseconds, [{Pid, Info}]}', and by `{no_progress, _}' where timers of 0 milliseconds keep the time from
+%%     moving;</li>
 %% <li>`unturned': what happens where modules of the project call functions about time and weren't turned, so that they will see
 %%     the runtime's clock ({@link ertime:report/0}): `warn', which the application's environment variable of this name may
 %%     change, names them once on standard error; `error' raises `{unturned, Modules}'; `ignore'.</li>

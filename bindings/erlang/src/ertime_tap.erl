@@ -47,7 +47,18 @@
 -spec start() -> ok | {error, already_started | {traced, term()}}.
 start() -> start(#{}).
 
-%% @doc Begins to trace. `{traced, What}' before Erlang/OTP 27: somebody else traces the process, or new processes, or messages.
+%% @doc Begins to trace, with options:
+%%
+%% <ul>
+%% <li>`processes': whose calls and messages are traced: by default `all', `existing', `new', or a list of pids and registered
+%%     names;</li>
+%% <li>`for': how long, in milliseconds or with a unit; by default a minute;</li>
+%% <li>`most': how many trace messages, some three a timer; by default 100,000;</li>
+%% <li>`memory': bytes of the process that reads them, with those that wait to be read; by default 64 MiB. Where it falls so far
+%%     behind that it takes four times as many, the runtime ends it, and the log is empty: `killed'.</li>
+%% </ul>
+%%
+%% `{traced, What}' before Erlang/OTP 27: somebody else traces the process, or new processes, or messages.
 %% `{no_process, It}': a process that the options name isn't there. An option that is none is `badarg', with a text that names it.
 -spec start(options()) -> ok | {error, already_started | {traced, term()} | {no_process, pid() | atom()}}.
 start(Options) when is_map(Options) ->

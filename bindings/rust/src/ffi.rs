@@ -186,13 +186,13 @@ unsafe extern "C" {
     pub fn ert_world_time_offset(world: *mut ert_world, offset: *mut ert_offset) -> i32;
     pub fn ert_world_start(
         world: *mut ert_world,
-        sched: u32,
+        scheduler: u32,
         start: *const ert_start,
         timer: *mut ert_timer,
     ) -> i32;
     pub fn ert_world_ready(
         world: *mut ert_world,
-        sched: u32,
+        scheduler: u32,
         room: *mut u32,
         ready: *mut u64,
     ) -> i32;
@@ -203,8 +203,8 @@ unsafe extern "C" {
         start: *const ert_start,
     ) -> i32;
     pub fn ert_world_read(world: *mut ert_world, timer: *const ert_timer, left: *mut u64) -> i32;
-    pub fn ert_world_held(world: *mut ert_world, sched: u32, held: *mut u64) -> i32;
-    pub fn ert_world_expired(world: *mut ert_world, sched: u32, expired: *mut u64) -> i32;
+    pub fn ert_world_held(world: *mut ert_world, scheduler: u32, held: *mut u64) -> i32;
+    pub fn ert_world_expired(world: *mut ert_world, scheduler: u32, expired: *mut u64) -> i32;
     pub fn ert_world_mail_count(world: *mut ert_world, process: u32, count: *mut u64) -> i32;
     pub fn ert_world_is_alive(world: *mut ert_world, process: u32, alive: *mut u32) -> i32;
     pub fn ert_world_exit(world: *mut ert_world, process: u32, first: *mut u32) -> i32;
@@ -224,25 +224,28 @@ unsafe extern "C" {
     pub fn ert_world_monitor(world: *mut ert_world, process: u32, monitor: *mut u32) -> i32;
     pub fn ert_world_demonitor(world: *mut ert_world, process: u32, monitor: u32) -> i32;
     pub fn ert_world_notify(world: *mut ert_world, process: u32, told: *mut u32) -> i32;
-    pub fn ert_world_serve(world: *mut ert_world, sched: u32, served: *mut u32) -> i32;
-    pub fn ert_world_advance(world: *mut ert_world, sched: u32, advanced: *mut ert_advanced)
-    -> i32;
+    pub fn ert_world_serve(world: *mut ert_world, scheduler: u32, served: *mut u32) -> i32;
+    pub fn ert_world_advance(
+        world: *mut ert_world,
+        scheduler: u32,
+        advanced: *mut ert_advanced,
+    ) -> i32;
     pub fn ert_world_deliver(
         world: *mut ert_world,
-        sched: u32,
+        scheduler: u32,
         delivered: *mut ert_delivered,
     ) -> i32;
-    pub fn ert_world_turn(world: *mut ert_world, sched: u32, turned: *mut ert_turned) -> i32;
+    pub fn ert_world_turn(world: *mut ert_world, scheduler: u32, turned: *mut ert_turned) -> i32;
     pub fn ert_world_turn_some(
         world: *mut ert_world,
-        sched: u32,
+        scheduler: u32,
         most: u32,
         turned: *mut ert_turned_some,
     ) -> i32;
-    pub fn ert_world_next_due(world: *mut ert_world, sched: u32, due: *mut u64) -> i32;
-    pub fn ert_world_drop_settled(world: *mut ert_world, sched: u32, dropped: *mut u64) -> i32;
-    pub fn ert_world_reserve_expired(world: *mut ert_world, sched: u32, count: usize) -> i32;
-    pub fn ert_world_shrink_expired(world: *mut ert_world, sched: u32) -> i32;
+    pub fn ert_world_next_due(world: *mut ert_world, scheduler: u32, due: *mut u64) -> i32;
+    pub fn ert_world_drop_settled(world: *mut ert_world, scheduler: u32, dropped: *mut u64) -> i32;
+    pub fn ert_world_reserve_expired(world: *mut ert_world, scheduler: u32, count: usize) -> i32;
+    pub fn ert_world_shrink_expired(world: *mut ert_world, scheduler: u32) -> i32;
     pub fn ert_seat_open(seat: *mut ert_seat, world: *mut ert_world) -> i32;
     pub fn ert_seat_close(seat: *mut ert_seat) -> i32;
     pub fn ert_seat_monotonic_time(seat: *mut ert_seat, time: *mut i64) -> i32;

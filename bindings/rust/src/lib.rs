@@ -1,6 +1,6 @@
 //! The clock and timer service of the Erlang runtime, over the C library `libertime`.
 //!
-//! A [`World`] is a service. It reads no clock, starts no thread and never waits: pass it readings by
+//! A [`World`] is one clock with its timers. It reads no clock, starts no thread and never waits: pass it readings by
 //! [`World::tick`], let its schedulers make turns, and take the messages of its processes. `ertime.h` is the
 //! reference of each call. This crate guarantees the rest of what a C caller must: a handle is not copied, is
 //! closed when it is dropped, and is used by one thread at a time. The build script links the library that
@@ -55,7 +55,7 @@ pub enum Error {
     Range,
     /// A timer can't be due at that time.
     BadTime,
-    /// No slot of the wheel can take a timer, or the process can have no further monitor.
+    /// No slot that the start looked at can take a timer, or the process can have no further monitor.
     Full,
     /// The process has exited.
     Exited,
@@ -77,7 +77,7 @@ impl fmt::Display for Error {
             Error::OffsetWide => f.write_str("the time offset would leave its limits"),
             Error::Range => f.write_str("there is no such process or scheduler"),
             Error::BadTime => f.write_str("no timer can be due then"),
-            Error::Full => f.write_str("there is no free place"),
+            Error::Full => f.write_str("no available slot was found, or no further monitor"),
             Error::Exited => f.write_str("the process has exited"),
             Error::NoSeat => f.write_str("every seat was given out"),
             Error::NoShard => f.write_str("no scheduler is left for a shard"),
@@ -138,7 +138,7 @@ pub enum Mode {
     Multi,
 }
 
-/// What a service is opened with.
+/// What a world is opened with.
 ///
 /// For plain timers on the monotonic clock take [`Settings::new`], which has [`Mode::Multi`]: then monotonic time and
 /// timers go as the `mono` of the readings does, whatever happens to the system clock.
@@ -154,11 +154,11 @@ pub struct Settings {
     pub processes: u32,
     /// Timer slots of each scheduler, 1 to 16,777,216; at most 67,108,864 of all.
     pub slots: u32,
-    /// How many slots of its wheel a start looks at that knows of none that is free, 1 or more, at some 2 nanoseconds
-    /// each. Unless it finds one that another thread's cancel has freed, or whose wait has ended, it is refused
-    /// ([`Error::Full`]). Slots that the wheel's own thread has freed are always known.
+    /// How many slots of its wheel a start searches when no slot is known to be free, 1 or more, at some 2 nanoseconds
+    /// each. Unless the search finds one that another thread's cancel has freed, or whose wait has ended, the start is
+    /// refused ([`Error::Full`]). Slots that the wheel's own thread has freed are always known.
     pub looks: u32,
-    /// How many seats the service can give out, 1,024 at most.
+    /// How many seats the world can give out, 1,024 at most.
     pub seats: u32,
     pub first: Reading,
 }
@@ -265,14 +265,14 @@ impl Start {
     }
 }
 
-/// A timer that repeats at a fixed rate (`ert_interval`): its deadlines are the first, one period after that, two
+/// A timer that repeats at a fixed rate (`ert_repeat`): its deadlines are the first, one period after that, two
 /// periods, .. whatever the time is when each of its timers is started.
 ///
 /// ```
-/// use ertime::{Interval, Reading, Settings, Start, World};
+/// use ertime::{Reading, Repeat, Settings, Start, World};
 ///
 /// let mut world = World::open(&Settings::new(Reading { mono: 0, sys: 0 }))?;
-/// let mut beat = Interval::new(Start::at(100, 0, 7), 100)?;
+/// let mut beat = Repeat::new(Start::at(100, 0, 7), 100)?;
 /// world.start(0, beat.start())?;
 /// // Its message was taken at 350: the deadlines at 200 and 300 are left out.
 /// let left_out = beat.skip(350);
@@ -281,20 +281,20 @@ impl Start {
 /// # Ok::<(), ertime::Error>(())
 /// ```
 #[derive(Clone, Copy, Debug)]
-pub struct Interval {
+pub struct Repeat {
     start: Start,
     period: i64,
 }
 
-impl Interval {
+impl Repeat {
     /// Its first timer is started so, at a monotonic time ([`Start::at`]); the period is in milliseconds.
     ///
     /// [`Error::BadTime`]: the period is below 1, or `first` counts from the last tick.
-    pub fn new(first: Start, period: i64) -> Result<Interval, Error> {
+    pub fn new(first: Start, period: i64) -> Result<Repeat, Error> {
         if period < 1 || first.start.absolute == 0 {
             return Err(Error::BadTime);
         }
-        Ok(Interval {
+        Ok(Repeat {
             start: first,
             period,
         })
@@ -405,7 +405,7 @@ pub enum RequestKind {
     Read,
 }
 
-/// A service. It is closed when it is dropped.
+/// One clock with its timers and mailboxes. It is closed when it is dropped.
 ///
 /// The handle of C lies on the heap, so that a `World` can be moved.
 #[derive(Debug)]
@@ -471,16 +471,18 @@ impl World {
     }
 
     /// Starts a timer on the wheel of a scheduler. It counts from the last tick.
-    pub fn start(&mut self, sched: u32, start: &Start) -> Result<Timer, Error> {
+    pub fn start(&mut self, scheduler: u32, start: &Start) -> Result<Timer, Error> {
         let mut timer = Timer::default();
-        done(unsafe { ffi::ert_world_start(&mut *self.handle, sched, &start.start, &mut timer) })?;
+        done(unsafe {
+            ffi::ert_world_start(&mut *self.handle, scheduler, &start.start, &mut timer)
+        })?;
         Ok(timer)
     }
 
     /// How many slots the wheel of a scheduler has available.
-    pub fn ready(&mut self, sched: u32) -> Result<Room, Error> {
+    pub fn ready(&mut self, scheduler: u32) -> Result<Room, Error> {
         let (mut free, mut ready) = (0, 0);
-        done(unsafe { ffi::ert_world_ready(&mut *self.handle, sched, &mut free, &mut ready) })?;
+        done(unsafe { ffi::ert_world_ready(&mut *self.handle, scheduler, &mut free, &mut ready) })?;
         Ok(Room {
             free,
             ready: (ready != 0).then_some(ready),
@@ -511,18 +513,18 @@ impl World {
         (status == ffi::ERT_OK).then_some(left)
     }
 
-    /// How many timers the wheel of a scheduler holds: those that are armed, and those that seats cancelled and that
+    /// How many timers are on the wheel of a scheduler: those that are armed, and those that seats cancelled and that
     /// would not be due yet.
-    pub fn held(&mut self, sched: u32) -> Result<u64, Error> {
+    pub fn held(&mut self, scheduler: u32) -> Result<u64, Error> {
         let mut held = 0;
-        done(unsafe { ffi::ert_world_held(&mut *self.handle, sched, &mut held) })?;
+        done(unsafe { ffi::ert_world_held(&mut *self.handle, scheduler, &mut held) })?;
         Ok(held)
     }
 
     /// How many expired timers of a scheduler wait to be delivered.
-    pub fn expired(&mut self, sched: u32) -> Result<u64, Error> {
+    pub fn expired(&mut self, scheduler: u32) -> Result<u64, Error> {
         let mut expired = 0;
-        done(unsafe { ffi::ert_world_expired(&mut *self.handle, sched, &mut expired) })?;
+        done(unsafe { ffi::ert_world_expired(&mut *self.handle, scheduler, &mut expired) })?;
         Ok(expired)
     }
 
@@ -632,7 +634,7 @@ impl World {
         done_or(status, ffi::ERT_NO_MONITOR)
     }
 
-    /// Notifies the monitors of a process that were last told another time offset, and returns how many.
+    /// Notifies each monitor of a process that doesn't know the time offset yet, and returns how many were notified.
     pub fn notify(&mut self, process: u32) -> Result<u32, Error> {
         let mut told = 0;
         done(unsafe { ffi::ert_world_notify(&mut *self.handle, process, &mut told) })?;
@@ -640,39 +642,39 @@ impl World {
     }
 
     /// Serves one request of a scheduler, and returns whether there was one.
-    pub fn serve(&mut self, sched: u32) -> Result<bool, Error> {
+    pub fn serve(&mut self, scheduler: u32) -> Result<bool, Error> {
         let mut served = 0;
-        done(unsafe { ffi::ert_world_serve(&mut *self.handle, sched, &mut served) })?;
+        done(unsafe { ffi::ert_world_serve(&mut *self.handle, scheduler, &mut served) })?;
         Ok(served != 0)
     }
 
     /// Expires the due timers of a scheduler.
-    pub fn advance(&mut self, sched: u32) -> Result<Advanced, Error> {
+    pub fn advance(&mut self, scheduler: u32) -> Result<Advanced, Error> {
         let mut advanced = Advanced::default();
-        done(unsafe { ffi::ert_world_advance(&mut *self.handle, sched, &mut advanced) })?;
+        done(unsafe { ffi::ert_world_advance(&mut *self.handle, scheduler, &mut advanced) })?;
         Ok(advanced)
     }
 
     /// Delivers the expired timers of a scheduler.
-    pub fn deliver(&mut self, sched: u32) -> Result<Delivered, Error> {
+    pub fn deliver(&mut self, scheduler: u32) -> Result<Delivered, Error> {
         let mut delivered = Delivered::default();
-        done(unsafe { ffi::ert_world_deliver(&mut *self.handle, sched, &mut delivered) })?;
+        done(unsafe { ffi::ert_world_deliver(&mut *self.handle, scheduler, &mut delivered) })?;
         Ok(delivered)
     }
 
     /// Makes a turn of a scheduler: serves, advances and delivers.
-    pub fn turn(&mut self, sched: u32) -> Result<Turned, Error> {
+    pub fn turn(&mut self, scheduler: u32) -> Result<Turned, Error> {
         let mut turned = Turned::default();
-        done(unsafe { ffi::ert_world_turn(&mut *self.handle, sched, &mut turned) })?;
+        done(unsafe { ffi::ert_world_turn(&mut *self.handle, scheduler, &mut turned) })?;
         Ok(turned)
     }
 
     /// Makes a turn of a scheduler in which so many timers at most expire and so many at most are delivered, and returns
     /// whether there is more: timers that are due or have expired, or timers that have to move within the wheel before it comes
     /// to the turn's `to`. The next turn goes on with them, in their order.
-    pub fn turn_some(&mut self, sched: u32, most: u32) -> Result<(Turned, bool), Error> {
+    pub fn turn_some(&mut self, scheduler: u32, most: u32) -> Result<(Turned, bool), Error> {
         let mut some = ffi::ert_turned_some::default();
-        done(unsafe { ffi::ert_world_turn_some(&mut *self.handle, sched, most, &mut some) })?;
+        done(unsafe { ffi::ert_world_turn_some(&mut *self.handle, scheduler, most, &mut some) })?;
         Ok(turned_some(&some))
     }
 
@@ -682,30 +684,30 @@ impl World {
     /// It is a timer's deadline, or the begin of a window of 512 milliseconds or a wider one: a loop that sleeps until then and
     /// makes a turn wakes early once in 512 milliseconds at most, and not at all where timers are few. A timer that a seat
     /// cancelled doesn't wake it, unless it is one of more than 1,024 that are let go at once.
-    pub fn next_due(&mut self, sched: u32) -> Result<Option<u64>, Error> {
+    pub fn next_due(&mut self, scheduler: u32) -> Result<Option<u64>, Error> {
         let mut due = 0;
-        let status = unsafe { ffi::ert_world_next_due(&mut *self.handle, sched, &mut due) };
+        let status = unsafe { ffi::ert_world_next_due(&mut *self.handle, scheduler, &mut due) };
         Ok(done_or(status, ffi::ERT_EMPTY)?.then_some(due))
     }
 
     /// Lets go of all timers of a scheduler's wheel that seats have cancelled, and returns how many they were: their slots can
     /// be used again. `next_due` does so for those that are due next, 1,024 at most.
-    pub fn drop_settled(&mut self, sched: u32) -> Result<u64, Error> {
+    pub fn drop_settled(&mut self, scheduler: u32) -> Result<u64, Error> {
         let mut dropped = 0;
-        done(unsafe { ffi::ert_world_drop_settled(&mut *self.handle, sched, &mut dropped) })?;
+        done(unsafe { ffi::ert_world_drop_settled(&mut *self.handle, scheduler, &mut dropped) })?;
         Ok(dropped)
     }
 
     /// Makes room in the list of expired timers of a scheduler for `count` more than wait in it: until as many were due,
     /// `advance` needs no memory, and with room in the mailboxes (`reserve_mail`) neither does `turn`. If none waits yet,
     /// room for as many as the settings have slots is enough for good.
-    pub fn reserve_expired(&mut self, sched: u32, count: usize) -> Result<(), Error> {
-        done(unsafe { ffi::ert_world_reserve_expired(&mut *self.handle, sched, count) })
+    pub fn reserve_expired(&mut self, scheduler: u32, count: usize) -> Result<(), Error> {
+        done(unsafe { ffi::ert_world_reserve_expired(&mut *self.handle, scheduler, count) })
     }
 
     /// Gives back the memory of the list of expired timers of a scheduler that those which wait don't need.
-    pub fn shrink_expired(&mut self, sched: u32) -> Result<(), Error> {
-        done(unsafe { ffi::ert_world_shrink_expired(&mut *self.handle, sched) })
+    pub fn shrink_expired(&mut self, scheduler: u32) -> Result<(), Error> {
+        done(unsafe { ffi::ert_world_shrink_expired(&mut *self.handle, scheduler) })
     }
 
     /// A seat for another thread. Its caller is not given out again, not even once it is dropped.

@@ -1,14 +1,14 @@
-//! A service that is divided among threads: a hub with the clock, and a shard for each thread.
+//! A world that is divided among threads: a hub with the clock, and a shard for each thread.
 
 use std::ops::Range;
 use std::ptr;
 
 use crate::{
-    Advanced, Delivered, Error, Mail, Moved, OffsetState, Reading, RequestKind, Seat, Settings,
-    Start, Timer, Turned, done, done_or, ffi, mail, state, turned_some,
+    done, done_or, ffi, mail, state, turned_some, Advanced, Delivered, Error, Mail, Moved,
+    OffsetState, Reading, RequestKind, Seat, Settings, Start, Timer, Turned,
 };
 
-/// The clock of a service that is divided among threads, and what was given to no shard. It is closed when it is dropped.
+/// The clock of a world that is divided among threads, and what was given to no shard. It is closed when it is dropped.
 ///
 /// Time moves by [`Hub::tick`] alone, for all shards at once. One thread can have the hub; or it lies in a `Mutex`, and
 /// whoever wakes ticks if `try_lock` gets it.
@@ -23,7 +23,7 @@ pub struct Hub {
 unsafe impl Send for Hub {}
 
 impl Hub {
-    /// Opens a service that is to be divided. Each of its schedulers can go to a shard.
+    /// Opens a world that is to be divided. Each of its schedulers can go to a shard.
     ///
     /// `BadCount` also if `settings.schedulers` and `settings.seats` are above 1,024 together, since each shard and each
     /// seat has a caller of its own.
@@ -53,7 +53,7 @@ impl Hub {
         Ok(shard)
     }
 
-    /// Gives the next of `settings.seats` seats: a thread that has it tells the time, and cancels and reads the timers of
+    /// Opens the next of `settings.seats` seats: a thread that has it reads the time, and cancels and reads the timers of
     /// all shards.
     pub fn seat(&mut self) -> Result<Seat, Error> {
         let mut seat = Seat {
@@ -125,7 +125,7 @@ impl Drop for Hub {
     }
 }
 
-/// What a thread needs of a divided service: one scheduler with its wheel, and some processes. It is closed when it is
+/// What a thread needs of a divided world: one scheduler with its wheel, and some processes. It is closed when it is
 /// dropped; its armed timers never expire then.
 ///
 /// Its thread starts timers for its processes, makes its turns and takes its messages, beside all other threads and
@@ -201,7 +201,7 @@ impl Shard {
         (status == ffi::ERT_OK).then_some(left)
     }
 
-    /// How many timers the wheel of the shard holds: those that are armed, and those that other threads cancelled and
+    /// How many timers are on the wheel of the shard: those that are armed, and those that other threads cancelled and
     /// that would not be due yet.
     pub fn held(&mut self) -> u64 {
         let mut held = 0;
@@ -322,7 +322,7 @@ impl Shard {
         done_or(status, ffi::ERT_NO_MONITOR)
     }
 
-    /// Notifies the monitors of a process that were last told another time offset, and returns how many.
+    /// Notifies each monitor of a process that doesn't know the time offset yet, and returns how many were notified.
     pub fn notify(&mut self, process: u32) -> Result<u32, Error> {
         let mut told = 0;
         done(unsafe { ffi::ert_shard_notify(&mut *self.handle, process, &mut told) })?;
@@ -360,7 +360,7 @@ impl Shard {
     }
 
     /// How early a timer of the shard may be due, in milliseconds since the start time, as `World::next_due` returns
-    /// it; None if its wheel holds none.
+    /// it; None if its wheel has none.
     pub fn next_due(&mut self) -> Result<Option<u64>, Error> {
         let mut due = 0;
         let status = unsafe { ffi::ert_shard_next_due(&mut *self.handle, &mut due) };

@@ -1,16 +1,8 @@
 -- Messages that are written piece by piece, and what they say of a text.
 
-use Rattle.std.proofs.Common.{◌≡◌, ℕ, ◌+◌, ◌/◌, ◌%◌, true, false, add-one, List, [], ◌∷◌, ◌++◌, take, refl, ap, ◌∙◌, append_assoc, Option, Some, None}
-use Rattle.std.specs.Prelude.{Result, Ok, Err, OnOk, slice_get, is_some}
-use Rattle.ert_defs.specs.Settings.{IsChecked}
-use Rattle.ert_defs.specs.States.{state}
-use Rattle.ert_defs.specs.declared.entry.Entry.{Entry}
-use Rattle.ert_defs.specs.declared.settings.Settings.{Settings}
-use Rattle.ert_judge.specs.Verdicts.{IsFirstIllegal}
-use Rattle.ert_judge.specs.Reasons.{IsFirstReason}
-use Rattle.ert_judge.specs.declared.reasons.Reason.{Reason}
-use Rattle.ert_spelling.specs.Spelling.{Spells}
-use Rattle.ert_audit.specs.Messages.{after_at, line_end, lines_on, hex_digit, is_shown_as_is, shown_byte, line_after, illegal_message, IsIllegalMessage}
+use Rattle.std.proofs.Common.{◌≡◌, ℕ, ◌+◌, ◌/◌, ◌%◌, true, false, add-one, List, [], ◌∷◌, ◌++◌, refl, ap, ◌∙◌, append_assoc, Option, None}
+use Rattle.std.specs.Prelude.{Result, Ok, Err, OnOk, is_some}
+use Rattle.ert_audit.specs.Messages.{after_at, line_end, lines_on, hex_digit, is_shown_as_is, shown_byte}
 
 -- a call that may fail, and what follows where it doesn't
 pub ok_map : {T E P Q : Type 0} (r : Result T E) → (P → Q) → OnOk r P → OnOk r Q
@@ -41,22 +33,6 @@ shown_plain b is = rw is refl
 pub shown_hex : (b : ℕ) → is_shown_as_is b ≡ false → shown_byte b ≡ 92 ∷ 120 ∷ hex_digit (b / 16) ∷ hex_digit (b % 16) ∷ []
 unfolding shown_byte
 shown_hex b is = rw is refl
-
--- a message on an entry that isn't legal
-pub illegal_text : (text message : List ℕ) (g : Settings) (h : List Entry) (place : ℕ) (e : Entry) (r : Reason)
-    → Spells g h text × IsChecked g → IsFirstIllegal g h place → slice_get h place ≡ Some e
-    → IsFirstReason g (state g (take place h)) e r → message ≡ illegal_message (place + 2) (line_after text (place + 1)) r
-    → IsIllegalMessage text message
-illegal_text text message g h place e r is first stands holds same = record {
-  history = record { settings = g; entries = h; spelled = is.0; checked = is.1 };
-  place = place;
-  first = first;
-  entry = e;
-  stands = stands;
-  reason = r;
-  holds = holds;
-  is = same;
-}
 
 -- what is there isn't missing
 pub some_end : (end : Option ℕ) → true ≡ is_some end → end ≡ None → ⊥

@@ -32,6 +32,11 @@ IsVerdict Illegal = Unit {0}
 IsVerdict Refused = Unit {0}
 IsVerdict _ = ⊥
 
+-- how an audit ended, and of which text
+pub record AuditEnd : Type 0 where
+  pub status : AuditStatus
+  pub text : List ℕ
+
 -- all bytes were read, and they have this verdict
 pub record HasAll (text : List ℕ) (i j : Input) (verdict : Verdict) : Type 0 where
   pub takes : ReadsAll i j text

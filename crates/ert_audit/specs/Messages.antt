@@ -1,15 +1,11 @@
 -- What the error output is told of a history that isn't legal.
 
-use Rattle.std.specs.Prelude.{◌≡◌, ℕ, zero, suc, ◌+◌, ◌/◌, ◌%◌, ◌==◌, Bool, ◌&&◌, not, nat_lt, nat_le, List, [], ◌∷◌, ◌++◌, slice_get, length, take, drop, position, codes, Option, Some, None, if◌then◌else◌}
+use Rattle.std.specs.Prelude.{◌≡◌, ℕ, zero, suc, ◌+◌, ◌-◌, ◌/◌, ◌%◌, ◌==◌, Bool, ◌&&◌, not, nat_lt, nat_le, List, [], ◌∷◌, ◌++◌, length, take, drop, position, codes, Option, Some, None, if◌then◌else◌}
 use Rattle.std.specs.Fmt.{decimal}
 use Rattle.std.specs.List.{flat_map}
-use Rattle.ert_defs.specs.States.{state}
-use Rattle.ert_defs.specs.declared.entry.Entry.{Entry}
-use Rattle.ert_judge.specs.Verdicts.{IsFirstIllegal}
-use Rattle.ert_judge.specs.Reasons.{IsFirstReason}
 use Rattle.ert_judge.specs.Texts.{◌⋅◌, reason_text}
 use Rattle.ert_judge.specs.declared.reasons.Reason.{Reason}
-use Rattle.ert_audit.specs.Verdicts.{IsHistory}
+use Rattle.ert_audit.specs.Findings.{IsIllegalBy}
 
 -- the bytes after the first newline, where that stands at a place
 abbrev pub after_at : List ℕ → Option ℕ → List ℕ
@@ -60,11 +56,7 @@ illegal_message line bytes reason = line_front line ⋅ shortened bytes ⋅ code
 
 -- the message on a text tells the first entry that isn't legal, its line and a reason that holds of it
 pub record IsIllegalMessage (text message : List ℕ) : Type 0 where
-  pub history : IsHistory text
-  pub place : ℕ
-  pub first : IsFirstIllegal history.settings history.entries place
-  pub entry : Entry
-  pub stands : slice_get history.entries place ≡ Some entry
+  pub line : ℕ
   pub reason : Reason
-  pub holds : IsFirstReason history.settings (state history.settings (take place history.entries)) entry reason
-  pub is : message ≡ illegal_message (place + 2) (line_after text (place + 1)) reason
+  pub illegal : IsIllegalBy text line reason
+  pub is : message ≡ illegal_message line (line_after text (line - 1)) reason

@@ -1,16 +1,13 @@
 -- What is said of a text, and the line that says it.
 
-use Rattle.std.specs.Prelude.{◌≡◌, ℕ, ◌+◌, List, ◌++◌, length, codes, Result, Ok, Err}
+use Rattle.std.specs.Prelude.{◌≡◌, ℕ, ◌+◌, List, ◌++◌, length, codes}
 use Rattle.std.specs.Fmt.{decimal}
 use Rattle.ert_defs.specs.Legal.{Legal}
 use Rattle.ert_defs.specs.Settings.{IsChecked}
 use Rattle.ert_defs.specs.declared.entry.Entry.{Entry}
-use Rattle.ert_defs.specs.declared.memory.NoMemory.{NoMemory}
 use Rattle.ert_defs.specs.declared.settings.Settings.{Settings}
 use Rattle.ert_judge.specs.Verdicts.{IsFirstIllegal}
 use Rattle.ert_spelling.specs.Spelling.{Spells, MisspelledAt}
-use Rattle.ert_spelling.specs.declared.history.SpellingErr.{SpellingErr}
-use Rattle.ert_spelling.specs.declared.history.SpellingErr.TheVariants.{Misspelled, NoMemory as OutOfMemory}
 use Rattle.ert_audit.specs.declared.verdict.Verdict.{Verdict}
 use Rattle.ert_audit.specs.declared.verdict.Verdict.TheVariants as verdicts
 
@@ -39,11 +36,6 @@ abbrev pub HasVerdict : List ℕ → Verdict → Type 0
 HasVerdict text (verdicts.Legal count) = IsLegalText text count
 HasVerdict text (verdicts.Illegal line) = IsIllegalText text line
 HasVerdict text (verdicts.Refused line) = MisspelledAt text line
-
--- the verdict where no history was read
-abbrev pub refusal_of : SpellingErr → Result Verdict NoMemory
-refusal_of (Misspelled line) = Ok (verdicts.Refused line)
-refusal_of OutOfMemory = Err (record {})
 
 -- the line that tells a verdict
 abbrev pub verdict_line : Verdict → List ℕ

@@ -1,4 +1,4 @@
-ghost use Rattle.std.specs.Prelude.{◌≡◌, ◌⊎◌, ◌≤◌, ◌++◌, ℕ, List, Some, None, IsTrue, false, length};
+ghost use Rattle.std.specs.Prelude.{◌≡◌, ◌⊎◌, ◌≤◌, ◌++◌, ℕ, List, Some, None, IsTrue, false, length, string_bytes};
 ghost use Rattle.ert_io.specs.Faults.{Rose};
 ghost use Rattle.ert_io.specs.Known.{stream_told, HandsUpTo};
 ghost use Rattle.ert_io.specs.Reads.{ReadsMore, input_of};
@@ -7,17 +7,59 @@ ghost use Rattle.ert_audit.specs.Audits.{IsVerdict, Judges, StopsInLine, status_
 ghost use Rattle.ert_audit.specs.Verdicts.{HasVerdict, verdict_line};
 ghost use Rattle.ert_audit.specs.declared.verdict.Verdict as verdicts;
 
+use crate::explaining::message_on;
 use crate::status::AuditStatus;
-use crate::verdict::{Verdict, one_verdict, verdict_on, write_verdict};
+use crate::verdict::{Finding, Verdict, find_in, one_verdict, write_verdict};
 use ert_io::{MAX_INPUT, ReadErr, Sink, Source, read_all, write_all};
 use std::alloc::Global;
+use std::marker::Model;
 
 /// How an audit ended, and of which text.
 #[derive(Drop)]
 pub struct Audited {
-    pub status: AuditStatus,
+    status: AuditStatus,
     /// The text that was judged, where the status tells its verdict.
-    pub text: Vec<u8>,
+    text: Vec<u8>,
+    /// What was found of the text.
+    finding: Option<Finding>,
+}
+
+impl Model for Audited {
+    ghost use Rattle.std.specs.Prelude.{IfSome};
+    ghost use Rattle.ert_audit.specs.Audits.{AuditEnd};
+    ghost use Rattle.ert_audit.specs.Findings.{IsFound};
+
+    ghost Value = { AuditEnd };
+
+    ghost view = { λ a. record { status = a.status; text = a.text.items } };
+
+    ghost invariant = { λ a. IfSome a.finding (IsFound a.text.items) };
+}
+
+impl Audited {
+    ghost use Rattle.std.specs.Prelude.{◌≡◌, IfSome};
+    ghost use Rattle.ert_audit.specs.Audits.{status_telling};
+    ghost use Rattle.ert_audit.specs.Explained.{IsMessage};
+
+    /// How it ended.
+    pub fn status(&self) -> AuditStatus
+        ensures { result ≡ self.now.status }
+    {
+        self.status
+    }
+
+    /// The message that tells why the history isn't legal, or the text spells none, where the status says so; none if memory
+    /// runs out.
+    pub fn message(&self, alloc: Global) -> Option<String>
+        ensures { IfSome result (λ message. IsMessage self.now.status self.now.text (string_bytes message)) }
+    {
+        let finding = self.finding?;
+        if status_of(finding.verdict()) == self.status {
+            message_on(alloc, &self.text, finding)
+        } else {
+            None
+        }
+    }
 }
 
 /// The audit: it reads a history from the input, and writes one line to the output, which tells whether the
@@ -28,7 +70,7 @@ pub fn audit<R: AllocGlobal, I: Source, O: Sink>(rt: &R, input: &mut I, output: 
     requires { O.room output.old ≡ None }
 
     // The input was read to its end, its text has this verdict, and the line of that was written.
-    ensures judged { IsVerdict result.status → Judges result.status result.text.items (input_of I.given I.ended I.left I.faults input.old) (input_of I.given I.ended I.left I.faults input.new)
+    ensures judged { IsVerdict result.status → Judges result.status result.text (input_of I.given I.ended I.left I.faults input.old) (input_of I.given I.ended I.left I.faults input.new)
         (O.taken output.old) (O.taken output.new) }
     ensures read_fault { result.status ≡ AuditStatus.ReadFault → Rose (I.faults input.old) (I.faults input.new) × (output.new ≡ output.old) }
     ensures read_in_part { result.status ≡ AuditStatus.ReadFault
@@ -53,10 +95,11 @@ pub fn audit<R: AllocGlobal, I: Source, O: Sink>(rt: &R, input: &mut I, output: 
 {
     one_verdict();
     match read_all(rt.alloc(), input, MAX_INPUT) {
-        Ok(text) => match verdict_on(rt.alloc(), &text) {
-            Ok(verdict) => Audited {
-                status: tell(rt.alloc(), verdict, output),
+        Ok(text) => match find_in(rt.alloc(), &text) {
+            Ok(finding) => Audited {
+                status: tell(rt.alloc(), finding.verdict(), output),
                 text,
+                finding: Some(finding),
             },
             Err(_) => without_text(rt.alloc(), AuditStatus::NoMemory),
         },
@@ -73,6 +116,7 @@ fn without_text(alloc: Global, status: AuditStatus) -> Audited
     Audited {
         status,
         text: Vec::new(alloc),
+        finding: None,
     }
 }
 

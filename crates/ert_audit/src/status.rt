@@ -2,7 +2,7 @@ ghost use Rattle.std.specs.Prelude.{◌≡◌};
 ghost use Rattle.ert_audit.specs.Audits.{exit_code};
 
 /// How an audit ended.
-#[derive(Clone, Copy)]
+#[derive(Clone, Copy, PartialEq, Eq)]
 pub enum AuditStatus {
     /// The history is legal; the number of its entries was written.
     Legal,

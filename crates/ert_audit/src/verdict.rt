@@ -1,9 +1,10 @@
 ghost use Rattle.std.specs.Prelude.{◌≡◌, ◌++◌, ℕ, List, IfOk, OnOk, string_bytes};
-ghost use Rattle.ert_audit.specs.Verdicts.{HasVerdict, refusal_of, verdict_line};
+ghost use Rattle.ert_audit.specs.Findings.{IsFound};
+ghost use Rattle.ert_audit.specs.Verdicts.{HasVerdict, verdict_line};
 ghost use Rattle.ert_audit.specs.declared.verdict.Verdict as verdicts;
 
 use ert_defs::NoMemory;
-use ert_judge::first_illegal;
+use ert_judge::{Reason, first_stop};
 use ert_spelling::{SpellingErr, one_spelling, read_history};
 use std::alloc::{AllocError, Global};
 use std::fmt::Write;
@@ -19,30 +20,53 @@ pub enum Verdict {
     Refused { line: usize },
 }
 
-/// The verdict on a text.
-pub fn verdict_on(alloc: Global, text: &[u8]) -> Result<Verdict, NoMemory>
-    ensures { IfOk result (HasVerdict text.now) }
-{
-    let history = match read_history(alloc, text) {
-        Ok(history) => history,
-        Err(error) => return refusal_of(error),
-    };
-    match first_illegal(alloc, &history.settings, &history.entries)? {
-        None => Ok(Verdict::Legal {
-            entries: history.entries.len(),
-        }),
-        // The settings have the first line.
-        Some(place) => Ok(Verdict::Illegal { line: place + 2 }),
+/// What was found of a text.
+#[derive(Clone, Copy)]
+pub enum Finding {
+    /// It spells a legal history of so many entries.
+    Legal { entries: usize },
+    /// It spells a history; the entry at this line is the first that isn't legal after those before it, and this is why.
+    Illegal { line: usize, why: Reason },
+    /// It spells no history; this line is the first that is spelled otherwise.
+    Refused { line: usize },
+}
+
+impl Finding {
+    ghost use Rattle.std.specs.Prelude.{◌≡◌, ℕ, List};
+    ghost use Rattle.ert_audit.specs.Findings.{IsFound, finding_verdict};
+    ghost use Rattle.ert_audit.specs.Verdicts.{HasVerdict};
+
+    /// The verdict on the text.
+    pub fn verdict(self) -> Verdict
+        ensures is { result ≡ finding_verdict self }
+        ensures holds { (text : List ℕ) → IsFound text self → HasVerdict text result }
+    {
+        match self {
+            Finding::Legal { entries } => Verdict::Legal { entries },
+            Finding::Illegal { line, .. } => Verdict::Illegal { line },
+            Finding::Refused { line } => Verdict::Refused { line },
+        }
     }
 }
 
-/// The verdict where no history was read.
-fn refusal_of(error: SpellingErr) -> Result<Verdict, NoMemory>
-    ensures { result ≡ refusal_of error }
+/// Judges a text.
+pub fn find_in(alloc: Global, text: &[u8]) -> Result<Finding, NoMemory>
+    ensures { IfOk result (IsFound text.now) }
 {
-    match error {
-        SpellingErr::Misspelled { line } => Ok(Verdict::Refused { line }),
-        SpellingErr::NoMemory => Err(NoMemory),
+    let history = match read_history(alloc, text) {
+        Ok(history) => history,
+        Err(SpellingErr::Misspelled { line }) => return Ok(Finding::Refused { line }),
+        Err(SpellingErr::NoMemory) => return Err(NoMemory),
+    };
+    match first_stop(alloc, &history.settings, &history.entries)? {
+        None => Ok(Finding::Legal {
+            entries: history.entries.len(),
+        }),
+        // The settings have the first line.
+        Some(stop) => Ok(Finding::Illegal {
+            line: stop.place + 2,
+            why: stop.why,
+        }),
     }
 }
 

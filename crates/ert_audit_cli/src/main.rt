@@ -16,5 +16,5 @@ fn main(rt: HostRuntime) -> ExitCode {
     let audited = audit(&rt, &mut input, &mut output);
     let mut errors = StdSink::new(rt.stderr());
     explain(rt.alloc(), &audited, &mut errors);
-    ExitCode::from(audited.status.code())
+    ExitCode::from(audited.status().code())
 }

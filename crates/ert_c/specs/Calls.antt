@@ -21,10 +21,11 @@ use Rattle.ert_defs.specs.declared.mail.Request.{Request}
 use Rattle.ert_defs.specs.declared.memory.NoMemory.{NoMemory as OutOfMemory}
 use Rattle.ert_defs.specs.declared.timer.Start.{Start}
 use Rattle.ert_defs.specs.declared.timer.TimerRef.{TimerRef}
-use Rattle.ert_world.specs.Frees.{IsUsedUpAt, HasOpenSlotAt, UsesFreeAt}
+use Rattle.ert_world.specs.Frees.{IsUsedUpAt, HasOpenSlotAt, SearchesAt, UsesFreeAt}
 use Rattle.ert_world.specs.Restarts.{HasNoDeadline}
 use Rattle.ert_world.specs.Sleeping.{DropsSettledAt, HasSameTimeAt, IsFoundAt}
 use Rattle.ert_world.specs.Stepping.{Stays}
+use Rattle.ert_world.specs.Tried.{TriesHeldAt}
 use Rattle.ert_world.specs.Worlds.{Seen, Goes, By, HasForgotten, HasPassedAt, IsNextHeldAt, IsNearestAt, StayForgotten}
 use Rattle.ert_timers.specs.NextDue.{NoneArmedBefore}
 use Rattle.ert_c.specs.Through.{Through, TellsC, IfBelow, IsOutOfRange, IsRefusedAs}
@@ -61,14 +62,15 @@ AnswersAtProcess n call tells kept found old status new =
 
 -- caller 0 starts a timer, with this answer, which is never out of memory, and tells that it has no deadline only where it has
 -- none. No row comes to a wheel of a timer that was started before. It is refused as full only where the wheel has had 2^53
--- timers or holds no slot free afterwards, and not where a look at the room has just found some; and it takes no free slot but
--- that of its timer
+-- timers or holds no slot free afterwards, with looks round the wheel, and not where a look at the room has just found some; and
+-- it takes no free slot but that of its timer
 pub record StartsBy (wheel : ℕ) (start : Start) (answer : Result TimerRef StartErr) (old new : Seen) : Type 0 where
   pub makes : MakesCall (λ w. By w (λ g. Starts g 0 wheel start answer)) old new
   pub time : answer ≡ Err BadArg → HasNoDeadline old start
   pub memory : answer ≢ Err NoMemory
   pub forgotten : StayForgotten old new
   pub full : answer ≡ Err Full → IsUsedUpAt old new wheel
+  pub searched : answer ≡ Err Full → SearchesAt old new wheel
   pub ready : HasOpenSlotAt old wheel → answer ≢ Err Full
   pub frees : UsesFreeAt old new wheel answer
 
@@ -139,11 +141,12 @@ pub record ServesBy (sched : ℕ) (answer : Result Bool OutOfMemory) (old new : 
   pub stays : Stays old new
 
 -- a scheduler advances its wheel: to which millisecond and how many timers expired, or out of memory. Then each row
--- of the wheel is due later
+-- of the wheel is due later, and only timers of which it held a row were tried
 pub record AdvancesBy (sched : ℕ) (answer : Result (ℕ × ℕ) OutOfMemory) (old new : Seen) : Type 0 where
   pub makes : MakesCall (λ w way. AdvancesWheel w.settings way sched answer) old new
   pub stays : Stays old new
   pub passed : IfOk answer (λ advanced. HasPassedAt new sched advanced.0)
+  pub held : IfOk answer (λ advanced. TriesHeldAt old new sched advanced.0)
 
 -- a scheduler hands its expired timers over: how many were put and dropped, or out of memory. No row comes to a wheel
 pub record DeliversBy (sched : ℕ) (answer : Result (ℕ × ℕ) OutOfMemory) (old new : Seen) : Type 0 where

@@ -1,6 +1,6 @@
 -- What C is told of a shard.
 
-use Rattle.std.specs.Prelude.{◌≡◌, ◌≢◌, ◌⊎◌, ℕ, ◌+◌, ◌<◌, ◌≤◌, ℤ, Bool, true, length, count_by, Option, Some, None, Result, Err, IfOk, OnSome, ⊤}
+use Rattle.std.specs.Prelude.{◌≡◌, ◌≢◌, ◌⊎◌, [], ◌∷◌, ℕ, ◌+◌, ◌<◌, ◌≤◌, ℤ, Bool, true, length, count_by, Option, Some, None, Result, Err, IfOk, OnSome, ⊤}
 use Rattle.std.specs.Option.{is_some}
 use Rattle.ert_effects.specs.Chains.{AdvancesWheel, Delivers}
 use Rattle.ert_effects.specs.ClockCalls.{TellsTime, TellsOffset, TellsSystemTime}
@@ -27,7 +27,7 @@ use Rattle.ert_c.specs.declared.timer_calls.ErtTimer.{ErtTimer}
 use Rattle.ert_c.specs.declared.turn_calls.ErtTurned.{ErtTurned}
 use Rattle.ert_c.specs.declared.waiting_calls.ErtTurnedSome.{ErtTurnedSome}
 use Rattle.ert_defs.specs.States.{state}
-use Rattle.ert_defs.specs.declared.entry.Actor.TheVariants.{Caller}
+use Rattle.ert_defs.specs.declared.entry.Actor.TheVariants.{Caller, Wheel}
 use Rattle.ert_defs.specs.declared.memory.NoMemory.{NoMemory as OutOfMemory}
 use Rattle.ert_defs.specs.declared.settings.OffsetState.{OffsetState}
 use Rattle.ert_defs.specs.declared.timer.Start.{Start}
@@ -39,7 +39,9 @@ use Rattle.ert_shard.specs.Sleeping.{ShardDropsSettled}
 use Rattle.ert_shard.specs.Turning.{shard_expired, HasTurnedMost, IsMoreLeft, ShardTurns, TurnsUpTo, ShardExits}
 use Rattle.ert_shard.specs.declared.turns.Turn.{Turn}
 use Rattle.ert_timers.specs.NextDue.{NoneArmedBefore, IsNextHeld}
+use Rattle.ert_timers.specs.Expiring.{TriesHeld}
 use Rattle.ert_timers.specs.Passed.{HasPassed}
+use Rattle.ert_timers.specs.Searching.{HasOpenSlot, Searches}
 use Rattle.ert_timers.specs.Sleeping.{IsFoundNext}
 
 -- a hub gave a shard, and this one stands behind the shard's handle
@@ -124,12 +126,16 @@ pub record ShardReadsOffset (status : ℤ) (offset : ErtOffset) (old new : Owned
   pub steps : ShardSteps old (ShardBy old (λ g. TellsOffset g (Caller (old.share.number + 1)) (offset.offset, offset_state))) new
 
 -- a shard starts a timer on its wheel as its caller, with this answer, which is never out of memory; it is refused as full only
--- where the wheel has had 2^53 timers or holds no slot free afterwards, and takes no free slot but that of its timer. No row
--- comes to the wheel of a timer that was started before
+-- where the wheel has had 2^53 timers or holds no slot free afterwards, with looks round the wheel, and not where the slot at
+-- which these begin can take a timer; and it takes no free slot but that of its timer. No row comes to the wheel of a timer
+-- that was started before
 pub record ShardStartsBy (start : Start) (answer : Result TimerRef StartErr) (old new : Owned) : Type 0 where
   pub goes : ShardGoes old (ShardBy old (λ g. Starts g (old.share.number + 1) old.share.number start answer)) new
   pub memory : answer ≢ Err NoMemory
   pub full : answer ≡ Err Full → IsUsedUp old.wheel new.wheel
+  pub searched : answer ≡ Err Full → old.wheel.arms < 9007199254740992
+      → ShardGoes old (ShardBy old (λ g. Searches g (old.share.number + 1) old.wheel new.wheel)) new
+  pub ready : HasOpenSlot old.settings (state old.settings old.history) old.wheel → answer ≢ Err Full
   pub frees : UsesFree old.wheel new.wheel answer
   pub forgotten : ShardStayForgotten old new
 
@@ -192,10 +198,11 @@ abbrev pub ShardNotifiesBy : ℕ → Result ℕ OutOfMemory → Owned → Owned 
 ShardNotifiesBy process answer old new = ShardSteps old (ShardBy old (λ g. Notifies g (old.share.number + 1) process answer)) new
 
 -- a shard advances its wheel: to which millisecond and how many timers expired, or out of memory. Then each row of the
--- wheel is due later
+-- wheel is due later, and only timers of which it held a row were tried
 pub record ShardAdvancesBy (answer : Result (ℕ × ℕ) OutOfMemory) (old new : Owned) : Type 0 where
   pub steps : ShardSteps old (λ way. AdvancesWheel old.settings way old.share.number answer) new
   pub passed : IfOk answer (λ advanced. HasPassed new.wheel advanced.0)
+  pub held : IfOk answer (λ advanced. ShardGoes old (λ way. way (Wheel old.share.number ∷ []) (TriesHeld old.wheel advanced.0)) new)
 
 -- a shard hands its expired timers over: how many were put and dropped, or out of memory
 abbrev pub ShardDeliversBy : Result (ℕ × ℕ) OutOfMemory → Owned → Owned → Type 0

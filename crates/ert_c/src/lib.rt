@@ -45,11 +45,11 @@
 //!   answer, in the state before the piece. After the call the service stands behind the handle, which is never left
 //!   closed.
 //! - **A seat** that is open stands for its caller. Its history grows in the same way by that caller's entries, and is
-//!   legal: so what a seat returns is what its history has at that place. The histories of one service are all prefixes
-//!   of one legal history, in which no timer ends twice and no time goes back; that is a law of the desk
-//!   (`steps_stand_in_order` of `ert_table`, `one`), and no clause of these calls, each of which is about its own handle.
-//!   A seat is on the desk of the service that gave it (`GivesSeat`, `table`), and every call leaves its handle on that
-//!   desk.
+//!   legal: so what a seat returns is what its history has at that place. A seat is on the desk of the service that gave
+//!   it (`GivesSeat`, `table`), and every call leaves its handle on that desk. What any two open handles of one desk know
+//!   are beginnings of one legal history, in which no timer ends twice and no time goes back (`src/laws.rt`,
+//!   `KnowOneHistory` of `ert_shard`). C has no call of both: nothing that it can compute tells that two handles are of one
+//!   service.
 //! - **A hub and a shard** that are open stand for what `ert_shard` says of them: in the piece by which the history
 //!   grows the entries of the shard's own actors are exactly those that the call may make with this answer, beside all
 //!   other threads, and the history is legal (`specs/HubCalls`, `specs/ShardCalls`). `ert_hub_shard` gives the last
@@ -117,7 +117,11 @@ mod waiting_exports;
 
 pub use clock_calls::{ErtMoved, ErtOffset};
 pub use handle::{ErtSeat, ErtWorld};
-pub use laws::constants_are_fixed;
+pub use laws::{
+    constants_are_fixed, hub_and_seat_know_one_history, hub_and_shard_know_one_history,
+    seats_know_one_history, shard_and_seat_know_one_history, shards_know_one_history,
+    world_and_seat_know_one_history,
+};
 pub use mail_calls::{ErtMail, ErtRequest};
 pub use opening::{ErtReading, ErtSettings};
 pub use shard_handle::{ErtHub, ErtShard};

@@ -1,11 +1,12 @@
 //! What `ertaudit` does.
 ghost use Rattle.std.specs.Prelude.{◌≡◌, ◌⊎◌, ◌↔◌, ◌<◌, ◌≤◌, [], length, IfOk};
+ghost use Rattle.ert_audit.specs.Findings.{IsFound, finding_verdict};
 ghost use Rattle.ert_audit.specs.Verdicts.{HasVerdict, verdict_line};
 ghost use Rattle.ert_audit.specs.declared.verdict.Verdict as verdicts;
 ghost use Rattle.ert_commands.specs.Answers.{JudgesTo, TellsReason, JudgeAnswers, text_status};
 
 use crate::answer::{Answer, TextStatus, bare, copied};
-use ert_audit::{Verdict, message_on, one_verdict, status_of, verdict_on, write_verdict};
+use ert_audit::{Finding, Verdict, find_in, message_on, one_verdict, write_verdict};
 use ert_defs::NoMemory;
 use ert_io::MAX_INPUT;
 use std::alloc::Global;
@@ -36,11 +37,12 @@ pub fn judge_text(alloc: Global, history: &[u8]) -> Answer
 fn judgement(alloc: Global, history: &[u8]) -> Result<Answer, NoMemory>
     ensures { IfOk result (λ a. JudgesTo history.now a.status a.output.items a.errors.items) }
 {
-    let verdict = verdict_on(alloc, history)?;
+    let finding = find_in(alloc, history)?;
+    let verdict = finding.verdict();
     Ok(Answer {
         status: status_of_verdict(verdict),
         output: line_of(alloc, verdict)?,
-        errors: why(alloc, verdict, history)?,
+        errors: why(alloc, finding, history)?,
     })
 }
 
@@ -65,12 +67,13 @@ fn line_of(alloc: Global, verdict: Verdict) -> Result<Vec<u8>, NoMemory>
 }
 
 /// Why a text has its verdict: nothing where it is legal.
-fn why(alloc: Global, verdict: Verdict, history: &[u8]) -> Result<Vec<u8>, NoMemory>
-    ensures { IfOk result (λ text. TellsReason history.now verdict text.items) }
+fn why(alloc: Global, finding: Finding, history: &[u8]) -> Result<Vec<u8>, NoMemory>
+    requires { IsFound history.now finding }
+    ensures { IfOk result (λ text. TellsReason history.now (finding_verdict finding) text.items) }
 {
-    match verdict {
-        Verdict::Legal { .. } => Ok(Vec::new(alloc)),
-        _ => match message_on(alloc, status_of(verdict), history) {
+    match finding {
+        Finding::Legal { .. } => Ok(Vec::new(alloc)),
+        _ => match message_on(alloc, history, finding) {
             Some(message) => Ok(copied(alloc, message.as_bytes())?),
             None => Err(NoMemory),
         },

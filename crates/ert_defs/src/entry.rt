@@ -32,112 +32,50 @@ pub enum Act {
 
 /// What one atomic step did.
 #[derive(Clone, Copy)]
+#[rattlefmt::skip]
 pub enum Event {
     /// An OS reading was taken, and the time became `now`.
-    Tick {
-        reading: Reading,
-        act: Act,
-        now: i64,
-    },
+    Tick { reading: Reading, act: Act, now: i64 },
     /// The offset and its state were set, as the tick before made due.
-    Shift {
-        offset: i64,
-        state: OffsetState,
-    },
+    Shift { offset: i64, state: OffsetState },
     /// The time was read.
-    Look {
-        now: i64,
-    },
+    Look { now: i64 },
     /// The offset was read.
-    Off {
-        offset: i64,
-        state: OffsetState,
-    },
+    Off { offset: i64, state: OffsetState },
     /// A timer was started.
-    Arm {
-        timer: TimerRef,
-        start: Start,
-    },
+    Arm { timer: TimerRef, start: Start },
     /// The last timer of a slot was looked at.
-    Probe {
-        wheel: u32,
-        slot: u32,
-        found: Option<Status>,
-    },
+    Probe { wheel: u32, slot: u32, found: Option<Status> },
     /// A timer was read: the milliseconds left where it was armed.
-    Peek {
-        timer: TimerRef,
-        left: Option<u64>,
-    },
+    Peek { timer: TimerRef, left: Option<u64> },
     /// A timer was cancelled where it was armed: the milliseconds that were left.
-    Cancel {
-        timer: TimerRef,
-        left: Option<u64>,
-    },
+    Cancel { timer: TimerRef, left: Option<u64> },
     /// A timer expired.
-    Expire {
-        timer: TimerRef,
-    },
+    Expire { timer: TimerRef },
     /// A timer whose destination has exited was cancelled.
-    Orphan {
-        timer: TimerRef,
-    },
+    Orphan { timer: TimerRef },
     /// The message of an expired timer was put into its mailbox.
-    Deliver {
-        timer: TimerRef,
-    },
+    Deliver { timer: TimerRef },
     /// The message of an expired timer was thrown away, since its destination has exited.
-    Drop {
-        timer: TimerRef,
-    },
+    Drop { timer: TimerRef },
     /// It was seen whether a process had exited; where `exits` is true it has exited now.
-    Mark {
-        process: u32,
-        exits: bool,
-        was: bool,
-    },
+    Mark { process: u32, exits: bool, was: bool },
     /// All timers of a wheel that were due at `to` milliseconds have been settled.
-    Advanced {
-        wheel: u32,
-        to: u64,
-    },
+    Advanced { wheel: u32, to: u64 },
     /// A request was put into an inbox.
-    Ask {
-        wheel: u32,
-        request: Request,
-    },
+    Ask { wheel: u32, request: Request },
     /// The first request of an inbox was taken into the scheduler's hand.
-    Pick {
-        wheel: u32,
-        got: Option<Request>,
-    },
+    Pick { wheel: u32, got: Option<Request> },
     /// The request in the hand was answered.
-    Answer {
-        wheel: u32,
-        left: Option<u64>,
-    },
+    Answer { wheel: u32, left: Option<u64> },
     /// The first message of a mailbox was taken.
-    Take {
-        process: u32,
-        got: Option<Mail>,
-    },
+    Take { process: u32, got: Option<Mail> },
     /// A monitor was removed, where it stood.
-    Unwatch {
-        process: u32,
-        monitor: u32,
-        was: bool,
-    },
+    Unwatch { process: u32, monitor: u32, was: bool },
     /// A monitor of the time offset was made.
-    Watch {
-        process: u32,
-        monitor: u32,
-        offset: i64,
-    },
+    Watch { process: u32, monitor: u32, offset: i64 },
     /// A process was told the offset, for each monitor that it was new to.
-    Tell {
-        process: u32,
-        offset: i64,
-    },
+    Tell { process: u32, offset: i64 },
 }
 
 /// One event of a history, with the actors that made it.

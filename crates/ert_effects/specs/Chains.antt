@@ -11,9 +11,9 @@ use Rattle.ert_defs.specs.declared.mail.Request.{Request}
 use Rattle.ert_defs.specs.declared.memory.NoMemory.{NoMemory}
 use Rattle.ert_defs.specs.declared.settings.Settings.{Settings}
 use Rattle.ert_effects.specs.MailCalls.{HandsOver}
-use Rattle.ert_effects.specs.RequestCalls.{Picks, Answers}
+use Rattle.ert_effects.specs.RequestCalls.{Picks, HasAnswered, Answers}
 use Rattle.ert_effects.specs.Ways.{Growth, Way, Then, Many}
-use Rattle.ert_effects.specs.WheelCalls.{Advances, Sweeps, IsSwept, MarksExit}
+use Rattle.ert_effects.specs.WheelCalls.{HasAdvanced, Advances, Sweeps, AreSwept, MarksExit}
 use Rattle.ert_effects.specs.declared.answers.Handed.{Handed}
 use Rattle.ert_effects.specs.declared.answers.Handed.TheVariants.{Put, Dropped}
 use Rattle.ert_effects.specs.declared.answers.Turned.{Turned}
@@ -31,18 +31,22 @@ HoldsRequest g way w got h m = HoldsBy ((state g h).scheds w).hand way g w got h
 pub record HasServed (g : Settings) (way : Way) (w : ℕ) (h m : List Entry) : Type 0 where
   pub request : Request
   pub left : Option ℕ
-  pub steps : Then (HoldsRequest g way w (Some request)) (way (MailOf request.reply_to ∷ []) (Answers g w request (Ok left))) h m
+  pub steps : Then (HoldsRequest g way w (Some request)) (way (MailOf request.reply_to ∷ []) (HasAnswered g w request left)) h m
 
 -- a request is held, and there is no memory to answer it: it stays in the hand
 pub record CannotServe (g : Settings) (way : Way) (w : ℕ) (e : NoMemory) (h m : List Entry) : Type 0 where
   pub request : Request
   pub steps : Then (HoldsRequest g way w (Some request)) (way (MailOf request.reply_to ∷ []) (Answers g w request (Err e))) h m
 
--- `serve`: where the hand is empty `pick`, and where there is a request then `answer`, with the mailbox that
--- it names. False where the hand was empty and nothing was picked
+-- where the hand is empty `pick`, and where there is a request then `answer`, with the mailbox that it names. False
+-- where the hand was empty and nothing was picked
+abbrev pub HasServedOne : Settings → Way → ℕ → Bool → Growth
+HasServedOne g way w true h m = HasServed g way w h m
+HasServedOne g way w false h m = HoldsRequest g way w None h m
+
+-- `serve`: one request is served where there is one, or there is no memory to answer it
 abbrev pub Serves : Settings → Way → ℕ → Result Bool NoMemory → Growth
-Serves g way w (Ok true) h m = HasServed g way w h m
-Serves g way w (Ok false) h m = HoldsRequest g way w None h m
+Serves g way w (Ok served) h m = HasServedOne g way w served h m
 Serves g way w (Err e) h m = CannotServe g way w e h m
 
 -- so many units
@@ -52,12 +56,16 @@ units (suc n) = tt ∷ units n
 
 -- so many requests are served
 abbrev pub ServesMany : Settings → Way → ℕ → ℕ → Growth
-ServesMany g way w n h m = Many (λ (one : Unit {0}). Serves g way w (Ok true)) (units n) h m
+ServesMany g way w n h m = Many (λ (one : Unit {0}). HasServed g way w) (units n) h m
 
 -- requests are served until there is none, 64 at most
+abbrev pub HasServedAll : Settings → Way → ℕ → ℕ → Growth
+HasServedAll g way w n h m =
+    (n ≤ 64) × cond (nat_lt n 64) (Then (ServesMany g way w n) (HoldsRequest g way w None) h m) (ServesMany g way w n h m)
+
+-- the same, or there is no memory to answer one of them
 abbrev pub ServesAll : Settings → Way → ℕ → Result ℕ NoMemory → Growth
-ServesAll g way w (Ok n) h m =
-    (n ≤ 64) × cond (nat_lt n 64) (Then (ServesMany g way w n) (Serves g way w (Ok false)) h m) (ServesMany g way w n h m)
+ServesAll g way w (Ok n) h m = HasServedAll g way w n h m
 ServesAll g way w (Err e) h m = (n : ℕ) × (n < 64) × Then (ServesMany g way w n) (Serves g way w (Err e)) h m
 
 -- `advance`, of a scheduler
@@ -97,7 +105,7 @@ drops (how ∷ hows) = dropped_by how + drops hows
 -- expired timers are handed over until none is left: so many are put, and so many thrown away
 pub record HasDelivered (g : Settings) (way : Way) (w : ℕ) (answer : ℕ × ℕ) (h m : List Entry) : Type 0 where
   pub hows : List Handed
-  pub runs : HandsMany g way w hows h m
+  pub runs : Many (λ how. Hands g way w (Ok how)) hows h m
   pub put_is : answer.0 ≡ puts hows
   pub dropped_is : answer.1 ≡ drops hows
   pub done : ((state g (h ++ m)).scheds w).expired ≡ []
@@ -115,8 +123,8 @@ Delivers g way w (Err e) h m = CannotDeliver g way w e h m
 
 -- a turn is done: requests are served, the wheel is advanced, and expired timers are handed over
 abbrev pub HasTurned : Settings → Way → ℕ → Turned → Growth
-HasTurned g way w t = Then (ServesAll g way w (Ok t.served))
-    (Then (AdvancesWheel g way w (Ok (t.to, t.expired))) (Delivers g way w (Ok (t.put, t.dropped))))
+HasTurned g way w t = Then (HasServedAll g way w t.served)
+    (Then (way (Wheel w ∷ []) (HasAdvanced w (t.to, t.expired))) (HasDelivered g way w (t.put, t.dropped)))
 
 -- there is no memory to serve, to advance or to deliver; what was done before stays
 abbrev pub CannotTurn : Settings → Way → ℕ → NoMemory → Growth
@@ -135,7 +143,7 @@ Turns g way w (Err e) h m = CannotTurn g way w e h m
 -- a wheel is swept for a process: then none of its timers for that is armed
 pub record SweepsWheel (g : Settings) (way : Way) (by process w : ℕ) (h m : List Entry) : Type 0 where
   pub steps : way (Wheel w ∷ []) (Sweeps g by w process) h m
-  pub swept : IsSwept (state g (h ++ m)) w process
+  pub swept : AreSwept (state g (h ++ m)).status process ((state g (h ++ m)).rows w)
 
 -- so many wheels from one on
 abbrev pub SweepsWheels : Settings → Way → ℕ → ℕ → ℕ → ℕ → Growth

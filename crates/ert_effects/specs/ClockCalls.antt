@@ -2,12 +2,12 @@
 -- `system_time`, `system_flag`).
 
 use Rattle.std.specs.Prelude.{◌≡◌, ℕ, ℤ, ◌+ℤ◌, Bool, List, [], ◌∷◌, None, Result, Ok, Err}
-use Rattle.ert_clock.specs.Ticks.{act_of, tick_entries, offset_of, IsWide}
+use Rattle.ert_clock.specs.Ticks.{act_of, shift_entries, offset_of, IsWide}
 use Rattle.ert_clock.specs.declared.clock.ClockErr.{ClockErr}
 use Rattle.ert_clock.specs.declared.clock.ClockErr.TheVariants.{BadReading, OffsetWide}
 use Rattle.ert_clock.specs.declared.clock.Moved.{Moved}
 use Rattle.ert_defs.specs.Clocks.{face}
-use Rattle.ert_defs.specs.Entries.{look_entry, off_entry, keeper_entry}
+use Rattle.ert_defs.specs.Entries.{look_entry, off_entry, keeper_entry, tick_entry}
 use Rattle.ert_defs.specs.Lines.{MayAct, time_after, due_after}
 use Rattle.ert_defs.specs.Readings.{IsValid}
 use Rattle.ert_defs.specs.States.{State}
@@ -25,7 +25,7 @@ use Rattle.ert_defs.specs.declared.settings.Settings.{Settings}
 -- of the one and the offset of the other
 pub record MovesClock (g : Settings) (by : ℕ) (r : Reading) (act : Act) (m : Moved) (s : State) (es : List Entry) : Type 0 where
   pub shift : m.shift ≡ offset_of (due_after g (face g s.clock) r act m.now)
-  pub entries : es ≡ tick_entries by r act m.now m.shift
+  pub entries : es ≡ tick_entry by r act m.now ∷ shift_entries by act m.shift
 
 -- the reading isn't valid, and no entry is made
 pub record IsBadReading (r : Reading) (es : List Entry) : Type 0 where
@@ -69,11 +69,15 @@ FinalizesFrom Preliminary g by r m s es = MovesClock g by r Finalize m s es
 FinalizesFrom Final g by r m s es = OffsetStays by r Final m s es
 FinalizesFrom Volatile g by r m s es = OffsetStays by r Volatile m s es
 
--- `finalize`, for a caller: the answer has the state before it. Entries: if the offset was preliminary, Tick
--- with the act Finalize and then Shift, and time and offset are answered as for `tick`; if it wasn't, Off by
--- Keeper, and the unchanged time is answered and no offset. No entry: refused as `tick`
+-- a finalization tells the state before it. Entries: if the offset was preliminary, Tick with the act Finalize and then
+-- Shift, and time and offset are answered as for `tick`; if it wasn't, Off by Keeper, and the unchanged time is answered
+-- and no offset
+abbrev pub HasFinalized : Settings → ℕ → Reading → OffsetState → Moved → State → List Entry → Type 0
+HasFinalized g by r old m s es = (old ≡ s.clock.state) × FinalizesFrom old g by r m s es
+
+-- `finalize`, for a caller: the answer has the state before it (`HasFinalized`). No entry: refused as `tick`
 abbrev pub Finalizes : Settings → ℕ → Reading → Result (OffsetState × Moved) ClockErr → State → List Entry → Type 0
-Finalizes g by r (Ok p) s es = (p.0 ≡ s.clock.state) × FinalizesFrom p.0 g by r p.1 s es
+Finalizes g by r (Ok p) s es = HasFinalized g by r p.0 p.1 s es
 Finalizes g by r (Err e) s es = RefusesTick g r Finalize e s es
 
 -- `monotonic_time`: a look, whose time is the answer

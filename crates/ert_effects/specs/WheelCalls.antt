@@ -78,7 +78,7 @@ pub record HasAdvanced (w : ℕ) (answer : ℕ × ℕ) (s : State) (es : List En
   pub settled : AllMissesSettled tries
   pub due : AllDue (s.rows w) answer.0 tries
   pub once : AreOnce tries
-  pub entries : es ≡ look_entry (Sched w) now ∷ (expiry_entries w tries ++ advanced_entry w answer.0 ∷ [])
+  pub entries : es ≡ look_entry (Sched w) now ∷ (map (λ t. expires_by w t.timer t.missed) tries ++ advanced_entry w answer.0 ∷ [])
 
 -- `advance`, of a scheduler's wheel: Look; for timers that are due by the milliseconds of the Advanced, each
 -- once at most, an Expire, or a Probe of its slot that found it settled; Advanced. The answer: the
@@ -117,7 +117,7 @@ pub record Sweeps (g : Settings) (by w process : ℕ) (s : State) (es : List Ent
   pub tries : List Try
   pub may : AllMaySweep (s.rows w) process tries
   pub once : AreOnce tries
-  pub entries : es ≡ orphan_entries by w tries
+  pub entries : es ≡ map (λ t. orphans_by by w t.timer t.missed) tries
 
 -- none of these rows for the process is armed
 abbrev pub AreSwept : (TimerRef → Option Status) → ℕ → List Row → Type 0

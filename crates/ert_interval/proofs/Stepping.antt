@@ -6,7 +6,6 @@ use Rattle.ert_effects.specs.Ways.{Growth, Way}
 use Rattle.ert_effects.specs.WheelCalls.{TellsAlive}
 use Rattle.ert_defs.specs.declared.entry.Actor.TheVariants.{Caller}
 use Rattle.ert_defs.specs.declared.memory.NoMemory.{NoMemory}
-use Rattle.ert_defs.specs.declared.settings.Settings.{Settings}
 use Rattle.ert_interval.specs.Calls.{IsTurnedBy}
 use Rattle.ert_interval.specs.Going.{KeepsSeats, IsPut, StartsNext, StartsWhere, GoesWhere, ReadsLast, GoesOn, StepsOne, StepsTo, one_if}
 use Rattle.ert_interval.specs.declared.interval.Interval.{Interval}

@@ -15,6 +15,7 @@ use Rattle.ert_interval.specs.Deadlines.{start_at, time_of_deadline}
 use Rattle.ert_interval.specs.declared.interval.Interval.{Interval}
 use Rattle.ert_interval.specs.declared.interval.IntervalState.{IntervalState}
 use Rattle.ert_interval.specs.declared.interval.IntervalState.TheVariants.{Running, Waiting, Ended}
+use Rattle.ert_world.specs.Frees.{IsUsedUpAt, SearchesAt}
 use Rattle.ert_world.specs.Worlds.{Seen, Goes, By}
 
 -- the settings and the seats of a world stay
@@ -42,13 +43,13 @@ pub record HasNext (timer : TimerRef) (old new : Interval) : Type 0 where
   pub deadline : new.deadline ≡ old.deadline + old.period
   pub firings : new.firings.items ≡ old.firings.items ++ timer ∷ []
 
--- the next timer is started on the wheel of the interval; where no slot is free the interval waits; when
--- out of memory no start is made, and the interval stays as it was
+-- the next timer is started on the wheel of the interval; where no slot is free the interval waits, and the start that was refused
+-- left no slot held free and looked at others, round the wheel; when out of memory no start is made, and the interval stays as it was
 abbrev pub StartsNext : Result Bool NoMemory → Seen → Interval → Seen → Interval → Type 0
 StartsNext (Ok true) old i new j =
     (timer : TimerRef) × Goes old (By old (λ g. Starts g 0 i.wheel (next_start g i) (Ok timer))) new × HasNext timer i j
 StartsNext (Ok false) old i new j =
-    Goes old (By old (λ g. Starts g 0 i.wheel (next_start g i) (Err WheelIsFull))) new × IsPut Waiting i j
+    Goes old (By old (λ g. Starts g 0 i.wheel (next_start g i) (Err WheelIsFull))) new × IsUsedUpAt old new i.wheel × SearchesAt old new i.wheel × IsPut Waiting i j
 StartsNext (Err e) old i new j = (new ≡ old) × Unmoved i j
 
 -- nothing is done, and the interval ends

@@ -27,10 +27,10 @@ use Rattle.ert_defs.specs.declared.timer.Status.TheVariants.{Armed}
 use Rattle.ert_defs.specs.declared.timer.TimerRef.{TimerRef}
 use Rattle.ert_judge.specs.Breaks.{Differs, IsBehind, AnswersAsker, last_status_of, UseBreaks, TickBreaks, ShiftBreaks, LookBreaks, OffBreaks, ArmBreaks, ProbeBreaks, LeftBreaks, ExpireBreaks, OrphanBreaks, DeliverBreaks, DropBreaks, MarkBreaks, AdvancedBreaks, PickBreaks, AnswerBreaks, TakeBreaks, UnwatchBreaks, WatchBreaks, TellBreaks, Breaks}
 use Rattle.ert_judge.specs.Reasons.{IsFirstReason}
-use Rattle.ert_judge.specs.Reasons.IsFirstReason.{out_of_range, breaks, other}
+use Rattle.ert_judge.specs.Reasons.IsFirstReason.{out_of_range, breaks}
 use Rattle.ert_judge.specs.declared.reasons.Reason.{Reason}
 use Rattle.ert_judge.specs.declared.reasons.Reason.TheVariants.{ShiftFirst, BadReading, NotPreliminary, OtherTick, OffsetPast, OtherShift, OtherTime, OtherOffset, OtherState, SlotTaken, OtherGeneration, Rests, NoDeadline, WheelUsed, OtherStatus, OtherLeft, NotArmed, NotDue, Later, NotNext, NotExited, NoneWaits, OtherWaits, OtherDest, OtherMilliseconds, StillArmed, OtherExit, HandFull, OtherRequest, HandEmpty, OtherAsker, OtherOutcome, NothingLeft, OtherMail, OtherMonitor, OtherNumber, TooMany}
-use Rattle.ert_judge.proofs.RangesExclude.{range_excludes}
+use Rattle.ert_judge.proofs.InRange.{range_excludes}
 
 -- what differs from what is wanted isn't that
 differs_not : {X : Type 0} (told is wanted : X) → Differs told is wanted → told ≡ wanted → ⊥
@@ -274,4 +274,3 @@ event_excludes g s by with (Tell process offset) r h known found = tell_excludes
 pub excludes : (g : Settings) (s : State) (e : Entry) (r : Reason) → IsFirstReason g s e r → Can g s e → ⊥
 excludes g s e r (out_of_range h) can = range_excludes g e r h can.keeps
 excludes g s e r (breaks in_range h) can = event_excludes g s e.by e.with e.event r h can.known can.found
-excludes g s e r (other is in_range known found never) can = never can

@@ -1,9 +1,8 @@
 -- What is found of a timer: its row, what is left of it, and that it is the first that expired.
 
-use Rattle.std.proofs.Common.{arith, ◌≡◌, ℤ, sym, ap, ◌∙◌, subst, Bool, List, Option, Some, None}
-use Rattle.std.specs.Prelude.{◌↔◌, ◌≢◌, IsTrue, option_map}
-use Rattle.ert_defs.specs.Legal.{IsFirst, left_by}
-use Rattle.ert_defs.specs.Mails.{first_of}
+use Rattle.std.proofs.Common.{arith, ◌≡◌, ℤ, sym, ap, ◌∙◌, List, Option, Some, None}
+use Rattle.std.specs.Prelude.{◌≢◌, option_map}
+use Rattle.ert_defs.specs.Legal.{left_by}
 use Rattle.ert_defs.specs.Milliseconds.{left}
 use Rattle.ert_defs.specs.Timers.{Row, row_of}
 use Rattle.ert_defs.specs.declared.settings.Settings.{Settings}
@@ -40,15 +39,3 @@ left_other g look ts r t e other = not_left g look t.status t.row other ∙ left
 pub left_none : (g : Settings) (look : ℤ) (ts : List Timer) (r : TimerRef) → None ≡ timer_in ts r
     → None ≡ left_by g look (status_among ts r) (row_of (rows_of ts) r)
 left_none g look ts r e = left_found g look ts r None e
-
--- something of the first that expired is something of the row that it is
-pub first_so : (expired : List Row) (timer : TimerRef) (row : Row) (b : Bool) (Q : Row → Type 0)
-    → Some row ≡ first_of expired → row.timer ≡ timer → IsTrue b ↔ Q row
-    → IsTrue b ↔ ((first : IsFirst expired timer) × Q first.row)
-first_so expired timer row b Q e named is = (
-  (λ yes. (record { row = row; first = sym e; named = named }, is.0 yes)),
-  (λ p. is.1 (let same : p.0.row ≡ row = some_same p.0.row row (sym p.0.first ∙ sym e) in subst Q same p.1)),
-)
-  where
-    some_same : (x y : Row) → Some x ≡ Some y → x ≡ y
-    some_same x y e = cc

@@ -1,18 +1,18 @@
 -- What a judge knows of a wheel by its own list is what the model's state says.
 
 use Rattle.std.proofs.Common.{◌≡◌, ℕ, refl, Bool}
-use Rattle.std.specs.Prelude.{pos, nat_le, ◌↔◌, IsTrue}
+use Rattle.std.specs.Prelude.{◌↔◌, IsTrue}
 use Rattle.ert_defs.specs.Clocks.{Clock}
-use Rattle.ert_defs.specs.Legal.{IsNext, AllSettled}
+use Rattle.ert_defs.specs.Legal.{IsNext}
 use Rattle.ert_defs.specs.Milliseconds.{down}
 use Rattle.ert_defs.specs.declared.entry.Actor.{Actor}
 use Rattle.ert_defs.specs.declared.timer.TimerRef.{TimerRef}
 use Rattle.ert_state.specs.Parts.{looks_in, look_of, status_at}
-use Rattle.ert_judge.specs.Shown.{shown, OwnTimers, HasSettledDue}
+use Rattle.ert_judge.specs.Shown.{shown, OwnTimers}
 use Rattle.ert_state.specs.Wheels.{timers_at, status_among, AreShown, IsFirstDue}
 use Rattle.ert_judge.specs.declared.judge.Judge.{Judge}
 use Rattle.ert_state.proofs.WheelLaws.{own_shown}
-use Rattle.ert_judge.proofs.WheelTests.{settled_all, first_is_next}
+use Rattle.ert_judge.proofs.WheelTests.{first_is_next}
 
 -- each timer of a wheel has its own status in the state
 pub shown_all : (j : Judge) (w : ℕ) → OwnTimers j → AreShown (status_at j.timers) (timers_at j.timers w)
@@ -30,14 +30,3 @@ next_known c j by timer b own is =
     let same = first_is_next j.settings (shown c j) by timer (timers_at j.timers timer.wheel)
     (down j.settings (look_of (looks_in j.looks) by)) (shown_all j timer.wheel own) refl refl in
     ((λ yes. same.0 (is.0 yes)), (λ next. is.1 (same.1 next)))
-
--- a wheel has settled all that was due
-pub advanced_known : (c : Clock) (j : Judge) (by : Actor) (w to : ℕ) (b : Bool) → OwnTimers j
-    → IsTrue b ↔ HasSettledDue j by w to
-    → IsTrue b ↔ ((pos to ≡ down j.settings ((shown c j).looked by))
-    × AllSettled (shown c j).status (λ d. nat_le d to) ((shown c j).rows w))
-advanced_known c j by w to b own is =
-    let same = settled_all (status_at j.timers) (λ d. nat_le d to) (timers_at j.timers w) (shown_all j w own) in (
-      (λ yes. let h = is.0 yes in (h.told, same.0 h.settled)),
-      (λ p. is.1 (record { told = p.0; settled = same.1 p.1 })),
-    )

@@ -4,13 +4,13 @@ mod Finds
 mod FirstArmed
 mod Goes
 mod Highs
+mod InRange
 mod Knows
 mod Makers
 mod NewTimers
 mod NextUses
 mod Opens
 mod Pieces
-mod RangesExclude
 mod Seen
 mod Stands
 mod TimerLaws

@@ -1,10 +1,9 @@
 -- What a judge knows of a timer that a legal entry arms: its slot is free for it, and it is a new use of that.
 
-use Rattle.std.proofs.Common.{◌≡◌, ◌↔◌, ◌∙◌, refl, sym, ap, subst, ℕ, ◌<◌, ◌≤◌, Bool, true, false, List, length, Option, Some, None, eq-eqb}
+use Rattle.std.proofs.Common.{◌≡◌, ◌∙◌, refl, sym, ap, subst, ℕ, ◌<◌, ◌≤◌, true, false, List, length, Option, Some, None, eq-eqb}
 use Rattle.std.proofs.lemmas.List.{length-map}
 use Rattle.std.proofs.lemmas.List.Elements.{All-get_or}
 use Rattle.std.proofs.lemmas.Option.{slice_get_within, get_or_from_slice_get}
-use Rattle.std.specs.Prelude.{IsTrue}
 use Rattle.ert_defs.proofs.ExpiredTimers.{same_timer_self}
 use Rattle.ert_defs.proofs.Settlings.{armed_first}
 use Rattle.ert_defs.proofs.Slots.{ordered, same_timer-true}
@@ -25,37 +24,11 @@ use Rattle.ert_state.specs.Uses.{uses_in, IsNewUse}
 use Rattle.ert_state.specs.Wheels.{timers_at, rows_of, status_among, IsOwnOf, IsOwn}
 use Rattle.ert_state.specs.declared.wheels.Timer.{Timer}
 use Rattle.ert_judge.specs.Breaks.{ArmBreaks, UseBreaks, IsUse, last_status_of, looked_at}
-use Rattle.ert_judge.specs.Shown.{shown, last_status, IsFreeFor, HasFollowed}
+use Rattle.ert_judge.specs.Shown.{shown, last_status, HasFollowed}
 use Rattle.ert_judge.specs.declared.judge.Judge.{Judge}
 use Rattle.ert_judge.specs.declared.reasons.Reason.{Reason}
 use Rattle.ert_judge.specs.declared.reasons.Reason.TheVariants.{SlotTaken, WheelUsed}
 use Rattle.ert_judge.proofs.TimerLaws.{ArmsNext}
-
--- a slot is free for a timer exactly where that can be armed, by the deadline that its start has
-pub free_known : (c : Clock) (j : Judge) (by : Actor) (timer : TimerRef) (deadline : Option ℕ) (wanted : ℕ) (b : Bool)
-    → deadline ≡ Some wanted
-    → IsTrue b ↔ IsFreeFor j timer (natural (down j.settings (look_of (looks_in j.looks) by))) wanted
-    → IsTrue b ↔ CanArm j.settings (shown c j) by timer deadline
-free_known c j by timer deadline wanted b due is =
-    let now : ℕ = natural (down j.settings (look_of (looks_in j.looks) by)) in
-    let ts : List Timer = timers_at j.timers timer.wheel in
-    let count : length (rows_of ts) ≡ length ts = length-map ts (λ (t : Timer). t.row) in (
-      (λ yes. let h = is.0 yes in record {
-        free = h.free;
-        wanted = wanted;
-        due = due;
-        next_use = h.next_use;
-        few = subst (λ n. n < 9007199254740992) (sym count) h.few;
-      }),
-      (λ can. is.1 (subst (IsFreeFor j timer now) (some_same can.wanted wanted (sym can.due ∙ due)) (record {
-        free = can.free;
-        next_use = can.next_use;
-        few = subst (λ n. n < 9007199254740992) count can.few;
-      }))),
-    )
-  where
-    some_same : (m n : ℕ) → Some m ≡ Some n → m ≡ n
-    some_same m n e = cc
 
 -- a timer of which the use is the next of a free slot can be armed
 pub use_known : (c : Clock) (j : Judge) (by : Actor) (timer : TimerRef) (deadline : Option ℕ) (u : Uses) (now count : ℕ)

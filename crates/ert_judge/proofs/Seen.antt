@@ -16,15 +16,16 @@ use Rattle.ert_defs.specs.declared.settings.OffsetState.{OffsetState}
 use Rattle.ert_defs.specs.declared.settings.Reading.{Reading}
 use Rattle.ert_defs.specs.declared.settings.Settings.{Settings}
 use Rattle.ert_defs.specs.declared.timer.TimerRef.{TimerRef}
+use Rattle.ert_judge.proofs.EventsExclude.{excludes}
+use Rattle.ert_judge.proofs.InRange.{in_range_keeps}
 use Rattle.ert_judge.proofs.Knows.{next_known}
 use Rattle.ert_judge.specs.Shown.{ClockIs, OwnTimers, HasFollowed, shown}
 use Rattle.ert_judge.specs.declared.judge.Judge.{Judge}
 use Rattle.ert_judge.specs.Breaks.{Breaks, TickBreaks, ShiftBreaks, LookBreaks, OffBreaks, WatchBreaks, TellBreaks}
 use Rattle.ert_judge.specs.Ranges.{MayBeInRange}
 use Rattle.ert_judge.specs.Reasons.{IsFirstReason, BreaksRange}
-use Rattle.ert_judge.specs.Reasons.IsFirstReason.{out_of_range, breaks, other}
+use Rattle.ert_judge.specs.Reasons.IsFirstReason.{out_of_range, breaks}
 use Rattle.ert_judge.specs.declared.reasons.Reason.{Reason}
-use Rattle.ert_judge.specs.declared.reasons.Reason.TheVariants.{Other}
 use Rattle.ert_state.specs.Parts.{looks_in, look_of}
 use Rattle.ert_state.specs.Wheels.{timers_at, IsFirstDue}
 use Rattle.ert_state.specs.declared.clock.Clock.{Clock as KeptClock}
@@ -74,11 +75,12 @@ pub tell_seen : (g : Settings) (c : Clock) (k : KeptClock) (told : ℤ) (o : Opt
 tell_seen g c k told o is h =
     subst (λ (z : ℤ). IfSome o (TellBreaks z told)) (sym (ap (λ (f : Face). f.offset) is.face)) h
 
--- what a judge sees broken is broken in the state that it stands for
-pub broken_in : (g : Settings) (h : List Entry) (j : Judge) (e : Entry) (r : Reason) → MayBeInRange j.settings e
-    → ((c : Clock) → ClockIs j.settings c j.clock → OwnTimers j → Breaks j.settings (shown c j) e.by e.with e.event r)
-    → HasFollowed g h j → IsFirstReason g (state g h) e r
-broken_in g h j e r in_range is stands =
+-- what a judge sees broken, where it sees that, is broken in the state that it stands for
+pub why_in : (g : Settings) (h : List Entry) (j : Judge) (e : Entry) (o : Option Reason) → MayBeInRange j.settings e
+    → ((c : Clock) → ClockIs j.settings c j.clock → OwnTimers j → IfSome o (Breaks j.settings (shown c j) e.by e.with e.event))
+    → HasFollowed g h j → IfSome o (IsFirstReason g (state g h) e)
+why_in g h j e None in_range is stands = tt
+why_in g h j e (Some r) in_range is stands =
     let clock : ClockIs j.settings (state g h).clock j.clock =
     subst (λ (x : Settings). ClockIs x (state g h).clock j.clock) (sym stands.settings) stands.clock in
     let here : Breaks j.settings (shown (state g h).clock j) e.by e.with e.event r = is (state g h).clock clock stands.own in
@@ -86,31 +88,39 @@ broken_in g h j e r in_range is stands =
     (subst (λ (s : State). Breaks g s e.by e.with e.event r) (sym stands.kept)
     (subst (λ (x : Settings). Breaks x (shown (state g h).clock j) e.by e.with e.event r) stands.settings here))
 
+-- what it sees met, where it sees nothing broken, is met there, and the entry is legal
+met_in : (g : Settings) (h : List Entry) (j : Judge) (e : Entry) → MayBeInRange j.settings e
+    → ((c : Clock) → ClockIs j.settings c j.clock → OwnTimers j
+    → Known j.settings (shown c j) e.by e.with e.event × Found j.settings (shown c j) e.by e.event)
+    → HasFollowed g h j → Can g (state g h) e
+met_in g h j e in_range met stands =
+    let clock : ClockIs j.settings (state g h).clock j.clock =
+    subst (λ (x : Settings). ClockIs x (state g h).clock j.clock) (sym stands.settings) stands.clock in
+    let all : Known g (state g h) e.by e.with e.event × Found g (state g h) e.by e.event =
+    subst (λ (s : State). Known g s e.by e.with e.event × Found g s e.by e.event) (sym stands.kept)
+    (subst (λ (x : Settings). Known x (shown (state g h).clock j) e.by e.with e.event × Found x (shown (state g h).clock j) e.by e.event)
+    stands.settings (met (state g h).clock clock stands.own)) in
+    record { keeps = in_range_keeps g e (subst (λ (x : Settings). MayBeInRange x e) stands.settings in_range); known = all.0; found = all.1 }
+
+-- it sees nothing broken exactly where the entry is legal
+pub legal_in : (g : Settings) (h : List Entry) (j : Judge) (e : Entry) (o : Option Reason) → MayBeInRange j.settings e
+    → IfSome o (IsFirstReason g (state g h) e)
+    → ((c : Clock) → ClockIs j.settings c j.clock → OwnTimers j
+    → IfNone o (Known j.settings (shown c j) e.by e.with e.event × Found j.settings (shown c j) e.by e.event))
+    → HasFollowed g h j → (o ≡ None) ↔ Can g (state g h) e
+legal_in g h j e None in_range why met stands = ((λ _. met_in g h j e in_range met stands), (λ _. refl))
+legal_in g h j e (Some r) in_range why met stands = ((λ is. absurd cc), (λ can. absurd (excludes g (state g h) e r why can)))
+
 -- an entry that isn't in range isn't in that state either
 pub outside : (g : Settings) (h : List Entry) (j : Judge) (e : Entry) (r : Reason) → BreaksRange j.settings e r
     → HasFollowed g h j → IsFirstReason g (state g h) e r
 outside g h j e r is stands = out_of_range (subst (λ (x : Settings). BreaksRange x e r) stands.settings is)
 
--- what a judge sees met is met in that state
-met_in : (g : Settings) (h : List Entry) (j : Judge) (e : Entry)
-    → ((c : Clock) → ClockIs j.settings c j.clock → OwnTimers j
-    → Known j.settings (shown c j) e.by e.with e.event × Found j.settings (shown c j) e.by e.event)
-    → HasFollowed g h j → Known g (state g h) e.by e.with e.event × Found g (state g h) e.by e.event
-met_in g h j e met stands =
-    let clock : ClockIs j.settings (state g h).clock j.clock =
-    subst (λ (x : Settings). ClockIs x (state g h).clock j.clock) (sym stands.settings) stands.clock in
-    subst (λ (s : State). Known g s e.by e.with e.event × Found g s e.by e.event) (sym stands.kept)
-    (subst (λ (x : Settings). Known x (shown (state g h).clock j) e.by e.with e.event × Found x (shown (state g h).clock j) e.by e.event)
-    stands.settings (met (state g h).clock clock stands.own))
-
--- an entry that can't follow, where no more is said
-pub refused : (g : Settings) (h : List Entry) (j : Judge) (e : Entry) → MayBeInRange j.settings e
-    → ((c : Clock) → ClockIs j.settings c j.clock → OwnTimers j
-    → Known j.settings (shown c j) e.by e.with e.event × Found j.settings (shown c j) e.by e.event)
-    → HasFollowed g h j → (Can g (state g h) e → ⊥) → IsFirstReason g (state g h) e Other
-refused g h j e in_range met stands never =
-    let all = met_in g h j e met stands in
-    other refl (subst (λ (x : Settings). MayBeInRange x e) stands.settings in_range) all.0 all.1 never
+-- so it isn't legal
+pub outside_illegal : (g : Settings) (h : List Entry) (j : Judge) (e : Entry) (r : Reason) → BreaksRange j.settings e r
+    → HasFollowed g h j → (Some r ≡ None) ↔ Can g (state g h) e
+outside_illegal g h j e r is stands =
+    ((λ e. absurd cc), (λ can. absurd (excludes g (state g h) e r (outside g h j e r is stands) can)))
 
 -- where no reason is told, what follows from that
 pub none_map : {P Q : Type 0} (o : Option Reason) → (P → Q) → IfNone o P → IfNone o Q
@@ -120,9 +130,3 @@ none_map (Some r) f p = tt
 pub tick_met : (g : Settings) (c : Clock) (k : KeptClock) (r : Reading) (act : Act) (now : ℤ) → ClockIs g c k
     → (k.due ≡ None) × CanTick g (face_of k.face) r act now → (c.due ≡ None) × CanTick g (face g c) r act now
 tick_met g c k r act now is h = (is.due ∙ h.0, subst (λ (f : Face). CanTick g f r act now) (sym is.face) h.1)
-
--- a judge that refuses an entry tells that it can't follow
-pub not_can : (j : Judge) (e : Entry) (b : Bool)
-    → ((g : Settings) (h : List Entry) → HasFollowed g h j → IsTrue b ↔ Can g (state g h) e) → b ≡ false
-    → (g : Settings) (h : List Entry) → HasFollowed g h j → Can g (state g h) e → ⊥
-not_can j e b tells fails g h stands = refuted (Can g (state g h) e) b (tells g h stands) fails

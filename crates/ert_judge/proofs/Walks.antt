@@ -1,7 +1,8 @@
 -- The walk over the entries, one step on and where it stops.
 
-use Rattle.std.proofs.Common.{◌≡◌, ◌<◌, ◌+◌, ◌++◌, ◌∷◌, [], ℕ, sym, ◌∙◌, subst, Bool, true, false, List, length, take}
-use Rattle.std.specs.Prelude.{get_or, ◌↔◌, IsTrue}
+use Rattle.std.proofs.Common.{◌≡◌, ◌<◌, ◌+◌, ◌++◌, ◌∷◌, [], ℕ, sym, subst, List, length, take, Option, None}
+use Rattle.std.specs.Prelude.{get_or, ◌↔◌}
+use Rattle.std.proofs.lemmas.Option.{slice_get-get_or}
 use Rattle.std.proofs.lemmas.List.{take_more}
 use Rattle.ert_defs.specs.Legal.{Can, Legal}
 use Rattle.ert_defs.specs.States.{state}
@@ -9,7 +10,10 @@ use Rattle.ert_defs.specs.declared.entry.Entry.{Entry}
 use Rattle.ert_defs.specs.declared.settings.Settings.{Settings}
 use Rattle.ert_defs.proofs.Runs.{legal_one_more}
 use Rattle.ert_judge.specs.Shown.{HasFollowed, Follows}
-use Rattle.ert_judge.specs.Verdicts.{IsFirstIllegal}
+use Rattle.ert_judge.specs.Reasons.{IsFirstReason}
+use Rattle.ert_judge.specs.Verdicts.{StopsAtIllegal}
+use Rattle.ert_judge.specs.declared.reasons.Reason.{Reason}
+use Rattle.ert_judge.proofs.EventsExclude.{excludes}
 use Rattle.ert_judge.specs.declared.judge.Judge.{Judge}
 use Rattle.ert_state.specs.Parts.{ArmsNew}
 use Rattle.ert_judge.proofs.Goes.{stands_on}
@@ -17,15 +21,15 @@ use Rattle.ert_judge.proofs.NewTimers.{arms_next}
 use Rattle.ert_judge.proofs.TimerLaws.{new_of_next}
 use Rattle.ert_judge.proofs.TimersGo.{timers_go}
 
--- a judge told whether an entry is legal
-abbrev pub Tells : Judge → Entry → Bool → Type 0
-Tells j e b = (g : Settings) (h : List Entry) → HasFollowed g h j → IsTrue b ↔ Can g (state g h) e
+-- a judge told whether there is a reason against an entry
+abbrev pub Tells : Judge → Entry → Option Reason → Type 0
+Tells j e o = (g : Settings) (h : List Entry) → HasFollowed g h j → (o ≡ None) ↔ Can g (state g h) e
 
 -- it goes on by a legal one
-pub walk_on : (g : Settings) (es : List Entry) (i : ℕ) (d : Entry) (old new : Judge) (b : Bool) → i < length es
-    → HasFollowed g (take i es) old → Tells old (get_or es i d) b → b ≡ true → Follows old (get_or es i d) new
+pub walk_on : (g : Settings) (es : List Entry) (i : ℕ) (d : Entry) (old new : Judge) (o : Option Reason) → i < length es
+    → HasFollowed g (take i es) old → Tells old (get_or es i d) o → o ≡ None → Follows old (get_or es i d) new
     → HasFollowed g (take (i + 1) es) new
-walk_on g es i d old new b within stands tells is follows =
+walk_on g es i d old new o within stands tells is follows =
     let e : Entry = get_or es i d in
     let can : Can g (state g (take i es)) e = (tells g (take i es) stands).0 is in
     let on : HasFollowed g (take i es ++ e ∷ []) new = stands_on g (take i es) old new e stands can
@@ -33,26 +37,26 @@ walk_on g es i d old new b within stands tells is follows =
     subst (λ (h : List Entry). HasFollowed g h new) (sym (take_more es i d within)) on
 
 -- and stops at one that isn't
-pub walk_stops : (g : Settings) (es : List Entry) (i : ℕ) (d : Entry) (j : Judge) (b : Bool) → i < length es
-    → HasFollowed g (take i es) j → Tells j (get_or es i d) b → b ≡ false → IsFirstIllegal g es i
-walk_stops g es i d j b within stands tells not = record {
-  within = within;
-  legal = stands.legal;
-  illegal = λ legal.
-      let more : Legal g (take i es ++ get_or es i d ∷ []) =
-      subst (λ (h : List Entry). Legal g h) (take_more es i d within) legal in
-      let can = ((legal_one_more g (take i es) (get_or es i d)).0 more).1 in
-      let wrong : false ≡ true = sym not ∙ (tells g (take i es) stands).1 can in
-      (cc);
+pub walk_stops : (g : Settings) (es : List Entry) (i : ℕ) (d : Entry) (j : Judge) (r : Reason) → i < length es
+    → HasFollowed g (take i es) j → IsFirstReason g (state g (take i es)) (get_or es i d) r
+    → StopsAtIllegal g es (record { place = i; why = r })
+walk_stops g es i d j r within stands holds = record {
+  first = record {
+    within = within;
+    legal = stands.legal;
+    illegal = λ legal.
+        let more : Legal g (take i es ++ get_or es i d ∷ []) =
+        subst (λ (h : List Entry). Legal g h) (take_more es i d within) legal in
+        excludes g (state g (take i es)) (get_or es i d) r holds ((legal_one_more g (take i es) (get_or es i d)).0 more).1;
+  };
+  entry = get_or es i d;
+  stands = slice_get-get_or es i d within;
+  holds = holds;
 }
 
--- and tells its place
-pub placed : (g : Settings) (es : List Entry) (i place : ℕ) → i ≡ place → IsFirstIllegal g es i → IsFirstIllegal g es place
-placed g es i place same first = subst (IsFirstIllegal g es) same first
-
 -- a legal entry arms no timer but a new one
-pub arms_new : (g : Settings) (h : List Entry) (j : Judge) (e : Entry) (b : Bool) → HasFollowed g h j → Tells j e b → b ≡ true
+pub arms_new : (g : Settings) (h : List Entry) (j : Judge) (e : Entry) (o : Option Reason) → HasFollowed g h j → Tells j e o → o ≡ None
     → ArmsNew e.event j.timers
-arms_new g h j e b stands tells is =
+arms_new g h j e o stands tells is =
     let can : Can g (state g h) e = (tells g h stands).0 is in
     new_of_next j.timers g ((state g h).looked e.by) e.event (arms_next g h j e stands can)

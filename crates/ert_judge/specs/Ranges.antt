@@ -41,11 +41,6 @@ maker_of (Unwatch process monitor was) = AnyCaller
 maker_of (Watch process monitor offset) = AnyCaller
 maker_of (Tell process offset) = AnyCaller
 
--- only a scheduler makes it
-abbrev pub NeedsScheduler : Maker → Type 0
-NeedsScheduler (Scheduler w) = Unit {0}
-NeedsScheduler _ = ⊥
-
 -- an actor may make such an event, whatever the count of its kind
 abbrev pub IsMadeBy : Maker → Actor → Type 0
 IsMadeBy Clock by = by ≡ Keeper

@@ -1,14 +1,13 @@
 -- What a reason says of an entry and the state before it.
 
 use Rattle.std.specs.Prelude.{◌≡◌, Some}
-use Rattle.ert_defs.specs.Legal.{Can, Known, Found}
 use Rattle.ert_defs.specs.States.{State}
 use Rattle.ert_defs.specs.declared.entry.Entry.{Entry}
 use Rattle.ert_defs.specs.declared.settings.Settings.{Settings}
 use Rattle.ert_judge.specs.Breaks.{Breaks}
 use Rattle.ert_judge.specs.Ranges.{maker_of, partner_of, IsMadeBy, IsMadeWith, MayBeInRange, too_high}
 use Rattle.ert_judge.specs.declared.reasons.Reason.{Reason}
-use Rattle.ert_judge.specs.declared.reasons.Reason.TheVariants.{NotBy, NotWith, TooHigh, Other}
+use Rattle.ert_judge.specs.declared.reasons.Reason.TheVariants.{NotBy, NotWith, TooHigh}
 
 -- the entry isn't in range: its event is made by others, or with others, or one of its numbers is too high, in this order
 abbrev pub BreaksRange : Settings → Entry → Reason → Type 0
@@ -21,9 +20,7 @@ BreaksRange g e (TooHigh thing number count) =
 BreaksRange g e _ = ⊥
 
 -- a reason holds of an entry in a state, and none before it in the order in which they are looked for: the entry isn't
--- in range; else it breaks the named condition of its event; else no more is said than that it can't follow
+-- in range; else it breaks the named condition of its event
 pub data IsFirstReason (g : Settings) (s : State) (e : Entry) (r : Reason) : Type 0 where
   out_of_range : BreaksRange g e r → IsFirstReason g s e r
   breaks : MayBeInRange g e → Breaks g s e.by e.with e.event r → IsFirstReason g s e r
-  other : r ≡ Other → MayBeInRange g e → Known g s e.by e.with e.event → Found g s e.by e.event → (Can g s e → ⊥)
-      → IsFirstReason g s e r

@@ -1,24 +1,23 @@
 -- The model's state that a judge keeps, and how it goes on by an entry.
 
-use Rattle.std.specs.Prelude.{◌≡◌, ◌<◌, ℕ, ℤ, pos, [], true, List, length, nat_le, Option, Some, None, replicate, false}
+use Rattle.std.specs.Prelude.{◌≡◌, ℕ, ℤ, [], List, length, Option, Some, None, replicate, false}
 use Rattle.ert_defs.specs.Clocks.{Clock, face, first_clock}
 use Rattle.ert_defs.specs.Legal.{CanTick, Legal}
 use Rattle.ert_defs.specs.Lines.{Face, Due, due_after, ticked, shifted}
 use Rattle.ert_defs.specs.Mails.{no_mail, idle_sched}
-use Rattle.ert_defs.specs.Milliseconds.{down, deadline_of}
+use Rattle.ert_defs.specs.Milliseconds.{deadline_of}
 use Rattle.ert_defs.specs.States.{State, exited_after, state}
-use Rattle.ert_defs.specs.Timers.{IsNextUse, is_taken, timer_at}
+use Rattle.ert_defs.specs.Timers.{timer_at}
 use Rattle.ert_defs.specs.declared.entry.Actor.{Actor}
 use Rattle.ert_defs.specs.declared.entry.Entry.{Entry}
 use Rattle.ert_defs.specs.declared.entry.Event.{Event}
 use Rattle.ert_defs.specs.declared.entry.Event.TheVariants.{Tick, Shift, Arm}
 use Rattle.ert_defs.specs.declared.settings.Settings.{Settings}
 use Rattle.ert_defs.specs.declared.timer.Status.{Status}
-use Rattle.ert_defs.specs.declared.timer.TimerRef.{TimerRef}
 use Rattle.ert_clock.specs.Faces.{face_of}
 use Rattle.ert_state.specs.Parts.{looks_in, no_looks, look_of, looks_after, rows_in, status_at, timers_after, exited_at, mail_at, mail_after_with, inbox_at, inboxes_after, sched_at, scheds_in, scheds_after}
 use Rattle.ert_state.specs.Uses.{uses_in}
-use Rattle.ert_state.specs.Wheels.{timers_at, is_settled, IsOwn}
+use Rattle.ert_state.specs.Wheels.{timers_at, IsOwn}
 use Rattle.ert_state.specs.declared.clock.Clock.{Clock as KeptClock}
 use Rattle.ert_judge.specs.declared.judge.Judge.{Judge}
 
@@ -65,18 +64,6 @@ OwnTimers j = (w : ℕ) → IsOwn w (timers_at j.timers w)
 -- the status of the last timer of a slot
 abbrev pub last_status : Judge → ℕ → ℕ → Option Status
 last_status j w k = status_at j.timers (timer_at w k (uses_in (timers_at j.timers w) k).last)
-
--- the slot of a timer is free for it, where it is started at a look of so many milliseconds for this deadline,
--- and its wheel has had fewer than 2^53 timers
-pub record IsFreeFor (j : Judge) (timer : TimerRef) (now wanted : ℕ) : Type 0 where
-  pub free : is_taken (last_status j timer.wheel timer.slot) ≡ false
-  pub next_use : IsNextUse (uses_in (timers_at j.timers timer.wheel) timer.slot) now wanted timer.generation
-  pub few : length (timers_at j.timers timer.wheel) < 9007199254740992
-
--- a wheel has settled all that was due at the last look of an actor
-pub record HasSettledDue (j : Judge) (by : Actor) (w to : ℕ) : Type 0 where
-  pub told : pos to ≡ down j.settings (last_look j by)
-  pub settled : is_settled (λ d. nat_le d to) (timers_at j.timers w) ≡ true
 
 -- what the clock shows after an event
 abbrev pub face_moved : Settings → Face → Event → Face

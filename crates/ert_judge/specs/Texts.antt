@@ -21,7 +21,7 @@ use Rattle.ert_judge.specs.declared.reasons.Maker.TheVariants.{Clock, Scheduler,
 use Rattle.ert_judge.specs.declared.reasons.Partner.{Partner}
 use Rattle.ert_judge.specs.declared.reasons.Partner.TheVariants.{Nobody, Exactly, SomeCaller, SomeMailbox}
 use Rattle.ert_judge.specs.declared.reasons.Reason.{Reason}
-use Rattle.ert_judge.specs.declared.reasons.Reason.TheVariants.{NotBy, NotWith, TooHigh, ShiftFirst, BadReading, NotPreliminary, OtherTick, OffsetPast, OtherShift, OtherTime, OtherOffset, OtherState, SlotTaken, OtherGeneration, Rests, NoDeadline, WheelUsed, OtherStatus, OtherLeft, NotArmed, NotDue, Later, NotNext, NotExited, NoneWaits, OtherWaits, OtherDest, OtherMilliseconds, StillArmed, OtherExit, HandFull, OtherRequest, HandEmpty, OtherAsker, OtherOutcome, NothingLeft, OtherMail, OtherMonitor, OtherNumber, TooMany, Other}
+use Rattle.ert_judge.specs.declared.reasons.Reason.TheVariants.{NotBy, NotWith, TooHigh, ShiftFirst, BadReading, NotPreliminary, OtherTick, OffsetPast, OtherShift, OtherTime, OtherOffset, OtherState, SlotTaken, OtherGeneration, Rests, NoDeadline, WheelUsed, OtherStatus, OtherLeft, NotArmed, NotDue, Later, NotNext, NotExited, NoneWaits, OtherWaits, OtherDest, OtherMilliseconds, StillArmed, OtherExit, HandFull, OtherRequest, HandEmpty, OtherAsker, OtherOutcome, NothingLeft, OtherMail, OtherMonitor, OtherNumber, TooMany}
 
 -- one text, and then another
 infixr 20 ◌⋅◌
@@ -197,7 +197,6 @@ reason_text (OtherMail first) = first_text first
 reason_text (OtherMonitor stands) = monitor_text stands
 reason_text (OtherNumber next) = codes "the next monitor of the process is " ⋅ decimal next
 reason_text (TooMany count) = decimal count ⋅ codes " monitors of the process stand, which is the limit"
-reason_text Other = codes "it can't follow"
 
 -- a reason isn't of the range or of the clock
 abbrev pub IsPastClock : Reason → Type 0

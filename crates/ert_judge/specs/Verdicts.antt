@@ -1,10 +1,11 @@
 -- What a judge says of a history.
 
-use Rattle.std.specs.Prelude.{ℕ, ◌<◌, ◌+◌, List, length, take}
+use Rattle.std.specs.Prelude.{◌≡◌, ℕ, ◌<◌, ◌+◌, List, length, take, slice_get, Some}
 use Rattle.ert_defs.specs.Legal.{Legal}
+use Rattle.ert_defs.specs.States.{state}
 use Rattle.ert_defs.specs.declared.entry.Entry.{Entry}
 use Rattle.ert_defs.specs.declared.settings.Settings.{Settings}
-use Rattle.ert_judge.specs.Shown.{HasFollowed}
+use Rattle.ert_judge.specs.Reasons.{IsFirstReason}
 use Rattle.ert_judge.specs.declared.stops.Stop.{Stop}
 
 -- the entries before a place are legal, and with that at the place they aren't
@@ -13,7 +14,9 @@ pub record IsFirstIllegal (g : Settings) (h : List Entry) (place : ℕ) : Type 0
   pub legal : Legal g (take place h)
   pub illegal : Legal g (take (place + 1) h) → ⊥
 
--- a history stops at the first entry that isn't legal, and the judge stands for those before it
+-- a history stops at the first entry that isn't legal, by a reason that holds of it after those before it
 pub record StopsAtIllegal (g : Settings) (h : List Entry) (stop : Stop) : Type 0 where
   pub first : IsFirstIllegal g h stop.place
-  pub stands : HasFollowed g (take stop.place h) stop.judge
+  pub entry : Entry
+  pub stands : slice_get h stop.place ≡ Some entry
+  pub holds : IsFirstReason g (state g (take stop.place h)) entry stop.why

@@ -1,4 +1,4 @@
-ghost use Rattle.std.specs.Prelude.{◌≡◌, IfSome, IfNone, List};
+ghost use Rattle.std.specs.Prelude.{◌≡◌, ◌↔◌, IfSome, IfNone, List, None};
 ghost use Rattle.ert_defs.specs.Clocks as of_clocks;
 ghost use Rattle.ert_defs.specs.Legal.{Can, Known, Found};
 ghost use Rattle.ert_defs.specs.States.{state};
@@ -21,27 +21,12 @@ use ert_defs::{Entry, Event};
 pub fn reason(judge: &Judge, entry: &Entry) -> Option<Reason>
     ensures why { (g : settings.Settings) (h : List entries.Entry) → HasFollowed g h judge.now
         → IfSome result (IsFirstReason g (state g h) entry.now) }
-    ensures none { (g : settings.Settings) (h : List entries.Entry) → HasFollowed g h judge.now
-        → IfNone result (Can g (state g h) entry.now) }
+    ensures legal { (g : settings.Settings) (h : List entries.Entry) → HasFollowed g h judge.now
+        → (result ≡ None) ↔ Can g (state g h) entry.now }
 {
-    if judge.can(entry) {
-        None
-    } else {
-        Some(cause(judge, entry))
-    }
-}
-
-/// Why an entry can't follow, where it can't.
-fn cause(judge: &Judge, entry: &Entry) -> Reason
-    requires { (g : settings.Settings) (h : List entries.Entry) → HasFollowed g h judge.now → Can g (state g h) entry.now → ⊥ }
-    ensures { (g : settings.Settings) (h : List entries.Entry) → HasFollowed g h judge.now → IsFirstReason g (state g h) entry.now result }
-{
-    if let Some(reason) = out_of_range(&judge.settings, entry) {
-        return reason;
-    }
-    match broken(judge, entry) {
-        Some(reason) => reason,
-        None => Reason::Other,
+    match out_of_range(&judge.settings, entry) {
+        Some(reason) => Some(reason),
+        None => broken(judge, entry),
     }
 }
 

@@ -1,8 +1,7 @@
 ghost use Rattle.std.specs.Prelude.{◌≡◌};
 
-use crate::range::is_in_range;
-use ert_defs::milliseconds::deadline_of;
-use ert_defs::{Entry, Event, NoMemory, Settings};
+use ert_defs::milliseconds::{deadline_of, down, left};
+use ert_defs::{Actor, Entry, Event, NoMemory, Settings, Status, TimerRef};
 use ert_state::{Clock, Exits, Inboxes, Looks, Mailboxes, Schedulers, Timers};
 use std::alloc::Global;
 
@@ -20,15 +19,15 @@ pub struct Judge {
 }
 
 impl Judge {
-    ghost use Rattle.std.specs.Prelude.{◌↔◌, IsTrue, IfOk, OnOk, List};
-    ghost use Rattle.ert_defs.specs.Legal.{Can};
+    ghost use Rattle.std.specs.Prelude.{◌↔◌, IsTrue, IfOk, OnOk};
+    ghost use Rattle.ert_defs.specs.Clocks as clocks;
+    ghost use Rattle.ert_defs.specs.Legal.{left_of};
+    ghost use Rattle.ert_defs.specs.Milliseconds as milliseconds;
     ghost use Rattle.ert_defs.specs.Settings.{IsChecked};
-    ghost use Rattle.ert_defs.specs.States.{state};
-    ghost use Rattle.ert_defs.specs.declared.entry.Entry as entries;
-    ghost use Rattle.ert_defs.specs.declared.settings.Settings as settings;
     ghost use Rattle.ert_clock.specs.Faces.{face_of};
     ghost use Rattle.ert_state.specs.Parts.{ArmsNew};
-    ghost use Rattle.ert_judge.specs.Shown.{IsOpening, MayFollow, ClockFollows, deadline_by, Follows, HasFollowed, last_look};
+    ghost use Rattle.ert_state.specs.Wheels.{timers_at, IsFirstDue};
+    ghost use Rattle.ert_judge.specs.Shown.{IsOpening, MayFollow, ClockFollows, deadline_by, Follows, last_look, last_status, shown};
 
     /// The state at the opening.
     pub(crate) fn open(alloc: Global, settings: &Settings) -> Result<Judge, NoMemory>
@@ -91,10 +90,34 @@ impl Judge {
         }
     }
 
-    /// Whether an entry is legal.
-    pub fn can(&self, entry: &Entry) -> bool
-        ensures { (g : settings.Settings) (h : List entries.Entry) → HasFollowed g h self.now → IsTrue result ↔ Can g (state g h) entry.now }
+    /// The status of the last timer of a slot.
+    pub(crate) fn last_status(&self, wheel: u32, slot: u32) -> Option<Status>
+        ensures { result ≡ last_status self.now wheel slot }
     {
-        is_in_range(&self.settings, entry) && self.is_known(entry) && self.is_found(entry)
+        self.timers.status(TimerRef {
+            wheel,
+            slot,
+            generation: self.timers.uses(wheel, slot).last,
+        })
+    }
+
+    /// The milliseconds left of a timer by the last look of an actor, where it is armed.
+    pub(crate) fn left(&self, by: Actor, timer: TimerRef) -> Option<u128>
+        ensures { (c : clocks.Clock) → result ≡ left_of self.now.settings (shown c self.now) by timer }
+    {
+        match self.timers.find(timer) {
+            Some(found) if found.status == Status::Armed => {
+                Some(left(&self.settings, found.row.deadline, self.looks.of(by)))
+            }
+            _ => None,
+        }
+    }
+
+    /// Whether a timer is due by the last look of an actor and the first of its wheel, but for its own status.
+    pub(crate) fn is_next(&self, by: Actor, timer: TimerRef) -> bool
+        ensures { IsTrue result ↔ IsFirstDue (timers_at self.now.timers timer.wheel) timer (milliseconds.down self.now.settings (last_look self.now by)) }
+    {
+        let now = down(&self.settings, self.looks.of(by));
+        self.timers.is_first(timer, now)
     }
 }

@@ -197,7 +197,4 @@ pub enum Reason {
     TooMany {
         count: usize,
     },
-
-    /// It can't follow.
-    Other,
 }

@@ -1,24 +1,26 @@
 //! Where a history stops being legal.
 
-ghost use Rattle.std.specs.Prelude.{◌≡◌, ℕ, IfOk, IfSome, Ok, Some, None};
+ghost use Rattle.std.specs.Prelude.{◌≡◌, IfOk, IfSome, Ok, None};
 ghost use Rattle.ert_defs.specs.Legal.{Legal};
 ghost use Rattle.ert_defs.specs.Settings.{IsChecked};
-ghost use Rattle.ert_judge.specs.Verdicts.{IsFirstIllegal, StopsAtIllegal};
+ghost use Rattle.ert_judge.specs.Verdicts.{StopsAtIllegal};
 
+use crate::finding::reason;
 use crate::judge::Judge;
+use crate::reasons::Reason;
 use ert_defs::{Entry, NoMemory, Settings};
 use std::alloc::Global;
 
 /// Where a history stops being legal.
-#[derive(Drop)]
+#[derive(Clone, Copy)]
 pub struct Stop {
     /// The place of the first entry that isn't legal after those before it, from 0.
     pub place: usize,
-    /// The state after those before it.
-    pub judge: Judge,
+    /// Why it isn't.
+    pub why: Reason,
 }
 
-/// The first entry that isn't legal after those before it, with the state after these.
+/// The first entry that isn't legal after those before it, and why it isn't.
 pub fn first_stop(
     alloc: Global,
     settings: &Settings,
@@ -30,26 +32,10 @@ pub fn first_stop(
 {
     let mut judge = Judge::open(alloc, settings)?;
     for i in 0..entries.len() {
-        if !judge.can(&entries[i]) {
-            return Ok(Some(Stop { place: i, judge }));
+        if let Some(why) = reason(&judge, &entries[i]) {
+            return Ok(Some(Stop { place: i, why }));
         }
         judge.follow(&entries[i])?;
     }
     Ok(None)
-}
-
-/// The place of the first entry that isn't legal after those before it, from 0.
-pub fn first_illegal(
-    alloc: Global,
-    settings: &Settings,
-    entries: &[Entry],
-) -> Result<Option<usize>, NoMemory>
-    requires { IsChecked settings.now }
-    ensures legal { result ≡ Ok None → Legal settings.now entries.now }
-    ensures illegal { (place : ℕ) → result ≡ Ok (Some place) → IsFirstIllegal settings.now entries.now place }
-{
-    match first_stop(alloc, settings, entries)? {
-        Some(stop) => Ok(Some(stop.place)),
-        None => Ok(None),
-    }
 }

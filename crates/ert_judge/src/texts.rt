@@ -134,7 +134,6 @@ fn write_last_reason(page: &mut String, reason: Reason) -> Result<(), AllocError
                 "{count} monitors of the process stand, which is the limit"
             )
         }
-        Reason::Other => write!(page, "it can't follow"),
         _ => Ok(()),
     }
 }

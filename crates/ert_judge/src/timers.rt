@@ -14,10 +14,12 @@ ghost use Rattle.ert_state.specs.Wheels.{timers_at, timer_in, IsFirstDue};
 
 use crate::judge::Judge;
 use crate::reasons::Reason;
-use crate::rules::{TIMERS_OF_WHEEL, is_left};
 use ert_defs::milliseconds::{deadline_of, down, passed};
 use ert_defs::{Actor, Start, Status, TimerRef, use_of};
 use ert_state::{Timer, Uses};
+
+/// How many timers a wheel may have had (profile).
+const TIMERS_OF_WHEEL: usize = 1 << 53;
 
 /// Why a timer can't be armed.
 pub fn of_arm(judge: &Judge, by: Actor, timer: TimerRef, start: Start) -> Option<Reason>
@@ -120,6 +122,17 @@ pub fn of_left(judge: &Judge, by: Actor, timer: TimerRef, told: Option<u64>) -> 
         None
     } else {
         Some(Reason::OtherLeft { left })
+    }
+}
+
+/// Whether this is told where so many milliseconds are left.
+fn is_left(told: Option<u64>, left: Option<u128>) -> bool
+    ensures { IsTrue result ↔ (told ≡ left) }
+{
+    match (told, left) {
+        (Some(told), Some(left)) => told as u128 == left,
+        (None, None) => true,
+        _ => false,
     }
 }
 

@@ -32,10 +32,12 @@ mod lending;
 mod locked;
 mod mail;
 mod names;
+mod notes;
 mod seats;
 mod wheel;
 
 pub use desk_part::DeskPart;
 pub use locked::Locked;
 pub use names::DeskName;
+pub use notes::DeskNote;
 pub use seats::{CallerSeat, SchedSeat};

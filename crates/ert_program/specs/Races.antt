@@ -9,7 +9,8 @@ use Rattle.ert_ops.specs.Races.{Race}
 use Rattle.ert_ops.specs.declared.op.Op.{Op}
 use Rattle.ert_race.specs.Outcomes.{IsOutcome}
 use Rattle.ert_race.specs.Written.{Returned, MayWrite}
-use Rattle.ert_scenario.specs.Scenarios.{Plan, IsScenario}
+use Rattle.ert_scenario.specs.Acceptance.{IsRaceable}
+use Rattle.ert_scenario.specs.Scenarios.{Plan}
 use Rattle.ert_program.specs.Inputs.{InputEnds}
 use Rattle.ert_program.specs.OnDesks.{DidOn}
 use Rattle.ert_program.specs.Streams.{Output}
@@ -20,7 +21,7 @@ abbrev pub OfRace : Type 1
 OfRace = Settings → List Op → Race → List ℕ → Type 0
 
 -- a text is the report of an outcome
-abbrev pub IsReport : OfRace
+abbrev pub IsReport : Settings → List Op → Race → List ℕ → Type 0
 IsReport g ops race text = (h : List Entry) × IsOutcome g ops race h text
 
 -- a text of the race of a plan
@@ -30,8 +31,8 @@ pub record OfPlan (may : OfRace) (plan : Plan) (text : List ℕ) : Type 0 where
   pub is : may plan.settings plan.ops race text
 
 -- what `race` may write of bytes: they are a scenario with a race
-abbrev pub RaceWrites : OfRace → List ℕ → List ℕ → Type 0
-RaceWrites may bytes text = (plan : Plan) × IsScenario true bytes plan × OfPlan may plan text
+abbrev pub RaceWrites : (Settings → List Op → Race → List ℕ → Type 0) → List ℕ → List ℕ → Type 0
+RaceWrites may bytes text = (g : Settings) × (ops : List Op) × (race : Race) × IsRaceable bytes g ops race × may g ops race text
 
 -- `race` came to an end, between two moments of the input and of the output
 abbrev pub RaceEnds : Input → Input → Output → Output → EndStatus → Type 0

@@ -18,7 +18,7 @@ use crate::ending::{EndStatus, Ended};
 use crate::reading::read_input;
 use ert_io::{Sink, Source};
 use ert_race::{Gate, run_race};
-use ert_scenario::{Scenario, one_verdict, scenarios_are_valid};
+use ert_scenario::{Scenario, one_verdict, races_are_accepted, scenarios_are_valid};
 use ert_script::RunErr;
 use ert_table::{Desk, Pass};
 use std::alloc::Global;
@@ -51,6 +51,7 @@ pub fn race<R: Threads + Wait + Sync, G: Gate + Sync, I: Source, O: Sink>(
 {
     one_verdict();
     scenarios_are_valid();
+    races_are_accepted();
     match read_input(alloc, true, input, output) {
         Ok(scenario) => Ended::of_run(race_scenario(rt, alloc, &scenario, output, gate)),
         Err(ended) => ended,

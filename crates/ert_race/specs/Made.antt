@@ -1,7 +1,7 @@
 -- What an actor makes in a stretch of a history, beside others, and what each scheduler makes alone.
 
 use Rattle.std.specs.Prelude.{◌≡◌, ℕ, suc, List, [], ◌∷◌, ◌++◌, length, Ok}
-use Rattle.ert_effects.specs.Chains.{Turns}
+use Rattle.ert_effects.specs.Chains.{HasTurned}
 use Rattle.ert_effects.specs.Ways.{Growth, Then, Many, alone, beside}
 use Rattle.ert_effects.specs.declared.answers.Turned.{Turned}
 use Rattle.ert_defs.specs.Actors.{IsFree}
@@ -22,12 +22,12 @@ pub record MakesInStretch (a : Actor) (call : Growth) (h stretch : List Entry) :
 pub record MakesTurns (g : Settings) (w count : ℕ) (h stretch : List Entry) : Type 0 where
   pub turns : List Turned
   pub counted : length turns ≡ count
-  pub makes : MakesInStretch (Sched w) (Many (λ t. Turns g (beside g (Sched w)) w (Ok t)) turns) h stretch
+  pub makes : MakesInStretch (Sched w) (Many (λ t. HasTurned g (beside g (Sched w)) w t) turns) h stretch
 
 -- a turn of each scheduler from one on, alone, in order of number
 abbrev pub RoundOfTurns : Settings → ℕ → List Turned → Growth
 RoundOfTurns g w [] h m = m ≡ []
-RoundOfTurns g w (t ∷ turns) h m = Then (Turns g (alone g) w (Ok t)) (RoundOfTurns g (suc w) turns) h m
+RoundOfTurns g w (t ∷ turns) h m = Then (HasTurned g (alone g) w t) (RoundOfTurns g (suc w) turns) h m
 
 -- each of the first so many schedulers makes a turn, alone
 pub record MakesRound (g : Settings) (count : ℕ) (h m : List Entry) : Type 0 where

@@ -1,6 +1,6 @@
 -- A scenario without a race is one whose value is accepted.
 
-use Rattle.std.proofs.Common.{◌≡◌, ◌≢◌, ◌+◌, ◌<◌, ◌≤◌, ℕ, zero, suc, List, [], ◌∷◌, ◌++◌, map, length, get_or, AllPairs, All, Bool, true, false, ◌&&◌, ◌||◌, not, Option, Some, None, Ok, Err, eqb, ltb, cond, codes, sym, subst, ap, ◌∙◌, arith, refl, append-nil}
+use Rattle.std.proofs.Common.{◌≡◌, ◌≢◌, ◌+◌, ◌≤◌, ℕ, suc, List, [], ◌∷◌, ◌++◌, map, length, get_or, Bool, true, false, ◌&&◌, ◌||◌, not, Option, Some, None, Ok, Err, eqb, ltb, cond, codes, sym, subst, ap, ◌∙◌, arith, refl, append-nil}
 use Rattle.std.specs.List.{list_all}
 use Rattle.std.proofs.lemmas.Bool.{and_parts}
 use Rattle.std.proofs.lemmas.Bool.Decides.{nat_tests}
@@ -18,7 +18,7 @@ use Rattle.ert_scenario.specs.Lists.{OpValues, lists_found}
 use Rattle.ert_scenario.specs.Ranges.{is_op, is_checked}
 use Rattle.ert_scenario.specs.Scenarios.{Plan, Verdict, with_callers, is_over, over, refused, planned, judged, judged_all, verdict_of}
 use Rattle.ert_scenario.specs.Walked.{without_fault}
-use Rattle.ert_scenario.specs.Walks.{raws_of, all_raws, founds_of, first_shape, first_range, ops_of}
+use Rattle.ert_scenario.specs.Walks.{raws_of, all_raws, first_shape, first_range, ops_of}
 use Rattle.ert_scenario.specs.declared.doer.Doer.TheVariants.{Everyone}
 use Rattle.ert_scenario.specs.declared.fields.Top.{Top}
 use Rattle.ert_scenario.specs.declared.format.Format.{Format}
@@ -26,6 +26,7 @@ use Rattle.ert_scenario.specs.declared.scenario.ScenarioErr.TheVariants.{Shape, 
 use Rattle.ert_scenario.proofs.Cut.{ops_of-without}
 use Rattle.ert_scenario.proofs.Founds.{follows, in_range_parts}
 use Rattle.ert_scenario.proofs.NewLabels.{AreNew}
+use Rattle.ert_scenario.proofs.SettingsRead.{has_settings, settings_are}
 use Rattle.ert_scenario.proofs.Valid.{tested_plan, valid, whole}
 
 -- ---- the settings are for one caller
@@ -50,7 +51,7 @@ range_step g op new rest k h later = by_test (is_op g op && new) refl h
         ap (λ (b : Bool). b && list_all (is_op g) (ops_of rest)) own ∙ later h
     by_test false e h = absurd (cc)
 
-all_fit : (g : Settings) (labels : List ℕ) (raws : List (FoundOrFault Op)) (k : ℕ) → first_range k (tested g labels raws) ≡ None → list_all (is_op g) (ops_of (tested g labels raws)) ≡ true
+pub all_fit : (g : Settings) (labels : List ℕ) (raws : List (FoundOrFault Op)) (k : ℕ) → first_range k (tested g labels raws) ≡ None → list_all (is_op g) (ops_of (tested g labels raws)) ≡ true
 all_fit g labels [] k h = refl
 all_fit g labels (Ok op ∷ raws) k h =
     range_step g op (is_new labels (started_label op)) (tested g (with_label labels (started_label op)) raws) k h (all_fit g (with_label labels (started_label op)) raws (k + 1))
@@ -119,7 +120,12 @@ accepted d plan h =
     let reads : raws ≡ map Ok (ops_of raws) = all ∙ ap without_fault (sym same) in
     let labels : AreOps (ops_of raws) = subst (λ (p : Plan). AreOps p.ops) a.is v.labels in
     subst (λ (p : Plan). IsAccepted d p.settings p.ops) (sym a.is)
-    (record { values = a.values; settings = a.settings; list = a.list; reads = reads; in_range = fit; labels = labels })
+    (record {
+      settings = has_settings false d a.g a.settings;
+      list = record { values = a.values; list = a.list; reads = reads };
+      in_range = fit;
+      labels = labels;
+    })
 
 -- and has no race
 pub plan_is_alone : (d : Data) (plan : Plan) → verdict_of false d ≡ Ok plan → plan ≡ plan_alone plan.settings plan.ops
@@ -132,7 +138,7 @@ plan_is_alone d plan h =
 apart : (l k : ℕ) → l ≢ k → eqb k l ≡ false
 apart l k h = grind (arith, nat_tests)
 
-or_none : (a b : Bool) → a ≡ false → b ≡ false → (a || b) ≡ false
+pub or_none : (a b : Bool) → a ≡ false → b ≡ false → (a || b) ≡ false
 or_none a b first second = ap (λ (x : Bool). x || b) first ∙ second
 
 -- one label is new, and so are those behind it
@@ -162,7 +168,7 @@ fits_step : (fits new : Bool) (op : Op) → fits ≡ true → new ≡ true → i
 unfolding if_in_range
 fits_step fits new op first second = ap (λ (b : Bool). if_in_range (b && new) op) first ∙ ap (λ (b : Bool). if_in_range b op) second
 
-tested_same : (g : Settings) (earlier : List ℕ) (ops : List Op) → list_all (is_op g) ops ≡ true → AreNew earlier (labels_in ops)
+pub tested_same : (g : Settings) (earlier : List ℕ) (ops : List Op) → list_all (is_op g) ops ≡ true → AreNew earlier (labels_in ops)
     → tested g earlier (without_fault ops) ≡ without_fault ops
 tested_same g earlier [] fit new = refl
 tested_same g earlier (op ∷ ops) fit new =
@@ -172,11 +178,11 @@ tested_same g earlier (op ∷ ops) fit new =
     (fits_step (is_op g op) (is_new earlier (started_label op)) op parts.0 label.first)
     ∙ ap (λ (rest : List (FoundOrFault Op)). Ok op ∷ rest) (tested_same g (with_label earlier (started_label op)) ops parts.1 label.then)
 
-no_shape : (ops : List Op) (k : ℕ) → first_shape k (without_fault ops) ≡ None
+pub no_shape : (ops : List Op) (k : ℕ) → first_shape k (without_fault ops) ≡ None
 no_shape [] k = refl
 no_shape (op ∷ ops) k = no_shape ops (k + 1)
 
-no_range : (ops : List Op) (k : ℕ) → first_range k (without_fault ops) ≡ None
+pub no_range : (ops : List Op) (k : ℕ) → first_range k (without_fault ops) ≡ None
 no_range [] k = refl
 no_range (op ∷ ops) k = no_range ops (k + 1)
 
@@ -186,7 +192,7 @@ few n h = or_none (ltb 100000 n) false (low n h) refl
     low : (n : ℕ) → n ≤ 100000 → ltb 100000 n ≡ false
     low n h = grind (arith, nat_tests)
 
-judged_as : (format : Format) (lists : OpValues) (top : Top) (founds : List (FoundOrFault Op)) → first_shape 1 founds ≡ None → first_range 1 founds ≡ None
+pub judged_as : (format : Format) (lists : OpValues) (top : Top) (founds : List (FoundOrFault Op)) → first_shape 1 founds ≡ None → first_range 1 founds ≡ None
     → over top lists.race founds ≡ None → judged format lists (Ok top) founds ≡ Ok (planned format lists top)
 judged_as format lists top founds shape range limit =
     let all : Verdict = Ok (planned format lists top) in
@@ -194,7 +200,7 @@ judged_as format lists top founds shape range limit =
     ∙ ap (λ (k : Option ℕ). refused Range k (refused Limit (over top lists.race founds) all)) range
     ∙ ap (λ (k : Option ℕ). refused Limit k all) limit
 
-not_over : (is : Bool) → is ≡ false → cond {A = Option ℕ} is (Some 0) None ≡ None
+pub not_over : (is : Bool) → is ≡ false → cond {A = Option ℕ} is (Some 0) None ≡ None
 not_over is h = ap (λ (b : Bool). cond {A = Option ℕ} b (Some 0) None) h
 
 -- the plan of what is accepted
@@ -202,22 +208,23 @@ pub is_scenario : (d : Data) (g : Settings) (ops : List Op) → IsAccepted d g o
 unfolding verdict_of lists_found top_of
 is_scenario d g ops a =
     let format : Format = format_of d in
-    let lists : OpValues = record { ops = a.values; race = None } in
+    let opened : settings_from false d ≡ Ok g = settings_are false d g a.settings in
+    let lists : OpValues = record { ops = a.list.values; race = None } in
     let top : Top = record { settings = g; turns = 0 } in
-    let found : lists_found false d ≡ Ok lists = ap (λ (r : FoundOrFault (List Data)). r >>= (λ ops. Ok (record { ops = ops; race = None }))) a.list in
-    let opens : top_of false d ≡ Ok top = ap (λ (r : FoundOrFault Settings). r >>= (λ g. Ok (record { settings = g; turns = 0 }))) a.settings in
-    let raws : List (FoundOrFault Op) = raws_of format Everyone a.values in
+    let found : lists_found false d ≡ Ok lists = ap (λ (r : FoundOrFault (List Data)). r >>= (λ ops. Ok (record { ops = ops; race = None }))) a.list.list in
+    let opens : top_of false d ≡ Ok top = ap (λ (r : FoundOrFault Settings). r >>= (λ g. Ok (record { settings = g; turns = 0 }))) opened in
+    let raws : List (FoundOrFault Op) = raws_of format Everyone a.list.values in
     let founds : tested g [] (raws ++ []) ≡ without_fault ops =
-    ap (tested g []) (append-nil raws ∙ a.reads)
+    ap (tested g []) (append-nil raws ∙ a.list.reads)
     ∙ tested_same g [] ops a.in_range (record { apart = a.labels.apart; new = λ i d below. refl }) in
     let many : length (without_fault ops) ≡ length ops = length-map ops Ok in
     let verdict : judged format lists (Ok top) (without_fault ops) ≡ Ok (planned format lists top) =
     judged_as format lists top (without_fault ops) (no_shape ops 1) (no_range ops 1)
     (not_over (is_over (length (without_fault ops)) 0 0) (few (length (without_fault ops)) (omega (arith, many, a.labels.few)))) in
-    let read : ops_of raws ≡ ops = ap ops_of a.reads ∙ ops_of-without ops in
+    let read : ops_of raws ≡ ops = ap ops_of a.list.reads ∙ ops_of-without ops in
     ap (λ (r : FoundOrFault OpValues). judged_all format r (top_of false d)) found
     ∙ ap (λ (r : FoundOrFault Top). judged_all format (Ok lists) r) opens
     ∙ ap (λ (k : List (FoundOrFault Op)). judged format lists (Ok top) k) founds
     ∙ verdict
     ∙ ap (λ (k : List Op). Ok (record { settings = with_callers 1 g; ops = k; race = None })) read
-    ∙ ap (λ (k : Settings). Ok (plan_alone k ops)) (for_one d g a.settings)
+    ∙ ap (λ (k : Settings). Ok (plan_alone k ops)) (for_one d g opened)

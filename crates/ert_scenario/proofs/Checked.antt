@@ -1,6 +1,6 @@
 -- The tests of the ranges, and the facts that they test.
 
-use Rattle.std.proofs.Common.{◌≡◌, ◌&&◌, ◌*◌, ◌≤◌, ℕ, ℤ, ◌≤ℤ◌, ◌<ℤ◌, true, false, Result, Ok, Err, is_ok, leb, int_le, int_lt, leb-true, le-leb, arith, refl}
+use Rattle.std.proofs.Common.{◌≡◌, ◌&&◌, ◌*◌, ◌≤◌, ℕ, ℤ, ◌≤ℤ◌, ◌<ℤ◌, false, Result, Ok, Err, is_ok, leb, int_le, int_lt, leb-true, le-leb, arith}
 use Rattle.std.proofs.lemmas.Bool.{false≢true}
 use Rattle.std.proofs.lemmas.Int.{ints}
 use Rattle.std.proofs.lemmas.Nat.{mul-le}

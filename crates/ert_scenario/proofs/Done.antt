@@ -2,12 +2,13 @@
 
 use Rattle.std.proofs.Common.{◌≡◌, ℕ, List, [], ◌∷◌, All, Bool, true, false, Option, Some, None, Ok, Err, cond, bytes_eq, subst, ap, refl}
 use Rattle.std.proofs.lemmas.List.Elements.{All-nil, All-cons, All-weaker}
+use Rattle.ert_defs.specs.Mails.{first_of, others_of}
 use Rattle.serde_json.specs.Data.{Data}
 use Rattle.ert_ops.specs.Races.{IsCallersOp}
 use Rattle.ert_ops.specs.declared.op.Op.{Op}
 use Rattle.ert_ops.specs.declared.op.Op.TheVariants.{Tick, Check, Finalize, Notify, Time, System, Offset, Info, Convert, Start, SendAfter, Cancel, CancelQuiet, Read, CancelAsync, ReadAsync, Receive, Exit, Alive, Monitor, Demonitor}
 use Rattle.ert_scenario.specs.Doers.{IsKeepersOp, IsCallersAlone, IsDoneBy}
-use Rattle.ert_scenario.specs.Kinds.{FoundOrFault, ◌>>=◌, ◌▹◌, integer, one_word, two_words, reading_from, listed, text, head, tail, end}
+use Rattle.ert_scenario.specs.Kinds.{FoundOrFault, ◌>>=◌, ◌▹◌, integer, one_word, two_words, reading_from, listed, text, end}
 use Rattle.ert_scenario.specs.Rows.{OpRow, keeper_rows, shared_rows, convert_row, clock_rows, process_rows, start_args, timer_rows, request_args, rows_of_one, rows_of_two, rows_of_format, caller_groups, groups_of, row_in, or_next, op_named, op_of}
 use Rattle.ert_scenario.specs.Units.{time_unit}
 use Rattle.ert_scenario.specs.Walks.{raws_of, ops_of}
@@ -141,8 +142,8 @@ op_done : (format : Format) (doer : Doer) (d : Data) (op : Op) → op_of format 
 unfolding op_of
 op_done format doer d op h =
     let items = follows (listed (Some d)) _ op h in
-    let name = follows (text (head items.read)) _ op items.then in
-    by_doer format doer name.read (tail items.read) op name.then
+    let name = follows (text (first_of items.read)) _ op items.then in
+    by_doer format doer name.read (others_of items.read) op name.then
 
 one_more : (doer : Doer) (found : FoundOrFault Op) (rest : List (FoundOrFault Op)) → ((op : Op) → found ≡ Ok op → IsDoneBy doer op) → All (IsDoneBy doer) (ops_of rest)
     → All (IsDoneBy doer) (ops_of (found ∷ rest))

@@ -7,7 +7,6 @@ use Rattle.ert_scenario.specs.Walks.{first_shape, first_range}
 use Rattle.ert_scenario.specs.declared.fault.Fault.{Fault}
 use Rattle.ert_scenario.specs.declared.fault.Fault.TheVariants as faults
 use Rattle.ert_ops.specs.declared.op.Op.{Op}
-use Rattle.ert_scenario.specs.declared.scenario.ScenarioErr.TheVariants.{Shape, Range}
 
 -- the first index with the fault, at this place
 pub record LeastFrom (k place : ℕ) (fault : Fault) (founds : List (FoundOrFault Op)) : Type 0 where

@@ -1,5 +1,6 @@
 pub mod Acceptance
 pub mod Accepted
+pub mod AcceptedRace
 pub mod Changed
 pub mod Checked
 pub mod Cut
@@ -21,6 +22,7 @@ pub mod QuickMembers
 pub mod Reading
 pub mod Refused
 pub mod Scanned
+pub mod SettingsRead
 pub mod Tested
 pub mod Valid
 pub mod Wholes

@@ -8,7 +8,7 @@ use Rattle.serde_json.specs.declared.value.Value.{Value, Array}
 use Rattle.serde_json.proofs.Views.{view-Array}
 use Rattle.ert_ops.specs.declared.op.Op.{Op}
 use Rattle.ert_ops.specs.declared.op.Op.TheVariants.{CancelAsync, ReadAsync}
-use Rattle.ert_scenario.specs.Kinds.{FoundOrFault, ◌>>=◌, read_both, of_kind, integer, word, boolean as boolean_of, two_words, list_of, listed, items_in, text, head, tail, end}
+use Rattle.ert_scenario.specs.Kinds.{FoundOrFault, ◌>>=◌, read_both, of_kind, integer, word, boolean as boolean_of, two_words, list_of, listed, items_in, text, end}
 use Rattle.ert_scenario.specs.Migration.{is_ask, migrated_items, migrated_op, each, migrated_list}
 use Rattle.ert_scenario.specs.Rows.{keeper_rows, shared_rows, sched_rows, clock_rows, process_rows, timer_rows, request_args, rows_of_one, rows_of_two, caller_groups, groups_of, row_in, or_next, op_named, op_from, op_of}
 use Rattle.ert_scenario.specs.Walked.{without_fault}
@@ -95,7 +95,7 @@ made make op (Err faults.Range) (Err faults.Range) h = absurd (cc)
 -- an op of format 1 with two arguments, and the op of format 2 with `true` after them
 told : (make : ℕ → ℕ → Bool → Op) (op : Op) (args : List Data) → from_two make (two_words args) ≡ Ok op
     → from_three make (request_args (args ++ boolean true ∷ [])) ≡ Ok op
-unfolding request_args head tail end boolean_of word integer of_kind
+unfolding request_args end boolean_of word integer of_kind
 told make op [] h = absurd (no_first make op _ _ h)
 told make op (a ∷ []) h = absurd (no_second make op _ _ h)
 told make op (a ∷ b ∷ []) h = made make op (word (Some a)) (word (Some b)) h
@@ -170,7 +170,6 @@ name_kept doer op name args false false e f = λ h.
 
 named_items : (doer : Doer) (op : Op) (info : Bool) (x : Data) (args : List Data) (name : List ℕ) → text (Some x) ≡ Ok name
     → op_named name (groups_of doer Two) (migrated_args info args) ≡ Ok op → op_from Two doer (cond info ((x ∷ args) ++ boolean true ∷ []) (x ∷ args)) ≡ Ok op
-unfolding head tail
 named_items doer op true x args name is h = rw is h
 named_items doer op false x args name is h = rw is h
 
@@ -181,7 +180,7 @@ items_found doer op x args (Ok name) is h = named_items doer op (asks name) x ar
 items_found doer op x args (Err fault) is h = absurd (cc)
 
 items_kept : (doer : Doer) (op : Op) (items : List Data) → op_from One doer items ≡ Ok op → op_from Two doer (migrated_items items) ≡ Ok op
-unfolding head tail text of_kind migrated_items
+unfolding text of_kind migrated_items
 items_kept doer op [] h = absurd (cc)
 items_kept doer op (x ∷ args) h = items_found doer op x args (text (Some x)) refl h
 

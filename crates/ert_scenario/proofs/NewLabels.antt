@@ -1,6 +1,6 @@
 -- No two starts among the tested ops of a list have one label.
 
-use Rattle.std.proofs.Common.{◌≡◌, ◌≢◌, ◌+◌, ◌<◌, ℕ, zero, suc, List, [], ◌∷◌, ◌++◌, length, take, get_or, All, AllPairs, Bool, true, false, not, ◌&&◌, ◌||◌, Option, Some, None, Ok, Err, eqb, sym, subst, ap, arith, refl}
+use Rattle.std.proofs.Common.{◌≡◌, ◌≢◌, ◌<◌, ℕ, zero, suc, List, [], ◌∷◌, ◌++◌, length, take, get_or, All, AllPairs, Bool, true, false, not, ◌&&◌, ◌||◌, Option, Some, None, Ok, Err, eqb, sym, subst, ap, arith, refl}
 use Rattle.std.proofs.lemmas.List.{length-append}
 use Rattle.std.proofs.lemmas.List.Elements.{All-take, All-same}
 use Rattle.std.proofs.lemmas.List.Kept.{AllPairs-cons}

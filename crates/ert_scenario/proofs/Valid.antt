@@ -73,7 +73,7 @@ valid_top true d top h =
     let same : record { settings = f.read.0; turns = f.read.1 } ≡ top = cc in
     subst FitsScenarios (ap (λ (t : Top). t.settings) same) (valid_settings true d f.read.0 parts.first)
 
-with_more : (g : Settings) (lists : ℕ) → lists ≤ 16 → IsChecked g → IsChecked (with_callers (1 + lists) g)
+pub with_more : (g : Settings) (lists : ℕ) → lists ≤ 16 → IsChecked g → IsChecked (with_callers (1 + lists) g)
 with_more g lists few h = record {
   start = h.start;
   first = h.first;

@@ -3,6 +3,7 @@
 use Rattle.std.specs.Prelude.{ℕ, ℤ, pos, negsuc, nat_lt, List, [], ◌∷◌, Bool, true, false, Option, Some, None, is_some, Result, Ok, Err, option_map, option_and_then, if◌then◌else◌}
 use Rattle.std.specs.List.{list_all}
 use Rattle.std.specs.Str.{bytes_eq}
+use Rattle.ert_defs.specs.Mails.{first_of, others_of}
 use Rattle.serde_json.specs.Data.{Data, Items, no_items, item}
 use Rattle.serde_json.specs.Find.{as_number, as_i64, as_u64, as_bool, as_str, as_array}
 use Rattle.ert_defs.specs.declared.settings.Reading.{Reading}
@@ -102,20 +103,10 @@ arrays value = listed value >>= (λ lists. if list_all is_array lists then Ok li
 unfoldable pub text : Option Data → FoundOrFault (List ℕ)
 text value = of_kind (option_and_then as_str value)
 
--- the first item
-unfoldable pub head : List Data → Option Data
-head [] = None
-head (d ∷ ds) = Some d
-
--- the items after the first
-unfoldable pub tail : List Data → List Data
-tail [] = []
-tail (d ∷ ds) = ds
-
 -- one argument, and then the others
 infixr 20 ◌▹◌
 abbrev pub ◌▹◌ : {A B : Type 0} → (Option Data → FoundOrFault A) → (List Data → FoundOrFault B) → List Data → FoundOrFault (A × B)
-(kind ▹ others) args = read_both (kind (head args)) (others (tail args))
+(kind ▹ others) args = read_both (kind (first_of args)) (others (others_of args))
 
 -- no further argument
 unfoldable pub end : List Data → FoundOrFault (Unit {0})

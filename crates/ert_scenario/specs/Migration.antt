@@ -2,11 +2,12 @@
 
 use Rattle.std.specs.Prelude.{◌≡◌, ℕ, pos, List, [], ◌∷◌, ◌++◌, map, codes, Bool, true, false, ◌||◌, Option, Some, None, Ok, Err, if◌then◌else◌}
 use Rattle.std.specs.Str.{bytes_eq}
+use Rattle.ert_defs.specs.Mails.{first_of}
 use Rattle.serde_json.specs.Data.{Data, null, boolean, number, string, array, object, unsigned, put}
 use Rattle.serde_json.specs.Find.{get}
 use Rattle.serde_json.specs.View.{items_of}
 use Rattle.ert_scenario.specs.Fields.{field}
-use Rattle.ert_scenario.specs.Kinds.{FoundOrFault, integer, list_of, text, head}
+use Rattle.ert_scenario.specs.Kinds.{FoundOrFault, integer, list_of, text}
 
 -- whether it is the name of an op that asks a scheduler
 abbrev pub is_ask : FoundOrFault (List ℕ) → Bool
@@ -15,7 +16,7 @@ is_ask (Err fault) = false
 
 -- the items of an op: one that asks a scheduler gets `true` as its last argument
 unfoldable pub migrated_items : List Data → List Data
-migrated_items items = if is_ask (text (head items)) then items ++ boolean true ∷ [] else items
+migrated_items items = if is_ask (text (first_of items)) then items ++ boolean true ∷ [] else items
 
 -- an op
 unfoldable pub migrated_op : Data → Data

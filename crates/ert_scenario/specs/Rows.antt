@@ -2,13 +2,14 @@
 
 use Rattle.std.specs.Prelude.{ℕ, ℤ, List, [], ◌∷◌, codes, Bool, true, Option, Some, None, Ok, Err, if◌then◌else◌}
 use Rattle.std.specs.Str.{bytes_eq}
+use Rattle.ert_defs.specs.Mails.{first_of, others_of}
 use Rattle.serde_json.specs.Data.{Data}
 use Rattle.ert_defs.specs.declared.settings.Reading.{Reading}
 use Rattle.ert_defs.specs.declared.timer.When.{When}
 use Rattle.ert_defs.specs.declared.timer.When.TheVariants.{After, At}
 use Rattle.ert_ops.specs.declared.op.Op.{Op}
 use Rattle.ert_ops.specs.declared.op.Op.TheVariants.{Tick, Check, Finalize, Notify, Time, System, Offset, Info, Convert, Start, SendAfter, Cancel, CancelQuiet, Read, CancelAsync, ReadAsync, Serve, Advance, Deliver, Turn, Receive, Exit, Alive, Monitor, Demonitor}
-use Rattle.ert_scenario.specs.Kinds.{FoundOrFault, ◌>>=◌, ◌▹◌, integer, word, unsigned_integer, boolean, called, one_word, two_words, reading_from, listed, text, head, tail, end}
+use Rattle.ert_scenario.specs.Kinds.{FoundOrFault, ◌>>=◌, ◌▹◌, integer, word, unsigned_integer, boolean, called, one_word, two_words, reading_from, listed, text, end}
 use Rattle.ert_scenario.specs.Units.{time_unit}
 use Rattle.ert_scenario.specs.declared.fault.Fault.TheVariants.{Shape}
 use Rattle.ert_scenario.specs.declared.doer.Doer.{Doer}
@@ -179,7 +180,7 @@ op_named name (rows ∷ groups) args = or_next (row_in name rows args) (op_named
 
 -- the op that items are
 abbrev pub op_from : Format → Doer → List Data → FoundOrFault Op
-op_from format doer items = text (head items) >>= (λ name. op_named name (groups_of doer format) (tail items))
+op_from format doer items = text (first_of items) >>= (λ name. op_named name (groups_of doer format) (others_of items))
 
 -- the op that a value is, before the ranges of its numbers are tested
 unfoldable pub op_of : Format → Doer → Data → FoundOrFault Op

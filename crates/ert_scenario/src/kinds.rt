@@ -3,8 +3,10 @@
 ghost use Rattle.std.specs.Prelude.{◌≡◌, map, option_map};
 ghost use Rattle.std.specs.List.{list_all};
 ghost use Rattle.serde_json.specs.View.{view};
+ghost use Rattle.ert_defs.specs.Mails.{first_of, others_of};
 ghost use Rattle.ert_scenario.specs.Kinds.{found_map, read_both, of_kind, if_in_range, integer, word_from, word, non_negative_from, non_negative, unsigned_integer, boolean, text};
-ghost use Rattle.ert_scenario.specs.Kinds.{listed, items_in, is_array, arrays, head, tail, end, one_word, two_words, reading_from, listed_reading};
+ghost use Rattle.ert_defs.specs.Mails.{first_of, others_of};
+ghost use Rattle.ert_scenario.specs.Kinds.{listed, items_in, is_array, arrays, end, one_word, two_words, reading_from, listed_reading};
 
 use crate::fault::Fault;
 use ert_defs::Reading;
@@ -165,10 +167,9 @@ pub(crate) fn text(value: Option<&Value>) -> Result<&str, Fault>
 }
 
 /// The next argument, and those after it.
-#[tactic(auto, unfolding(crate::specs::Kinds::head, crate::specs::Kinds::tail))]
 pub(crate) fn next(args: &[Value]) -> (Option<&Value>, &[Value])
-    ensures first { option_map (λ v. view v.now) result.0 ≡ head (map view args.now) }
-    ensures others { map view result.1.now ≡ tail (map view args.now) }
+    ensures first { option_map (λ v. view v.now) result.0 ≡ first_of (map view args.now) }
+    ensures others { map view result.1.now ≡ others_of (map view args.now) }
 {
     match args {
         [first, others @ ..] => (Some(first), others),

@@ -1,15 +1,15 @@
 //! Laws of the definitions, each the contract of a function with no body. A caller calls the function to
 //! bring its law into reach; the call costs nothing.
 
-ghost use Rattle.std.specs.Prelude.{◌≡◌, ◌<◌, ◌⊎◌, ℕ, suc, Bool, false, List, All, IfSome, is_some};
+ghost use Rattle.std.specs.Prelude.{◌≡◌, ◌<◌, ◌⊎◌, ℕ, suc, Bool, true, false, List, All, Some, IfSome, is_some};
 ghost use Rattle.ert_defs.specs.Settings.{IsChecked};
 ghost use Rattle.ert_defs.specs.declared.settings.Settings.{Settings};
 ghost use Rattle.ert_ops.specs.Labels.{AreOps};
-ghost use Rattle.ert_ops.specs.Races.{IsRace};
+ghost use Rattle.ert_ops.specs.Races.{Race as ARace, IsRace};
 ghost use Rattle.ert_ops.specs.Ranges.{IsOpInRange, AreOpsInRange};
 ghost use Rattle.serde_json.specs.Data.{Data};
 ghost use Rattle.ert_ops.specs.declared.op.Op.{Op as AnOp};
-ghost use Rattle.ert_scenario.specs.Acceptance.{IsRunnable, plan_alone};
+ghost use Rattle.ert_scenario.specs.Acceptance.{IsRunnable, IsRaceable, plan_alone, plan_with};
 ghost use Rattle.ert_scenario.specs.Doers.{IsKeepersOp, AreCallersAlone};
 ghost use Rattle.ert_scenario.specs.Kinds.{FoundOrFault};
 ghost use Rattle.ert_scenario.specs.Migration.{IsOfFormat, migrated};
@@ -88,6 +88,15 @@ pub fn scenarios_are_accepted()
         → IsRunnable bytes g ops → IsScenario false bytes (plan_alone g ops) }
     ensures alone { (bytes : List ℕ) (plan : Plan)
         → IsScenario false bytes plan → plan ≡ plan_alone plan.settings plan.ops }
+{}
+
+/// Which bytes are a scenario with a race, and which, in the same way: the fields give the settings, and the lists the ops of
+/// the service and of each thread of the race.
+pub fn races_are_accepted()
+    ensures accepted { (bytes : List ℕ) (plan : Plan)
+        → IsScenario true bytes plan → (race : ARace) × (plan.race ≡ Some race) × IsRaceable bytes plan.settings plan.ops race }
+    ensures scenario { (bytes : List ℕ) (g : Settings) (ops : List AnOp) (race : ARace)
+        → IsRaceable bytes g ops race → IsScenario true bytes (plan_with g ops race) }
 {}
 
 /// The places are the least ones, read off by index: a shape fault counts before a range fault wherever it

@@ -75,8 +75,8 @@ mod walk;
 pub use ert_ops::Op;
 pub use fields::{are_fields, are_race_fields, is_field, is_race_field};
 pub use laws::{
-    least_places, limits_are_fixed, migrated_is_the_same, one_verdict, range_faults_of_ops,
-    scenarios_are_accepted, scenarios_are_valid, some_verdict,
+    least_places, limits_are_fixed, migrated_is_the_same, one_verdict, races_are_accepted,
+    range_faults_of_ops, scenarios_are_accepted, scenarios_are_valid, some_verdict,
 };
 pub use migration::migrate;
 pub use scenario::{Scenario, ScenarioErr, read_scenario};

@@ -3,7 +3,8 @@
 ghost use Rattle.std.specs.Prelude.{◌≡◌, map, codes, Ok, IfOk, OnOk};
 ghost use Rattle.serde_json.specs.View.{view, members_view};
 ghost use Rattle.serde_json.specs.Data.{put as with_member};
-ghost use Rattle.ert_scenario.specs.Kinds.{text as text_of, head};
+ghost use Rattle.ert_defs.specs.Mails.{first_of};
+ghost use Rattle.ert_scenario.specs.Kinds.{text as text_of};
 ghost use Rattle.ert_scenario.specs.Migration.{is_ask, migrated_items, migrated_op, each, migrated_list, with_field, changed, migrated_race, migrated};
 
 use crate::kinds::{next, text};
@@ -137,7 +138,7 @@ fn migrated_items(mut items: Vec<Value>) -> Result<Vec<Value>, AllocError>
 
 /// Whether the items are those of an op that asks a scheduler.
 fn is_ask(items: &[Value]) -> bool
-    ensures { result ≡ is_ask (text_of (head (map view items.now))) }
+    ensures { result ≡ is_ask (text_of (first_of (map view items.now))) }
 {
     let (name, _) = next(items);
     match text(name) {

@@ -7,3 +7,4 @@ pub mod Joined
 pub mod LegalFronts
 pub mod OpenedParts
 pub mod Settling
+pub mod Knowing

@@ -262,7 +262,7 @@ turns_leave_none g a wheel t f h call =
     subst (λ l. NoneWaits (state g l) wheel) (sym call.grown) ((turns_end g).1 a wheel t f call.piece call.made).1
 
 -- what is refuted of a legal history is refuted of the front of a pass
-refute_by : (g : Settings) (p : Pass) → p.seat.me.0.settings ≡ Some g → (Legal g (front_of p) → ⊥) → ⊥
+pub refute_by : (g : Settings) (p : Pass) → p.seat.me.0.settings ≡ Some g → (Legal g (front_of p) → ⊥) → ⊥
 refute_by g p named refutes =
     let no : 1 ≤ 0 = legal_by {P = 1 ≤ 0} g p.seat.me.0.settings (front_of p) le_prop named p.legal (λ legal. absurd (refutes legal)) in
     absurd (omega arith)

@@ -34,6 +34,7 @@ mod exits;
 mod joining;
 mod laws;
 mod mail_calls;
+mod noting;
 mod opening;
 mod rooms;
 mod sched_steps;
@@ -43,7 +44,7 @@ mod timer_calls;
 mod turns;
 
 pub use ert_effects::Turned;
-pub use ert_locks::{CallerSeat, DeskName, SchedSeat};
+pub use ert_locks::{CallerSeat, DeskName, DeskNote, SchedSeat};
 pub use laws::calls_settle_timers;
 pub use service::{Opened, Service};
 pub use session::{CallerSession, SchedSession, Session};

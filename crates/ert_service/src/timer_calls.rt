@@ -9,7 +9,7 @@ use ert_locks::DeskName;
 use std::sync::Wait;
 
 impl<'a, L: DeskName, R: Wait> CallerSession<'a, L, R> {
-    ghost use Rattle.std.specs.Prelude.{◌≡◌, ◌≢◌, ◌<◌, Err, IfOk};
+    ghost use Rattle.std.specs.Prelude.{◌≡◌, ◌≢◌, ◌<◌, Err, IfOk, None};
     ghost use Rattle.ert_calls.specs.Left.{TellsLeft};
     ghost use Rattle.ert_effects.specs.TimerCalls.{Starts, Reads, Cancels};
     ghost use Rattle.ert_effects.specs.declared.answers.StartErr.TheVariants.{NoMemory as OutOfMemory};
@@ -20,6 +20,7 @@ impl<'a, L: DeskName, R: Wait> CallerSession<'a, L, R> {
     ghost use Rattle.ert_service.specs.Fronts.{IsLegal, StepsAlone};
     ghost use Rattle.ert_service.specs.Settled.{WasSettled};
     ghost use Rattle.ert_table.specs.Desks.{front_of, view_of};
+    ghost use Rattle.ert_world.specs.Known.{WasStarted};
 
     /// Starts a timer on a wheel (`erlang` module reference, `start_timer` and `send_after`).
     ///
@@ -37,6 +38,7 @@ impl<'a, L: DeskName, R: Wait> CallerSession<'a, L, R> {
             (Starts L.settings self.old.seat.number wheel start.now result) self.old.seat.pass self.new.seat.pass }
         ensures number { self.new.seat.number ≡ self.old.seat.number }
         ensures legal { IsLegal L.settings (front_of self.new.seat.pass) }
+        ensures started { IfOk result (λ timer. WasStarted (state L.settings (front_of self.new.seat.pass)) timer) }
     {
         let mut locked = self.service.wheels.at(self.rt, wheel);
         locked.start(self.service.desk(), &mut self.seat, start)
@@ -46,12 +48,15 @@ impl<'a, L: DeskName, R: Wait> CallerSession<'a, L, R> {
     /// `cancel_timer`). It takes no lock, and its wheel holds the row until the timer would be due.
     ///
     /// None comes exactly where the reference is out of range or its timer isn't armed at the last step of the
-    /// call.
+    /// call: of a timer that the caller knows to be started, once it has settled. `learn` tells a caller of a start that
+    /// another made.
     pub fn cancel_timer(&mut self, timer: TimerRef) -> Option<u64>
         ensures left { TellsLeft (names_timer L.settings timer) L.settings (Caller self.old.seat.number) timer result (view_of self.new.seat.pass) }
         ensures call { StepsAlone L.settings (Caller self.old.seat.number) (Cancels L.settings (Caller self.old.seat.number) timer result) self.old.seat.pass self.new.seat.pass }
         ensures number { self.new.seat.number ≡ self.old.seat.number }
         ensures legal { IsLegal L.settings (front_of self.new.seat.pass) }
+        ensures known { WasStarted (state L.settings (front_of self.old.seat.pass)) timer → result ≡ None
+            → WasSettled (state L.settings (front_of self.new.seat.pass)) timer }
     {
         let Session { service, seat, .. } = self;
         let by = Actor::Caller(seat.number);
@@ -60,12 +65,15 @@ impl<'a, L: DeskName, R: Wait> CallerSession<'a, L, R> {
 
     /// The whole milliseconds left of a timer (`erlang` module reference, `read_timer`). It takes no lock.
     ///
-    /// None comes exactly where the reference is out of range or its timer isn't armed.
+    /// None comes exactly where the reference is out of range or its timer isn't armed: of a timer that the caller knows to
+    /// be started, once it has settled.
     pub fn read_timer(&mut self, timer: TimerRef) -> Option<u64>
         ensures left { TellsLeft (names_timer L.settings timer) L.settings (Caller self.old.seat.number) timer result (view_of self.new.seat.pass) }
         ensures call { StepsAlone L.settings (Caller self.old.seat.number) (Reads L.settings (Caller self.old.seat.number) timer result) self.old.seat.pass self.new.seat.pass }
         ensures number { self.new.seat.number ≡ self.old.seat.number }
         ensures legal { IsLegal L.settings (front_of self.new.seat.pass) }
+        ensures known { WasStarted (state L.settings (front_of self.old.seat.pass)) timer → result ≡ None
+            → WasSettled (state L.settings (front_of self.new.seat.pass)) timer }
     {
         let Session { service, seat, .. } = self;
         let by = Actor::Caller(seat.number);

@@ -49,7 +49,7 @@ did_at {before} {d} {e} {q} {s} {new} {call} same done = subst (λ x. Did before
 
 -- no row comes to a wheel that stays
 pub same_rows : (p : Part) → LosesRows p p
-same_rows p = record { number = refl; slots = refl; left = λ k key is. is; time = le_refl p.passed }
+same_rows p = record { number = refl; slots = refl; left = λ k key is. is; time = le_refl p.passed; frees = λ k was. was }
 
 -- a call went on so, and the wheel lost rows
 pub lost : (before o : Owned) (call : Way → Growth) (old new : Part) → before.wheel ≡ old → ShardGoes before call o → LosesRows old new
@@ -140,6 +140,7 @@ rows_then p q r one other = record {
   slots = other.slots ∙ one.slots;
   left = λ k key is. one.left k key (other.left k key is);
   time = le_trans one.time other.time;
+  frees = λ k was. other.frees k (one.frees k was);
 }
 
 -- a call of the shard's caller alone

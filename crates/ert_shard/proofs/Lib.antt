@@ -17,10 +17,12 @@ pub mod Renewed
 pub mod Requested
 pub mod RoomChanged
 pub mod Returned
+mod Searching
 pub mod Seats
 pub mod Served
 pub mod StandOn
 pub mod Stepped
 pub mod Ticked
 pub mod Turned
+mod TriedHeld
 mod Partners

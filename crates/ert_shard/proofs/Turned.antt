@@ -53,7 +53,7 @@ had {before} {d} {p} {s} {parts} has =
     }
 
 -- the wheel was advanced, and the scheduler has these expired timers
-advanced : (before : Owned) (d : Desk) (p q : Pass) (s : Share) (parts : ShardParts) (new : Part) (x : SchedPart) (allows : Settings → ℕ → State → List Entry → Type 0)
+pub advanced : (before : Owned) (d : Desk) (p q : Pass) (s : Share) (parts : ShardParts) (new : Part) (x : SchedPart) (allows : Settings → ℕ → State → List Entry → Type 0)
     → Has before d p s parts → Belongs d q → new.number ≡ parts.wheel.number → WheelStands (settings_of d) (front_of q) new → LosesRows parts.wheel new
     → ((st : State) (es : List Entry) → allows (settings_of d) s.number st es → AreOfTurn s es)
     → IsMade (settings_of d) (view_of p) (allows (settings_of d) parts.wheel.number) (view_of q)

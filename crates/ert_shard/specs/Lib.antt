@@ -1,4 +1,5 @@
 pub mod Hubs
+pub mod OneHistory
 pub mod Receiving
 pub mod Renewing
 pub mod Serving

@@ -103,7 +103,7 @@ pub record ShardGoes (old : Owned) (call : Way → Growth) (new : Owned) : Type 
   pub share : new.share ≡ old.share
   pub turns : TurnsGrow old.turns new.turns
 
--- it makes a call that starts no timer: no row comes to its wheel
+-- it makes a call that starts no timer: no row comes to its wheel, and each slot that this held free is so still
 pub record ShardSteps (old : Owned) (call : Way → Growth) (new : Owned) : Type 0 where
   pub goes : ShardGoes old call new
   pub rows : LosesRows old.wheel new.wheel

@@ -103,6 +103,7 @@ mod joining;
 mod laws;
 mod mail_calls;
 mod mailing;
+mod noting;
 mod requests;
 mod reserving;
 mod restart;
@@ -112,6 +113,7 @@ mod sleeping;
 mod turns;
 
 pub use dividing::ShardErr;
+pub use ert_table::Note;
 pub use hub::Hub;
 pub use requests::ServeErr;
 pub use shard::Shard;

@@ -57,7 +57,7 @@ impl Shard {
     ghost use Rattle.ert_effects.specs.declared.answers.StartErr.TheVariants.{Full, NoMemory};
     ghost use Rattle.ert_defs.specs.States.{state};
     ghost use Rattle.ert_timers.specs.Frees.{IsUsedUp, UsesFree};
-    ghost use Rattle.ert_timers.specs.Searching.{HasOpenSlot};
+    ghost use Rattle.ert_timers.specs.Searching.{HasOpenSlot, Searches};
     ghost use Rattle.ert_defs.specs.declared.entry.Actor.TheVariants.{Caller};
     ghost use Rattle.ert_shard.specs.Shards.{ShardGoes, ShardSteps, ShardBy, IsHome, ShardHasForgotten, ShardStayForgotten};
 
@@ -125,6 +125,8 @@ impl Shard {
         ensures call { ShardGoes self.old (ShardBy self.old (λ g. Starts g (self.old.share.number + 1) self.old.share.number start.now result)) self.new }
         ensures memory { result ≢ Err NoMemory }
         ensures full { result ≡ Err Full → IsUsedUp self.old.wheel self.new.wheel }
+        ensures searched { result ≡ Err Full → self.old.wheel.arms < 9007199254740992
+            → ShardGoes self.old (ShardBy self.old (λ g. Searches g (self.old.share.number + 1) self.old.wheel self.new.wheel)) self.new }
         ensures ready { HasOpenSlot self.old.settings (state self.old.settings self.old.history) self.old.wheel → result ≢ Err Full }
         ensures frees { UsesFree self.old.wheel self.new.wheel result }
         ensures forgotten { ShardStayForgotten self.old self.new }

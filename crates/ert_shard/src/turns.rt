@@ -20,13 +20,15 @@ pub struct Turn {
 }
 
 impl Shard {
-    ghost use Rattle.std.specs.Prelude.{◌≡◌, ◌≤◌, Some, length, IfOk, OnOk};
+    ghost use Rattle.std.specs.Prelude.{◌≡◌, ◌≤◌, Some, [], ◌∷◌, length, IfOk, OnOk};
     ghost use Rattle.ert_effects.specs.Chains.{AdvancesWheel, Hands, Delivers};
     ghost use Rattle.ert_defs.specs.Legal.{Legal};
     ghost use Rattle.ert_defs.specs.Mails.{first_of, others_of};
     ghost use Rattle.ert_defs.specs.States.{state};
-    ghost use Rattle.ert_shard.specs.Shards.{ShardSteps};
+    ghost use Rattle.ert_defs.specs.declared.entry.Actor.TheVariants.{Wheel};
+    ghost use Rattle.ert_shard.specs.Shards.{ShardGoes, ShardSteps};
     ghost use Rattle.ert_shard.specs.Turning.{shard_expired, ShardTurns};
+    ghost use Rattle.ert_timers.specs.Expiring.{TriesHeld};
     ghost use Rattle.ert_timers.specs.Passed.{HasPassed};
     ghost use Rattle.ert_world.specs.Worlds.{KeepsRows};
     ghost use Rattle.ert_defs.specs.declared.settings.TheConstants.{MOST_SLOTS};
@@ -38,6 +40,7 @@ impl Shard {
     pub fn advance(&mut self) -> Result<(u64, u32), NoMemory>
         ensures call { ShardSteps self.old (λ way. AdvancesWheel self.old.settings way self.old.share.number result) self.new }
         ensures passed { IfOk result (λ answer. HasPassed self.new.wheel answer.0) }
+        ensures held { IfOk result (λ answer. ShardGoes self.old (λ way. way (Wheel self.old.share.number ∷ []) (TriesHeld self.old.wheel answer.0)) self.new) }
     {
         let before = self.sched.expired.len();
         let to = self

@@ -1,7 +1,7 @@
 -- The laws of the armed timers in order: what is read off the first of them.
 
 use Rattle.std.proofs.Common.{arith, ◌≡◌, ◌∙◌, refl, sym, ap, subst, inl, inr, ℕ, zero, suc, ◌+◌, ◌-◌, ◌<◌, ◌≤◌, Bool, true, false, not, ◌&&◌, ◌⊎◌, nat_eq, nat_le, nat_lt, List, [], ◌∷◌, length, take, drop, Option, Some, None, eq-eqb, eqb-true}
-use Rattle.std.proofs.lemmas.Bool.{cases_Bool, cases_eq, cases_lt, and_parts, le-leb, lt-leb, lt-ltb, le-ltb, leb-false, ltb-false, true≢false, false≢true}
+use Rattle.std.proofs.lemmas.Bool.{cases_Bool, cases_eq, cases_lt, and_parts, lt-leb, le-ltb, leb-false, ltb-false, true≢false, false≢true}
 use Rattle.std.proofs.lemmas.Option.{same_Some}
 use Rattle.std.specs.Prelude.{slice_get, IsTrue, ◌↔◌}
 use Rattle.std.specs.List.{list_any}
@@ -94,27 +94,6 @@ up_to_each ts armed e o waits first q t stands is =
 pub least_armed : (ts : List Timer) (armed : BTreeSet (ℕ × ℕ)) (e o : ℕ) → Waits ts armed → IsLeast armed e o
     → ArmedFor (slice_get ts o) e
 least_armed ts armed e o waits first = armed_for (slice_get ts o) e (sym (waits e o) ∙ first.member)
-
--- what is settled up to a deadline is read off the first of the armed timers
-pub settled_to : (ts : List Timer) (armed : BTreeSet (ℕ × ℕ)) (e o d : ℕ) → Waits ts armed → IsLeast armed e o
-    → nat_lt d e ≡ is_settled (λ x. nat_le x d) ts
-settled_to ts armed e o d waits first = elim (cases_lt d e) [
-  | inl low ↦ lt-ltb d e low ∙ sym (settled_if (λ x. nat_le x d) ts (λ q t stands is.
-      elim (up_to_each ts armed e o waits first q t stands is) [
-        | inl more ↦ lt-leb t.row.deadline d (omega arith)
-        | inr same ↦ let h = same.0 in lt-leb t.row.deadline d (omega arith)
-      ]))
-  | inr high ↦
-      let own = least_armed ts armed e o waits first in
-      let not_settled : is_settled (λ x. nat_le x d) ts ≡ true → true ≡ false = λ all.
-      (let passes = settled_each (λ x. nat_le x d) ts all o own.timer own.is own.armed in
-      let h = own.deadline in
-      sym (le-leb own.timer.row.deadline d (omega arith)) ∙ passes) in
-      le-ltb d e high ∙ elim (cases_Bool (is_settled (λ x. nat_le x d) ts)) [
-        | inl all ↦ absurd (true≢false (not_settled all))
-        | inr some ↦ sym some
-      ]
-]
 
 -- where a set has no key, no timer is armed
 not_armed : (ts : List Timer) (armed : BTreeSet (ℕ × ℕ)) → Waits ts armed

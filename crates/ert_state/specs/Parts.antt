@@ -109,8 +109,8 @@ abbrev pub sched_at : List SchedState → ℕ → SchedState
 sched_at xs w = get_or xs w idle_sched
 
 -- after a look at a timer, whose result it keeps where the request in its hand is about that
-abbrev pub noted : TimerRef → Option ℕ → SchedState → SchedState
-noted timer left s = record { hand = s.hand; result = cond (is_about timer s.hand) (Some left) s.result; expired = s.expired }
+abbrev pub with_result : TimerRef → Option ℕ → SchedState → SchedState
+with_result timer left s = record { hand = s.hand; result = cond (is_about timer s.hand) (Some left) s.result; expired = s.expired }
 
 -- after a timer expired, where it has a row
 abbrev pub after_expiry : Option Row → SchedState → SchedState

@@ -6,7 +6,7 @@ ghost use Rattle.ert_defs.specs.Legal.{CanTick};
 ghost use Rattle.ert_defs.specs.Settings.{IsChecked};
 ghost use Rattle.ert_clock.specs.Faces.{face_of};
 
-use ert_clock::{Face, is_offset};
+use ert_clock::Face;
 use ert_defs::{Act, OffsetState, Reading, Settings};
 
 /// The clock of a history.
@@ -16,16 +16,6 @@ pub struct Clock {
     pub face: Face,
     /// The shift that is due.
     pub due: Option<(i64, OffsetState)>,
-}
-
-/// Whether a shift keeps the offset within its limits, where there is one.
-fn is_in_range(due: Option<(i128, OffsetState)>) -> bool
-    ensures { IsTrue result ↔ IsInRange due }
-{
-    match due {
-        None => true,
-        Some((offset, _)) => is_offset(offset),
-    }
 }
 
 /// Only a preliminary offset can be finalized.
@@ -49,20 +39,6 @@ fn narrowed(due: Option<(i128, OffsetState)>) -> Option<(i64, OffsetState)>
     }
 }
 
-/// Whether a tick comes to this time.
-fn comes_to(face: &Face, settings: &Settings, reading: Reading, now: i64) -> bool
-    ensures { IsTrue result ↔ (now ≡ time_after settings.now (face_of face.now) reading) }
-{
-    now as i128 == face.time_after(settings, reading)
-}
-
-/// Whether the shift that a tick makes due keeps the offset within its limits.
-fn keeps_range(face: &Face, settings: &Settings, reading: Reading, act: Act, now: i64) -> bool
-    ensures { IsTrue result ↔ IsInRange (due_after settings.now (face_of face.now) reading act now) }
-{
-    is_in_range(face.due_after(settings, reading, act, now))
-}
-
 impl Clock {
     ghost use Rattle.std.specs.Prelude.{None};
 
@@ -76,17 +52,6 @@ impl Clock {
             face: Face::opening(settings),
             due: None,
         }
-    }
-
-    /// Whether a tick to a time is legal, but for a shift that may be due.
-    pub fn can_tick(&self, settings: &Settings, reading: Reading, act: Act, now: i64) -> bool
-        ensures { IsTrue result ↔ CanTick settings.now (face_of self.now.face) reading act now }
-    {
-        if !reading.is_valid() || !may_act(act, self.face.state) {
-            return false;
-        }
-        comes_to(&self.face, settings, reading, now)
-            && keeps_range(&self.face, settings, reading, act, now)
     }
 
     /// Takes a tick to a time.

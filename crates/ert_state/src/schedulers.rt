@@ -1,6 +1,6 @@
 ghost use Rattle.std.specs.Prelude.{◌≡◌, OnOk};
 ghost use Rattle.ert_defs.specs.Mails.{sched_after, is_about};
-ghost use Rattle.ert_state.specs.Parts.{rows_in, noted, after_expiry, with_hand};
+ghost use Rattle.ert_state.specs.Parts.{rows_in, with_result, after_expiry, with_hand};
 
 use crate::lists::{drop_first, first, put};
 use crate::timers::Timers;
@@ -57,7 +57,7 @@ impl Scheduler {
 
     /// Keeps what was found of a timer, where the request in the hand is about it.
     fn note(&mut self, timer: TimerRef, left: Option<u64>)
-        ensures { self.new ≡ noted timer left self.old }
+        ensures { self.new ≡ with_result timer left self.old }
     {
         if is_about(timer, self.hand) {
             self.outcome = Some(left);

@@ -88,16 +88,6 @@ impl Timers {
         self.wheels.get(wheel as usize)?.first_armed()
     }
 
-    /// Whether none of the timers of a wheel with a deadline up to this one is armed.
-    pub fn is_settled_to(&self, wheel: u32, deadline: u64) -> bool
-        ensures { result ≡ is_settled (λ d. nat_le d deadline) (timers_at self.now wheel) }
-    {
-        match self.wheels.get(wheel as usize) {
-            Some(timers) => timers.is_settled_to(deadline),
-            None => true,
-        }
-    }
-
     /// Whether a timer is due by this many milliseconds, and no armed one of its wheel comes before it.
     pub fn is_first(&self, timer: TimerRef, now: i128) -> bool
         ensures { IsTrue result ↔ IsFirstDue (timers_at self.now timer.wheel) timer now }

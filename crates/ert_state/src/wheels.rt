@@ -106,16 +106,6 @@ impl Wheel {
         Some(self.timers[first.1])
     }
 
-    /// Whether none of the timers with a deadline up to this one is armed: the first that is armed tells.
-    pub fn is_settled_to(&self, deadline: u64) -> bool
-        ensures { result ≡ is_settled (λ d. nat_le d deadline) self.now }
-    {
-        match self.armed.first() {
-            Some(first) => first.0 > deadline,
-            None => true,
-        }
-    }
-
     /// Whether a timer is due by this many milliseconds, and no armed one comes before it.
     pub fn is_first(&self, timer: TimerRef, now: i128) -> bool
         ensures { IsTrue result ↔ IsFirstDue self.now timer now }

@@ -24,3 +24,4 @@ pub mod Calls
 pub mod Makings
 pub mod Parts
 pub mod Order
+pub mod Noting

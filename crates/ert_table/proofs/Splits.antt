@@ -136,3 +136,11 @@ all_shared actors = record {
   gave = λ b held. held;
   apart = λ b kept. absurd cc;
 }
+
+-- and so may none
+pub none_shared : (actors : List Actor) → AreShared actors actors []
+none_shared actors = record {
+  less = λ b kept. kept;
+  gave = λ b held. absurd cc;
+  apart = λ b kept held. cc;
+}

@@ -4,6 +4,7 @@ pub mod Desks
 pub mod Entries
 pub mod Held
 pub mod Laws
+pub mod Notes
 pub mod Openings
 pub mod Order
 pub mod Peeking

@@ -34,7 +34,8 @@
 //! others stand between. That is why a step can be prepared from the front and be legal when it is made.
 //!
 //! A pass divides (`Pass::split`) and two become one (`Pass::join`). The joined one knows the longer of
-//! the two fronts, which the other begins.
+//! the two fronts, which the other begins. A `Note` is a pass without actors: taken of one pass (`Pass::note`) and
+//! given to the thread of another, it tells that one all that the first knew (`Pass::learn`).
 //!
 //! # What a step asks and tells
 //!
@@ -84,6 +85,7 @@ mod carry;
 mod clock_steps;
 mod desk;
 mod laws;
+mod notes;
 mod opening;
 mod passes;
 mod places;
@@ -97,6 +99,7 @@ mod view;
 pub use carry::{OffsetCarry, Settle, TimeCarry, TimerCarry};
 pub use desk::{Desk, Pass, Words};
 pub use laws::{calls_take_place, steps_stand_in_order};
+pub use notes::Note;
 pub use places::SlotPlace;
 pub use renew_steps::ArmedWord;
 pub use view::{Met, View};

@@ -132,6 +132,15 @@ impl Split<View> for Empties {
     ghost right = { λ v. holding v v.actors };
 }
 
+/// All actors stay, and a new pass without one knows as much.
+pub(crate) struct Notes;
+
+impl Split<View> for Notes {
+    ghost left = { λ v. holding v v.actors };
+
+    ghost right = { λ v. holding v [] };
+}
+
 /// Two passes become one.
 pub(crate) struct Glues;
 

@@ -56,6 +56,14 @@ fn a_timer_sends_its_message(rt: HostRuntime) -> Result<(), NoMemory> {
     Ok(())
 }
 
+/// A bare message for process 0, 50 milliseconds from the call.
+const START: Start = Start {
+    when: When::After(50),
+    dest: 0,
+    msg: 7,
+    kind: Kind::Bare,
+};
+
 fn start_and_cancel<L: DeskName, R: Wait>(
     session: &mut CallerSession<L, R>,
     start: &Start,
@@ -72,15 +80,42 @@ pub(crate) fn first_timer<L: DeskName, R: Wait + Abort>(
     session: &mut CallerSession<L, R>,
 ) -> Option<u64> {
     let rt = session.rt;
-    let start = Start {
-        when: When::After(50),
-        dest: 0,
-        msg: 7,
-        kind: Kind::Bare,
-    };
-    is_process(rt, session.service, 0);
+    is_process(rt, session.service, START.dest);
     assert!(rt; session.service.settings().schedulers > 0);
-    start_and_cancel(session, &start).unwrap_or(None)
+    start_and_cancel(session, &START).unwrap_or(None)
+}
+
+fn start_and_hand_over<L: DeskName, R: Wait>(
+    session: &mut CallerSession<L, R>,
+    other: &mut CallerSession<L, R>,
+    start: &Start,
+) -> Result<Option<u64>, StartErr>
+    requires wheel { 0 < L.settings.schedulers }
+    requires dest { start.now.dest < L.settings.processes }
+{
+    let timer = session.start(0, start)?;
+    let note = session.note();
+    other.learn(note);
+    Ok(other.cancel_timer(timer))
+}
+
+/// A caller starts a timer, and another one, which gets its name with a note, cancels it.
+pub(crate) fn handed_timer<L: DeskName, R: Wait + Abort>(
+    session: &mut CallerSession<L, R>,
+    other: &mut CallerSession<L, R>,
+) -> Option<u64> {
+    let rt = session.rt;
+    is_process(rt, session.service, START.dest);
+    assert!(rt; session.service.settings().schedulers > 0);
+    start_and_hand_over(session, other, &START).unwrap_or(None)
+}
+
+#[test]
+fn a_seat_cancels_what_another_started(rt: HostRuntime) -> Result<(), NoMemory> {
+    let mut settings = SETTINGS;
+    settings.callers = 2;
+    assert!(rt; open_and_close(&rt, rt.alloc(), &settings)? == Some(50));
+    Ok(())
 }
 
 #[test]

@@ -11,12 +11,14 @@ use Rattle.ert_defs.specs.declared.timer.Status.{Status}
 use Rattle.ert_defs.specs.declared.timer.Status.TheVariants.{Armed, Expired, Delivered, Cancelled, Orphaned, Dropped}
 use Rattle.ert_defs.specs.declared.timer.TimerRef.{TimerRef}
 use Rattle.ert_table.specs.Settlings.{shown_by, shown_in}
+use Rattle.ert_timers.specs.Changes.{given_back}
 use Rattle.ert_timers.specs.Dropping.{DropsRow, DropsRows}
 use Rattle.ert_timers.specs.Freeing.{IsHeld}
 use Rattle.ert_timers.specs.Parts.{Part, PartStands, last_timer}
 use Rattle.ert_timers.specs.Passed.{LosesRows}
 use Rattle.ert_timers.specs.Starting.{status_shown}
 use Rattle.ert_timers.specs.Tidy.{IsTidy}
+use Rattle.ert_timers.proofs.Freed.{frees_given, frees_none, frees_then}
 use Rattle.ert_timers.proofs.Passing.{loses_none, loses_then, same_last}
 use Rattle.ert_timers.proofs.Tried.{held_found}
 use Rattle.ert_wheel.specs.Rows.{key_in}
@@ -78,6 +80,7 @@ pub drops_none : (g : Settings) (h : List Entry) (p : Part) (k : ℕ) (key : Key
 drops_none g h p k key stands held armed = record {
   stands = stands;
   loses = loses_none p;
+  frees = frees_none p;
   here = λ seen is. armed_is ((state g h).status (last_timer p.number p.slots k)) (ap is_armed (sym (status_seen g h p k key stands held)) ∙ armed);
 }
 
@@ -86,6 +89,7 @@ pub drops_empty : (g : Settings) (h : List Entry) (p : Part) (k : ℕ) → PartS
 drops_empty g h p k stands none = record {
   stands = stands;
   loses = loses_none p;
+  frees = frees_none p;
   here = λ key is. (let bad : None ≡ Some key = sym none ∙ is in absurd cc);
 }
 
@@ -97,10 +101,11 @@ settled_seen g h p k key stands held not =
 
 -- its row has gone
 pub drops_one : (g : Settings) (h : List Entry) (p q : Part) (k : ℕ) (timer : TimerRef) → timer ≡ last_timer p.number p.slots k → k < length p.slots
-    → PartStands g h q → LosesRows p q → (IsHeld q timer → ⊥) → DropsRow g h p q k
-drops_one g h p q k timer named low stands loses gone = record {
+    → PartStands g h q → LosesRows p q → (IsHeld q timer → ⊥) → q ≡ given_back p k false → DropsRow g h p q k
+drops_one g h p q k timer named low stands loses gone is = record {
   stands = stands;
   loses = loses;
+  frees = frees_given p q k false is;
   here = λ key is.
       let slot : timer.slot ≡ k = ap (λ (t : TimerRef). t.slot) named in
       absurd (gone (record {
@@ -112,13 +117,14 @@ drops_one g h p q k timer named low stands loses gone = record {
 
 -- no slot was looked at yet
 pub drops_first : (g : Settings) (h : List Entry) (p : Part) → PartStands g h p → DropsRows g h p p 0
-drops_first g h p stands = record { stands = stands; loses = loses_none p; below = λ k key low is. absurd (omega (arith, low)) }
+drops_first g h p stands = record { stands = stands; loses = loses_none p; frees = frees_none p; below = λ k key low is. absurd (omega (arith, low)) }
 
 -- one more was
 pub drops_more : (g : Settings) (h : List Entry) (p q r : Part) (n : ℕ) → DropsRows g h p q n → DropsRow g h q r n → DropsRows g h p r (n + 1)
 drops_more g h p q r n some one = record {
   stands = one.stands;
   loses = loses_then p q r some.loses one.loses;
+  frees = frees_then p q r some.loses one.loses.frees some.frees one.frees;
   below = λ k key low is.
       elim (cases_eq k n) [
         | inl here ↦ subst (λ m. (state g h).status (last_timer r.number r.slots m) ≡ Some Armed) (sym here)

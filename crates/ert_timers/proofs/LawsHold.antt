@@ -157,7 +157,7 @@ tries_only : (w : ℕ) (tries : List Try) → AreWithWheel (Sched w) w (expiry_e
 tries_only w [] = tt
 tries_only w (t ∷ tries) = (try_only w t.timer t.missed, tries_only w tries)
 
-advance_only : (w : ℕ) (answer : ℕ × ℕ) (es : List Entry) → IsAdvance w answer es → AreWithWheel (Sched w) w es
+pub advance_only : (w : ℕ) (answer : ℕ × ℕ) (es : List Entry) → IsAdvance w answer es → AreWithWheel (Sched w) w es
 advance_only w answer es advance =
     same_only (Sched w) w es _ advance.entries
     (alone (Sched w) w, only-append (Sched w) w (expiry_entries w advance.tries) _ (tries_only w advance.tries) (paired (Sched w) w w refl, tt))

@@ -29,6 +29,7 @@ pub mod Probed
 pub mod Starts
 mod OpenSlots
 mod Searched
+pub mod Searching
 pub mod Roomed
 pub mod Swept
 pub mod Settled

@@ -24,7 +24,7 @@ use Rattle.ert_table.specs.Calls.{IsMade}
 use Rattle.ert_table.specs.Takes.{Appends, TakesPlace}
 use Rattle.ert_table.specs.declared.view.View.{View}
 use Rattle.ert_timers.proofs.Later.{later_step}
-use Rattle.ert_timers.proofs.Passing.{same_last}
+use Rattle.ert_timers.proofs.Passing.{fewer_last, same_last}
 use Rattle.ert_timers.proofs.Renewed.{IsRead, IsStanding, IsToldStill, armed_stands, cancel_calm, cancel_settles, told_still, use_still}
 use Rattle.ert_timers.proofs.Orphaned.{still_caller}
 use Rattle.ert_table.specs.Settlings.{Settles}
@@ -43,7 +43,7 @@ use Rattle.std.proofs.lemmas.List.{length-set}
 use Rattle.ert_timers.specs.Freeing.{IsHeld, IsLast}
 use Rattle.ert_timers.specs.Looking.{LooksAhead, now_in}
 use Rattle.ert_timers.specs.Parts.{HoldsCaller, Part, PartStands, last_timer, slot_at, unused}
-use Rattle.ert_timers.specs.Passed.{GainsOne, LosesRows}
+use Rattle.ert_timers.specs.Passed.{HasFewerRows, GainsOne, LosesRows}
 use Rattle.ert_timers.specs.Restarting.{EndsAfter, HasLooked, HasSlotFor}
 use Rattle.ert_timers.specs.Starting.{TakesSlot}
 use Rattle.ert_timers.specs.declared.looking.Ahead.{Ahead}
@@ -266,10 +266,10 @@ spent g h by now arms p timer stands same high =
     inr (omega (arith, same, high, stands.holds.arms, timers_few g h p.number stands.legal), refl)
 
 -- no row has come since some were lost
-pub gains_after : (p q r : Part) (answer : Result TimerRef RestartErr) → LosesRows p q → GainsOne q r answer → GainsOne p r answer
-gains_after p q r answer loses gains j key is =
+pub gains_after : (p q r : Part) (answer : Result TimerRef RestartErr) → HasFewerRows p q → GainsOne q r answer → GainsOne p r answer
+gains_after p q r answer fewer gains j key is =
     elim (gains j key is) [
-      | inl was ↦ inl (loses.left j key was.0, was.1 ∙ same_last p q j loses)
+      | inl was ↦ inl (fewer.left j key was.0, was.1 ∙ fewer_last p q j fewer)
       | inr new ↦ inr new
     ]
 

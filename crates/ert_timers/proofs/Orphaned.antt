@@ -151,7 +151,6 @@ ends_alive g v by p dest timer was u stands holds not step =
       number = refl;
       stands = marked_stands g v by dest was u p stands holds step;
       loses = loses_none p;
-      frees = λ j was. was;
     }
 
 closing_is : (by w : ℕ) (timer : TimerRef) (missed : Option (Option Status)) → timer.wheel ≡ w → IsSettled missed
@@ -177,8 +176,7 @@ ends_exited g v by p q dest deadline timer was u w is has step orphans =
       stands = orphans.stands;
       loses = loses_row p q timer.slot (key_low p.keys timer.slot (record { deadline = deadline; order = has.order }) has.held)
           (ap (λ (x : Part). x.number) orphans.part) (ap (λ (x : Part). x.slots) orphans.part) (ap (λ (x : Part). x.keys) orphans.part)
-          (ap (λ (x : Part). x.passed) orphans.part);
-      frees = given_keeps p q timer.slot (is_hit orphans.missed) orphans.part;
+          (ap (λ (x : Part). x.passed) orphans.part) (given_keeps p q timer.slot (is_hit orphans.missed) orphans.part);
     }
 
 -- a pass holds the same actors after a step

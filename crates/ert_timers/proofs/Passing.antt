@@ -8,14 +8,15 @@ use Rattle.ert_defs.specs.declared.timer.TimerRef.{TimerRef}
 use Rattle.ert_effects.specs.WheelCalls.{Try, AllDue, AreOnce, IsDueBy, IsUntried}
 use Rattle.ert_timers.specs.Parts.{Part, last_timer}
 use Rattle.ert_timers.specs.Freeing.{IsHeld}
-use Rattle.ert_timers.specs.Passed.{HasPassed, HoldsEach, HoldsNone, LosesRows}
+use Rattle.ert_timers.specs.Frees.{KeepsFree}
+use Rattle.ert_timers.specs.Passed.{HasFewerRows, HasPassed, HoldsEach, HoldsNone, LosesRows}
 use Rattle.ert_timers.proofs.Rows.{key_left}
 use Rattle.ert_wheel.proofs.Looking.{key_low}
 use Rattle.ert_wheel.specs.Rows.{key_in}
 use Rattle.ert_wheel.specs.declared.row.Key.{Key}
 
 pub loses_none : (p : Part) → LosesRows p p
-loses_none p = record { number = refl; slots = refl; left = λ k key is. is; time = omega arith }
+loses_none p = record { number = refl; slots = refl; left = λ k key is. is; time = omega arith; frees = λ k was. was }
 
 pub loses_then : (p q r : Part) → LosesRows p q → LosesRows q r → LosesRows p r
 loses_then p q r one other = record {
@@ -23,16 +24,39 @@ loses_then p q r one other = record {
   slots = other.slots ∙ one.slots;
   left = λ k key is. one.left k key (other.left k key is);
   time = omega (arith, one.time, other.time);
+  frees = λ k was. other.frees k (one.frees k was);
 }
 
 -- the row of a slot goes
-pub loses_row : (p q : Part) (k : ℕ) → k < length p.keys → q.number ≡ p.number → q.slots ≡ p.slots → q.keys ≡ set p.keys k None → q.passed ≡ p.passed
-    → LosesRows p q
-loses_row p q k low number slots keys time = record {
+row_goes : (p q : Part) (k : ℕ) → k < length p.keys → q.number ≡ p.number → q.slots ≡ p.slots → q.keys ≡ set p.keys k None → q.passed ≡ p.passed
+    → HasFewerRows p q
+row_goes p q k low number slots keys time = record {
   number = number;
   slots = slots;
   left = λ j key is. (key_left p.keys k j key low (ap (λ ks. key_in ks j) (sym keys) ∙ is)).1;
   time = omega arith;
+}
+
+pub loses_row : (p q : Part) (k : ℕ) → k < length p.keys → q.number ≡ p.number → q.slots ≡ p.slots → q.keys ≡ set p.keys k None → q.passed ≡ p.passed
+    → KeepsFree p q → LosesRows p q
+loses_row p q k low number slots keys time frees = record {
+  number = number;
+  slots = slots;
+  left = λ j key is. (key_left p.keys k j key low (ap (λ ks. key_in ks j) (sym keys) ∙ is)).1;
+  time = omega arith;
+  frees = frees;
+}
+
+-- rows that are lost have gone
+pub fewer_rows : {p q : Part} → LosesRows p q → HasFewerRows p q
+fewer_rows loses = record { number = loses.number; slots = loses.slots; left = loses.left; time = loses.time }
+
+pub fewer_then : (p q r : Part) → HasFewerRows p q → HasFewerRows q r → HasFewerRows p r
+fewer_then p q r one other = record {
+  number = other.number ∙ one.number;
+  slots = other.slots ∙ one.slots;
+  left = λ k key is. one.left k key (other.left k key is);
+  time = omega (arith, one.time, other.time);
 }
 
 -- where rows only go there are no more of them
@@ -61,14 +85,17 @@ pub rows_lost : (p q : Part) → LosesRows p q → count_by is_some q.keys ≤ c
 rows_lost p q loses = keys_lost q.keys p.keys loses.left
 
 -- the last timers are the same
+pub fewer_last : (p q : Part) (k : ℕ) → HasFewerRows p q → last_timer q.number q.slots k ≡ last_timer p.number p.slots k
+fewer_last p q k fewer = ap (λ n. last_timer n q.slots k) fewer.number ∙ ap (λ slots. last_timer p.number slots k) fewer.slots
+
 pub same_last : (p q : Part) (k : ℕ) → LosesRows p q → last_timer q.number q.slots k ≡ last_timer p.number p.slots k
-same_last p q k loses = ap (λ n. last_timer n q.slots k) loses.number ∙ ap (λ slots. last_timer p.number slots k) loses.slots
+same_last p q k loses = fewer_last p q k (fewer_rows loses)
 
 -- where rows go no row comes back
-pub holds_less : (p q : Part) (tries : List Try) → LosesRows p q → HoldsNone p tries → HoldsNone q tries
+pub holds_less : (p q : Part) (tries : List Try) → HasFewerRows p q → HoldsNone p tries → HoldsNone q tries
 holds_less p q [] loses none = tt
 holds_less p q (t ∷ tries) loses none =
-    (λ k key is same. none.0 k key (loses.left k key is) (sym (same_last p q k loses) ∙ same), holds_less p q tries loses none.1)
+    (λ k key is same. none.0 k key (loses.left k key is) (sym (fewer_last p q k loses) ∙ same), holds_less p q tries loses none.1)
 
 none_push : (p : Part) (tries : List Try) (t : Try) → HoldsNone p tries
     → ((k : ℕ) (key : Key) → key_in p.keys k ≡ Some key → last_timer p.number p.slots k ≢ t.timer) → HoldsNone p (tries ++ t ∷ [])
@@ -99,7 +126,7 @@ pub none_more : (p q : Part) (k : ℕ) (tries : List Try) (t : Try) → k < leng
     → q.number ≡ p.number → q.slots ≡ p.slots → q.keys ≡ set p.keys k None → q.passed ≡ p.passed
     → HoldsNone p tries → HoldsNone q (tries ++ t ∷ [])
 none_more p q k tries t low is number slots keys time none =
-    none_push q tries t (holds_less p q tries (loses_row p q k low number slots keys time) none)
+    none_push q tries t (holds_less p q tries (row_goes p q k low number slots keys time) none)
     (λ j key held same. (key_left p.keys k j key low (ap (λ ks. key_in ks j) (sym keys) ∙ held)).0 (ap (λ (r : TimerRef). r.slot) (same ∙ is)))
 
 -- a timer whose row is held was held before rows went

@@ -19,6 +19,7 @@ use Rattle.ert_table.specs.Settlings.{ShownWord}
 use Rattle.ert_table.specs.Takes.{Appends, TakesPlace}
 use Rattle.ert_table.specs.declared.view.View.{View}
 use Rattle.ert_timers.proofs.Dropped.{armed_is, told_none, told_some}
+use Rattle.ert_timers.proofs.Freed.{frees_given, frees_none, frees_then, given_keeps}
 use Rattle.ert_timers.proofs.Lookings.{found_is, status_is}
 use Rattle.ert_timers.proofs.Passing.{loses_none, loses_row, loses_then}
 use Rattle.ert_timers.proofs.Rows.{key_left}
@@ -118,7 +119,7 @@ nearest_by g s p time k fits tells armed =
 -- the row of a slot goes, and its slot is held free
 given_loses : (p q : Part) (k : ℕ) (key : Key) → key_in p.keys k ≡ Some key → q ≡ given_back p k false → LosesRows p q
 given_loses p q k key has is =
-    subst (LosesRows p) (sym is) (loses_row p (given_back p k false) k (key_low p.keys k key has) refl refl refl refl)
+    subst (LosesRows p) (sym is) (loses_row p (given_back p k false) k (key_low p.keys k key has) refl refl refl refl (given_keeps p (given_back p k false) k false refl))
 
 given_fewer : (p q : Part) (k : ℕ) (key : Key) → key_in p.keys k ≡ Some key → q ≡ given_back p k false → HasLost 1 p q
 given_fewer p q k key has is =
@@ -168,6 +169,7 @@ drops_none g v p stands = record {
   call = none_probed g v p stands;
   stands = stands;
   loses = loses_none p;
+  frees = frees_none p;
   time = refl;
   fewer = omega arith;
 }
@@ -185,6 +187,7 @@ drops_more g v u x p q r n k key some has one =
       call = call_push g v u x p.number some.probes last some.call (step_of g u p q k one.found x some.loses one.step);
       stands = one.stands;
       loses = loses_then p q r some.loses loses;
+      frees = frees_then p q r some.loses loses.frees some.frees (frees_given q r k false one.part);
       time = ap (λ (y : Part). y.passed) one.part ∙ some.time;
       fewer = omega (arith, some.fewer, given_fewer q r k key has one.part);
     }
@@ -207,6 +210,7 @@ asks_there g v u p q r n most answer some low is held found =
       held = held;
       found = found;
       loses = some.loses;
+      frees = some.frees;
       time = some.time;
     })
 
@@ -264,6 +268,7 @@ asks_armed g v u x p q r t n most time k answer some low is held told tells b ar
       held = subst (IsNextHeld q) told held;
       found = inl done.near;
       loses = some.loses;
+      frees = some.frees;
       time = some.time;
     })
 
@@ -289,6 +294,7 @@ asks_anew g v u p q answer on = record {
   held = on.held;
   found = within_next (state g u.front) p q answer on.found;
   loses = on.loses;
+  frees = on.frees;
   time = on.time;
 }
 
@@ -323,6 +329,7 @@ asks_more g v u x p q r time k answer tells b not probed on =
       held = on.held;
       found = within_more (state g x.front) p q r answer (given_fewer p q k tells.key tells.has one.part) on.found;
       loses = loses_then p q r loses on.loses;
+      frees = frees_then p q r loses on.loses.frees (frees_given p q k false one.part) on.frees;
       time = on.time ∙ ap (λ (y : Part). y.passed) one.part;
     }
   where
@@ -377,6 +384,22 @@ finds_last : (k : ℕ) (probes : List Probed) (one : Probed) → one.slot ≡ k 
 finds_last k [] one slot armed = inl (slot, armed)
 finds_last k (p ∷ probes) one slot armed = inr (finds_last k probes one slot armed)
 
+-- none was probed yet
+pub probes_none : (g : Settings) (v : View) (p : Part) → PartStands g v.front p → ProbesSome g v p p 0 0 v
+probes_none g v p stands = record {
+  probes = [];
+  order = omega arith;
+  settled = refl;
+  few = omega arith;
+  call = none_probed g v p stands;
+  stands = stands;
+  loses = loses_none p;
+  frees = frees_none p;
+  time = refl;
+  fewer = omega arith;
+  armed = λ k key low has. absurd (omega (arith, low));
+}
+
 -- the next has no row
 pub probes_vacant : (g : Settings) (v u : View) (p q : Part) (n m : ℕ) → ProbesSome g v p q n m u → key_in q.keys n ≡ None → ProbesSome g v p q (n + 1) m u
 probes_vacant g v u p q n m some none = record {
@@ -387,6 +410,7 @@ probes_vacant g v u p q n m some none = record {
   call = some.call;
   stands = some.stands;
   loses = some.loses;
+  frees = some.frees;
   time = some.time;
   fewer = some.fewer;
   armed = λ k key low has.
@@ -410,6 +434,7 @@ probes_stay g v u x p q r n m some one =
       call = call_push g v u x p.number some.probes last some.call (step_of g u p q n one.found x some.loses one.step);
       stands = subst (PartStands g x.front) one.part one.stands;
       loses = some.loses;
+      frees = some.frees;
       time = some.time;
       fewer = some.fewer;
       armed = λ k key low has.
@@ -433,6 +458,7 @@ probes_drop g v u x p q r n m key some has one =
       call = call_push g v u x p.number some.probes last some.call (step_of g u p q n one.found x some.loses one.step);
       stands = one.stands;
       loses = loses_then p q r some.loses loses;
+      frees = frees_then p q r some.loses loses.frees some.frees (frees_given q r n false one.part);
       time = ap (λ (y : Part). y.passed) one.part ∙ some.time;
       fewer = omega (arith, some.fewer, given_fewer q r n key has one.part);
       armed = λ k seen low is.

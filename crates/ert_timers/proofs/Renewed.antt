@@ -45,7 +45,7 @@ use Rattle.ert_table.specs.Held.{is_held}
 use Rattle.ert_defs.proofs.ExpiredTimers.{row_named}
 use Rattle.ert_effects.specs.declared.answers.StartErr.{StartErr}
 use Rattle.ert_timers.proofs.Orphaned.{still_caller}
-use Rattle.ert_timers.proofs.Passing.{same_last}
+use Rattle.ert_timers.proofs.Passing.{fewer_last, same_last}
 use Rattle.ert_timers.proofs.Resting.{next_is, rested_by, used_less}
 use Rattle.ert_timers.proofs.Settled.{taken_last}
 use Rattle.ert_timers.proofs.Standing.{stands_step}
@@ -53,7 +53,7 @@ use Rattle.ert_timers.specs.Changes.{dropped, has_uses, kept, next_use}
 use Rattle.ert_timers.specs.Freeing.{IsHeld, IsLast}
 use Rattle.ert_timers.specs.Looking.{now_in}
 use Rattle.ert_timers.specs.Parts.{HoldsCaller, Part, PartStands, last_timer, slot_at}
-use Rattle.ert_timers.specs.Passed.{GainsOne, LosesRows}
+use Rattle.ert_timers.specs.Passed.{HasFewerRows, GainsOne, LosesRows}
 use Rattle.ert_timers.specs.Restarting.{CanRenew, HasLooked, MayStay}
 use Rattle.ert_timers.specs.Starting.{Arms, Ends, IsUseFor}
 use Rattle.ert_timers.specs.declared.looking.Ahead.{Ahead}
@@ -292,8 +292,8 @@ gone_renewed q r timer loses gone held =
     lost (Some key) is none = absurd (let clash : None ≡ Some key = sym none ∙ loses.left timer.slot key is in cc)
 
 -- and no row comes where no timer was started
-pub gains_no : (p q : Part) (answer : Result TimerRef RestartErr) → LosesRows p q → GainsOne p q answer
-gains_no p q answer loses k key is = inl (loses.left k key is, same_last p q k loses)
+pub gains_no : (p q : Part) (answer : Result TimerRef RestartErr) → HasFewerRows p q → GainsOne p q answer
+gains_no p q answer fewer k key is = inl (fewer.left k key is, fewer_last p q k fewer)
 
 -- how a restart ends that hits its timer
 pub renewed : (g : Settings) (v u m x z : View) (by : ℕ) (p p' q r : Part) (timer : TimerRef) (slot : ℕ) (start : Start) (next : Use) (named : TimerRef) (left : ℕ)

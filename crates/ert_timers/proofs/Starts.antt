@@ -29,10 +29,10 @@ use Rattle.ert_timers.specs.Searching.{Searches}
 use Rattle.ert_timers.specs.Starting.{AreFull, Arms, Ends, IsUseFor, TakesSlot, probes_from}
 use Rattle.ert_timers.specs.declared.looking.Ahead.{Ahead}
 use Rattle.ert_timers.specs.declared.part.Use.{Use}
-use Rattle.ert_timers.specs.Passed.{GainsOne, LosesRows}
+use Rattle.ert_timers.specs.Passed.{HasFewerRows, GainsOne}
 use Rattle.ert_timers.proofs.Resting.{next_is as use_is, rests_by}
 use Rattle.ert_timers.proofs.Standing.{clock_at, stands_step}
-use Rattle.ert_timers.proofs.Passing.{same_last}
+use Rattle.ert_timers.proofs.Passing.{fewer_last, same_last}
 
 -- a start that is refused for its time
 pub bad_arg : (g : Settings) (v : View) (by w : ℕ) (start : Start) (ahead : Option Ahead) (u : View) → ahead ≡ None
@@ -251,8 +251,8 @@ is_started g v by p q r s start ahead now slot k next timer u x y z looks takes 
     }
 
 -- no row has come where no timer was armed
-pub gains_none : (p q : Part) (answer : Result TimerRef StartErr) → LosesRows p q → GainsOne p q answer
-gains_none p q answer loses k key is = inl (loses.left k key is, same_last p q k loses)
+pub gains_none : (p q : Part) (answer : Result TimerRef StartErr) → HasFewerRows p q → GainsOne p q answer
+gains_none p q answer fewer k key is = inl (fewer.left k key is, fewer_last p q k fewer)
 
 -- and else that of the timer
 pub gains_started : (g : Settings) (by : ℕ) (p q r s : Part) (now : ℕ) (slot : Option ℕ) (k : ℕ) (next : Use) (start : Start)
@@ -261,6 +261,6 @@ pub gains_started : (g : Settings) (by : ℕ) (p q r s : Part) (now : ℕ) (slot
 gains_started g by p q r s now slot k next start timer u x y z takes arms ends j key is =
     let same : last_timer s.number s.slots j ≡ last_timer r.number r.slots j = same_last r s j ends.loses in
     elim (arms.rows j key (ends.loses.left j key is)) [
-      | inl was ↦ inl (takes.loses.left j key was.0, same ∙ (was.1 ∙ same_last p q j takes.loses))
+      | inl was ↦ inl (takes.fewer.left j key was.0, same ∙ (was.1 ∙ fewer_last p q j takes.fewer))
       | inr new ↦ inr (new ∙ ap (λ (t : TimerRef). Ok t) (sym same))
     ]

@@ -23,8 +23,10 @@ use Rattle.ert_timers.specs.Changes.{NextOf}
 use Rattle.ert_laws.specs.Counts.{is_arm}
 use Rattle.ert_timers.specs.Parts.{HoldsCaller, Part, PartStands, last_timer, held_row}
 use Rattle.ert_timers.specs.Starting.{HoldsTimer, Orphans}
+use Rattle.ert_timers.specs.Expiring.{is_hit}
 use Rattle.ert_timers.specs.Freeing.{IsHeld}
 use Rattle.ert_timers.specs.Sweeping.{SweepsHeld, SweepsSome}
+use Rattle.ert_timers.proofs.Freed.{frees_given, frees_none, frees_then, given_keeps}
 use Rattle.ert_timers.proofs.Later.{later_step}
 use Rattle.ert_timers.proofs.Rows.{armed_row}
 use Rattle.ert_timers.proofs.Passing.{held_push, loses_none, loses_row, loses_then, none_more, once_more, was_held}
@@ -44,6 +46,7 @@ sweeps_none g v by process p stands exited = record {
   held = tt;
   none = tt;
   loses = loses_none p;
+  frees = frees_none p;
   call = record { actors = refl; legal = stands.legal; later = []; grown = sym (append-nil v.front); ours = refl };
   stands = stands;
   number = refl;
@@ -102,7 +105,8 @@ sweeps_more g v by process p q r row timer u w some holds next is one =
       held = held_push p some.tries t some.held (subst (IsHeld p) (sym named)
           (was_held p q row.slot (key_of row) some.loses (some.stands.holds.wide ∙ sym some.stands.holds.many) next.1));
       none = none_more q r row.slot some.tries t low named number slots keys time some.none;
-      loses = loses_then p q r some.loses (loses_row q r row.slot low number slots keys time);
+      loses = loses_then p q r some.loses (loses_row q r row.slot low number slots keys time (given_keeps q r timer.timer.slot (is_hit one.missed) one.part));
+      frees = frees_then p q r some.loses (given_keeps q r timer.timer.slot (is_hit one.missed) one.part) some.frees (frees_given q r timer.timer.slot (is_hit one.missed) one.part);
       call = subst (λ es. TakesPlace g v es w) (sym (map-append (λ (x : Try). orphans_by by p.number x.timer x.missed) some.tries (t ∷ [])))
           (takes_place_then g v u w (orphan_entries by p.number some.tries) (e ∷ []) some.call (step_takes_place g u e w step));
       stands = one.stands;

@@ -11,12 +11,12 @@ use Rattle.ert_laws.proofs.Since.{rounds_begun}
 use Rattle.ert_timers.specs.Parts.{Part, PartStands, slot_at, last_timer}
 use Rattle.ert_timers.specs.Starting.{FindsRound, GoesRound, LooksAround, TakesSlot}
 use Rattle.ert_effects.specs.TimerCalls.{IsInRound, Round}
-use Rattle.ert_timers.specs.Passed.{LosesRows}
+use Rattle.ert_timers.specs.Passed.{HasFewerRows}
 use Rattle.ert_timers.proofs.Fit.{taken_was}
 use Rattle.ert_timers.proofs.Freed.{taken_free}
 use Rattle.ert_timers.proofs.Resting.{rested_by}
 use Rattle.ert_timers.proofs.Standing.{clock_at, stands_with}
-use Rattle.ert_timers.proofs.Passing.{loses_then}
+use Rattle.ert_timers.proofs.Passing.{fewer_rows, fewer_then}
 use Rattle.ert_timers.proofs.Rounds.{round_are_probes}
 
 -- the part stands when a slot is held free no more
@@ -25,8 +25,8 @@ picked_stands g v p q k stands is =
     subst (λ (x : Part). PartStands g v.front x) (sym is) (stands_with g v.front p (picked p k).free p.passed stands (λ j held. taken_was p.free k j held))
 
 -- it has lost no row
-loses_picked : (p : Part) (k : ℕ) → LosesRows p (picked p k)
-loses_picked p k = record { number = refl; slots = refl; left = λ j key is. is; time = omega arith }
+fewer_picked : (p : Part) (k : ℕ) → HasFewerRows p (picked p k)
+fewer_picked p k = record { number = refl; slots = refl; left = λ j key is. is; time = omega arith }
 
 -- a slot was held free
 pub takes_first : (g : Settings) (v : View) (by now : ℕ) (p q : Part) (k : ℕ) → PartStands g v.front p → now ≡ clock_at g (state g v.front)
@@ -44,7 +44,7 @@ takes_first g v by now p q k stands told is free held = record {
   rested = subst (λ (x : Part). (turned (uses_at (state g v.front) x.number k)).since ≤ now) (sym is)
       (subst (λ n. (turned (uses_at (state g v.front) p.number k)).since ≤ n) (sym told) (stands.holds.ready k held));
   look = refl;
-  loses = subst (LosesRows p) (sym is) (loses_picked p k);
+  fewer = subst (HasFewerRows p) (sym is) (fewer_picked p k);
   frees = λ j was. taken_free p q k j is was;
   meets = λ low none awake is. (let no : Some k ≡ None = is in cc);
 }
@@ -99,7 +99,7 @@ takes_then g v by now p p' q r None u stands told same empty some none left held
       usable = tt;
       rested = tt;
       look = here.look;
-      loses = subst (LosesRows p) (sym left) here.loses;
+      fewer = subst (HasFewerRows p) (sym left) (fewer_rows here.loses);
       frees = λ j was. absurd (none_was p p' j same (empty j) was);
       meets = λ low untaken awake is.
           (let met : sets.contains q.free p.next_look ≡ true = here.meets p.next_look (begins g p q here.round here.goes_on low) untaken awake in
@@ -122,7 +122,7 @@ takes_then g v by now p p' q r (Some k) u stands told same empty some none left 
       rested = subst (λ (x : Part). (turned (uses_at (state g u.front) x.number k)).since ≤ now) (sym is)
           (rested_then g v by now p q k u stands told here low held);
       look = here.look;
-      loses = loses_then p q r here.loses (subst (LosesRows q) (sym is) (loses_picked q k));
+      fewer = fewer_then p q r (fewer_rows here.loses) (subst (HasFewerRows q) (sym is) (fewer_picked q k));
       frees = λ j was. absurd (none_was p p' j same (empty j) was);
       meets = λ low none awake is. (let no : Some k ≡ None = is in cc);
     }

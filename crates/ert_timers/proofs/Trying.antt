@@ -2,6 +2,7 @@
 
 use Rattle.std.proofs.Common.{◌≡◌, ℕ, ◌+◌, ◌≤◌, ℤ, pos, true, false, List, [], ◌∷◌, ◌++◌, ◌<◌, length, set, count_by, Option, Some, None, refl, sym, ap, subst, ◌∙◌, arith, append_assoc, append-nil, length-append}
 use Rattle.std.proofs.lemmas.List.{map-append}
+use Rattle.std.specs.FinSet as sets
 use Rattle.std.specs.Option.{is_some}
 use Rattle.ert_calls.proofs.Looks.{look_stepped}
 use Rattle.ert_defs.specs.Legal.{Legal}
@@ -25,7 +26,7 @@ use Rattle.ert_timers.specs.Parts.{Part, PartStands, last_timer}
 use Rattle.ert_timers.specs.Passed.{LosesRows}
 use Rattle.ert_timers.specs.Trying.{TriesRows, come_to, expired_after}
 use Rattle.ert_timers.proofs.Later.{later_step}
-use Rattle.ert_timers.proofs.Passing.{due_push, held_push, holds_less, loses_none, loses_row, loses_then, none_more, once_more, was_held}
+use Rattle.ert_timers.proofs.Passing.{due_push, fewer_rows, held_push, holds_less, loses_none, loses_row, loses_then, none_more, once_more, was_held}
 use Rattle.ert_timers.proofs.Standing.{stands_with}
 use Rattle.ert_timers.proofs.Tried.{held_found}
 use Rattle.ert_wheel.specs.Rows.{key_in, key_of}
@@ -117,7 +118,7 @@ tries_more g v p q r to n row old mid new u w some stands its due wheel one =
       once = once_more q row.slot (key_of row) some.tries t its refl some.none some.once;
       held = held_push p some.tries t some.held (was_held p q row.slot (key_of row) some.loses (stands.holds.wide ∙ sym stands.holds.many) its);
       none = none_more q r row.slot some.tries t low refl mine slots keys time some.none;
-      loses = loses_then p q r some.loses (loses_row q r row.slot low mine slots keys time);
+      loses = loses_then p q r some.loses (loses_row q r row.slot low mine slots keys time (λ k was. ap (λ (x : Part). sets.contains x.free k) one.part ∙ was));
       fewer = omega (arith, some.fewer, row_counted q r row its keys);
       rows = (later_step g u (expires_by p.number t.timer t.missed) w p.number step
           (subst (λ k. is_held u.actors (Wheel k) ≡ true) some.number wheel) (no_arm p.number t.timer t.missed)).rows ∙ some.rows;
@@ -153,7 +154,7 @@ stands_come_to g h p passed stands = stands_with g h p p.free passed stands (λ 
 
 -- it has lost no row
 pub loses_come_to : (p : Part) (passed : ℕ) → p.passed ≤ passed → LosesRows p (come_to p passed)
-loses_come_to p passed up = record { number = refl; slots = refl; left = λ k key is. is; time = up }
+loses_come_to p passed up = record { number = refl; slots = refl; left = λ k key is. is; time = up; frees = λ k was. was }
 
 -- and what was tried before that was tried
 pub tries_come_to : (g : Settings) (v : View) (p q : Part) (to n passed : ℕ) (old new : Queue) (u : View)
@@ -166,7 +167,7 @@ tries_come_to g v p q to n passed old new u some up = record {
   due = some.due;
   once = some.once;
   held = some.held;
-  none = holds_less q (come_to q passed) some.tries (loses_come_to q passed up) some.none;
+  none = holds_less q (come_to q passed) some.tries (fewer_rows (loses_come_to q passed up)) some.none;
   loses = loses_then p q (come_to q passed) some.loses (loses_come_to q passed up);
   fewer = some.fewer;
   rows = some.rows;

@@ -7,6 +7,7 @@ use Rattle.ert_effects.specs.Sleeping.{Probed, AreSettledButLast, probed_entries
 use Rattle.ert_table.specs.Takes.{TakesPlace}
 use Rattle.ert_table.specs.declared.view.View.{View}
 use Rattle.ert_timers.specs.NextDue.{IsNearest, IsNextHeld}
+use Rattle.ert_timers.specs.Frees.{FreesRows}
 use Rattle.ert_timers.specs.Parts.{Part, PartStands}
 use Rattle.ert_timers.specs.Passed.{LosesRows}
 use Rattle.ert_timers.specs.Sleeping.{HasLost}
@@ -26,4 +27,5 @@ pub record AsksOn (g : Settings) (v : View) (p q : Part) (most : ℕ) (answer : 
   pub held : IsNextHeld q answer
   pub found : IsFoundWithin most (state g u.front) p q answer
   pub loses : LosesRows p q
+  pub frees : FreesRows p q
   pub time : q.passed ≡ p.passed

@@ -5,6 +5,7 @@ use Rattle.ert_defs.specs.States.{state}
 use Rattle.ert_defs.specs.declared.entry.Entry.{Entry}
 use Rattle.ert_defs.specs.declared.settings.Settings.{Settings}
 use Rattle.ert_defs.specs.declared.timer.Status.TheVariants.{Armed}
+use Rattle.ert_timers.specs.Frees.{FreesRows}
 use Rattle.ert_timers.specs.Parts.{Part, PartStands, last_timer}
 use Rattle.ert_timers.specs.Passed.{LosesRows}
 use Rattle.ert_wheel.specs.Rows.{key_in}
@@ -14,10 +15,12 @@ use Rattle.ert_wheel.specs.declared.row.Key.{Key}
 pub record DropsRow (g : Settings) (h : List Entry) (p q : Part) (k : ℕ) : Type 0 where
   pub stands : PartStands g h q
   pub loses : LosesRows p q
+  pub frees : FreesRows p q
   pub here : (key : Key) → key_in q.keys k ≡ Some key → (state g h).status (last_timer q.number q.slots k) ≡ Some Armed
 
 -- so many slots were
 pub record DropsRows (g : Settings) (h : List Entry) (p q : Part) (n : ℕ) : Type 0 where
   pub stands : PartStands g h q
   pub loses : LosesRows p q
+  pub frees : FreesRows p q
   pub below : (k : ℕ) (key : Key) → k < n → key_in q.keys k ≡ Some key → (state g h).status (last_timer q.number q.slots k) ≡ Some Armed

@@ -1,9 +1,11 @@
 -- What a call leaves of the slots that are held free.
 
-use Rattle.std.specs.Prelude.{◌≡◌, ◌⊎◌, ℕ, ◌≤◌, true, false, Option, Some, Result, Ok}
+use Rattle.std.specs.Prelude.{◌≡◌, ◌≢◌, ◌⊎◌, ℕ, ◌≤◌, true, false, Option, Some, None, Result, Ok}
 use Rattle.std.specs.FinSet as set
 use Rattle.ert_defs.specs.declared.timer.TimerRef.{TimerRef}
-use Rattle.ert_timers.specs.Parts.{Part, last_timer}
+use Rattle.ert_timers.specs.Changes.{has_uses}
+use Rattle.ert_timers.specs.Parts.{Part, last_timer, slot_at}
+use Rattle.ert_wheel.specs.Rows.{key_in}
 
 -- no slot is held free
 abbrev pub HoldsNoneFree : Part → Type 0
@@ -13,7 +15,11 @@ HoldsNoneFree p = (k : ℕ) → set.contains p.free k ≡ false
 abbrev pub KeepsFree : Part → Part → Type 0
 KeepsFree p q = (k : ℕ) → set.contains p.free k ≡ true → set.contains q.free k ≡ true
 
--- and each but one, where one was taken
+-- the slot of each row that has gone is held free, where its round has uses left
+abbrev pub FreesRows : Part → Part → Type 0
+FreesRows p q = (k : ℕ) → key_in p.keys k ≢ None → key_in q.keys k ≡ None → has_uses (slot_at p.slots k) ≡ true → set.contains q.free k ≡ true
+
+-- each slot that was held free is so still but one, where one was taken
 abbrev pub TakesFree : Part → Part → Option ℕ → Type 0
 TakesFree p q slot = (k : ℕ) → set.contains p.free k ≡ true → (set.contains q.free k ≡ true) ⊎ (slot ≡ Some k)
 

@@ -4,6 +4,7 @@ use Rattle.std.specs.Prelude.{◌≡◌, ◌≢◌, ◌⊎◌, ℕ, ◌<◌, ◌
 use Rattle.ert_defs.specs.declared.timer.TimerRef.{TimerRef}
 use Rattle.ert_effects.specs.WheelCalls.{Try}
 use Rattle.ert_timers.specs.Freeing.{IsHeld}
+use Rattle.ert_timers.specs.Frees.{KeepsFree}
 use Rattle.ert_timers.specs.Parts.{Part, last_timer}
 use Rattle.ert_wheel.specs.Rows.{key_in}
 use Rattle.ert_wheel.specs.declared.row.Key.{Key}
@@ -14,11 +15,19 @@ pub record HasPassed (p : Part) (to : ℕ) : Type 0 where
   pub on : to < p.passed
 
 -- some rows have gone, none has come, and time went on if it moved
+pub record HasFewerRows (p q : Part) : Type 0 where
+  pub number : q.number ≡ p.number
+  pub slots : q.slots ≡ p.slots
+  pub left : (k : ℕ) (key : Key) → key_in q.keys k ≡ Some key → key_in p.keys k ≡ Some key
+  pub time : p.passed ≤ q.passed
+
+-- the same, and each slot that was held free is so still
 pub record LosesRows (p q : Part) : Type 0 where
   pub number : q.number ≡ p.number
   pub slots : q.slots ≡ p.slots
   pub left : (k : ℕ) (key : Key) → key_in q.keys k ≡ Some key → key_in p.keys k ≡ Some key
   pub time : p.passed ≤ q.passed
+  pub frees : KeepsFree p q
 
 -- a row of a slot was held before, and is of the same timer
 abbrev pub WasHeld : Part → Part → ℕ → Key → Type 0

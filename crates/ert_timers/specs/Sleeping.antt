@@ -15,6 +15,7 @@ use Rattle.ert_table.specs.Takes.{Appends, TakesPlace}
 use Rattle.ert_table.specs.declared.view.View.{View}
 use Rattle.ert_timers.specs.Changes.{given_back}
 use Rattle.ert_timers.specs.NextDue.{IsNearest, IsNextHeld}
+use Rattle.ert_timers.specs.Frees.{FreesRows}
 use Rattle.ert_timers.specs.Parts.{Part, PartStands, last_timer}
 use Rattle.ert_timers.specs.Passed.{LosesRows}
 use Rattle.ert_wheel.specs.Rows.{key_in}
@@ -52,6 +53,7 @@ pub record DropsNext (g : Settings) (v : View) (p q : Part) (n : ℕ) (u : View)
   pub call : TakesPlace g v (probed_entries p.number probes) u
   pub stands : PartStands g u.front q
   pub loses : LosesRows p q
+  pub frees : FreesRows p q
   pub time : q.passed ≡ p.passed
   pub fewer : HasLost n p q
 
@@ -62,6 +64,7 @@ pub record AsksNext (g : Settings) (v : View) (p q : Part) (answer : Option ℕ)
   pub held : IsNextHeld q answer
   pub found : IsFoundNext (state g u.front) p q answer
   pub loses : LosesRows p q
+  pub frees : FreesRows p q
   pub time : q.passed ≡ p.passed
 
 -- the slots below one were probed that have a row, and so many rows have gone: what is left of them was found armed
@@ -73,6 +76,7 @@ pub record ProbesSome (g : Settings) (v : View) (p q : Part) (below n : ℕ) (u 
   pub call : TakesPlace g v (probed_entries p.number probes) u
   pub stands : PartStands g u.front q
   pub loses : LosesRows p q
+  pub frees : FreesRows p q
   pub time : q.passed ≡ p.passed
   pub fewer : HasLost n p q
   pub armed : (k : ℕ) (key : Key) → k < below → key_in q.keys k ≡ Some key → FindsArmed k probes

@@ -20,9 +20,9 @@ use Rattle.ert_table.specs.Takes.{Appends, TakesPlace}
 use Rattle.ert_table.specs.declared.view.View.{View}
 use Rattle.ert_timers.specs.Changes.{MayBecomeFree, is_resting, kept, given_back}
 use Rattle.ert_timers.specs.Expiring.{is_hit}
-use Rattle.ert_timers.specs.Frees.{KeepsFree, TakesFree}
+use Rattle.ert_timers.specs.Frees.{TakesFree}
 use Rattle.ert_timers.specs.Parts.{Part, PartStands, last_timer, slot_at}
-use Rattle.ert_timers.specs.Passed.{LosesRows, GainsOne}
+use Rattle.ert_timers.specs.Passed.{HasFewerRows, LosesRows, GainsOne}
 use Rattle.ert_timers.specs.declared.part.Use.{Use}
 use Rattle.ert_wheel.specs.Rows.{key_in}
 
@@ -67,7 +67,6 @@ pub record Ends (g : Settings) (v : View) (by : ℕ) (p q : Part) (dest : ℕ) (
   pub number : q.number ≡ p.number
   pub stands : PartStands g u.front q
   pub loses : LosesRows p q
-  pub frees : KeepsFree p q
 
 -- the status of what is shown of a slot
 abbrev pub status_shown : Option ShownWord → Option Status
@@ -190,7 +189,7 @@ pub record TakesSlot (g : Settings) (v : View) (by now : ℕ) (p q : Part) (slot
   pub usable : IfSome slot (λ k. is_taken ((state g u.front).status (last_timer q.number q.slots k)) ≡ false)
   pub rested : IfSome slot (λ k. (turned (uses_at (state g u.front) q.number k)).since ≤ now)
   pub look : (state g u.front).looked (Caller by) ≡ (state g v.front).looked (Caller by)
-  pub loses : LosesRows p q
+  pub fewer : HasFewerRows p q
   pub frees : TakesFree p q slot
   -- one is found where that at which the looks begin wasn't taken before and doesn't rest
   pub meets : p.next_look < length p.slots → IsUntaken g v p p.next_look → is_resting (slot_at p.slots p.next_look) now ≡ false → slot ≢ None

@@ -7,6 +7,7 @@ use Rattle.ert_defs.specs.declared.settings.Settings.{Settings}
 use Rattle.ert_effects.specs.WheelCalls.{Try, AllMaySweep, AreOnce, orphan_entries}
 use Rattle.ert_table.specs.Takes.{TakesPlace}
 use Rattle.ert_table.specs.declared.view.View.{View}
+use Rattle.ert_timers.specs.Frees.{FreesRows}
 use Rattle.ert_timers.specs.Parts.{Part, PartStands}
 use Rattle.ert_timers.specs.Passed.{HoldsEach, HoldsNone, LosesRows}
 
@@ -18,6 +19,7 @@ pub record SweepsSome (g : Settings) (v : View) (by process : ℕ) (p q : Part) 
   pub held : HoldsEach p tries
   pub none : HoldsNone q tries
   pub loses : LosesRows p q
+  pub frees : FreesRows p q
   pub call : TakesPlace g v (orphan_entries by p.number tries) u
   pub stands : PartStands g u.front q
   pub number : q.number ≡ p.number

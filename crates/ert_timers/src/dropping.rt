@@ -13,6 +13,7 @@ impl WheelPart {
     ghost use Rattle.ert_table.specs.Desks.{settings_of, view_of, front_of, actors_of, Belongs};
     ghost use Rattle.ert_table.specs.Held.{IsWhole};
     ghost use Rattle.ert_timers.specs.Dropping.{DropsRow, DropsRows};
+    ghost use Rattle.ert_timers.specs.Frees.{FreesRows};
     ghost use Rattle.ert_timers.specs.Parts.{PartStands};
     ghost use Rattle.ert_timers.specs.Passed.{LosesRows};
     ghost use Rattle.ert_timers.specs.Tidy.{IsTidy};
@@ -29,6 +30,7 @@ impl WheelPart {
         ensures same { view_of pass.new ≡ view_of pass.old }
         ensures stands { PartStands (settings_of desk.now) (front_of pass.old) self.new }
         ensures loses { LosesRows self.old self.new }
+        ensures frees { FreesRows self.old self.new }
         ensures tidy { IsTidy (state (settings_of desk.now) (front_of pass.old)) self.new }
     {
         for slot in 0..self.slot_count() {

@@ -19,6 +19,7 @@ impl WheelPart {
     ghost use Rattle.ert_timers.specs.Asking.{AsksOn};
     ghost use Rattle.ert_timers.specs.Changes.{given_back};
     ghost use Rattle.ert_timers.specs.NextDue.{NoneArmedBefore, IsNearest, IsNextHeld};
+    ghost use Rattle.ert_timers.specs.Frees.{FreesRows};
     ghost use Rattle.ert_timers.specs.Parts.{HoldsSched, PartStands, last_timer};
     ghost use Rattle.ert_timers.specs.Passed.{LosesRows};
     ghost use Rattle.ert_timers.specs.Sleeping.{AsksNext, IsFoundNext, ProbesRow, ProbesRows};
@@ -52,6 +53,7 @@ impl WheelPart {
         // So a body that drops no row, or gives up after fewer, is refused.
         ensures found { IsFoundNext (state_of desk.now pass.new) self.old self.new result }
         ensures loses { LosesRows self.old self.new }
+        ensures frees { FreesRows self.old self.new }
         ensures time { self.new.passed ≡ self.old.passed }
     {
         self.ask_next(desk, pass)
@@ -112,6 +114,7 @@ impl WheelPart {
         ensures stands { PartStands (settings_of desk.now) (front_of pass.new) self.new }
         ensures call { ProbesRows (settings_of desk.now) (view_of pass.old) self.old self.new result (view_of pass.new) }
         ensures loses { LosesRows self.old self.new }
+        ensures frees { FreesRows self.old self.new }
         ensures time { self.new.passed ≡ self.old.passed }
     {
         let mut dropped = 0;

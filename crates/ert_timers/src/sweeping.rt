@@ -12,6 +12,7 @@ impl WheelPart {
     ghost use Rattle.ert_table.specs.Calls.{IsMade};
     ghost use Rattle.ert_timers.specs.Changes.{given_back, reused};
     ghost use Rattle.ert_timers.specs.Freeing.{IsHeld, IsLast, IsLetGo};
+    ghost use Rattle.ert_timers.specs.Frees.{FreesRows};
     ghost use Rattle.ert_timers.specs.Parts.{HoldsCaller, PartStands};
     ghost use Rattle.ert_timers.specs.Passed.{LosesRows};
     ghost use Rattle.ert_timers.specs.Sweeping.{SweepsHeld};
@@ -35,6 +36,7 @@ impl WheelPart {
         ensures call { IsMade (settings_of desk.now) (view_of pass.old) (Sweeps (settings_of desk.now) by self.old.number process) (view_of pass.new) }
         ensures held { IsMade (settings_of desk.now) (view_of pass.old) (SweepsHeld by self.old) (view_of pass.new) }
         ensures loses { LosesRows self.old self.new }
+        ensures frees { FreesRows self.old self.new }
         ensures swept { IsSwept (state (settings_of desk.now) (front_of pass.new)) self.old.number process }
     {
         while let Some(row) = self.newest_of(process) {

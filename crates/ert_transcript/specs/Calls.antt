@@ -1,20 +1,20 @@
 -- The call that an op is, by caller n, in a way: which pieces of history it allows with its reply. Out of
 -- memory is no reply.
 
-use Rattle.std.specs.Prelude.{◌≡◌, ℕ, ℤ, FitsSigned, Bool, true, false, List, [], ◌∷◌, Option, Ok, Err}
+use Rattle.std.specs.Prelude.{◌≡◌, ℕ, ℤ, FitsSigned, Bool, List, [], ◌∷◌, Option}
 use Rattle.std.specs.Int.{w64}
-use Rattle.ert_effects.specs.Chains.{Serves, AdvancesWheel, Delivers, Turns, Exits}
-use Rattle.ert_effects.specs.ClockCalls.{Ticks, Finalizes, TellsTime, TellsOffset, TellsSystemTime}
-use Rattle.ert_effects.specs.MailCalls.{Takes, Monitors, Demonitors, Notifies}
-use Rattle.ert_effects.specs.RequestCalls.{inbox_for, Asks}
-use Rattle.ert_effects.specs.TimerCalls.{Reads, Cancels, Starts}
+use Rattle.ert_effects.specs.Chains.{HasServedOne, HasDelivered, HasTurned, Exits}
+use Rattle.ert_effects.specs.ClockCalls.{MovesClock, IsTooWide, HasFinalized, TellsTime, TellsOffset, TellsSystemTime}
+use Rattle.ert_effects.specs.MailCalls.{Takes, IsMonitored, AreMonitorsFull, Demonitors, HasTold}
+use Rattle.ert_effects.specs.RequestCalls.{inbox_for}
+use Rattle.ert_effects.specs.TimerCalls.{Reads, Cancels, IsStarted, IsBadArg, IsWheelFull}
 use Rattle.ert_effects.specs.Ways.{Way}
-use Rattle.ert_effects.specs.WheelCalls.{TellsAlive}
-use Rattle.ert_effects.specs.declared.answers.MonitorErr.TheVariants.{Full as NoMore}
-use Rattle.ert_effects.specs.declared.answers.StartErr.TheVariants.{BadArg, Full}
+use Rattle.ert_effects.specs.WheelCalls.{HasAdvanced, TellsAlive}
 use Rattle.ert_effects.specs.declared.answers.Taken.TheVariants.{Mail as Taking, Empty, Exited}
-use Rattle.ert_clock.specs.declared.clock.ClockErr.TheVariants.{OffsetWide}
+use Rattle.ert_defs.specs.Entries.{ask_entry}
 use Rattle.ert_defs.specs.Lines.{end_time}
+use Rattle.ert_defs.specs.declared.entry.Act.TheVariants.{Plain, Force}
+use Rattle.ert_defs.specs.declared.entry.Act.TheVariants as acts
 use Rattle.ert_defs.specs.declared.entry.Actor.TheVariants.{Keeper, Wheel, Inbox, MailOf, Caller}
 use Rattle.ert_defs.specs.declared.entry.Entry.{Entry}
 use Rattle.ert_defs.specs.declared.mail.Request.{Request}
@@ -61,7 +61,7 @@ Converts time from to reply m = ⊥
 
 -- a request is put into the inbox of its scheduler
 abbrev pub AsksFor : Settings → Way → ℕ → Request → List Entry → List Entry → Type 0
-AsksFor g way n request h m = way (Inbox (inbox_for g request) ∷ []) (Asks g n (inbox_for g request) request (Ok tt)) h m
+AsksFor g way n request h m = way (Inbox (inbox_for g request) ∷ []) (λ s es. es ≡ ask_entry n (inbox_for g request) request ∷ []) h m
 
 -- what an op allows with its reply: the piece that comes after a history, with these labels. `tick` and
 -- `check` are ticks; `start` and `send_after` start a wrapped and a bare timer; `cancel_async` and
@@ -70,18 +70,16 @@ AsksFor g way n request h m = way (Inbox (inbox_for g request) ∷ []) (Asks g n
 -- reads the offset and prints the settings; `convert` makes no entry. Out of memory is no reply
 abbrev pub Calls : Settings → Way → ℕ → Labels → Op → Reply → List Entry → List Entry → Type 0
 Calls g way n ls (ops.Tick mono sys) (Tick now shift) h m =
-    way (Keeper ∷ []) (Ticks g n (reading_of mono sys) false (Ok (record { now = now; shift = shift }))) h m
-Calls g way n ls (ops.Tick mono sys) (TickWide value) h m =
-    way (Keeper ∷ []) (Ticks g n (reading_of mono sys) false (Err (OffsetWide value))) h m
+    way (Keeper ∷ []) (MovesClock g n (reading_of mono sys) Plain (record { now = now; shift = shift })) h m
+Calls g way n ls (ops.Tick mono sys) (TickWide value) h m = way (Keeper ∷ []) (IsTooWide g (reading_of mono sys) Plain value) h m
 Calls g way n ls (ops.Check mono sys) (Check now shift) h m =
-    way (Keeper ∷ []) (Ticks g n (reading_of mono sys) true (Ok (record { now = now; shift = shift }))) h m
-Calls g way n ls (ops.Check mono sys) (CheckWide value) h m =
-    way (Keeper ∷ []) (Ticks g n (reading_of mono sys) true (Err (OffsetWide value))) h m
+    way (Keeper ∷ []) (MovesClock g n (reading_of mono sys) Force (record { now = now; shift = shift })) h m
+Calls g way n ls (ops.Check mono sys) (CheckWide value) h m = way (Keeper ∷ []) (IsTooWide g (reading_of mono sys) Force value) h m
 Calls g way n ls (ops.Finalize mono sys) (Finalize old now shift) h m =
-    way (Keeper ∷ []) (Finalizes g n (reading_of mono sys) (Ok (old, record { now = now; shift = shift }))) h m
+    way (Keeper ∷ []) (HasFinalized g n (reading_of mono sys) old (record { now = now; shift = shift })) h m
 Calls g way n ls (ops.Finalize mono sys) (FinalizeWide value) h m =
-    way (Keeper ∷ []) (Finalizes g n (reading_of mono sys) (Err (OffsetWide value))) h m
-Calls g way n ls (ops.Notify p) (Notify put) h m = way (MailOf p ∷ []) (Notifies g n p (Ok put)) h m
+    way (Keeper ∷ []) (IsTooWide g (reading_of mono sys) acts.Finalize value) h m
+Calls g way n ls (ops.Notify p) (Notify put) h m = way (MailOf p ∷ []) (λ s es. HasTold n p (s.mails p) put es) h m
 Calls g way n ls ops.Time (Time now) h m = way [] (TellsTime g (Caller n) now) h m
 Calls g way n ls ops.System (System time) h m = way [] (TellsSystemTime g (Caller n) time) h m
 Calls g way n ls ops.Offset (Offset offset state) h m = way [] (TellsOffset g (Caller n) (offset, state)) h m
@@ -89,32 +87,31 @@ Calls g way n ls ops.Info (Info start end mode correction offset state) h m =
     TellsSettings g start end mode correction × way [] (TellsOffset g (Caller n) (offset, state)) h m
 Calls g way n ls (ops.Convert time from to) reply h m = Converts time from to reply m
 Calls g way n ls (ops.Start l w when p msg) (StartOk timer) h m =
-    way (Wheel w ∷ []) (Starts g n w (start_for_op when p msg Wrapped) (Ok timer)) h m
+    way (Wheel w ∷ []) (IsStarted g n w (start_for_op when p msg Wrapped) timer) h m
 Calls g way n ls (ops.Start l w when p msg) StartBadArg h m =
-    way (Wheel w ∷ []) (Starts g n w (start_for_op when p msg Wrapped) (Err BadArg)) h m
-Calls g way n ls (ops.Start l w when p msg) StartFull h m =
-    way (Wheel w ∷ []) (Starts g n w (start_for_op when p msg Wrapped) (Err Full)) h m
+    way (Wheel w ∷ []) (λ s es. IsBadArg g n (start_for_op when p msg Wrapped) es) h m
+Calls g way n ls (ops.Start l w when p msg) StartFull h m = way (Wheel w ∷ []) (IsWheelFull g n w (start_for_op when p msg Wrapped)) h m
 Calls g way n ls (ops.SendAfter l w when p msg) (SendAfterOk timer) h m =
-    way (Wheel w ∷ []) (Starts g n w (start_for_op when p msg Bare) (Ok timer)) h m
+    way (Wheel w ∷ []) (IsStarted g n w (start_for_op when p msg Bare) timer) h m
 Calls g way n ls (ops.SendAfter l w when p msg) SendAfterBadArg h m =
-    way (Wheel w ∷ []) (Starts g n w (start_for_op when p msg Bare) (Err BadArg)) h m
+    way (Wheel w ∷ []) (λ s es. IsBadArg g n (start_for_op when p msg Bare) es) h m
 Calls g way n ls (ops.SendAfter l w when p msg) SendAfterFull h m =
-    way (Wheel w ∷ []) (Starts g n w (start_for_op when p msg Bare) (Err Full)) h m
+    way (Wheel w ∷ []) (IsWheelFull g n w (start_for_op when p msg Bare)) h m
 Calls g way n ls (ops.Cancel l) (Cancel left) h m = way [] (Cancels g (Caller n) (ref_of ls l) left) h m
 Calls g way n ls (ops.CancelQuiet l) CancelQuiet h m = (left : Option ℕ) × way [] (Cancels g (Caller n) (ref_of ls l) left) h m
 Calls g way n ls (ops.Read l) (Read left) h m = way [] (Reads g (Caller n) (ref_of ls l) left) h m
 Calls g way n ls (ops.CancelAsync l p info) CancelAsync h m = AsksFor g way n (request_for_op ToCancel ls l p info) h m
 Calls g way n ls (ops.ReadAsync l p info) ReadAsync h m = AsksFor g way n (request_for_op ToRead ls l p info) h m
-Calls g way n ls (ops.Serve w) (Serve served) h m = Serves g way w (Ok served) h m
-Calls g way n ls (ops.Advance w) (Advance to expired) h m = AdvancesWheel g way w (Ok (to, expired)) h m
-Calls g way n ls (ops.Deliver w) (Deliver put dropped) h m = Delivers g way w (Ok (put, dropped)) h m
-Calls g way n ls (ops.Turn w) (Turn turned) h m = Turns g way w (Ok turned) h m
+Calls g way n ls (ops.Serve w) (Serve served) h m = HasServedOne g way w served h m
+Calls g way n ls (ops.Advance w) (Advance to expired) h m = way (Wheel w ∷ []) (HasAdvanced w (to, expired)) h m
+Calls g way n ls (ops.Deliver w) (Deliver put dropped) h m = HasDelivered g way w (put, dropped) h m
+Calls g way n ls (ops.Turn w) (Turn turned) h m = HasTurned g way w turned h m
 Calls g way n ls (ops.Receive p) (Received mail) h m = way (MailOf p ∷ []) (Takes g n p (Taking mail)) h m
 Calls g way n ls (ops.Receive p) ReceivedEmpty h m = way (MailOf p ∷ []) (Takes g n p Empty) h m
 Calls g way n ls (ops.Receive p) ReceivedExited h m = way (MailOf p ∷ []) (Takes g n p Exited) h m
 Calls g way n ls (ops.Exit p) (Exit was_alive) h m = Exits g way n p was_alive h m
 Calls g way n ls (ops.Alive p) (Alive alive) h m = way [] (TellsAlive g (Caller n) p alive) h m
-Calls g way n ls (ops.Monitor p) (Monitor number) h m = way (MailOf p ∷ []) (Monitors g n p (Ok number)) h m
-Calls g way n ls (ops.Monitor p) MonitorFull h m = way (MailOf p ∷ []) (Monitors g n p (Err NoMore)) h m
+Calls g way n ls (ops.Monitor p) (Monitor number) h m = way (MailOf p ∷ []) (λ s es. IsMonitored n p number es) h m
+Calls g way n ls (ops.Monitor p) MonitorFull h m = way (MailOf p ∷ []) (λ s es. AreMonitorsFull n (s.mails p) es) h m
 Calls g way n ls (ops.Demonitor p k) (Demonitor stood) h m = way (MailOf p ∷ []) (Demonitors g n p k stood) h m
 Calls g way n ls op reply h m = ⊥

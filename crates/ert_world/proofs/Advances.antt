@@ -80,7 +80,7 @@ tries_leave w (t ∷ tries) = (by_case t.missed, tries_leave w tries)
 leave_as : (es fs : List Entry) → es ≡ fs → LeaveHand fs → LeaveHand es
 leave_as es fs same leave = subst LeaveHand (sym same) leave
 
-advance_leaves : (w : ℕ) (answer : ℕ × ℕ) (es : List Entry) → IsAdvance w answer es → LeaveHand es
+pub advance_leaves : (w : ℕ) (answer : ℕ × ℕ) (es : List Entry) → IsAdvance w answer es → LeaveHand es
 advance_leaves w answer es advance =
     leave_as es _ advance.entries (refl, leave_append (expiry_entries w advance.tries) _ (tries_leave w advance.tries) (refl, tt))
 

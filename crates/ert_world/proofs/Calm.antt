@@ -76,7 +76,7 @@ pub record IsQuiet (actors : List Actor) (es : List Entry) : Type 0 where
   pub only : AreOnlyOf actors es
   pub calm : AreCalm es
 
-quiet_as : (actors : List Actor) (es fs : List Entry) → es ≡ fs → IsQuiet actors fs → IsQuiet actors es
+pub quiet_as : (actors : List Actor) (es fs : List Entry) → es ≡ fs → IsQuiet actors fs → IsQuiet actors es
 quiet_as actors es fs same quiet = subst (IsQuiet actors) (sym same) quiet
 
 pub time_quiet : (g : Settings) (by : Actor) (answer : ℤ) (s : State) (es : List Entry) → TellsTime g by answer s es → IsQuiet (by ∷ []) es

@@ -1,6 +1,6 @@
 -- A turn puts the messages of all timers that are due.
 
-use Rattle.std.proofs.Common.{◌≡◌, ◌≢◌, ℕ, Bool, true, false, cond, List, [], ◌∷◌, ◌++◌, filter, Some, Ok, refl, sym, ap, ◌∙◌, subst, append_assoc}
+use Rattle.std.proofs.Common.{◌≡◌, ◌≢◌, ℕ, Bool, false, List, [], ◌∷◌, ◌++◌, filter, Some, Ok, refl, sym, ap, ◌∙◌, subst, append_assoc}
 use Rattle.ert_defs.proofs.Runs.{legal_first, legal_then, state-append}
 use Rattle.ert_defs.proofs.Slots.{ordered}
 use Rattle.ert_defs.specs.Entries.{look_entry, advanced_entry, is_ours}
@@ -17,34 +17,13 @@ use Rattle.ert_effects.specs.Ways.{Way, alone, beside}
 use Rattle.ert_effects.specs.WheelCalls.{expiry_entries, HasAdvanced}
 use Rattle.ert_laws.proofs.DueMessages.{due_delivered, final_stays, put_once, row_stays}
 use Rattle.ert_laws.specs.Punctual.{IsMessagePut}
+use Rattle.ert_world.proofs.Places.{StandsAt, stands_in}
 use Rattle.ert_world.specs.DueTurns.{PutsDue, TurnPutsDue, LawOfDueHandings, LawOfDueTurns}
 use Rattle.ert_world.specs.Ways.{among}
 
--- an entry stands in a piece
-record StandsAt (m : List Entry) (e : Entry) : Type 0 where
-  before : List Entry
-  behind : List Entry
-  is : m ≡ before ++ (e ∷ behind)
-
-none_last : (es : List Entry) (e : Entry) (P : Type 0) → [] ≡ es ++ e ∷ [] → P
-none_last [] e P is = absurd cc
-none_last (x ∷ es) e P is = absurd cc
-
-with_first : (x : Entry) (m : List Entry) (e : Entry) → StandsAt m e → StandsAt (x ∷ m) e
-with_first x m e at = record { before = x ∷ at.before; behind = at.behind; is = ap (λ (l : List Entry). x ∷ l) at.is }
-
-first_of_them : (x : Entry) (m kept es : List Entry) (e : Entry) → x ∷ kept ≡ es ++ e ∷ [] → ((rest : List Entry) → kept ≡ rest ++ e ∷ [] → StandsAt m e) → StandsAt (x ∷ m) e
-first_of_them x m kept [] e is later = let same : x ≡ e = cc in record { before = []; behind = m; is = ap (λ (y : Entry). y ∷ m) same }
-first_of_them x m kept (y ∷ es) e is later = let rest : kept ≡ es ++ e ∷ [] = cc in with_first x m e (later es rest)
-
--- the last of those that pass a test does
+-- the last of those that pass a test stands in the piece
 last_stands : (q : Entry → Bool) (m es : List Entry) (e : Entry) → filter q m ≡ es ++ e ∷ [] → StandsAt m e
-last_stands q [] es e is = none_last es e (StandsAt [] e) is
-last_stands q (x ∷ m) es e is = at (q x) is (λ rest same. last_stands q m rest e same)
-  where
-    at : (b : Bool) → cond b (x ∷ filter q m) (filter q m) ≡ es ++ e ∷ [] → ((rest : List Entry) → filter q m ≡ rest ++ e ∷ [] → StandsAt m e) → StandsAt (x ∷ m) e
-    at true is later = first_of_them x m (filter q m) es e is later
-    at false is later = with_first x m e (later es is)
+last_stands q m es e is = stands_in q m es [] e is
 
 -- the record of an advance stands in its piece, in whatever way it is made
 

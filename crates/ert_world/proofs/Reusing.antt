@@ -17,11 +17,13 @@ use Rattle.ert_world.proofs.WheelCalls.{rows_set}
 use Rattle.ert_world.specs.Stepping.{Stays, turns_same}
 use Rattle.ert_world.specs.Worlds.{Seen, seen, AreSound, KeepsRows}
 use Rattle.ert_world.specs.declared.world.World.TheInside.{Inside}
+use Rattle.ert_timers.proofs.Freed.{reused_keeps}
 use Rattle.ert_world.proofs.CancelCalls.{put_back}
 
 -- where a slot is held free again no row has come
 pub loses_reused : (p q : Part) (k : ℕ) → q ≡ reused p k → LosesRows p q
-loses_reused p q k is = subst (LosesRows p) (sym is) (record { number = refl; slots = refl; left = λ j key held. held; time = omega arith })
+loses_reused p q k is =
+    subst (LosesRows p) (sym is) (record { number = refl; slots = refl; left = λ j key held. held; time = omega arith; frees = reused_keeps p (reused p k) k refl })
 
 -- so a tidy part stays so where rows go
 loses_tidy : (s : State) (p q : Part) → LosesRows p q → IsTidy s p → IsTidy s q

@@ -4,6 +4,7 @@ pub mod Counted
 pub mod DueTurns
 pub mod Frees
 pub mod Held
+pub mod Known
 pub mod Laws
 pub mod Mailing
 pub mod Openings
@@ -12,5 +13,6 @@ pub mod Restarts
 pub mod Seats
 pub mod Sleeping
 pub mod Stepping
+pub mod Tried
 pub mod Ways
 pub mod Worlds

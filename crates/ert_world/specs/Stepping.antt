@@ -16,7 +16,8 @@ use Rattle.ert_words.specs.Turns.{TurnRow}
 use Rattle.ert_world.specs.Ways.{is_unseated}
 use Rattle.ert_world.specs.Worlds.{Seen, ForgetsCancelled, HasForgottenAll, HasPassedAt, LoseRows, TurnsGrow}
 
--- the desk, its settings, the clock and the seats stay, who waits for a turn keeps its place, no row of a timer comes, and the wheels forget what the world cancelled
+-- the desk, its settings, the clock and the seats stay, who waits for a turn keeps its place, no row of a timer comes, each slot
+-- that a wheel held free is so still, and the wheels forget what the world cancelled
 pub record Stays (old new : Seen) : Type 0 where
   pub table : new.table ≡ old.table
   pub settings : new.settings ≡ old.settings
@@ -82,6 +83,7 @@ stay a b c one other = record {
     slots = second.slots ∙ first.slots;
     left = λ k key is. first.left k key (second.left k key is);
     time = le_trans first.time second.time;
+    frees = λ k was. second.frees k (first.frees k was);
   });
   forgotten = forgets_then a b c one.forgotten other.forgotten one.next other.rows;
 }
@@ -93,7 +95,7 @@ same a = record {
   next = refl;
   clock = refl;
   turns = turns_same a.turns;
-  rows = λ i d. record { number = refl; slots = refl; left = λ k key is. is; time = le_refl (slice_index_or a.wheels i d).passed };
+  rows = λ i d. record { number = refl; slots = refl; left = λ k key is. is; time = le_refl (slice_index_or a.wheels i d).passed; frees = λ k was. was };
   forgotten = record { piece = []; grown = sym (append-nil a.history); forgotten = tt };
 }
 

@@ -127,7 +127,7 @@ pub record ForgetsCancelled (old new : Seen) : Type 0 where
   pub grown : new.history ≡ old.history ++ piece
   pub forgotten : HasForgottenAll new (filter (is_unseated old.next) piece)
 
--- wheels of a world may have lost rows, and no row has come
+-- wheels of a world may have lost rows, no row has come, and each slot that was held free is so still
 abbrev pub LoseRows : Seen → Seen → Type 0
 LoseRows old new = (i : ℕ) (d : Part) → LosesRows (slice_index_or old.wheels i d) (slice_index_or new.wheels i d)
 

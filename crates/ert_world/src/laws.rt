@@ -1,5 +1,7 @@
-//! Laws on whose entries are whose, on how early a timer may be due, and on what a turn puts into mailboxes.
+//! Laws on whose entries are whose, on how early a timer may be due, on what a turn puts into mailboxes, and on what is known
+//! of a timer that was started.
 ghost use Rattle.ert_world.specs.DueTurns.{LawOfDueHandings, LawOfDueTurns};
+ghost use Rattle.ert_world.specs.Known.{LawOfStarted, LawOfKnownStarts, LawOfNone};
 ghost use Rattle.ert_world.specs.Laws.{LawOfNoSeats, LawOfSeats, LawOfLaterAnswers};
 
 /// Where no seat was given out all entries are the world's own, and none of a caller with a seat ever is.
@@ -20,4 +22,14 @@ pub fn next_due_goes_on()
 pub fn turns_put_due_messages()
     ensures handings { LawOfDueHandings }
     ensures turns { LawOfDueTurns }
+{}
+
+/// Who started a timer knows that, and so does whoever learns a note that was taken then or later. Where a cancel or a read
+/// that a world, a seat, a shard or a session makes tells that nothing is left of a timer which its caller knew to be
+/// started, the timer has settled: it was cancelled, or it has expired, or its process had exited. So None never comes for
+/// want of knowledge.
+pub fn started_timers_are_known()
+    ensures stays { LawOfStarted }
+    ensures starts { LawOfKnownStarts }
+    ensures none { LawOfNone }
 {}

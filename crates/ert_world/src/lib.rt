@@ -126,6 +126,7 @@ mod laws;
 mod mail_calls;
 mod mailing;
 mod meeting;
+mod noting;
 mod opening;
 mod parts;
 mod reserving;
@@ -143,7 +144,10 @@ mod world;
 
 pub use counts::Counts;
 pub use ert_effects::{RestartErr, Room, Turned};
-pub use laws::{entries_are_divided, next_due_goes_on, turns_put_due_messages};
+pub use ert_table::Note;
+pub use laws::{
+    entries_are_divided, next_due_goes_on, started_timers_are_known, turns_put_due_messages,
+};
 pub use mailing::TakeEnd;
 pub use parts::Parts;
 pub use sched_part::SchedPart;

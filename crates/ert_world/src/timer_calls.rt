@@ -17,7 +17,7 @@ impl World {
     ghost use Rattle.ert_defs.specs.declared.entry.Actor.TheVariants.{Caller};
     ghost use Rattle.ert_defs.specs.States.{state};
     ghost use Rattle.ert_defs.specs.Timers.{is_taken, timer_at};
-    ghost use Rattle.ert_world.specs.Frees.{IsUsedUpAt, HasOpenSlotAt, UsesFreeAt};
+    ghost use Rattle.ert_world.specs.Frees.{IsUsedUpAt, HasOpenSlotAt, SearchesAt, UsesFreeAt};
     ghost use Rattle.ert_world.specs.Restarts.{HasNoDeadline};
     ghost use Rattle.ert_world.specs.Stepping.{Stays};
     ghost use Rattle.ert_world.specs.Worlds.{Goes, HasForgotten, StayForgotten, By, HasProcessExited, IsLetGoIn, KeepRows};
@@ -36,6 +36,7 @@ impl World {
         ensures time { result ≡ Err BadArg → HasNoDeadline self.old start.now }
         ensures memory { result ≢ Err NoMemory }
         ensures full { result ≡ Err Full → IsUsedUpAt self.old self.new wheel }
+        ensures searched { result ≡ Err Full → SearchesAt self.old self.new wheel }
         ensures ready { HasOpenSlotAt self.old wheel → result ≢ Err Full }
         ensures frees { UsesFreeAt self.old self.new wheel result }
         ensures forgotten { StayForgotten self.old self.new }

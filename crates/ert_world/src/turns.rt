@@ -19,6 +19,7 @@ impl World {
     ghost use Rattle.ert_defs.specs.States.{state};
     ghost use Rattle.ert_world.specs.Worlds.{Goes, HasPassedAt, By, IsHandedIn, KeepRows, way_of, world_sched};
     ghost use Rattle.ert_world.specs.Stepping.{Stays};
+    ghost use Rattle.ert_world.specs.Tried.{TriesHeldAt};
 
     /// Serves one request: that in the scheduler's hand, or the first of its inbox. False comes where there is
     /// none. Where it cancelled a timer, the wheel of that holds no row of it.
@@ -64,6 +65,7 @@ impl World {
         ensures call { Goes self.old (λ way. AdvancesWheel self.old.settings way sched result) self.new }
         // So what `next_due` answers then is later (`next_due_goes_on`), and an event loop gets on.
         ensures passed { IfOk result (λ answer. HasPassedAt self.new sched answer.0) }
+        ensures held { IfOk result (λ answer. TriesHeldAt self.old self.new sched answer.0) }
         ensures stays { Stays self.old self.new }
     {
         let part = &mut self.scheds[sched as usize];

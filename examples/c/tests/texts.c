@@ -79,11 +79,11 @@ static void intervals(void) {
         {10, -5, 27, INT64_MAX, INT64_MAX, 0},
     };
     for (size_t i = 0; i < sizeof rows / sizeof *rows; i++) {
-        ert_interval next = {{.when = rows[i].due, .absolute = 1, .msg = 7}, rows[i].period}, skip = next;
+        ert_repeat next = {{.when = rows[i].due, .absolute = 1, .msg = 7}, rows[i].period}, skip = next;
         uint64_t left_out = UINT64_MAX;
-        IS(ert_interval_next(&next), &next.start);
+        IS(ert_repeat_next(&next), &next.start);
         IS(next.start.when, rows[i].next);
-        IS(ert_interval_skip(&skip, rows[i].now, &left_out), &skip.start);
+        IS(ert_repeat_skip(&skip, rows[i].now, &left_out), &skip.start);
         IS(skip.start.when, rows[i].after);
         IS(left_out, rows[i].left_out);
         IS(skip.start.msg, UINT64_C(7));

@@ -1,7 +1,7 @@
 // What an entry broke, of which `ertaudit` says that it is illegal.
 //
 // The state of the service (`service`) is moved by the entries before it, which are legal; then the conditions of the entry
-// are gone through in the order of `docs/FORMATS.md` ("What can be wrong at line K"). This is no second judge: where no
+// are gone through in the order of `docs/MODEL.md` ("Legal"). This is no second judge: where no
 // condition is found broken, it says so.
 
 import {BadInput} from "./inputs.mjs";

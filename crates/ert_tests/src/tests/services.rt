@@ -4,7 +4,7 @@ ghost use Rattle.ert_locks.specs.Names.{IsDesk};
 ghost use Rattle.ert_world.specs.Parts.{parts_of};
 ghost use Rattle.ert_world.specs.Worlds.{AreFit};
 
-use crate::examples::first_timer;
+use crate::examples::{first_timer, handed_timer};
 use crate::tests::seats::{are_callers, are_scheds};
 use ert_defs::{NoMemory, Settings};
 use ert_locks::{CallerSeat, DeskName};
@@ -15,8 +15,8 @@ use std::marker::Brand;
 use std::process::Abort;
 use std::sync::Wait;
 
-/// Opens a service with these settings, has its last caller start and cancel a timer, and closes it. The number is what was
-/// left of the timer.
+/// Opens a service with these settings, has its last caller start a timer that is then cancelled, and closes it. The number is
+/// what was left of the timer.
 pub(crate) fn open_and_close<R: Wait + Abort>(
     rt: &R,
     alloc: Global,
@@ -49,7 +49,8 @@ fn try_on<L: DeskName, R: Wait + Abort>(
     Ok(left)
 }
 
-/// The last caller starts and cancels a timer. Its seat comes back.
+/// The last caller starts a timer. It is cancelled by the caller before it, to which its name is handed over, and where there
+/// is none by the last one itself. The seats come back.
 fn use_seat<L: DeskName, R: Wait + Abort>(
     rt: &R,
     service: &Service<L>,
@@ -57,7 +58,15 @@ fn use_seat<L: DeskName, R: Wait + Abort>(
 ) -> Result<Option<u64>, AllocError> {
     let seat = callers.pop().expect(rt, "a caller");
     let mut caller = Session { service, rt, seat };
-    let left = first_timer(&mut caller);
+    let left = match callers.pop() {
+        Some(seat) => {
+            let mut other = Session { service, rt, seat };
+            let left = handed_timer(&mut caller, &mut other);
+            callers.push(other.seat)?;
+            left
+        }
+        None => first_timer(&mut caller),
+    };
     callers.push(caller.seat)?;
     Ok(left)
 }

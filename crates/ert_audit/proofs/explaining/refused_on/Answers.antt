@@ -1,5 +1,3 @@
-use Rattle.std.proofs.Common.{ap}
-use Rattle.ert_audit.proofs.Texts.{no_history}
 use Rattle.ert_audit.proofs.explaining.refused_on.Goals as goal
 
 pub write_refusal-requires : goal.write_refusal-requires
@@ -7,8 +5,8 @@ write_refusal-requires c = rw (c.line_after-bytes.ensures, c.saturating_sub.ensu
 
 pub returns-in-Ok : goal.returns-in-Ok
 returns-in-Ok c = record {
-  line = c.in-Err-Misspelled.line;
-  misspelled = c.in-Err-Misspelled.ensures.err c.in-Err-Misspelled.line (ap no_history c.in-Err-Misspelled.field-0-is);
+  line = c.args.line;
+  misspelled = c.requires;
   refusal = c.refusal_of-refusal.result;
   why = c.refusal_of-refusal.ensures.why;
   is = rw (c.new-page.ensures.bytes, c.line_after-bytes.ensures, c.saturating_sub.ensures) at c.in-Ok.ensures;

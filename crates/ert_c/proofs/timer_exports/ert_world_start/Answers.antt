@@ -18,6 +18,7 @@ returns c =
                 memory = c.start-answer.ensures.memory;
                 forgotten = c.start-answer.ensures.forgotten;
                 full = c.start-answer.ensures.full;
+                searched = c.start-answer.ensures.searched;
                 ready = c.start-answer.ensures.ready;
                 frees = c.start-answer.ensures.frees;
               });

@@ -11,7 +11,7 @@ use Rattle.ert_interval.specs.declared.interval.Interval.{Interval}
 use Rattle.ert_interval.specs.declared.interval.IntervalState.TheVariants.{Running}
 use Rattle.ert_interval.proofs.Onward.{waits, lives_still, open_going, due_at}
 use Rattle.ert_interval.proofs.Pushing.{pushed}
-use Rattle.ert_interval.proofs.Starting.{started, refused_full, full_start}
+use Rattle.ert_interval.proofs.Starting.{started, refused_full, full_answer, full_start}
 use Rattle.ert_world.specs.Worlds.{Seen, Goes, By}
 use Rattle.ert_interval.proofs.going.start_next.Goals as goal
 
@@ -38,6 +38,7 @@ returns-in_default c =
     let call : Goes a (By a (λ g. Starts g 0 i.wheel start (Err c.in_default.field-0))) b =
     subst (λ x. Goes a (By a (λ g. Starts g 0 i.wheel x (Err c.in_default.field-0))) b) asked.time c.in_default.ensures.call in
     let due = due_at a.settings c.args.deadline i.dest i.msg c.requires.high in
+    let answer : c.in_default.field-0 ≡ Full = full_answer a b i.wheel start c.args.deadline c.in_default.field-0 call c.requires.lone due (λ is. c.in_default.ensures.memory (ap Err is)) in
     let full = refused_full a b i.wheel start c.args.deadline c.in_default.field-0 call c.requires.lone legal due (λ is. c.in_default.ensures.memory (ap Err is)) in
     record {
       still = full.1;
@@ -53,6 +54,8 @@ returns-in_default c =
       starts = (
         subst (λ x. Goes a (By a (λ g. Starts g 0 i.wheel x (Err Full))) b) asked.next
             (full_start a b i.wheel start c.args.deadline c.in_default.field-0 call c.requires.lone due (λ is. c.in_default.ensures.memory (ap Err is))),
+        c.in_default.ensures.full (ap Err answer),
+        c.in_default.ensures.searched (ap Err answer),
         record {
           same = record { wheel = refl; first = refl; period = refl; dest = refl; msg = refl };
           state_is = refl;

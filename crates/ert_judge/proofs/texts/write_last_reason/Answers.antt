@@ -15,6 +15,3 @@ returns-in-OtherDest c = rw c.in-OtherDest.is c.write-in-OtherDest.ensures.bytes
 
 pub returns-in-OtherNumber : goal.returns-in-OtherNumber
 returns-in-OtherNumber c = rw c.in-OtherNumber.is c.write-in-OtherNumber.ensures.bytes
-
-pub returns-in-Other : goal.returns-in-Other
-returns-in-Other c = rw c.in-Other.is c.write-in-Other.ensures.bytes

@@ -37,8 +37,8 @@ returns-in-Ok-clause-ends g c =
     let read = c.in-Ok.ensures.ok in
     subst (λ (e : Ended). RaceEnds i j o p e.status) (sym c.of_run.ensures)
     (ran_ends true (RaceWrites IsReport) (RaceWrites MayWrite) i j o p plan c.race_scenario.result read
-    (reported i j plan o.told p.told c.race_scenario.result read (rw c.in-Ok.ensures.unwritten at c.race_scenario.ensures.ok))
-    (reported_some i j plan o.told p.told c.race_scenario.result read (rw c.in-Ok.ensures.unwritten at c.race_scenario.ensures.err))
+    (reported i j plan o.told p.told c.race_scenario.result c.races_are_accepted.ensures.accepted read (rw c.in-Ok.ensures.unwritten at c.race_scenario.ensures.ok))
+    (reported_some i j plan o.told p.told c.race_scenario.result c.races_are_accepted.ensures.accepted read (rw c.in-Ok.ensures.unwritten at c.race_scenario.ensures.err))
     (rw c.in-Ok.ensures.unwritten at c.race_scenario.ensures.cause))
 
 pub returns-in-Ok-clause-refusals : goal.returns-in-Ok-clause-refusals
@@ -52,7 +52,7 @@ returns-in-Ok-clause-refusals g c =
 
 pub returns-in-Err-clause-ends : goal.returns-in-Err-clause-ends
 returns-in-Err-clause-ends g c =
-    unread_ends true (RaceWrites IsReport) (RaceWrites MayWrite) _ _ _ _ c.in-Err.ended (race_is_of MayWrite) c.one_verdict.ensures.never_both c.in-Err.ensures.err
+    unread_ends true (RaceWrites IsReport) (RaceWrites MayWrite) _ _ _ _ c.in-Err.ended (race_is_of MayWrite c.races_are_accepted.ensures.scenario) c.one_verdict.ensures.never_both c.in-Err.ensures.err
 
 pub returns-in-Err-clause-refusals : goal.returns-in-Err-clause-refusals
 returns-in-Err-clause-refusals g c = unread_refusal true _ _ _ _ c.in-Err.ended c.in-Err.ensures.err

@@ -1,6 +1,8 @@
+use Rattle.std.proofs.Common.{Some, ap, ◌∙◌}
 use Rattle.ert_effects.specs.TimerCalls.{Cancels}
 use Rattle.ert_defs.specs.declared.entry.Actor.TheVariants.{Caller}
 use Rattle.ert_service.proofs.Alone.{made_alone}
+use Rattle.ert_service.proofs.Knowing.{none_cancelled}
 use Rattle.ert_service.proofs.timer_calls.CallerSession+L+R.cancel_timer.Goals as goal
 
 pub returns-clause-call : goal.returns-clause-call
@@ -9,3 +11,12 @@ returns-clause-call g c =
     let by = Caller seat.number in
     made_alone g.L.DeskName.settings _ by (λ s. Cancels s by c.args.timer c.cancel_timer.result) seat.pass c.cancel_timer.new.pass c.desk.ensures.settings_is
     seat.sits.actors c.cancel_timer.ensures.call.call
+
+pub returns-clause-known : goal.returns-clause-known
+returns-clause-known g c = λ some none.
+    let seat = c.args.self.now.seat in
+    let by = Caller seat.number in
+    let call =
+    made_alone g.L.DeskName.settings _ by (λ s. Cancels s by c.args.timer c.cancel_timer.result) seat.pass c.cancel_timer.new.pass c.desk.ensures.settings_is
+    seat.sits.actors c.cancel_timer.ensures.call.call in
+    none_cancelled g.L.DeskName.settings by c.args.timer c.cancel_timer.result seat.pass c.cancel_timer.new.pass (c.cancel_timer.ensures.belongs.named ∙ ap (λ s. Some s) c.desk.ensures.settings_is) call some none

@@ -1,5 +1,6 @@
 use Rattle.std.proofs.Common.{◌≡◌, Err, rules, refl, arith}
 use Rattle.ert_shard.proofs.Called.{did_at, has_at}
+use Rattle.ert_shard.proofs.TriedHeld.{shard_tries_held}
 use Rattle.ert_shard.proofs.Turned.{advance_ok, advance_refused}
 use Rattle.ert_shard.specs.Shards.{share_of, shard_parts_of}
 use Rattle.ert_table.specs.Desks.{settings_of, view_of}
@@ -27,6 +28,7 @@ returns-in_err-to c =
       call = (did_at c.deref.ensures (advance_refused c.args.self.now c.deref.result.now b.pass c.advance.new.pass s c.in_err-to.field-0.0 parts c.advance.new.self x
           (has_at c.deref.ensures c.self.view_is c.self.invariant) c.advance.ensures.belongs c.advance.ensures.number c.advance.ensures.stands c.advance.ensures.loses c.in_err-to.ensures.call refl refl)).steps;
       passed = tt;
+      held = tt;
     })
 
 pub overflow_cast-result : goal.overflow_cast-result
@@ -56,4 +58,6 @@ returns c =
       call = (did_at c.deref.ensures (advance_ok c.args.self.now c.deref.result.now b.pass c.advance.new.pass s c.in_ok-to.to c.len.result c.len-before.result parts c.advance.new.self x
           (has_at c.deref.ensures c.self.view_is c.self.invariant) c.advance.ensures.belongs c.advance.ensures.number c.advance.ensures.stands c.advance.ensures.loses c.in_ok-to.ensures.call refl refl c.len.ensures c.len-before.ensures)).steps;
       passed = c.in_ok-to.ensures.passed;
+      held = shard_tries_held c.args.self.now c.deref.result.now _ b.pass c.advance.new.pass s c.in_ok-to.to parts c.advance.new.self x c.deref.ensures c.self.view_is c.self.invariant
+          c.advance.ensures.belongs c.advance.ensures.number c.advance.ensures.stands c.advance.ensures.loses c.in_ok-to.ensures.call refl refl c.in_ok-to.ensures.held;
     }

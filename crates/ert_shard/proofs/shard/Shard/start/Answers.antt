@@ -3,6 +3,7 @@ use Rattle.ert_effects.specs.TimerCalls.{Starts}
 use Rattle.ert_shard.proofs.Called.{wheel_stepped}
 use Rattle.ert_shard.proofs.Forgets.{shard_forgotten}
 use Rattle.ert_shard.proofs.Home.{starts_home}
+use Rattle.ert_shard.proofs.Searching.{shard_searched}
 use Rattle.ert_shard.specs.Shards.{Owned, IsHome, share_of, shard_parts_of}
 use Rattle.ert_defs.specs.Legal.{Legal}
 use Rattle.ert_defs.specs.States.{state}
@@ -50,3 +51,10 @@ returns-clause-forgotten c =
     (subst (λ (o : Owned). Legal o.settings o.history) c.self.view_is c.self.invariant.stand.legal)
     (subst (λ (o : Owned). PartStands o.settings o.history o.wheel) c.self.view_is (c.self.invariant.stand.wheel refl))
     (subst (λ (o : Owned). GainsOne o.wheel c.start.new.self c.start.result) c.self.view_is c.start.ensures.rows) (returns-clause-call c)
+
+pub returns-clause-searched : goal.returns-clause-searched
+returns-clause-searched c = λ is few.
+    let b = c.self.inside in
+    shard_searched c.args.self.now c.deref.result.now _ b.pass c.start.new.pass (share_of b.number b.from b.to) (shard_parts_of b.wheel b.inbox b.sched b.mails.items b.list)
+    c.start.new.self c.args.start.now c.deref.ensures c.self.view_is c.self.invariant c.start.ensures.belongs c.start.ensures.number c.start.ensures.stands
+    (c.start.ensures.searched is) c.requires few

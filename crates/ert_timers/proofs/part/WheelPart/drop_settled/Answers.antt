@@ -44,6 +44,7 @@ returns c = record {
   same = c.loop-slot.invariant.same;
   stands = c.loop-slot.invariant.drops.stands;
   loses = c.loop-slot.invariant.drops.loses;
+  frees = c.loop-slot.invariant.drops.frees;
   tidy = left_tidy (settings_of c.args.desk.now) (front_of c.args.pass.now) c.args.self.now c.loop-slot.self c.loop-slot.slot
       c.loop-slot.invariant.drops (omega (arith, c.loop-slot-test.false, c.slot_count-slot-end.ensures));
 }

@@ -1,4 +1,4 @@
-use Rattle.std.proofs.Common.{◌≡◌, ◌<◌, Some, None, inr, refl, sym, ap, subst, ◌∙◌}
+use Rattle.std.proofs.Common.{◌≡◌, ◌<◌, false, Some, None, inr, refl, sym, ap, subst, ◌∙◌}
 use Rattle.ert_defs.specs.Laws.{is_armed}
 use Rattle.ert_defs.specs.States.{state}
 use Rattle.ert_defs.specs.Timers.{Row}
@@ -8,7 +8,8 @@ use Rattle.ert_defs.specs.declared.timer.TimerRef.{TimerRef}
 use Rattle.ert_table.specs.Desks.{settings_of, front_of}
 use Rattle.ert_table.specs.Settlings.{shown_in}
 use Rattle.ert_table.specs.declared.view.View.{View}
-use Rattle.ert_timers.specs.Freeing.{IsLast}
+use Rattle.ert_timers.specs.Changes.{given_back}
+use Rattle.ert_timers.specs.Freeing.{IsHeld, IsLast}
 use Rattle.ert_timers.specs.Parts.{PartStands, last_timer}
 use Rattle.ert_timers.specs.Starting.{status_shown}
 use Rattle.ert_timers.proofs.Dropped.{drops_none, drops_one, drops_empty, settled_seen, told_some, told_none}
@@ -79,6 +80,9 @@ returns-clause-drops c =
     drops_one g (front_of c.args.pass.now) p c.forget.new.self k c.timer.result.timer last c.requires.low
     (subst (λ (v : View). PartStands g v.front c.forget.new.self) c.see_timer-shown.ensures.same
     (c.forget.ensures.stands g c.see_timer-shown.ensures.belongs.named)) c.forget.ensures.loses c.forget.ensures.forgotten
+    (c.forget.ensures.held (subst (λ (t : TimerRef). IsHeld p t) (sym last)
+    (record { low = c.requires.low; named = refl; row = λ none. (let no : Some has.0 ≡ None = sym has.1 ∙ none in cc) }))
+    ∙ ap (λ (t : TimerRef). given_back p t.slot false) last)
 
 pub returns-in_default-clause-drops : goal.returns-in_default-clause-drops
 returns-in_default-clause-drops c =

@@ -5,6 +5,7 @@ use Rattle.ert_table.specs.Desks.{view_of}
 use Rattle.ert_timers.specs.Parts.{Part, PartStands}
 use Rattle.ert_timers.proofs.Fit.{some_key, none_key, set_none}
 use Rattle.ert_timers.proofs.Forgotten.{forgot}
+use Rattle.ert_timers.proofs.Freed.{reused_keeps}
 use Rattle.ert_timers.proofs.Passing.{loses_none, loses_row}
 use Rattle.ert_timers.specs.Changes.{dropped, reused}
 use Rattle.ert_timers.specs.Passed.{LosesRows}
@@ -37,7 +38,7 @@ returns-then-drop_row-clause-loses c =
     let k = c.args.timer.slot in
     let has = some_key (key_in p.keys k) (c.drop_row.ensures.found.0 c.if-drop_row.true) in
     subst (LosesRows p) (sym (c.free_after.ensures ∙ ap (λ (q : Part). reused q k) c.drop_row.ensures.left))
-    (loses_row p (reused (dropped p k) k) k (key_low p.keys k has.0 has.1) refl refl refl refl)
+    (loses_row p (reused (dropped p k) k) k (key_low p.keys k has.0 has.1) refl refl refl refl (reused_keeps (dropped p k) (reused (dropped p k) k) k refl))
 
 pub returns-else-drop_row-clause-loses : goal.returns-else-drop_row-clause-loses
 returns-else-drop_row-clause-loses c =

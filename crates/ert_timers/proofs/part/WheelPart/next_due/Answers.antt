@@ -16,5 +16,6 @@ returns c =
       nearest = λ g h stands tidy. is_nearest g (state g h) q c.ask_next.result stands.holds tidy asks.held;
       found = asks.found;
       loses = asks.loses;
+      frees = asks.frees;
       time = asks.time;
     }

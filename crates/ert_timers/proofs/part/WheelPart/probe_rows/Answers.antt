@@ -1,8 +1,14 @@
 use Rattle.std.proofs.Common.{◌≡◌, ℕ, ◌+◌, cond, not, sym, ap, ◌∙◌, arith}
 use Rattle.ert_table.specs.Desks.{settings_of, view_of}
-use Rattle.ert_timers.proofs.Probed.{probes_all, probes_more, probes_vacant, vacant_is}
+use Rattle.ert_timers.proofs.Probed.{probes_all, probes_more, probes_none, probes_vacant, vacant_is}
 use Rattle.ert_timers.proofs.part.WheelPart.probe_rows.Goals as goal
 use Rattle.ert_timers.proofs.part.WheelPart.probe_rows.Goals.{then-not-probe_row, else-not-probe_row}
+
+pub loop-slot-init : goal.loop-slot-init
+loop-slot-init c = record {
+  belongs = c.requires.belongs;
+  some = probes_none (settings_of c.args.desk.now) (view_of c.args.pass.now) c.args.self.now c.requires.stands;
+}
 
 pub loop-slot-preserved-then-is_none : goal.loop-slot-preserved-then-is_none
 loop-slot-preserved-then-is_none c = record {

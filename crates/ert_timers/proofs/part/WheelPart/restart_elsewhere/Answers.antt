@@ -59,7 +59,7 @@ pub returns-then-may_stay-clause-rows : goal.returns-then-may_stay-clause-rows
 returns-then-may_stay-clause-rows c =
     let takes = takes_first (settings_of c.args.desk.now) (view_of c.args.pass.now) c.args.by (now_in c.args.ahead) c.args.self.now c.pick.new.self c.in-Some.slot c.requires.stands c.requires.looked.clock
     c.in-Some.ensures.picked c.in-Some.ensures.usable c.in-Some.ensures.held in
-    gains_after c.args.self.now c.pick.new.self c.restart_in.new.self c.restart_in.result takes.loses c.restart_in.ensures.rows
+    gains_after c.args.self.now c.pick.new.self c.restart_in.new.self c.restart_in.result takes.fewer c.restart_in.ensures.rows
 
 pub returns-then-arms-ge-MOST_TIMERS-clause-call : goal.returns-then-arms-ge-MOST_TIMERS-clause-call
 returns-then-arms-ge-MOST_TIMERS-clause-call c =
@@ -87,7 +87,7 @@ returns-in_default-take_slot-clause-call c =
     )))
 
 pub returns-in_default-take_slot-clause-rows : goal.returns-in_default-take_slot-clause-rows
-returns-in_default-take_slot-clause-rows c = gains_no c.args.self.now c.take_slot.new.self _ c.take_slot.ensures.call.loses
+returns-in_default-take_slot-clause-rows c = gains_no c.args.self.now c.take_slot.new.self _ c.take_slot.ensures.call.fewer
 
 pub restart_in-requires-2-clause-found : goal.restart_in-requires-2-clause-found
 restart_in-requires-2-clause-found c =
@@ -110,7 +110,7 @@ returns-clause-call c =
 
 pub returns-clause-rows : goal.returns-clause-rows
 returns-clause-rows c =
-    gains_after c.args.self.now c.take_slot.new.self c.restart_in-2.new.self c.restart_in-2.result c.take_slot.ensures.call.loses c.restart_in-2.ensures.rows
+    gains_after c.args.self.now c.take_slot.new.self c.restart_in-2.new.self c.restart_in-2.result c.take_slot.ensures.call.fewer c.restart_in-2.ensures.rows
 
 pub returns-in_default-clause-full : goal.returns-in_default-clause-full
 returns-in_default-clause-full c = λ is. absurd (c.restart_here.ensures.not_full is)

@@ -166,7 +166,7 @@ returns-clause-gone c =
 
 pub returns-clause-frees : goal.returns-clause-frees
 returns-clause-frees c =
-    keeps_uses c.args.self.now c.end.new.self _ (λ k was. c.end.ensures.call.frees k (ap (λ (p : Part). sets.contains p.free k) c.renew-named.ensures.kept ∙ was))
+    keeps_uses c.args.self.now c.end.new.self _ (λ k was. c.end.ensures.call.loses.frees k (ap (λ (p : Part). sets.contains p.free k) c.renew-named.ensures.kept ∙ was))
 
 pub returns-in_default-clause-frees : goal.returns-in_default-clause-frees
 returns-in_default-clause-frees c = keeps_uses c.args.self.now c.args.self.now _ (λ k was. was)

@@ -188,7 +188,7 @@ returns-then-not-cancel_word-clause-back c =
 
 pub returns-clause-frees : goal.returns-clause-frees
 returns-clause-frees c = λ k was.
-    c.end.ensures.call.frees k (ap (λ (p : Part). sets.contains p.free k) c.arm-named.ensures.call.part ∙ c.let_go_of.ensures.frees k was)
+    c.end.ensures.call.loses.frees k (ap (λ (p : Part). sets.contains p.free k) c.arm-named.ensures.call.part ∙ c.let_go_of.ensures.frees k was)
 
 pub returns-clause-back : goal.returns-clause-back
 returns-clause-back c =

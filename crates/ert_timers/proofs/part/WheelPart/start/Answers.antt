@@ -6,7 +6,7 @@ use Rattle.ert_timers.specs.Parts.{Part, slot_at}
 use Rattle.ert_timers.proofs.Orphaned.{still_caller}
 use Rattle.ert_timers.proofs.Starts.{bad_arg, ahead_stands, now_is, use_ahead, is_at_end, is_full, is_started, gains_none, gains_started, searches}
 use Rattle.ert_timers.proofs.Freed.{found_none, keeps_uses, none_uses, started_uses}
-use Rattle.ert_timers.proofs.Passing.{loses_none}
+use Rattle.ert_timers.proofs.Passing.{fewer_rows, loses_none}
 use Rattle.ert_timers.proofs.Searched.{finds_open}
 use Rattle.ert_timers.proofs.part.WheelPart.start.Goals as goal
 
@@ -112,13 +112,13 @@ returns-clause-rows c =
     c.take_slot.ensures.call c.arm-timer.ensures.call c.end.ensures.call
 
 pub returns-in_default-clause-rows : goal.returns-in_default-clause-rows
-returns-in_default-clause-rows c = gains_none c.args.self.now c.args.self.now _ (loses_none c.args.self.now)
+returns-in_default-clause-rows c = gains_none c.args.self.now c.args.self.now _ (fewer_rows (loses_none c.args.self.now))
 
 pub returns-in_default-take_slot-clause-rows : goal.returns-in_default-take_slot-clause-rows
-returns-in_default-take_slot-clause-rows c = gains_none c.args.self.now c.take_slot.new.self _ c.take_slot.ensures.call.loses
+returns-in_default-take_slot-clause-rows c = gains_none c.args.self.now c.take_slot.new.self _ c.take_slot.ensures.call.fewer
 
 pub returns-then-arms-ge-MOST_TIMERS-clause-rows : goal.returns-then-arms-ge-MOST_TIMERS-clause-rows
-returns-then-arms-ge-MOST_TIMERS-clause-rows c = gains_none c.args.self.now c.args.self.now _ (loses_none c.args.self.now)
+returns-then-arms-ge-MOST_TIMERS-clause-rows c = gains_none c.args.self.now c.args.self.now _ (fewer_rows (loses_none c.args.self.now))
 
 pub returns-then-arms-ge-MOST_TIMERS-clause-call : goal.returns-then-arms-ge-MOST_TIMERS-clause-call
 returns-then-arms-ge-MOST_TIMERS-clause-call c =

@@ -85,6 +85,11 @@ returns-clause-loses c =
     (sweeps_same (settings_of c.args.desk.now) (view_of c.args.pass.now) c.args.by c.args.process c.args.self.now c.loop-row.self
     c.newest_of.new.self (view_of c.loop-row.pass) c.newest_of.ensures.part c.loop-row.invariant.call).loses
 
+pub returns-clause-frees : goal.returns-clause-frees
+returns-clause-frees c =
+    (sweeps_same (settings_of c.args.desk.now) (view_of c.args.pass.now) c.args.by c.args.process c.args.self.now c.loop-row.self
+    c.newest_of.new.self (view_of c.loop-row.pass) c.newest_of.ensures.part c.loop-row.invariant.call).frees
+
 pub timer-timer-requires-clause-used : goal.timer-timer-requires-clause-used
 timer-timer-requires-clause-used c = inr (λ none. let no : Some (key_of (row_told c.newest_of.new.self.keys c.in-Some.row)) ≡ None = sym c.in-Some.ensures.row.1 ∙ none in cc)
 

@@ -5,6 +5,7 @@ use Rattle.ert_world.proofs.Calls.{has_at, does_at}
 use Rattle.ert_world.proofs.Listed.{kept_by}
 use Rattle.ert_world.proofs.WheelCalls.{lost_rows, replaced_passed}
 use Rattle.ert_world.proofs.Advances.{advance_ok, advance_fits, advance_refused}
+use Rattle.ert_world.proofs.TriedHeld.{tries_held_at}
 use Rattle.ert_world.proofs.world.World.advance.Goals as goal
 
 pub invariant_of-self : goal.invariant_of-self
@@ -74,3 +75,10 @@ pub returns-clause-passed : goal.returns-clause-passed
 returns-clause-passed c =
     replaced_passed c.self.inside c.deref.result.now c.args.sched c.in_ok-to.to c.advance.new.self
     (has_at c.deref.ensures c.self.view_is c.self.invariant.sound) c.requires c.in_ok-to.ensures.passed
+
+pub returns-clause-held : goal.returns-clause-held
+returns-clause-held c =
+    tries_held_at c.args.self.now c.self.inside c.deref.result.now _ c.advance.new.pass c.args.sched c.in_ok-to.to c.index_mut.result.now c.advance.new.self
+    c.index_mut-part.result.now (record { wheel = c.index_mut-part.result.now.wheel; hand = c.index_mut-part.result.now.hand; expired = c.advance.new.expired })
+    c.deref.ensures c.self.view_is c.self.invariant.sound c.advance.ensures.belongs c.requires c.index_mut.ensures.value c.index_mut-part.ensures.value c.advance.ensures.number
+    c.advance.ensures.stands c.advance.ensures.loses c.in_ok-to.ensures.call refl refl c.in_ok-to.ensures.held

@@ -8,6 +8,7 @@ use Rattle.ert_world.proofs.Calls.{has_at}
 use Rattle.ert_world.proofs.Listed.{kept_by}
 use Rattle.ert_world.proofs.Replaced.{replaced_by}
 use Rattle.ert_world.proofs.Rooms.{open_at}
+use Rattle.ert_world.proofs.Searching.{searched_at}
 use Rattle.ert_world.proofs.Started.{forgotten_start}
 use Rattle.ert_world.proofs.Values.{refused_value}
 use Rattle.ert_world.proofs.WheelCalls.{wheel_stepped, starts_calm, started_hold}
@@ -59,3 +60,9 @@ returns-clause-ready c = λ is.
     c.start.ensures.ready
     (open_at c.args.self.now c.self.inside c.deref.result.now c.args.wheel c.index_mut.result.now (has_at c.deref.ensures c.self.view_is c.self.invariant.sound)
     c.index_mut.ensures.value is)
+
+pub returns-clause-searched : goal.returns-clause-searched
+returns-clause-searched c = λ is.
+    searched_at c.args.self.now c.self.inside c.deref.result.now _ c.start.new.pass c.args.wheel c.args.start.now c.start.result c.index_mut.result.now c.start.new.self
+    c.deref.ensures c.self.view_is c.self.invariant.sound c.start.ensures.belongs c.requires.wheel c.index_mut.ensures.value c.start.ensures.number c.start.ensures.stands
+    c.start.ensures.call c.start.ensures.rows (c.start.ensures.searched is)
