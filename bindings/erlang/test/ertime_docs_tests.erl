@@ -34,7 +34,7 @@ functions() ->
      || {F, Text} <- [
             {[], "tests move by hand"},
             {[seeds], "each with faults of"},
-            {[open, 1], "what the OS system clock tells"},
+            {[open, 1], "what the OS system clock shows"},
             {[advance, 2], "how many messages were sent"},
             {[monotonic_time, 0], "stands still until the clock is moved"}
         ]
