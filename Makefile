@@ -82,7 +82,7 @@ PAGES = $(addprefix $(B)/man/,$(PAGES1) $(PAGES3) $(PAGES5))
 EXAMPLES = examples/c/event_loop.c examples/c/seats.c examples/c/repeating.c examples/c/threads.c \
   $(if $(is_native),examples/ertime/timer_expires.json examples/races/two_cancels.json examples/ertaudit/early_expiry.txt)
 DOCUMENTS = CHANGELOG.md EMBEDDING.md
-HEADERS = ertime.h ertime_text.h
+HEADERS = ertime.h ertime_tsan.h ertime_text.h
 ARCHIVES = libertime.a libertime_text.a
 LIBRARIES = $(addprefix $(B)/,$(ARCHIVES) $(REAL))
 # Where the modules for browsers go.

@@ -24,7 +24,9 @@
  * and are made through a seat: with an ert_seat of its own a thread reads the time, cancels and reads timers, and
  * asks whether a process is alive, while others call through the world's handle and through other seats. It
  * never blocks. A world gives out settings.callers - 1 seats. Any handle may go from one thread to another, as a
- * mutex or pthread_create passes it there. Worlds that were opened apart share nothing.
+ * mutex or pthread_create passes it there. Worlds that were opened apart share nothing. A program that is built with
+ * -fsanitize=thread is told of two threads that use one handle, and the sanitizer knows how cancels, turns and ticks order
+ * threads (ertime_tsan.h).
  *
  * A thread per core. A world can be divided among threads instead, so that each starts its own timers and makes its
  * own turns, beside all others and without a lock: see "Hub and shards" at the end of this file.
@@ -168,6 +170,23 @@ typedef struct {
 } ert_reading;
 
 /*
+ * Reads CLOCK_MONOTONIC and CLOCK_REALTIME. It is there if the program has included <time.h> of POSIX before this header.
+ * It is in the header, and calls clock_gettime alone.
+ */
+#ifdef CLOCK_MONOTONIC
+static inline ert_reading ert_read_clocks(void) {
+    struct timespec mono;
+    struct timespec sys;
+    ert_reading reading;
+    (void)clock_gettime(CLOCK_MONOTONIC, &mono);
+    (void)clock_gettime(CLOCK_REALTIME, &sys);
+    reading.mono = (int64_t)mono.tv_sec * 1000000000 + mono.tv_nsec;
+    reading.sys = (int64_t)sys.tv_sec * 1000000000 + sys.tv_nsec;
+    return reading;
+}
+#endif
+
+/*
  * The time warp modes (ERTS User's Guide, "Time Warp Modes"): when the time offset, and so system time, may leap.
  * ERT_NO_WARP: never. ERT_SINGLE_WARP: once, at ert_world_finalize. ERT_MULTI_WARP: at any check.
  */
@@ -247,6 +266,11 @@ typedef struct {
     uint32_t slot;
     uint64_t generation; /* which use of the slot it is; neither its value nor its order means anything */
 } ert_timer;
+
+/* Whether two names are of one timer. A name that is all zero is that of no timer. It is in the header, and calls nothing. */
+static inline bool ert_timer_equal(const ert_timer *one, const ert_timer *other) {
+    return one->wheel == other->wheel && one->slot == other->slot && one->generation == other->generation;
+}
 
 /* What a timer is started with. */
 typedef struct {
@@ -330,6 +354,32 @@ typedef struct {
     uint32_t dropped;
     uint32_t more; /* 1 if timers are left that are due or have expired, or have to move first, otherwise 0 */
 } ert_turned_some;
+
+/*
+ * How long a loop may sleep, in milliseconds, as the timeout of epoll_wait or poll: from `to` of the last turn until `due`
+ * of ert_world_next_due. It is 0 if `due` has passed, and at most INT32_MAX (24 days), after which the loop asks again. If
+ * ert_world_next_due returned ERT_EMPTY, pass -1 to epoll_wait instead. It is in the header, and calls nothing.
+ *
+ * A turn's `to` is a whole millisecond that has passed, so the sleep ends after `due`, by less than a millisecond.
+ */
+static inline int32_t ert_wait_ms(uint64_t due, uint64_t to) {
+    if (due <= to) {
+        return 0;
+    }
+    return due - to < INT32_MAX ? (int32_t)(due - to) : INT32_MAX;
+}
+
+/*
+ * The same exactly, in nanoseconds, for the timespec of epoll_pwait2 or ppoll: from `now`, the monotonic time of the last
+ * tick (`now` of ert_moved), until `due`, if the world was opened with the monotonic time `start`. It is 0 if `due` has
+ * passed, and at most 2^62 (146 years). The time that the program took since that tick is for the program to subtract.
+ */
+static inline int64_t ert_wait_ns(uint64_t due, int64_t start, int64_t now) {
+    const uint64_t most = (uint64_t)1 << 62;
+    uint64_t passed = (uint64_t)now - (uint64_t)start;
+    uint64_t at = due > most / 1000000u ? most : due * 1000000u;
+    return at > passed ? (int64_t)(at - passed) : 0;
+}
 
 /* The kinds of messages. */
 #define ERT_TIMEOUT 1     /* of a timer: timer, msg */
@@ -1366,6 +1416,15 @@ int32_t ert_shard_reserve_expired(ert_shard *shard, size_t count);
  * ERT_NO_MEMORY: as of ert_world_shrink_expired. ERT_CLOSED. Work for the timers in the list.
  */
 int32_t ert_shard_shrink_expired(ert_shard *shard);
+
+/* Under ThreadSanitizer each call has a wrapper, which tells what the call orders and shows two threads on one handle. */
+#if defined(__SANITIZE_THREAD__)
+#include "ertime_tsan.h"
+#elif defined(__has_feature)
+#if __has_feature(thread_sanitizer)
+#include "ertime_tsan.h"
+#endif
+#endif
 
 #ifdef __cplusplus
 }

@@ -8,7 +8,6 @@
 #define _GNU_SOURCE
 #include <errno.h>
 #include <inttypes.h>
-#include <limits.h>
 #include <stdio.h>
 #include <stdlib.h>
 #include <sys/epoll.h>
@@ -19,17 +18,6 @@
 #include "ertime.h"
 
 enum { PROCESS = 0, SCHED = 0, BEAT = 1, LATE = 2, LAST_BEAT = 3 };
-
-static int64_t nanoseconds(clockid_t clock) {
-    struct timespec now;
-    clock_gettime(clock, &now);
-    return (int64_t)now.tv_sec * 1000000000 + now.tv_nsec;
-}
-
-static ert_reading read_clocks(void) {
-    ert_reading reading = {nanoseconds(CLOCK_MONOTONIC), nanoseconds(CLOCK_REALTIME)};
-    return reading;
-}
 
 static void must(const char *call, int32_t status) {
     if (status != ERT_OK) {
@@ -60,16 +48,12 @@ static int timeout(ert_world *world, uint64_t now) {
         return -1;
     }
     must("ert_world_next_due", status);
-    if (due <= now) {
-        return 0;
-    }
-    /* A wait of more than 24 days is made in parts. */
-    return due - now < INT_MAX ? (int)(due - now) : INT_MAX;
+    return ert_wait_ms(due, now);
 }
 
 /* Lets time go on. */
 static void tick(ert_world *world) {
-    ert_reading reading = read_clocks();
+    ert_reading reading = ert_read_clocks();
     ert_moved moved;
     must("ert_world_tick", ert_world_tick(world, &reading, 0, &moved));
 }
@@ -83,7 +67,7 @@ static uint64_t turn(ert_world *world) {
 
 int main(void) {
     ert_world world = ERT_INIT;
-    ert_reading first = read_clocks();
+    ert_reading first = ert_read_clocks();
     ert_settings settings;
     ert_settings_init(&settings, &first);
     settings.slots = 64; /* room for 64 timers at once; slots don't wear out */

@@ -94,23 +94,10 @@ static void must(const char *call, int32_t status) {
     }
 }
 
-static int64_t nanoseconds(clockid_t clock) {
-    struct timespec t;
-    if (clock_gettime(clock, &t) != 0) {
-        fail("clock_gettime");
-    }
-    return t.tv_sec * INT64_C(1000000000) + t.tv_nsec;
-}
-
-static ert_reading read_clocks(void) {
-    ert_reading reading = {nanoseconds(CLOCK_MONOTONIC), nanoseconds(CLOCK_REALTIME)};
-    return reading;
-}
-
 /* Whoever wakes ticks, unless another thread is at it. */
 static void tick(void) {
     if (pthread_mutex_trylock(&ticking) == 0) {
-        ert_reading reading = read_clocks();
+        ert_reading reading = ert_read_clocks();
         ert_moved moved;
         must("ert_hub_tick", ert_hub_tick(&hub, &reading, 0, &moved));
         pthread_mutex_unlock(&ticking);
@@ -369,7 +356,7 @@ static void open_worker(worker *w) {
 static void open_world(void) {
     long processors = sysconf(_SC_NPROCESSORS_ONLN);
     threads = processors < 2 ? 2 : processors > MOST_THREADS ? MOST_THREADS : (int)processors;
-    ert_reading first = read_clocks();
+    ert_reading first = ert_read_clocks();
     ert_settings settings;
     ert_settings_init(&settings, &first);
     settings.schedulers = (uint32_t)threads;

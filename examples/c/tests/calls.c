@@ -501,7 +501,46 @@ static void seat_calls(void) {
     IS(ert_seat_close(&a), ERT_OK);
 }
 
+/* What the header has inline: the sleep until a time, and names that are equal. */
+static void header_alone(void) {
+    static const struct {
+        uint64_t due;
+        uint64_t to;
+        int32_t ms;
+    } waits[] = {
+        {0, 0, 0}, {5, 5, 0}, {4, 5, 0}, {6, 5, 1}, {1000, 5, 995}, {(uint64_t)INT32_MAX + 5, 5, INT32_MAX}, {UINT64_MAX, 0, INT32_MAX},
+    };
+    static const struct {
+        uint64_t due;
+        int64_t start;
+        int64_t now;
+        int64_t ns;
+    } exact[] = {
+        {0, 0, 0, 0},
+        {5, 0, 4999999, 1},
+        {5, 0, 5000000, 0},
+        {5, 0, 6000000, 0},
+        {5, -2000000, -1500000, 4500000},
+        {5, 3000000, 4000001, 3999999},
+        {UINT64_MAX, 0, 0, INT64_C(1) << 62},
+    };
+    const ert_timer timer = {1, 2, 3};
+    const ert_timer same = {1, 2, 3};
+    const ert_timer others[] = {{0, 2, 3}, {1, 0, 3}, {1, 2, 0}};
+    for (size_t i = 0; i < sizeof waits / sizeof *waits; i++) {
+        IS(ert_wait_ms(waits[i].due, waits[i].to), waits[i].ms);
+    }
+    for (size_t i = 0; i < sizeof exact / sizeof *exact; i++) {
+        IS(ert_wait_ns(exact[i].due, exact[i].start, exact[i].now), exact[i].ns);
+    }
+    IS(ert_timer_equal(&timer, &same), true);
+    for (size_t i = 0; i < sizeof others / sizeof *others; i++) {
+        IS(ert_timer_equal(&timer, &others[i]), false);
+    }
+}
+
 int main(void) {
+    header_alone();
     closed_handles();
     bad_settings();
     open_twice();
