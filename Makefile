@@ -79,7 +79,7 @@ PAGES1 = $(addsuffix .1,$(PROGRAMS))
 PAGES3 = ertime.3 ertime_text.3
 PAGES5 = $(if $(is_native),ertime-scenario.5 ertime-history.5)
 PAGES = $(addprefix $(B)/man/,$(PAGES1) $(PAGES3) $(PAGES5))
-EXAMPLES = examples/c/event_loop.c examples/c/seats.c examples/c/repeating.c examples/c/threads.c \
+EXAMPLES = examples/c/event_loop.c examples/c/idle.c examples/c/seats.c examples/c/repeating.c examples/c/threads.c \
   $(if $(is_native),examples/ertime/timer_expires.json examples/races/two_cancels.json examples/ertaudit/early_expiry.txt)
 DOCUMENTS = CHANGELOG.md EMBEDDING.md
 HEADERS = ertime.h ertime_tsan.h ertime_text.h

@@ -12,8 +12,15 @@
  *
  * Conventions. Each call returns a status: ERT_OK, or a negative number that says why the call did nothing.
  * After a refusal nothing has changed, neither the world nor what the out parameters point to, unless the text
- * of a call says otherwise. Times are in nanoseconds if their type is int64_t, and in milliseconds if the text
- * says so. Processes, schedulers and slots are numbers from 0. A flag of type uint32_t is on if it is not 0.
+ * of a call says otherwise. Processes, schedulers and slots are numbers from 0. A flag of type uint32_t is on if it is
+ * not 0.
+ *
+ * Units. What comes from a clock is in nanoseconds, of type int64_t: `mono`, `sys`, `start`, `now`, `shift`, `offset`,
+ * `time`. What timers are started with, wait for and are due at is in milliseconds: `when`, `period`, `left`, and `to`,
+ * `due` and `ready`. The comment of each says its unit again; of the names, which are short and used throughout, those
+ * of the functions that convert alone have one at their end (ert_wait_ms, ert_wait_ns). `to`, `due` and `ready` count
+ * from the start time, and an absolute `when` is a monotonic time: both count alike if `start` is 0, as
+ * ert_settings_init sets it; otherwise a time of the first kind becomes one of the second if `start` / 1,000,000 is added.
  *
  * Ownership. The caller owns the memory of a handle, which begins as ERT_INIT (all zero) and must not be copied or
  * moved while it is open. What lies behind it belongs to the library from ert_world_open to ert_world_close, and
@@ -165,8 +172,8 @@ typedef struct {
  * to count the time in which the machine is suspended, pass CLOCK_BOOTTIME as `mono`, always.
  */
 typedef struct {
-    int64_t mono;
-    int64_t sys;
+    int64_t mono; /* nanoseconds */
+    int64_t sys;  /* nanoseconds since 1970 */
 } ert_reading;
 
 /*
@@ -219,7 +226,7 @@ typedef struct {
                             finds slots that another thread's cancel has freed, or whose wait has ended; without one
                             the start is refused (ERT_FULL). Slots that the wheel's own thread has freed are always
                             known */
-    int64_t start;       /* monotonic time at the opening: a multiple of 1,000,000 from -2^58 to 2^58 */
+    int64_t start;       /* monotonic time at the opening, in nanoseconds: a multiple of 1,000,000 from -2^58 to 2^58 */
     ert_reading first;   /* the reading that the clock opens with */
 } ert_settings;
 
@@ -245,8 +252,8 @@ static inline void ert_settings_init(ert_settings *settings, const ert_reading *
 
 /* What a tick or a finalization did. */
 typedef struct {
-    int64_t now;      /* monotonic time after it */
-    int64_t shift;    /* the new time offset if it was set, otherwise 0 */
+    int64_t now;      /* monotonic time after it, in nanoseconds */
+    int64_t shift;    /* the new time offset if it was set, otherwise 0, in nanoseconds */
     uint32_t shifted; /* 1 if the time offset was set, otherwise 0 */
 } ert_moved;
 
@@ -256,7 +263,7 @@ typedef struct {
 #define ERT_VOLATILE 2
 
 typedef struct {
-    int64_t offset;
+    int64_t offset; /* nanoseconds */
     uint32_t state; /* one of the states */
 } ert_offset;
 
@@ -267,7 +274,9 @@ typedef struct {
     uint64_t generation; /* which use of the slot it is; neither its value nor its order means anything */
 } ert_timer;
 
-/* Whether two names are of one timer. A name that is all zero is that of no timer. It is in the header, and calls nothing. */
+/*
+ * Whether two names are of one timer. A name that is all zero is that of no timer. It is in the header, and calls nothing.
+ */
 static inline bool ert_timer_equal(const ert_timer *one, const ert_timer *other) {
     return one->wheel == other->wheel && one->slot == other->slot && one->generation == other->generation;
 }
@@ -326,9 +335,9 @@ static inline const ert_start *ert_repeat_skip(ert_repeat *repeat, int64_t now, 
     return ert_repeat_next(repeat);
 }
 
-/* What a scheduler did. `to` is in milliseconds since the start time. */
+/* What a scheduler did. */
 typedef struct {
-    uint64_t to;
+    uint64_t to;      /* milliseconds since the start time */
     uint32_t expired; /* how many timers expired */
 } ert_advanced;
 
@@ -338,7 +347,7 @@ typedef struct {
 } ert_delivered;
 
 typedef struct {
-    uint64_t to;
+    uint64_t to;     /* milliseconds since the start time */
     uint32_t served; /* how many requests were answered, 0 to 64 */
     uint32_t expired;
     uint32_t put;
@@ -347,7 +356,7 @@ typedef struct {
 
 /* What a turn with a bound did. */
 typedef struct {
-    uint64_t to;
+    uint64_t to; /* milliseconds since the start time */
     uint32_t served;
     uint32_t expired;
     uint32_t put;
@@ -381,6 +390,20 @@ static inline int64_t ert_wait_ns(uint64_t due, int64_t start, int64_t now) {
     return at > passed ? (int64_t)(at - passed) : 0;
 }
 
+/*
+ * The same as a timespec, to which epoll_pwait2, ppoll and io_uring can be passed a pointer: the parameters are those of
+ * ert_wait_ns. It is there if the program has included <time.h> of POSIX before this header. It calls nothing.
+ */
+#ifdef CLOCK_MONOTONIC
+static inline struct timespec ert_wait_timespec(uint64_t due, int64_t start, int64_t now) {
+    int64_t wait = ert_wait_ns(due, start, now);
+    struct timespec it;
+    it.tv_sec = (time_t)(wait / 1000000000);
+    it.tv_nsec = (long)(wait % 1000000000);
+    return it;
+}
+#endif
+
 /* The kinds of messages. */
 #define ERT_TIMEOUT 1     /* of a timer: timer, msg */
 #define ERT_BARE 2        /* of a bare timer: msg */
@@ -395,8 +418,8 @@ typedef struct {
     uint32_t has_left; /* 1 if the timer was armed */
     uint32_t monitor;
     uint64_t msg;
-    uint64_t left; /* milliseconds that were left of the timer */
-    int64_t offset;
+    uint64_t left;  /* milliseconds that were left of the timer */
+    int64_t offset; /* nanoseconds */
 } ert_mail;
 
 /*
@@ -429,7 +452,7 @@ typedef struct {
  * Opens a world behind a closed handle.
  *
  * The world has no timer and no message, and its monotonic time is `start`. All memory that timers need
- * is allocated here: some 36 KB for each scheduler, and some 100 bytes for each slot and for each process
+ * is allocated here: some 35 KB for each scheduler, 80 bytes for each slot, and some 100 for each process
  * (docs/EMBEDDING.md has a table). Later only messages, requests, monitors and expired timers that wait take more,
  * and seats.
  *
@@ -978,6 +1001,7 @@ int32_t ert_seat_is_alive(ert_seat *seat, uint32_t process, uint32_t *alive);
  *     }
  *     ert_shard_turn(&shard, &turned);
  *
+ * A start after it counts from the last tick, which is older than this pass if the thread that ticks was interrupted.
  * The clocks are read under the lock, so that the readings come in order. A thread that sleeps until ert_shard_next_due
  * has to look at the time when it wakes, as this does: it may have been the only one that was awake.
  *
@@ -1425,6 +1449,24 @@ int32_t ert_shard_shrink_expired(ert_shard *shard);
 #include "ertime_tsan.h"
 #endif
 #endif
+
+/*
+ * Takes all messages of a process and drops them, and writes how many there were to `dropped`: for a process that goes
+ * from a connection that has ended to the next (ert_world_cancel_all). It is in the header, and calls ert_world_take.
+ *
+ * ERT_OK: the mailbox is empty now. ERT_EXITED: the process has exited; none was taken. ERT_RANGE: there is no such
+ * process. ERT_CLOSED. `dropped` is 0 after all but ERT_OK. What their `msg` points to is not freed, and a timer that has
+ * expired and was not delivered puts its message there later. Work for the messages; no memory.
+ */
+static inline int32_t ert_world_drop_mail(ert_world *world, uint32_t process, uint64_t *dropped) {
+    ert_mail mail;
+    int32_t status;
+    *dropped = 0;
+    while ((status = ert_world_take(world, process, &mail)) == ERT_OK) {
+        *dropped += 1;
+    }
+    return status == ERT_EMPTY ? ERT_OK : status;
+}
 
 #ifdef __cplusplus
 }

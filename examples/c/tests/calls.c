@@ -1,9 +1,11 @@
 /* Each call of the library with its answers, bad input included. What is expected stands in ertime.h. */
+#define _POSIX_C_SOURCE 200809L
 #include <inttypes.h>
 #include <stddef.h>
 #include <stdio.h>
 #include <stdlib.h>
 #include <string.h>
+#include <time.h>
 
 #include "ertime.h"
 
@@ -522,6 +524,7 @@ static void header_alone(void) {
         {5, 0, 6000000, 0},
         {5, -2000000, -1500000, 4500000},
         {5, 3000000, 4000001, 3999999},
+        {2500, 0, 1, INT64_C(2499999999)},
         {UINT64_MAX, 0, 0, INT64_C(1) << 62},
     };
     const ert_timer timer = {1, 2, 3};
@@ -531,7 +534,10 @@ static void header_alone(void) {
         IS(ert_wait_ms(waits[i].due, waits[i].to), waits[i].ms);
     }
     for (size_t i = 0; i < sizeof exact / sizeof *exact; i++) {
+        struct timespec wait = ert_wait_timespec(exact[i].due, exact[i].start, exact[i].now);
         IS(ert_wait_ns(exact[i].due, exact[i].start, exact[i].now), exact[i].ns);
+        IS(wait.tv_sec, exact[i].ns / 1000000000);
+        IS(wait.tv_nsec, exact[i].ns % 1000000000);
     }
     IS(ert_timer_equal(&timer, &same), true);
     for (size_t i = 0; i < sizeof others / sizeof *others; i++) {
@@ -539,8 +545,51 @@ static void header_alone(void) {
     }
 }
 
+/* What the header has inline over other calls: the messages of a process alone are dropped, and what is armed stays so. */
+static void drop_mail(void) {
+    ert_world w = ERT_INIT;
+    ert_settings settings = plain;
+    ert_start start = {0, 7, 0, 0, 1};
+    ert_timer timer;
+    ert_turned turned;
+    ert_mail mail;
+    uint64_t dropped = 9;
+    uint64_t left;
+    uint32_t first;
+    IS(ert_world_drop_mail(&w, 1, &dropped), ERT_CLOSED);
+    IS(dropped, 0);
+    settings.slots = 8;
+    IS(ert_world_open(&w, &settings), ERT_OK);
+    IS(ert_world_start(&w, 0, &start, &timer), ERT_OK);
+    IS(ert_world_start(&w, 0, &start, &timer), ERT_OK);
+    start.dest = 2;
+    IS(ert_world_start(&w, 0, &start, &timer), ERT_OK);
+    start.dest = 1;
+    start.when = 1000;
+    IS(ert_world_start(&w, 0, &start, &timer), ERT_OK);
+    tick(&w, 10);
+    IS(ert_world_turn(&w, 0, &turned), ERT_OK);
+    IS(turned.put, 3);
+    IS(ert_world_drop_mail(&w, 1, &dropped), ERT_OK);
+    IS(dropped, 2);
+    IS(ert_world_take(&w, 1, &mail), ERT_EMPTY);
+    IS(ert_world_drop_mail(&w, 1, &dropped), ERT_OK);
+    IS(dropped, 0);
+    IS(ert_world_read(&w, &timer, &left), ERT_OK);
+    IS(ert_world_exit(&w, 2, &first), ERT_OK);
+    dropped = 9;
+    IS(ert_world_drop_mail(&w, 2, &dropped), ERT_EXITED);
+    IS(dropped, 0);
+    IS(ert_world_mail_count(&w, 2, &dropped), ERT_OK);
+    IS(dropped, 1);
+    IS(ert_world_drop_mail(&w, 3, &dropped), ERT_RANGE);
+    IS(dropped, 0);
+    IS(ert_world_close(&w), ERT_OK);
+}
+
 int main(void) {
     header_alone();
+    drop_mail();
     closed_handles();
     bad_settings();
     open_twice();
