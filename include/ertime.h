@@ -585,7 +585,7 @@ int32_t ert_world_cancel(ert_world *world, const ert_timer *timer, uint64_t *lef
  * After each error the timer is as it was, armed or not, and so is `timer`. ERT_RANGE: there is no process `dest`.
  * ERT_BAD_TIME: as of ert_world_start. ERT_NO_TIMER: the timer is not armed: it has expired, was cancelled, or never
  * existed. ERT_FULL: its slot has been used 262,143 times, and no other one is available, as of ert_world_start. (Or the
- * wheel has had 2^53 timers.) ERT_CLOSED. Less work than of ert_world_cancel and ert_world_start; no memory.
+ * wheel has had 2^53 timers.) ERT_CLOSED. About the work of ert_world_cancel and ert_world_start together; no memory.
  */
 int32_t ert_world_restart(ert_world *world, ert_timer *timer, const ert_start *start);
 

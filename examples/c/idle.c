@@ -41,7 +41,7 @@ struct connection {
     int fd;
     in_port_t port; /* of the client, by which other threads know it */
     bool is_ended;
-    int out;           /* timers that were started and have not come back */
+    int out;            /* timers that were started and have not come back */
     int64_t last_heard; /* monotonic time of the last packet, in nanoseconds */
     ert_timer idle;
     ert_timer limit;
