@@ -1,7 +1,7 @@
 -- Numbers in a row: each stands once, and all are below a bound.
 
 use Rattle.std.proofs.Common.{◌↔◌, Option, Some, None, IsNone, IsSome, IfNone, IfSome, option_to_list, subst, ◌≡◌, ℕ, ◌+◌, ◌<◌, ◌≤◌, true, false, Bool, ◌||◌, ◌&&◌, List, [], ◌∷◌, ◌++◌, length, nat_eq, nat_lt, nat_le, refl, sym, ap, ◌∙◌, arith, zero, suc, inl, inr, length-append}
-use Rattle.std.proofs.lemmas.Bool.{eqb-true, ltb-true, true≢false}
+use Rattle.std.proofs.lemmas.Bool.{ltb-true, true≢false}
 use Rattle.std.proofs.lemmas.Bool.Decides.{eqb_tells, nat_tests}
 use Rattle.std.proofs.lemmas.List.FromFn.{get_or-range_with_len, length-range_with_len}
 use Rattle.std.proofs.lemmas.Map.Keys.{IsDistinct-from_apart, IsDistinct-head, IsDistinct-push, IsDistinct-tail}
@@ -51,7 +51,7 @@ turns_put row capacity larger x are grown low away = record {
 }
   where
     at : (q : ℕ) → (nat_eq q x || is_listed row q) ≡ true → q < row.bound
-    at q held = elim (eqb_tells q x) [ inl e ↦ subst (λ n. n < row.bound) (sym (eqb-true q x e.1)) low | inr e ↦ are.below q (sym (ap (λ b. b || is_listed row q) e.1) ∙ held) ]
+    at q held = elim (eqb_tells q x) [ inl e ↦ subst (λ n. n < row.bound) (sym e.1) low | inr e ↦ are.below q (sym (ap (λ b. b || is_listed row q) e.0) ∙ held) ]
 
 -- for which there is room
 pub room_left : (row : TurnRow) (capacity x : ℕ) → AreTurns row capacity → x < row.bound → is_listed row x ≡ false → length row.held < row.bound

@@ -22,7 +22,7 @@ use Rattle.ert_timers.proofs.Passing.{rows_lost}
 use Rattle.ert_timers.specs.Parts.{Part, PartStands as WheelStands}
 use Rattle.ert_timers.specs.Passed.{LosesRows}
 use Rattle.ert_timers.specs.Trying.{HasExpiredSome, HasRefusedSome, IsLeft, LosesSome}
-use Rattle.ert_timers.proofs.SchedParts.{advance_still, LeaveHand}
+use Rattle.ert_timers.proofs.SchedParts.{LeaveHand, advance_still}
 use Rattle.ert_world.proofs.Advances.{AreOfAdvance, advances_are, advanced, counted}
 use Rattle.ert_world.proofs.Armed.{AreCalm}
 use Rattle.ert_world.proofs.Calls.{Has, Does, parts_in, schedulers_at}

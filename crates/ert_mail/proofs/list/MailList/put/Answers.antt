@@ -1,6 +1,6 @@
 use Rattle.std.proofs.Common.{◌≡◌, ◌<◌, sym, subst, ◌∙◌, true, false}
 use Rattle.ert_mail.proofs.Listing.{flag_is, row_put, with_new, with_there}
-use Rattle.ert_mail.specs.Lists.{IsRow, with_listed}
+use Rattle.ert_mail.specs.Lists.{with_listed}
 use Rattle.ert_mail.specs.Turns.{TurnRow, is_listed}
 use Rattle.ert_mail.proofs.list.MailList.put.Goals as goal
 
@@ -12,7 +12,7 @@ put-requires-clause-away c =
 
 pub invariant_of-self : goal.invariant_of-self
 invariant_of-self c =
-    subst (λ (r : TurnRow). IsRow r c.index_mut.new.self.items) (sym c.put.ensures)
+    rw c.put.ensures
     (row_put c.self.inside.row c.self.inside.listed.items c.args.process c.self.invariant
     (subst (λ n. c.args.process < n) c.self.invariant.counted (subst (λ (r : TurnRow). c.args.process < r.bound) (sym c.self.view_is) c.requires)))
 
