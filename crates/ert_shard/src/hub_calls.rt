@@ -75,7 +75,8 @@ impl Hub {
     pub fn cancel_timer(&mut self, timer: TimerRef) -> Option<u64>
         ensures { HubSteps self.old (HubBy self.old (λ g. Cancels g (Caller 0) timer result)) self.new }
     {
-        self.pass.cancel_timer(&self.desk, Actor::Caller(CALLER), timer)
+        self.pass
+            .cancel_timer(&self.desk, Actor::Caller(CALLER), timer)
     }
 
     /// How many milliseconds are left of a timer of whatever wheel (`read_timer`); None where the reference names no
@@ -83,7 +84,8 @@ impl Hub {
     pub fn read_timer(&mut self, timer: TimerRef) -> Option<u64>
         ensures { HubSteps self.old (HubBy self.old (λ g. Reads g (Caller 0) timer result)) self.new }
     {
-        self.pass.read_timer(&self.desk, Actor::Caller(CALLER), timer)
+        self.pass
+            .read_timer(&self.desk, Actor::Caller(CALLER), timer)
     }
 
     /// Whether a process hasn't exited (`is_process_alive`).
@@ -91,6 +93,7 @@ impl Hub {
         requires { process < self.old.settings.processes }
         ensures { HubSteps self.old (HubBy self.old (λ g. TellsAlive g (Caller 0) process result)) self.new }
     {
-        self.pass.is_alive(&self.desk, Actor::Caller(CALLER), process)
+        self.pass
+            .is_alive(&self.desk, Actor::Caller(CALLER), process)
     }
 }

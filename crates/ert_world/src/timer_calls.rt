@@ -102,7 +102,8 @@ impl World {
     pub fn read_timer(&mut self, timer: TimerRef) -> Option<u64>
         ensures call { Goes self.old (By self.old (λ g. Reads g (Caller 0) timer result)) self.new }
     {
-        self.pass.read_timer(&self.desk, Actor::Caller(CALLER), timer)
+        self.pass
+            .read_timer(&self.desk, Actor::Caller(CALLER), timer)
     }
 
     /// How many slots of a wheel can take a timer now, and from when on one more can, of those that rest: a slot
@@ -124,7 +125,8 @@ impl World {
         requires { process < self.old.settings.processes }
         ensures call { Goes self.old (By self.old (λ g. TellsAlive g (Caller 0) process result)) self.new }
     {
-        self.pass.is_alive(&self.desk, Actor::Caller(CALLER), process)
+        self.pass
+            .is_alive(&self.desk, Actor::Caller(CALLER), process)
     }
 
     /// Lets a process exit, and tells whether it hadn't before. Its timers stay armed: it is the first step
@@ -135,7 +137,8 @@ impl World {
         ensures stays { Stays self.old self.new }
         ensures exited { HasProcessExited self.new process }
     {
-        self.pass.mark_exit(&self.desk, Actor::Caller(CALLER), process)
+        self.pass
+            .mark_exit(&self.desk, Actor::Caller(CALLER), process)
     }
 
     /// Lets a process exit, cancels its timers in all wheels, and answers true; false, and no more, where it
