@@ -19,7 +19,8 @@ use Rattle.ert_defs.specs.declared.settings.Settings.{Settings}
 use Rattle.ert_laws.proofs.Few.{expired_few}
 use Rattle.ert_laws.proofs.Requests.{held_have_askers}
 use Rattle.ert_laws.proofs.RowRanges.{first_placed}
-use Rattle.ert_service.proofs.Settling.{place, turns_leave_none}
+use Rattle.ert_service.proofs.Settling.{turns_leave_none}
+use Rattle.ert_world.proofs.Places.{place}
 use Rattle.ert_service.specs.Settled.{NoneWaits}
 use Rattle.ert_timers.specs.SchedParts.{SchedStands}
 use Rattle.ert_table.proofs.Holders.{or_right}
