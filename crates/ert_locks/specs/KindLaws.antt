@@ -4,19 +4,8 @@ use Rattle.std.proofs.Common.{◌≡◌, List, sym, ap, subst, ◌∙◌}
 use Rattle.std.proofs.Math.Arith.{lt-one}
 use Rattle.std.proofs.Math.Nat.{zero-lt-suc}
 use Rattle.std.specs.Prelude.{nat_eq, false}
-use Rattle.ert_clock.specs.Shown.{Shown, ClockStands}
-use Rattle.ert_defs.specs.Actors.{of}
-use Rattle.ert_defs.specs.Legal.{Legal}
-use Rattle.ert_defs.specs.Mails.{SchedState}
-use Rattle.ert_defs.specs.States.{State, state}
-use Rattle.ert_defs.specs.declared.entry.Actor.TheVariants.{Keeper, Sched}
-use Rattle.ert_defs.specs.declared.entry.Entry.{Entry}
-use Rattle.ert_defs.specs.declared.settings.Settings.{Settings}
 use Rattle.ert_locks.specs.Kinds.{IsKind, keepers, wheels, inboxes, scheds, mails, callers}
 use Rattle.ert_mail.proofs.LawsHold.{inbox_on, mail_on}
-use Rattle.ert_timers.specs.SchedParts.{SchedStands}
-use Rattle.ert_timers.specs.declared.sched_part.SchedPart.{SchedPart}
-use Rattle.ert_table.specs.Views.{Begins}
 use Rattle.ert_table.proofs.StandOn.{keeper_on}
 use Rattle.ert_timers.proofs.SchedParts.{sched_on}
 use Rattle.ert_timers.proofs.LawsHold.{stand_on as wheel_on}

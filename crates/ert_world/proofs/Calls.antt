@@ -2,11 +2,8 @@
 
 use Rattle.std.proofs.Common.{◌≡◌, ℕ, zero, suc, ◌<◌, arith, true, false, List, [], ◌∷◌, ◌++◌, filter, slice_index_or, Some, Result, Ok, Err, inl, refl, sym, ap, subst, ◌∙◌, append-nil}
 use Rattle.std.specs.Prelude.{slice_set}
-use Rattle.ert_effects.specs.MailCalls.{Monitors}
 use Rattle.ert_effects.specs.RequestCalls.{Asks}
 use Rattle.ert_effects.specs.Ways.{Growth, Way}
-use Rattle.ert_effects.specs.declared.answers.MonitorErr.{MonitorErr}
-use Rattle.ert_effects.specs.declared.answers.MonitorErr.TheVariants.{Full, NoMemory as WantOfRoom}
 use Rattle.ert_clock.specs.Shown.{ClockStands}
 use Rattle.ert_defs.proofs.Runs.{state-append, legal_then}
 use Rattle.ert_defs.specs.Legal.{Legal, LegalFrom}
@@ -22,15 +19,14 @@ use Rattle.ert_defs.specs.declared.settings.Settings.{Settings}
 use Rattle.ert_mail.specs.Inboxes.{Waiting, InboxStands}
 use Rattle.ert_table.specs.Published.{ReadsByLeastCaller}
 use Rattle.ert_table.specs.declared.keeper.KeeperPart.{KeeperPart}
-use Rattle.ert_mail.specs.Mailboxes.{Mailbox, IsMonitor, MailboxStands as MailStands}
+use Rattle.ert_mail.specs.Mailboxes.{Mailbox, MailboxStands as MailStands}
 use Rattle.ert_table.proofs.Calls.{whole_exact}
-use Rattle.ert_table.specs.Calls.{AreOnlyOf, IsMade, IsOmitted, IsMadeIfOk}
+use Rattle.ert_table.specs.Calls.{AreOnlyOf, IsMade}
 use Rattle.ert_table.specs.Desks.{settings_of, view_of, front_of, actors_of, Belongs}
 use Rattle.ert_table.specs.Held.{is_held, least_caller}
 use Rattle.ert_table.specs.Takes.{TakesPlace}
 use Rattle.ert_table.specs.declared.desk.Desk.{Desk}
 use Rattle.ert_table.specs.declared.desk.Pass.{Pass}
-use Rattle.ert_table.specs.declared.view.View.{View}
 use Rattle.ert_world.proofs.Alone.{whole_of, went}
 use Rattle.ert_world.proofs.Armed.{AreCalm, is_cancel}
 use Rattle.ert_world.proofs.Calm.{IsQuiet}
