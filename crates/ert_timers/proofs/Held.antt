@@ -110,7 +110,7 @@ list_any-range a zero q = grind arith
 list_any-range a (suc n) q = grind (arith, list_any-range (a + 1) n q)
 
 -- no slot stands once
-pub distinct_none : IsDistinct {ℕ} nat_eq []
+pub distinct_none : IsDistinct nat_eq []
 unfolding IsDistinct
 distinct_none = tt
 
