@@ -12,6 +12,7 @@ use Rattle.ert_mail.specs.Mailboxes.{Mailbox, MailboxStands as MailStands}
 use Rattle.ert_table.specs.Held.{is_held}
 use Rattle.ert_timers.specs.Parts.{Part, PartStands as WheelStands}
 use Rattle.ert_mail.specs.Turns.{TurnRow}
+use Rattle.ert_timers.specs.SchedParts.{SchedStands}
 use Rattle.ert_timers.specs.declared.sched_part.SchedPart.{SchedPart}
 
 -- the parts of a service: the clock's, those of each wheel, inbox, process and scheduler, and the row of the processes that
