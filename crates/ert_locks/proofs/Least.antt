@@ -8,7 +8,7 @@ use Rattle.ert_defs.specs.declared.entry.Actor.TheVariants.{Keeper, Caller}
 use Rattle.ert_defs.specs.declared.settings.OffsetState.{OffsetState}
 use Rattle.ert_defs.specs.declared.settings.OffsetState.TheVariants.{Preliminary, Final, Volatile}
 use Rattle.ert_defs.specs.declared.settings.Settings.{Settings}
-use Rattle.ert_calls.specs.Published.{ReadsByLeastCaller}
+use Rattle.ert_table.specs.Published.{ReadsByLeastCaller}
 use Rattle.ert_table.specs.Held.{least_caller}
 use Rattle.ert_table.specs.declared.view.View.{View}
 

@@ -24,10 +24,10 @@ use Rattle.ert_locks.specs.Kinds.{Kind, scheds, mails}
 use Rattle.ert_locks.specs.Lent.{IsLent}
 use Rattle.ert_locks.specs.Names.{IsDesk}
 use Rattle.ert_mail.specs.Mailboxes.{Mailbox, HoldsMailboxAndSched, handed, sched_after_answer}
-use Rattle.ert_world.proofs.Advances.{advance_hand, advance_still, advance_fits, difference}
-use Rattle.ert_world.proofs.Calls.{if_ok_made}
-use Rattle.ert_world.specs.Parts.{SchedStands}
-use Rattle.ert_world.specs.declared.sched_part.SchedPart.{SchedPart}
+use Rattle.ert_timers.proofs.SchedParts.{advance_hand, advance_still, advance_fits, difference}
+use Rattle.ert_table.proofs.Makings.{if_ok_made}
+use Rattle.ert_timers.specs.SchedParts.{SchedStands}
+use Rattle.ert_timers.specs.declared.sched_part.SchedPart.{SchedPart}
 use Rattle.ert_table.specs.Calls.{IsMade, IsMadeIfOk}
 use Rattle.ert_table.specs.Desks.{settings_of, front_of, view_of, state_of}
 use Rattle.ert_table.specs.Held.{is_held}

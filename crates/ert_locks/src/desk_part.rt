@@ -2,11 +2,10 @@
 ghost use Rattle.std.specs.Prelude.{◌≡◌};
 ghost use Rattle.ert_locks.specs.Kinds.{Kind, IsKind};
 
-use ert_calls::KeeperPart;
 use ert_defs::Actor;
 use ert_mail::{InboxPart, MailPart};
-use ert_timers::WheelPart;
-use ert_world::SchedPart;
+use ert_table::KeeperPart;
+use ert_timers::{SchedPart, WheelPart};
 
 /// A part of a desk, which has one actor and stands for a history.
 pub trait DeskPart {

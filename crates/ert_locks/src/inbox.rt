@@ -17,7 +17,7 @@ impl<L: DeskName> Locked<InboxPart, L> {
     /// Puts a request last, for a caller (`cancel_timer` and `read_timer`, option `async`).
     ///
     /// If memory runs out, nothing has changed.
-    #[tactic(auto, using(crate::proofs::Own::asks_have, ert_world::proofs::Calls::if_ok_made))]
+    #[tactic(auto, using(crate::proofs::Own::asks_have, ert_table::proofs::Makings::if_ok_made))]
     pub fn ask(
         &mut self,
         desk: &Desk,

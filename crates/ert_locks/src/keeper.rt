@@ -2,10 +2,9 @@
 use crate::locked::Locked;
 use crate::names::DeskName;
 use crate::seats::CallerSeat;
-use ert_calls::KeeperPart;
 use ert_clock::{ClockErr, Moved};
 use ert_defs::{OffsetState, Reading};
-use ert_table::Desk;
+use ert_table::{Desk, KeeperPart};
 use std::marker::Brand;
 
 impl<L: DeskName> Locked<KeeperPart, L> {

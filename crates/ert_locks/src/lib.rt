@@ -15,8 +15,7 @@
 //! **Names.** What is behind a lock is known by its type alone. So seats and locked values carry the name of
 //! one desk (`DeskName`): its identity and its settings.
 //!
-//! It stands on `ert_defs`, `ert_clock`, `ert_effects`, `ert_table`, `ert_calls`, on the parts' crates and on
-//! `ert_world` for a scheduler's part.
+//! It stands on `ert_defs`, `ert_clock`, `ert_effects`, `ert_table` and on the parts' crates.
 //!
 //! **Choices.**
 //!

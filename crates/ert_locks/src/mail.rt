@@ -35,7 +35,7 @@ impl<L: DeskName> Locked<MailPart, L> {
     ///
     /// Full comes where 64 monitors of the process stand, or its last number was given. After a refusal
     /// nothing has changed.
-    #[tactic(auto, using(crate::proofs::Own::monitors_have, ert_world::proofs::Calls::monitor_made))]
+    #[tactic(auto, using(crate::proofs::Own::monitors_have, ert_mail::proofs::Watchings::monitor_made))]
     pub fn monitor(&mut self, desk: &Desk, seat: &mut CallerSeat<L>) -> Result<u32, MonitorErr>
         requires desk { IsDesk L.table L.settings desk.now }
         ensures same { self.new ≡ self.old }
@@ -65,7 +65,7 @@ impl<L: DeskName> Locked<MailPart, L> {
     /// how many there were (ERTS User's Guide, "Time Warp Modes": `CHANGE` messages).
     ///
     /// If memory runs out, nothing has changed.
-    #[tactic(auto, using(crate::proofs::Own::notifies_have, ert_world::proofs::Calls::if_ok_made))]
+    #[tactic(auto, using(crate::proofs::Own::notifies_have, ert_table::proofs::Makings::if_ok_made))]
     pub fn notify(&mut self, desk: &Desk, seat: &mut CallerSeat<L>) -> Result<u32, NoMemory>
         requires desk { IsDesk L.table L.settings desk.now }
         ensures same { self.new ≡ self.old }

@@ -6,7 +6,7 @@ ghost use Rattle.ert_locks.specs.Names.{IsPassFor};
 
 use crate::names::DeskName;
 use ert_table::Pass;
-use ert_world::SchedPart;
+use ert_timers::SchedPart;
 use std::marker::PhantomData;
 
 /// The seat of a caller on the desk that `L` names: the pass with that one actor.

@@ -6,7 +6,7 @@ ghost use Rattle.ert_locks.specs.Kinds.{scheds, wheels};
 ghost use Rattle.ert_locks.specs.Lent.{IsGivenBack};
 ghost use Rattle.ert_table.specs.Desks.{Belongs, front_of, settings_of, view_of};
 ghost use Rattle.ert_timers.specs.Parts.{HoldsSched, PartStands};
-ghost use Rattle.ert_world.specs.Parts.{SchedStands};
+ghost use Rattle.ert_timers.specs.SchedParts.{SchedStands};
 ghost use Rattle.ert_defs.specs.declared.settings.TheConstants.{MOST_SLOTS};
 
 use crate::locked::Locked;
@@ -15,8 +15,7 @@ use crate::seats::{CallerSeat, SchedSeat};
 use ert_defs::{NoMemory, Start, TimerRef};
 use ert_effects::StartErr;
 use ert_table::{Desk, Pass};
-use ert_timers::WheelPart;
-use ert_world::SchedPart;
+use ert_timers::{SchedPart, WheelPart};
 use std::marker::Brand;
 
 impl<L: DeskName> Locked<WheelPart, L> {

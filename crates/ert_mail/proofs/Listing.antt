@@ -5,14 +5,11 @@ use Rattle.std.specs.Prelude.{slice_set, slice_index_or}
 use Rattle.std.proofs.lemmas.Grind.{get_or-set_at}
 use Rattle.std.proofs.lemmas.List.{get_or-set_other, get_or_default, length-set}
 use Rattle.std.specs.List.{list_any}
-use Rattle.std.specs.Cmp.{nat_cmp_total, unsigned_tied}
-use Rattle.std.specs.FinSet as sets
 use Rattle.ert_defs.specs.declared.mail.Mail.{Mail}
-use Rattle.ert_mail.specs.Lists.{IsRow, AreListed, IsNextIn, is_listed, with_listed}
+use Rattle.ert_mail.specs.Lists.{IsRow, AreListed, IsNextIn, with_listed}
 use Rattle.ert_mail.specs.Mailboxes.{Mailbox}
-use Rattle.ert_words.proofs.Held.{contains-from_list, list_any-push}
-use Rattle.ert_words.specs.Free.{FreeSet}
-use Rattle.ert_words.specs.Turns.{TurnRow, row_set}
+use Rattle.ert_mail.proofs.Rows.{list_any-push}
+use Rattle.ert_mail.specs.Turns.{TurnRow, is_listed}
 
 no_length : (queue : List Mail) → length queue ≡ 0 → queue ≡ []
 no_length [] none = refl
@@ -27,49 +24,34 @@ flag_at listed p q b low = (
 )
 
 -- a process is put
-pub row_put : (row new : FreeSet) (listed : List Bool) (p : ℕ) → IsRow row listed → p < length listed → new ≡ record row { held = sets.insert row.held p }
-    → IsRow new (slice_set listed p true)
-row_put row new listed p is low put = record {
-  slots = ap (λ (f : FreeSet). f.slots) put ∙ is.slots ∙ sym (length-set listed p true);
-  each = λ q.
-      ap (λ (f : FreeSet). sets.contains f.held q) put
-      ∙ (sets.contains-insert nat_cmp_total row.held p q ∙ (λ i. unsigned_tied q p i || sets.contains row.held q))
-      ∙ at q (nat_eq q p) refl;
+pub row_put : (row : TurnRow) (listed : List Bool) (p : ℕ) → IsRow row listed → p < length listed
+    → IsRow (record row { held = row.held ++ p ∷ [] }) (slice_set listed p true)
+row_put row listed p is low = record {
+  counted = is.counted ∙ sym (length-set listed p true);
+  each = λ q. list_any-push (nat_eq q) row.held p ∙ at q (nat_eq q p) refl;
 }
   where
-    at : (q : ℕ) (b : Bool) → nat_eq q p ≡ b → (nat_eq q p || sets.contains row.held q) ≡ slice_index_or (slice_set listed p true) q false
-    at q true same = ap (λ b. b || sets.contains row.held q) same ∙ sym ((flag_at listed p q true low).0 same)
-    at q false apart = ap (λ b. b || sets.contains row.held q) apart ∙ (is.each q ∙ sym ((flag_at listed p q true low).1 apart))
+    at : (q : ℕ) (b : Bool) → nat_eq q p ≡ b → (nat_eq q p || is_listed row q) ≡ slice_index_or (slice_set listed p true) q false
+    at q true same = ap (λ b. b || is_listed row q) same ∙ sym ((flag_at listed p q true low).0 same)
+    at q false apart = ap (λ b. b || is_listed row q) apart ∙ (is.each q ∙ sym ((flag_at listed p q true low).1 apart))
 
--- a process is taken out
-pub row_taken : (row new : FreeSet) (listed : List Bool) (p : ℕ) → IsRow row listed → p < length listed → new ≡ record row { held = sets.remove row.held p }
-    → IsRow new (slice_set listed p false)
-row_taken row new listed p is low taken = record {
-  slots = ap (λ (f : FreeSet). f.slots) taken ∙ is.slots ∙ sym (length-set listed p false);
-  each = λ q.
-      ap (λ (f : FreeSet). sets.contains f.held q) taken
-      ∙ (sets.contains-remove nat_cmp_total row.held p q ∙ (λ i. not (unsigned_tied q p i) && sets.contains row.held q))
-      ∙ at q (nat_eq q p) refl;
+-- the first one is taken out
+pub row_taken : (old new : TurnRow) (listed : List Bool) (p : ℕ) → IsRow old listed → p < length listed → old ≡ record new { held = p ∷ new.held }
+    → is_listed new p ≡ false → IsRow new (slice_set listed p false)
+row_taken old new listed p is low taken away = record {
+  counted = sym (ap (λ (r : TurnRow). r.bound) taken) ∙ is.counted ∙ sym (length-set listed p false);
+  each = λ q. at q (nat_eq q p) refl;
 }
   where
-    at : (q : ℕ) (b : Bool) → nat_eq q p ≡ b → (not (nat_eq q p) && sets.contains row.held q) ≡ slice_index_or (slice_set listed p false) q false
-    at q true same = ap (λ b. not b && sets.contains row.held q) same ∙ sym ((flag_at listed p q false low).0 same)
-    at q false apart = ap (λ b. not b && sets.contains row.held q) apart ∙ (is.each q ∙ sym ((flag_at listed p q false low).1 apart))
+    at : (q : ℕ) (b : Bool) → nat_eq q p ≡ b → is_listed new q ≡ slice_index_or (slice_set listed p false) q false
+    at q true same = ap (is_listed new) (eqb-true q p same) ∙ away ∙ sym ((flag_at listed p q false low).0 same)
+    at q false apart =
+        sym (ap (λ b. b || is_listed new q) apart) ∙ sym (ap (λ (r : TurnRow). is_listed r q) taken) ∙ is.each q ∙ sym ((flag_at listed p q false low).1 apart)
 
--- a process is listed where the row's set has it
-pub listed_in : (row : TurnRow) (listed : List Bool) (p : ℕ) → IsRow (row_set row) listed → is_listed row p ≡ slice_index_or listed p false
-listed_in row listed p is = sym (contains-from_list row.held p) ∙ is.each p
-
--- as the flag at its place tells
-pub flag_is : (row : TurnRow) (listed : List Bool) (p : ℕ) (b : Bool) → IsRow (row_set row) listed → p < length listed → b ≡ slice_index_or listed p b
+-- a process is listed as the flag at its place tells
+pub flag_is : (row : TurnRow) (listed : List Bool) (p : ℕ) (b : Bool) → IsRow row listed → p < length listed → b ≡ slice_index_or listed p b
     → is_listed row p ≡ b
-flag_is row listed p b is low at = listed_in row listed p is ∙ (get_or_default listed p false b low ∙ sym at)
-
--- one that is taken out isn't listed
-pub taken_away : (row new : TurnRow) (listed : List Bool) (p : ℕ) → IsRow (row_set row) listed → p < length listed
-    → row_set new ≡ record (row_set row) { held = sets.remove (row_set row).held p } → is_listed new p ≡ false
-taken_away row new listed p is low taken =
-    listed_in new (slice_set listed p false) p (row_taken (row_set row) (row_set new) listed p is low taken) ∙ get_or-set_at listed p p false false refl low
+flag_is row listed p b is low at = is.each p ∙ (get_or_default listed p false b low ∙ sym at)
 
 -- one that is listed needn't be put
 pub with_there : (row : TurnRow) (p : ℕ) → is_listed row p ≡ true → with_listed row p ≡ row

@@ -3,7 +3,7 @@
 use Rattle.std.proofs.Common.{◌≡◌, ◌≢◌, ℕ, ◌+◌, ◌<◌, Bool, true, false, cond, ◌&&◌, ◌||◌, List, [], ◌∷◌, ◌++◌, length, filter, slice_index_or, Some, None, refl, sym, ap, ◌∙◌, append-nil, append_assoc}
 use Rattle.std.proofs.lemmas.List.{map-append}
 use Rattle.std.proofs.lemmas.List.Elements.{filter-append}
-use Rattle.ert_calls.proofs.Looks.{can_step}
+use Rattle.ert_table.proofs.Looks.{can_step}
 use Rattle.ert_defs.proofs.Runs.{state-append, exit_stays}
 use Rattle.ert_defs.specs.Entries.{mark_entry}
 use Rattle.ert_defs.specs.States.{State, state}
@@ -19,7 +19,7 @@ use Rattle.ert_table.specs.declared.view.View.{View}
 use Rattle.ert_mail.proofs.Listing.{listed_on}
 use Rattle.ert_mail.specs.Lists.{AreListed, HaveMailFrom, LooksForMail, exited_from, exits_seen, is_waiting, with_mail}
 use Rattle.ert_mail.specs.Mailboxes.{Mailbox}
-use Rattle.ert_words.specs.Turns.{TurnRow}
+use Rattle.ert_mail.specs.Turns.{TurnRow}
 
 -- a row is gone through up to here: some processes are passed, and of these those with mail are found exited
 pub record Passes (first by : ℕ) (row later : List ℕ) (s : State) (es : List Entry) : Type 0 where

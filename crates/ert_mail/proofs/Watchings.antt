@@ -1,21 +1,23 @@
 -- The steps of the calls on monitors.
 
-use Rattle.std.proofs.Common.{◌≡◌, ℕ, ◌+◌, ◌≤◌, ℤ, Bool, true, [], ◌∷◌, ◌++◌, length, Ok, Err, inl, inr, refl, ap, subst, ◌∙◌, eq-eqb}
+use Rattle.std.proofs.Common.{◌≡◌, ℕ, ◌+◌, ◌≤◌, ℤ, Bool, true, [], ◌∷◌, ◌++◌, length, Result, Ok, Err, inl, inr, refl, ap, subst, ◌∙◌, eq-eqb}
 use Rattle.std.proofs.lemmas.Bool.{cases_lt}
 use Rattle.ert_defs.specs.Entries.{off_entry, watch_entry, unwatch_entry, tell_entry}
+use Rattle.ert_defs.specs.Legal.{Legal}
 use Rattle.ert_defs.specs.Mails.{MailState, changes_of, told_of, without}
 use Rattle.ert_defs.specs.declared.entry.Actor.TheVariants.{MailOf, Caller}
 use Rattle.ert_defs.specs.declared.mail.Monitor.{Monitor}
 use Rattle.ert_defs.specs.declared.settings.OffsetState.{OffsetState}
 use Rattle.ert_defs.specs.declared.settings.Settings.{Settings}
 use Rattle.ert_effects.specs.MailCalls.{Monitors, Demonitors, Notifies}
-use Rattle.ert_effects.specs.declared.answers.MonitorErr.TheVariants.{Full}
+use Rattle.ert_effects.specs.declared.answers.MonitorErr.{MonitorErr}
+use Rattle.ert_effects.specs.declared.answers.MonitorErr.TheVariants.{Full, NoMemory as WantOfRoom}
 use Rattle.ert_table.specs.Calls.{IsMade}
 use Rattle.ert_table.specs.Held.{is_held}
 use Rattle.ert_table.specs.Takes.{Appends}
-use Rattle.ert_table.proofs.Makings.{step_made}
+use Rattle.ert_table.proofs.Makings.{none_made, step_made}
 use Rattle.ert_table.specs.declared.view.View.{View}
-use Rattle.ert_mail.specs.Mailboxes.{Mailbox, MailboxStands, AreMany}
+use Rattle.ert_mail.specs.Mailboxes.{Mailbox, MailboxStands, AreMany, IsMonitor}
 use Rattle.ert_mail.proofs.Standing.{stands_step, stands_apart}
 
 pub unwatch_made : (g : Settings) (v w : View) (by p monitor : ℕ) (was : Bool) → Appends g v (unwatch_entry by p monitor was) w
@@ -93,3 +95,10 @@ pub stands_told : (g : Settings) (v w : View) (by : ℕ) (offset : ℤ) (m n : M
 stands_told g v w by offset m n held stands step process queue monitors next delivered =
     stands_step g v (tell_entry by m.process offset) w m n (told_all offset) held stands step
     (λ s. rw (eq-eqb m.process m.process refl) refl) (rw (eq-eqb m.process m.process refl) refl) process queue monitors next delivered
+
+-- a monitor was made or wasn't
+pub monitor_made : (g : Settings) (v : View) (by process : ℕ) (answer : Result ℕ MonitorErr) (w : View) → Legal g v.front
+    → IsMonitor g v by process answer w → IsMade g v (Monitors g by process answer) w
+monitor_made g v by process (Ok number) w legal is = is
+monitor_made g v by process (Err Full) w legal is = is
+monitor_made g v by process (Err WantOfRoom) w legal is = none_made g v w (Monitors g by process (Err WantOfRoom)) legal is.allowed is.same

@@ -3,3 +3,4 @@ pub mod Inboxes
 pub mod Laws
 pub mod Lists
 pub mod Steps
+pub mod Turns

@@ -1,8 +1,6 @@
 -- The processes that are listed since their mailboxes may have mail, in a row.
 
-use Rattle.std.specs.Prelude.{◌≡◌, ◌≢◌, ℕ, ◌+◌, ◌<◌, ◌≤◌, Bool, true, false, nat_eq, map, filter, List, [], ◌∷◌, ◌++◌, length, Option, Some, None, slice_index_or, if◌then◌else◌}
-use Rattle.std.specs.FinSet as set
-use Rattle.std.specs.List.{list_any}
+use Rattle.std.specs.Prelude.{◌≡◌, ◌≢◌, ℕ, ◌+◌, ◌<◌, ◌≤◌, Bool, true, false, map, filter, List, [], ◌∷◌, ◌++◌, length, Option, Some, None, slice_index_or, if◌then◌else◌}
 use Rattle.ert_defs.specs.Entries.{mark_entry}
 use Rattle.ert_defs.specs.States.{State}
 use Rattle.ert_defs.specs.declared.entry.Actor.TheVariants.{Caller}
@@ -12,17 +10,12 @@ use Rattle.ert_defs.specs.declared.settings.Settings.{Settings}
 use Rattle.ert_table.specs.Held.{is_held}
 use Rattle.ert_table.specs.declared.view.View.{View}
 use Rattle.ert_mail.specs.Mailboxes.{Mailbox}
-use Rattle.ert_words.specs.Free.{FreeSet}
-use Rattle.ert_words.specs.Turns.{TurnRow}
+use Rattle.ert_mail.specs.Turns.{TurnRow, is_listed}
 
 -- a row has those that are listed
-pub record IsRow (row : FreeSet) (listed : List Bool) : Type 0 where
-  pub slots : row.slots ≡ length listed
-  pub each : (p : ℕ) → set.contains row.held p ≡ slice_index_or listed p false
-
--- whether a process stands in a row
-abbrev pub is_listed : TurnRow → ℕ → Bool
-is_listed row p = list_any (nat_eq p) row.held
+pub record IsRow (row : TurnRow) (listed : List Bool) : Type 0 where
+  pub counted : row.bound ≡ length listed
+  pub each : (p : ℕ) → is_listed row p ≡ slice_index_or listed p false
 
 -- a row with a process: it is put last, unless it stands in the row
 abbrev pub with_listed : TurnRow → ℕ → TurnRow

@@ -33,7 +33,7 @@
 //! `demonitor` and `pick` take no memory. `reserve` makes room for messages ahead, and `shrink` gives back what they don't
 //! need. Messages and requests stand in rings: to put or to take one moves no other.
 //!
-//! It stands on `ert_defs`, `ert_laws`, `ert_effects`, `ert_table` and `ert_calls`.
+//! It stands on `ert_defs`, `ert_laws`, `ert_effects` and `ert_table`.
 //!
 //! **One asynchronous cancel, from the ask to the message.** A process can have a timer cancelled without waiting for
 //! the answer. Process 2 asks to cancel the timer of wheel 1, slot 5 and generation 2; scheduler 1 does it, at its next
@@ -52,7 +52,7 @@
 //!    1, &request)` (`crates/ert_mail/src/part.rt`). It makes room for one message. Without memory it ends here: the
 //!    request is in the hand, the timer as it was, and the next turn tries again.
 //! 4. **The cancel.** `reply` (`crates/ert_mail/src/replies.rt`) calls `cancel_timer` as Sched 1: a look, a peek and an
-//!    exchange (`ert_calls`). What the exchange found left is the result of the scheduler's last step on the request,
+//!    exchange (`ert_table`). What the exchange found left is the result of the scheduler's last step on the request,
 //!    and so what the answer has to say: an answer by an earlier look would be no legal entry.
 //! 5. **The answer.** The last load of the time word is the entry Answer by Sched 1 with MailOf 2. In the history it
 //!    empties the hand and puts CancelDone with the number, or with none, last in the mailbox; the code puts that
@@ -81,6 +81,7 @@ mod laws;
 mod list;
 mod part;
 mod replies;
+mod turns;
 mod watching;
 
 pub use ert_effects::{Handed, MonitorErr, Taken};

@@ -1,8 +1,8 @@
 //! The processes whose mailboxes may have mail.
 use crate::part::MailPart;
+use crate::turns::Turns;
 use ert_defs::{Actor, NoMemory};
 use ert_table::{Desk, Pass};
-use ert_words::Turns;
 use std::alloc::Global;
 use std::marker::Model;
 
@@ -20,7 +20,7 @@ pub struct MailList {
 
 impl Model for MailList {
     ghost use Rattle.ert_mail.specs.Lists.{IsRow};
-    ghost use Rattle.ert_words.specs.Turns.{TurnRow, row_code, row_set};
+    ghost use Rattle.ert_mail.specs.Turns.{TurnRow, row_code};
 
     ghost Value = { TurnRow };
 
@@ -28,7 +28,7 @@ impl Model for MailList {
 
     ghost view = { λ m. m.row };
 
-    ghost invariant = { λ m. IsRow (row_set m.row) m.listed.items };
+    ghost invariant = { λ m. IsRow m.row m.listed.items };
 }
 
 impl MailList {
@@ -37,7 +37,8 @@ impl MailList {
     ghost use Rattle.ert_defs.specs.Legal.{Legal};
     ghost use Rattle.ert_table.specs.Calls.{IsMade};
     ghost use Rattle.ert_table.specs.Desks.{settings_of, view_of, front_of, state_of, Belongs};
-    ghost use Rattle.ert_mail.specs.Lists.{AreListed, CanLook, HaveMailFrom, IsNextIn, LooksForMail, exited_from, is_listed, with_listed};
+    ghost use Rattle.ert_mail.specs.Turns.{is_listed};
+    ghost use Rattle.ert_mail.specs.Lists.{AreListed, CanLook, HaveMailFrom, IsNextIn, LooksForMail, exited_from, with_listed};
 
     /// A list with every process below a number, in order.
     pub fn all(alloc: Global, processes: u32) -> Result<MailList, NoMemory>

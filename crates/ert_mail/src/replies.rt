@@ -10,7 +10,6 @@ ghost use Rattle.ert_table.specs.Calls.{IsMade};
 ghost use Rattle.ert_mail.specs.Mailboxes.{HoldsMailboxAndSched};
 ghost use Rattle.ert_mail.specs.Steps.{IsReplied};
 
-use ert_calls::{cancel_timer, read_timer};
 use ert_defs::{Actor, Mail, Request, RequestKind};
 use ert_table::{Desk, Pass, TimeCarry};
 use std::collections::VecDeque;
@@ -45,8 +44,8 @@ fn do_asked(desk: &Desk, pass: &mut Pass, sched: u32, request: &Request) -> Opti
 {
     let by = Actor::Sched(sched);
     match request.kind {
-        RequestKind::Cancel => cancel_timer(desk, pass, by, request.timer),
-        RequestKind::Read => read_timer(desk, pass, by, request.timer),
+        RequestKind::Cancel => pass.cancel_timer(desk, by, request.timer),
+        RequestKind::Read => pass.read_timer(desk, by, request.timer),
     }
 }
 

@@ -38,13 +38,13 @@
 //!    settings: a `Scenario`.
 //! 4. **The world.** `run` (`crates/ert_program/src/running.rt`) opens a `World` (`crates/ert_world/src/world.rt`) for
 //!    the settings: a desk of atomic words (`crates/ert_table`), the pass that holds every actor, and every part: the
-//!    clock's (`crates/ert_calls/src/keeper.rt`), and those of wheels, inboxes, mailboxes and schedulers. It hands the
+//!    clock's (`crates/ert_table/src/keeper.rt`), and those of wheels, inboxes, mailboxes and schedulers. It hands the
 //!    world with the ops and the output to `run_ops` (`crates/ert_script/src/run.rt`), which does one op after the
 //!    other. What it has done so far is a script run (`crates/ert_transcript/specs/Scripts.antt`): a legal history, the
 //!    replies, and the labels that starts have bound.
 //! 5. **The clock.** `reply_op` (`reply.rt`) hands the op to `do_op` (`doing.rt`), which does the ops of a caller for
 //!    whoever makes its calls (`Doer`). Here that is a world: it calls `World::tick`, that `KeeperPart::tick`
-//!    (`crates/ert_calls/src/keeper.rt`) for caller 0, and that first `Clock::tick` (`crates/ert_clock/src/clock.rt`).
+//!    (`crates/ert_table/src/keeper.rt`) for caller 0, and that first `Clock::tick` (`crates/ert_clock/src/clock.rt`).
 //!    The clock's time is 1000000000 and its offset 1767225600000000000, so OS system time less the offset is
 //!    -3600000000000, an hour ago: the time stays. The clock's contract says that it then stands for the history with
 //!    one entry more: `Tick` by Keeper with Caller 0, with this reading and the time 1000000000. By the model

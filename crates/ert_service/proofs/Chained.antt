@@ -19,9 +19,10 @@ use Rattle.ert_defs.specs.declared.settings.Settings.{Settings}
 use Rattle.ert_laws.proofs.Few.{expired_few}
 use Rattle.ert_laws.proofs.Requests.{held_have_askers}
 use Rattle.ert_laws.proofs.RowRanges.{first_placed}
-use Rattle.ert_service.proofs.Settling.{place, turns_leave_none}
+use Rattle.ert_service.proofs.Settling.{turns_leave_none}
+use Rattle.ert_world.proofs.Places.{place}
 use Rattle.ert_service.specs.Settled.{NoneWaits}
-use Rattle.ert_world.specs.Parts.{SchedStands}
+use Rattle.ert_timers.specs.SchedParts.{SchedStands}
 use Rattle.ert_table.proofs.Holders.{or_right}
 use Rattle.ert_table.proofs.OneStep.{legal_by}
 use Rattle.ert_table.specs.Calls.{IsMade}
@@ -29,7 +30,7 @@ use Rattle.ert_table.specs.Desks.{front_of}
 use Rattle.ert_table.specs.declared.desk.Pass.{Pass}
 use Rattle.ert_table.specs.declared.view.View.{View}
 use native.Mathlib.Bridge.{le_prop}
-use Rattle.ert_world.specs.declared.sched_part.SchedPart.{SchedPart}
+use Rattle.ert_timers.specs.declared.sched_part.SchedPart.{SchedPart}
 use Rattle.ert_defs.specs.declared.settings.TheConstants.{MOST_SLOTS}
 
 -- after a turn no expired timer waits, nor after all were handed over

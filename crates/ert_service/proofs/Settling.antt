@@ -37,53 +37,12 @@ use Rattle.ert_defs.proofs.ExpiredTimers.{same_timer_self}
 use Rattle.ert_defs.proofs.Slots.{ordered}
 use Rattle.ert_defs.proofs.Uses.{Use, before_self}
 use Rattle.ert_service.specs.Settled.{LawOfSettledByAdvance, LawOfSettledByExit, LawOfSettledByStart, LawOfNoneWaiting, NoneDue, NoneFor, NoneWaits, WasSettled}
+use Rattle.ert_world.proofs.Places.{Place, place}
 use Rattle.ert_table.proofs.Holders.{or_left}
 use Rattle.ert_table.proofs.OneStep.{legal_by}
 use Rattle.ert_table.specs.Desks.{front_of}
 use Rattle.ert_table.specs.declared.desk.Pass.{Pass}
 use native.Mathlib.Bridge.{le_prop}
-
--- a place in a list at which something stands, with what passes a test before it and behind it
-pub record Place {X : Type 0} (test : X → Bool) (m before : List X) (x : X) (behind : List X) : Type 0 where
-  pub first : List X
-  pub last : List X
-  pub parted : m ≡ first ++ (x ∷ last)
-  pub first_is : filter test first ≡ before
-  pub last_is : filter test last ≡ behind
-
-pub place : {X : Type 0} (test : X → Bool) (m before : List X) (x : X) (behind : List X) → filter test m ≡ before ++ (x ∷ behind)
-    → Place test m before x behind
-place test [] [] x behind is = absurd cc
-place test [] (z ∷ before) x behind is = absurd cc
-place {X} test (y ∷ m) before x behind is = at (test y) refl before is (λ before rest. place test m before x behind rest)
-  where
-    at : (b : Bool) → test y ≡ b → (before : List X) → filter test (y ∷ m) ≡ before ++ (x ∷ behind)
-        → ((before : List X) → filter test m ≡ before ++ (x ∷ behind) → Place test m before x behind) → Place test (y ∷ m) before x behind
-    at true passes [] is more =
-        let list : y ∷ filter test m ≡ x ∷ behind = rw passes at is in
-        let same : y ≡ x = cc in
-        record { first = []; last = m; parted = ap (λ z. z ∷ m) same; first_is = refl; last_is = cc }
-    at true passes (z ∷ before) is more =
-        let list : y ∷ filter test m ≡ z ∷ (before ++ (x ∷ behind)) = rw passes at is in
-        let same : y ≡ z = cc in
-        let spot = more before cc in
-        record {
-          first = y ∷ spot.first;
-          last = spot.last;
-          parted = ap (λ l. y ∷ l) spot.parted;
-          first_is = rw passes (ap (λ l. y ∷ l) spot.first_is ∙ ap (λ v. v ∷ before) same);
-          last_is = spot.last_is;
-        }
-    at false fails before is more =
-        let rest : filter test m ≡ before ++ (x ∷ behind) = rw fails at is in
-        let spot = more before rest in
-        record {
-          first = y ∷ spot.first;
-          last = spot.last;
-          parted = ap (λ l. y ∷ l) spot.parted;
-          first_is = rw fails spot.first_is;
-          last_is = spot.last_is;
-        }
 
 -- the history up to such a place in what comes last of a piece, and what comes from it on
 at_place : (f m b d after first : List Entry) (x : Entry) (last : List Entry) → m ≡ b ++ d → d ≡ first ++ (x ∷ last)

@@ -2,7 +2,6 @@
 #![tactic(auto, using(crate::proofs::LegalFronts::legal_front, crate::proofs::Alone::made_alone))]
 
 use crate::session::{CallerSession, Session};
-use ert_calls::{monotonic_time, system_time, time_offset};
 use ert_clock::{ClockErr, Moved};
 use ert_defs::{Actor, OffsetState, Reading};
 use ert_locks::DeskName;
@@ -51,7 +50,7 @@ impl<'a, L: DeskName, R: Wait> CallerSession<'a, L, R> {
     {
         let Session { service, seat, .. } = self;
         let by = Actor::Caller(seat.number);
-        monotonic_time(service.desk(), &mut seat.pass, by)
+        seat.pass.monotonic_time(service.desk(), by)
     }
 
     /// Erlang system time, in nanoseconds: the time, and the time offset added that is read after it (`erlang`
@@ -63,7 +62,7 @@ impl<'a, L: DeskName, R: Wait> CallerSession<'a, L, R> {
     {
         let Session { service, seat, .. } = self;
         let by = Actor::Caller(seat.number);
-        system_time(service.desk(), &mut seat.pass, by)
+        seat.pass.system_time(service.desk(), by)
     }
 
     /// The time offset, in nanoseconds, and its state (`erlang` module reference, `time_offset`). It takes no
@@ -75,6 +74,6 @@ impl<'a, L: DeskName, R: Wait> CallerSession<'a, L, R> {
     {
         let Session { service, seat, .. } = self;
         let by = Actor::Caller(seat.number);
-        time_offset(service.desk(), &mut seat.pass, by)
+        seat.pass.time_offset(service.desk(), by)
     }
 }

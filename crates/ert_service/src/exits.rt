@@ -2,7 +2,6 @@
 #![tactic(auto, using(crate::proofs::LegalFronts::legal_front, crate::proofs::Alone::made_alone))]
 
 use crate::session::{CallerSession, Session};
-use ert_calls::{is_alive, mark_exit};
 use ert_defs::Actor;
 use ert_locks::DeskName;
 use ert_world::CallerSteps;
@@ -45,7 +44,7 @@ impl<'a, L: DeskName, R: Wait> CallerSession<'a, L, R> {
     {
         let Session { service, seat, .. } = self;
         let by = Actor::Caller(seat.number);
-        mark_exit(service.desk(), &mut seat.pass, by, process)
+        seat.pass.mark_exit(service.desk(), by, process)
     }
 
     /// Whether a process hasn't exited (`erlang` module reference, `is_process_alive`). It takes no lock.
@@ -57,7 +56,7 @@ impl<'a, L: DeskName, R: Wait> CallerSession<'a, L, R> {
     {
         let Session { service, seat, .. } = self;
         let by = Actor::Caller(seat.number);
-        is_alive(service.desk(), &mut seat.pass, by, process)
+        seat.pass.is_alive(service.desk(), by, process)
     }
 }
 

@@ -12,7 +12,7 @@ ghost use Rattle.ert_table.specs.Held.{is_held};
 
 use ert_locks::{CallerSeat, DeskName, SchedSeat};
 use ert_table::{Desk, Pass};
-use ert_world::SchedPart;
+use ert_timers::SchedPart;
 
 /// Joins the passes of all callers.
 pub(crate) fn join_callers<L: DeskName>(desk: &Desk, pass: &mut Pass, seats: Vec<CallerSeat<L>>)

@@ -14,7 +14,7 @@
 //! The number of the part behind a lock is known to its holder alone. So a call that finds another number lets
 //! go and tries again. Nothing is claimed of progress: a call may wait for a lock for ever.
 //!
-//! It stands on `ert_locks` and `ert_world`, on the parts' crates, `ert_calls`, `ert_table` and `ert_effects`.
+//! It stands on `ert_locks` and `ert_world`, on the parts' crates, `ert_table` and `ert_effects`.
 //!
 //! Nothing is claimed of progress, of fairness, or of order between threads that never met: a call may wait for a lock
 //! for ever.

@@ -10,7 +10,7 @@ ghost use Rattle.ert_table.specs.Held.{is_held};
 use ert_defs::{Actor, NoMemory};
 use ert_locks::{CallerSeat, DeskName, SchedSeat};
 use ert_table::{Desk, Pass};
-use ert_world::SchedPart;
+use ert_timers::SchedPart;
 use std::alloc::Global;
 
 /// Gives each scheduler its seat.

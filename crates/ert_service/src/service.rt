@@ -7,13 +7,12 @@ use crate::joining::{join_callers, join_scheds};
 use crate::opening::{seat_callers, seat_scheds};
 use crate::rooms::{PaddedLock, Room};
 use crossbeam_utils::CachePadded;
-use ert_calls::KeeperPart;
 use ert_defs::{Actor, NoMemory, Settings};
 use ert_locks::{CallerSeat, DeskName, Locked, SchedSeat};
 use ert_mail::{InboxPart, MailPart};
-use ert_table::{Desk, Pass};
-use ert_timers::WheelPart;
-use ert_world::{Parts, SchedPart, World};
+use ert_table::{Desk, KeeperPart, Pass};
+use ert_timers::{SchedPart, WheelPart};
+use ert_world::{Parts, World};
 use std::alloc::Global;
 use std::sync::{Arc, Mutex};
 
@@ -159,7 +158,7 @@ impl<L: DeskName> Service<L> {
         self.desk().settings()
     }
 
-    /// The desk, for the calls that take no lock (`ert_calls`).
+    /// The desk, for the calls of a `Pass`, which take no lock.
     pub(crate) fn desk(&self) -> &Desk
         ensures { IsDesk L.table L.settings result.now }
     {

@@ -2,7 +2,6 @@
 #![tactic(auto, using(crate::proofs::LegalFronts::legal_front))]
 
 use crate::session::{CallerSession, Session};
-use ert_calls::{cancel_timer, read_timer};
 use ert_defs::{Actor, Start, TimerRef};
 use ert_effects::StartErr;
 use ert_locks::DeskName;
@@ -10,7 +9,7 @@ use std::sync::Wait;
 
 impl<'a, L: DeskName, R: Wait> CallerSession<'a, L, R> {
     ghost use Rattle.std.specs.Prelude.{◌≡◌, ◌≢◌, ◌<◌, Err, IfOk, None};
-    ghost use Rattle.ert_calls.specs.Left.{TellsLeft};
+    ghost use Rattle.ert_table.specs.Left.{TellsLeft};
     ghost use Rattle.ert_effects.specs.TimerCalls.{Starts, Reads, Cancels};
     ghost use Rattle.ert_effects.specs.declared.answers.StartErr.TheVariants.{NoMemory as OutOfMemory};
     ghost use Rattle.ert_defs.specs.Legal.{names_timer};
@@ -60,7 +59,7 @@ impl<'a, L: DeskName, R: Wait> CallerSession<'a, L, R> {
     {
         let Session { service, seat, .. } = self;
         let by = Actor::Caller(seat.number);
-        cancel_timer(service.desk(), &mut seat.pass, by, timer)
+        seat.pass.cancel_timer(service.desk(), by, timer)
     }
 
     /// The whole milliseconds left of a timer (`erlang` module reference, `read_timer`). It takes no lock.
@@ -77,6 +76,6 @@ impl<'a, L: DeskName, R: Wait> CallerSession<'a, L, R> {
     {
         let Session { service, seat, .. } = self;
         let by = Actor::Caller(seat.number);
-        read_timer(service.desk(), &mut seat.pass, by, timer)
+        seat.pass.read_timer(service.desk(), by, timer)
     }
 }

@@ -22,7 +22,7 @@ use Rattle.ert_table.specs.Held.{is_held}
 use Rattle.ert_table.specs.Takes.{TakesPlace}
 use Rattle.ert_table.specs.declared.view.View.{View}
 use Rattle.ert_timers.proofs.LawsHold.{advances_only}
-use Rattle.ert_world.proofs.Advances.{LeaveHand, hand_at, advances_leave}
+use Rattle.ert_timers.proofs.SchedParts.{LeaveHand, hand_at, advances_leave}
 
 -- what is told of the entries of an advance: they are of the scheduler, with its wheel, start no timer for another share, and
 -- leave the hand

@@ -24,7 +24,7 @@ use Rattle.ert_table.specs.declared.desk.Desk.{Desk}
 use Rattle.ert_table.specs.declared.desk.Pass.{Pass}
 use Rattle.ert_timers.specs.Parts.{Part, PartStands as WheelStands}
 use Rattle.ert_timers.specs.Passed.{LosesRows}
-use Rattle.ert_words.specs.Turns.{TurnRow}
+use Rattle.ert_mail.specs.Turns.{TurnRow}
 use Rattle.ert_world.specs.Stepping.{turns_same}
 use Rattle.ert_world.proofs.Returned.{at_place}
 use Rattle.ert_world.specs.Worlds.{ListAll, TurnsGrow}

@@ -39,15 +39,15 @@ use Rattle.ert_table.specs.declared.desk.Desk.{Desk}
 use Rattle.ert_table.specs.declared.desk.Pass.{Pass}
 use Rattle.ert_timers.proofs.Settled.{expired_let_go, handed_free}
 use Rattle.ert_timers.specs.Freeing.{IsLetGo}
-use Rattle.ert_words.specs.Turns.{TurnRow}
+use Rattle.ert_mail.specs.Turns.{TurnRow}
 use Rattle.ert_world.proofs.Bounding.{puts_drops}
 use Rattle.ert_world.proofs.Standing.{free_kept}
 use Rattle.ert_world.specs.Bounded.{AreLeft, DeliversSome}
 use Rattle.ert_timers.specs.Parts.{Part}
 use Rattle.ert_timers.specs.Passed.{LosesRows}
 use Rattle.ert_world.proofs.SchedCalls.{sched_stands}
-use Rattle.ert_world.specs.Parts.{SchedStands}
-use Rattle.ert_world.specs.declared.sched_part.SchedPart.{SchedPart}
+use Rattle.ert_timers.specs.SchedParts.{SchedStands}
+use Rattle.ert_timers.specs.declared.sched_part.SchedPart.{SchedPart}
 
 -- the first expired timer is of the shard's wheel and for a process of its share
 pub record IsOwnFirst (g : Settings) (s : Share) (expired : Row) : Type 0 where

@@ -17,7 +17,7 @@ use Rattle.ert_mail.proofs.Listing.{listed_on}
 use Rattle.ert_mail.specs.Lists.{exited_from}
 use Rattle.ert_mail.specs.Mailboxes.{Mailbox}
 use Rattle.ert_shard.proofs.Partners.{none_any}
-use Rattle.ert_shard.proofs.StandOn.{sched_on}
+use Rattle.ert_timers.proofs.SchedParts.{sched_on}
 use Rattle.ert_shard.specs.Shards.{Share, IsHome, is_own, is_of, HoldsShare, ShardParts, ShardPartsStand, counted_from, has_any, is_with_any}
 use Rattle.ert_table.proofs.Holders.{held_maker, same_actor-true}
 use Rattle.ert_table.specs.Calls.{AreOnlyOf}
@@ -26,7 +26,7 @@ use Rattle.ert_table.specs.Takes.{TakesPlace}
 use Rattle.ert_table.specs.Views.{Begins}
 use Rattle.ert_table.specs.declared.view.View.{View}
 use Rattle.ert_timers.proofs.LawsHold.{stand_on as wheel_on}
-use Rattle.ert_words.specs.Turns.{TurnRow}
+use Rattle.ert_mail.specs.Turns.{TurnRow}
 use Rattle.ert_world.proofs.Standing.{grown_by, own_kept}
 use Rattle.ert_world.specs.Worlds.{ListAll}
 

@@ -20,7 +20,6 @@ pub mod Returned
 mod Searching
 pub mod Seats
 pub mod Served
-pub mod StandOn
 pub mod Stepped
 pub mod Ticked
 pub mod Turned

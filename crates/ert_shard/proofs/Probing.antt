@@ -26,7 +26,7 @@ use Rattle.ert_timers.specs.Passed.{LosesRows}
 use Rattle.ert_timers.specs.Sleeping.{ProbesRows}
 use Rattle.ert_world.proofs.Probing.{sched_same}
 use Rattle.ert_world.proofs.SchedCalls.{sched_stands}
-use Rattle.ert_world.specs.Parts.{SchedStands}
+use Rattle.ert_timers.specs.SchedParts.{SchedStands}
 
 -- probes start no timer
 probed_home : (s : Share) (w : ℕ) (probes : List Probed) → AreHome s (probed_entries w probes)

@@ -12,11 +12,11 @@ use Rattle.ert_effects.specs.MailCalls.{Takes}
 use Rattle.ert_effects.specs.Ways.{Then, Way, Growth}
 use Rattle.ert_effects.specs.declared.answers.Taken.{Taken}
 use Rattle.ert_effects.specs.declared.answers.Taken.TheVariants.{Mail as Took, Empty, Exited}
-use Rattle.ert_mail.specs.Lists.{AreListed, HaveMailFrom, IsNextIn, LooksForMail, exited_from, exits_seen, is_listed, life_seen, with_mail}
+use Rattle.ert_mail.specs.Turns.{is_listed, TurnRow}
+use Rattle.ert_mail.specs.Lists.{AreListed, HaveMailFrom, IsNextIn, LooksForMail, exited_from, exits_seen, life_seen, with_mail}
 use Rattle.ert_mail.specs.Mailboxes.{Mailbox, MailboxStands, mailbox_seen as box}
 use Rattle.ert_world.specs.Stepping.{turns_same, turns_then}
 use Rattle.ert_world.specs.Mailing.{turns_of}
-use Rattle.ert_words.specs.Turns.{TurnRow}
 use Rattle.ert_shard.proofs.Called.{Did, Has, alone_called, list_replaced, rows_then, place_low}
 use Rattle.ert_shard.proofs.Stepped.{since, steps_as, steps_then}
 use Rattle.ert_shard.specs.Receiving.{shard_mail, IsShardsNextMail, process_from, ShardFindsMail, CallerTakesMails, CallerTakesSome}

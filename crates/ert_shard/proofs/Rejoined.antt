@@ -15,7 +15,8 @@ use Rattle.ert_mail.proofs.LawsHold.{inbox_on, mail_on}
 use Rattle.ert_mail.specs.Inboxes.{Waiting, InboxStands}
 use Rattle.ert_mail.specs.Mailboxes.{Mailbox, MailboxStands as MailStands}
 use Rattle.ert_shard.proofs.Cut.{homes_on}
-use Rattle.ert_shard.proofs.StandOn.{keeper_on, sched_on}
+use Rattle.ert_table.proofs.StandOn.{keeper_on}
+use Rattle.ert_timers.proofs.SchedParts.{sched_on}
 use Rattle.ert_shard.specs.Hubs.{is_kept, share_at, HaveHomes, IsRest}
 use Rattle.ert_shard.specs.Shards.{Share, share_of, IsHome, is_own, HoldsShare, ShardParts, ShardPartsStand, AreHome, AreShardPartsFit}
 use Rattle.ert_shard.specs.declared.hub.Home.{Home}
@@ -27,8 +28,9 @@ use Rattle.ert_table.specs.declared.desk.Desk.{Desk}
 use Rattle.ert_table.specs.declared.desk.Pass.{Pass}
 use Rattle.ert_timers.proofs.LawsHold.{stand_on as wheel_on}
 use Rattle.ert_timers.specs.Parts.{Part, PartStands as WheelStands}
-use Rattle.ert_world.specs.Parts.{AllParts, parts_of, SchedStands, AreOrdered}
-use Rattle.ert_world.specs.declared.sched_part.SchedPart.{SchedPart}
+use Rattle.ert_timers.specs.SchedParts.{SchedStands}
+use Rattle.ert_world.specs.Parts.{AllParts, parts_of, AreOrdered}
+use Rattle.ert_timers.specs.declared.sched_part.SchedPart.{SchedPart}
 
 -- parts in order, and more behind them
 ordered_append : {X : Type 0} (number : X → ℕ) (stands : X → Type 0) (actor : ℕ → Actor) (count total : ℕ) (xs ys : List X)

@@ -26,12 +26,12 @@ use Rattle.ert_table.specs.Desks.{settings_of, view_of, front_of, Belongs}
 use Rattle.ert_table.specs.declared.desk.Desk.{Desk}
 use Rattle.ert_table.specs.declared.desk.Pass.{Pass}
 use Rattle.ert_timers.specs.ExpiredLists.{Queue}
-use Rattle.ert_words.specs.Turns.{TurnRow}
+use Rattle.ert_mail.specs.Turns.{TurnRow}
 use Rattle.ert_world.proofs.Gone.{answers_hit}
 use Rattle.ert_world.proofs.SchedCalls.{sched_stands}
-use Rattle.ert_world.specs.Parts.{SchedStands}
+use Rattle.ert_timers.specs.SchedParts.{SchedStands}
 use Rattle.ert_world.specs.Worlds.{left_for}
-use Rattle.ert_world.specs.declared.sched_part.SchedPart.{SchedPart}
+use Rattle.ert_timers.specs.declared.sched_part.SchedPart.{SchedPart}
 
 -- a request was put into the inbox, or there was no memory for it
 pub asked : (before : Owned) (d e : Desk) (p q : Pass) (s : Share) (parts : ShardParts) (new : Waiting) (request : Request) (answer : Result (Unit {0}) NoMemory) → d ≡ e

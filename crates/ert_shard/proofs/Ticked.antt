@@ -17,7 +17,7 @@ use Rattle.ert_defs.specs.declared.entry.Entry.{Entry}
 use Rattle.ert_defs.specs.declared.settings.OffsetState.{OffsetState}
 use Rattle.ert_defs.specs.declared.settings.OffsetState.TheVariants.{Preliminary, Final, Volatile}
 use Rattle.ert_defs.specs.declared.settings.Settings.{Settings}
-use Rattle.ert_calls.specs.Published.{ReadsByLeastCaller}
+use Rattle.ert_table.specs.Published.{ReadsByLeastCaller}
 use Rattle.ert_mail.proofs.LawsHold.{inbox_on, mail_on}
 use Rattle.ert_mail.specs.Inboxes.{Waiting, InboxStands}
 use Rattle.ert_mail.specs.Mailboxes.{Mailbox, MailboxStands as MailStands}
@@ -35,11 +35,13 @@ use Rattle.ert_table.specs.declared.desk.Desk.{Desk}
 use Rattle.ert_table.specs.declared.desk.Pass.{Pass}
 use Rattle.ert_timers.proofs.LawsHold.{stand_on as wheel_on}
 use Rattle.ert_timers.specs.Parts.{Part, PartStands as WheelStands}
-use Rattle.ert_shard.proofs.StandOn.{keeper_on, sched_on}
+use Rattle.ert_table.proofs.StandOn.{keeper_on}
+use Rattle.ert_timers.proofs.SchedParts.{sched_on}
 use Rattle.ert_world.proofs.Standing.{own_kept, free_kept, grown_by}
 use Rattle.ert_world.proofs.Values.{time_seen, offset_seen, system_seen}
-use Rattle.ert_world.specs.Parts.{AllParts, SchedStands}
-use Rattle.ert_world.specs.declared.sched_part.SchedPart.{SchedPart}
+use Rattle.ert_timers.specs.SchedParts.{SchedStands}
+use Rattle.ert_world.specs.Parts.{AllParts}
+use Rattle.ert_timers.specs.declared.sched_part.SchedPart.{SchedPart}
 
 -- the entries of those whose test a pass's actors pass, of what its front gains
 module _ (g : Settings) (actors : List Actor) (own : Actor → Bool) (holds : (a : Actor) → IsActor g a → is_held actors a ≡ own a) where

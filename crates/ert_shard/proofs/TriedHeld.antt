@@ -20,7 +20,7 @@ use Rattle.ert_timers.specs.Parts.{Part, PartStands as WheelStands}
 use Rattle.ert_timers.specs.Passed.{LosesRows}
 use Rattle.ert_timers.specs.Trying.{expired_after}
 use Rattle.ert_world.proofs.TriedHeld.{held_are, held_is}
-use Rattle.ert_world.specs.declared.sched_part.SchedPart.{SchedPart}
+use Rattle.ert_timers.specs.declared.sched_part.SchedPart.{SchedPart}
 
 are_of : (s : Share) (p : Part) (to : ℕ) (st : State) (es : List Entry) → p.number ≡ s.number → TriesHeld p to st es → AreOfTurn s es
 are_of s p to st es one held =

@@ -29,10 +29,10 @@ use Rattle.ert_timers.specs.Expiring.{HasExpired, HasNotExpired}
 use Rattle.ert_timers.specs.Trying.{HasExpiredSome, HasRefusedSome, expired_after}
 use Rattle.ert_timers.specs.Parts.{Part, PartStands as WheelStands}
 use Rattle.ert_timers.specs.Passed.{LosesRows}
-use Rattle.ert_world.proofs.Advances.{advance_still, difference}
+use Rattle.ert_timers.proofs.SchedParts.{advance_still, difference}
 use Rattle.ert_world.proofs.SchedCalls.{sched_stands}
-use Rattle.ert_world.specs.Parts.{SchedStands}
-use Rattle.ert_world.specs.declared.sched_part.SchedPart.{SchedPart}
+use Rattle.ert_timers.specs.SchedParts.{SchedStands}
+use Rattle.ert_timers.specs.declared.sched_part.SchedPart.{SchedPart}
 use Rattle.ert_defs.specs.declared.settings.TheConstants.{MOST_SLOTS}
 
 -- what the scheduler's part has

@@ -24,7 +24,8 @@ use Rattle.ert_table.specs.Views.{Begins, longer}
 use Rattle.ert_table.specs.declared.desk.Desk.{Desk}
 use Rattle.ert_table.specs.declared.desk.Pass.{Pass}
 use Rattle.ert_timers.specs.Parts.{PartStands as WheelStands}
-use Rattle.ert_world.specs.Parts.{AllParts, SchedStands, AreOrdered}
+use Rattle.ert_timers.specs.SchedParts.{SchedStands}
+use Rattle.ert_world.specs.Parts.{AllParts, AreOrdered}
 use Rattle.ert_world.specs.Seats.{Seated}
 use Rattle.ert_world.specs.Ways.{among}
 use Rattle.ert_world.specs.Worlds.{Seen}

@@ -23,11 +23,11 @@ use Rattle.ert_table.specs.declared.desk.Pass.{Pass}
 use Rattle.ert_timers.specs.Freeing.{IsHeld}
 use Rattle.ert_timers.specs.Parts.{Part, PartStands as WheelStands}
 use Rattle.ert_timers.specs.Passed.{LosesRows}
-use Rattle.ert_words.specs.Turns.{TurnRow}
-use Rattle.ert_world.specs.Parts.{SchedStands}
+use Rattle.ert_mail.specs.Turns.{TurnRow}
+use Rattle.ert_timers.specs.SchedParts.{SchedStands}
 use Rattle.ert_world.specs.Ways.{among}
 use Rattle.ert_world.specs.Worlds.{ListAll, TurnsGrow}
-use Rattle.ert_world.specs.declared.sched_part.SchedPart.{SchedPart}
+use Rattle.ert_timers.specs.declared.sched_part.SchedPart.{SchedPart}
 
 -- what a shard has: the scheduler of this number, and the processes from one on, below another
 pub record Share : Type 0 where

@@ -1,6 +1,5 @@
 //! The exit of a process of a shard.
 use crate::shard::Shard;
-use ert_calls::mark_exit;
 use ert_defs::Actor;
 
 impl Shard {
@@ -32,7 +31,7 @@ impl Shard {
         ensures exited { HasExited self.new.settings self.new.history process }
     {
         let by = Actor::Caller(self.number + 1);
-        mark_exit(&self.desk, &mut self.pass, by, process)
+        self.pass.mark_exit(&self.desk, by, process)
     }
 
     /// Cancels the timers of a process of the shard that has exited.

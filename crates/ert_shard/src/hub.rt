@@ -1,12 +1,11 @@
 //! What is left of a world that is divided: the clock, and what was given to no shard.
 ghost use Rattle.std.specs.Prelude.{◌≡◌};
 
-use ert_calls::KeeperPart;
 use ert_defs::Settings;
 use ert_mail::{InboxPart, MailPart};
-use ert_table::{Desk, Pass};
-use ert_timers::WheelPart;
-use ert_world::{Parts, SchedPart, World};
+use ert_table::{Desk, KeeperPart, Pass};
+use ert_timers::{SchedPart, WheelPart};
+use ert_world::{Parts, World};
 use std::marker::Model;
 use std::sync::Arc;
 

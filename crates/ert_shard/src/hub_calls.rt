@@ -1,6 +1,5 @@
 //! The calls of a hub: on the clock, and by caller 0 on timers and processes.
 use crate::hub::Hub;
-use ert_calls::{cancel_timer, is_alive, monotonic_time, read_timer, system_time, time_offset};
 use ert_clock::{ClockErr, Moved};
 use ert_defs::{Actor, OffsetState, Reading, TimerRef};
 
@@ -51,7 +50,7 @@ impl Hub {
         ensures value { result ≡ self.old.clock.face.time }
         ensures call { HubSteps self.old (HubBy self.old (λ g. TellsTime g (Caller 0) result)) self.new }
     {
-        monotonic_time(&self.desk, &mut self.pass, Actor::Caller(CALLER))
+        self.pass.monotonic_time(&self.desk, Actor::Caller(CALLER))
     }
 
     /// The time offset, in nanoseconds, with its state (`erlang:time_offset`).
@@ -60,7 +59,7 @@ impl Hub {
         ensures state { result.1 ≡ self.old.clock.face.state }
         ensures call { HubSteps self.old (HubBy self.old (λ g. TellsOffset g (Caller 0) result)) self.new }
     {
-        time_offset(&self.desk, &mut self.pass, Actor::Caller(CALLER))
+        self.pass.time_offset(&self.desk, Actor::Caller(CALLER))
     }
 
     /// System time, in nanoseconds: monotonic time plus the time offset (`erlang:system_time`).
@@ -68,7 +67,7 @@ impl Hub {
         ensures value { result ≡ self.old.clock.face.time +ℤ self.old.clock.face.offset }
         ensures call { HubSteps self.old (HubBy self.old (λ g. TellsSystemTime g (Caller 0) result)) self.new }
     {
-        system_time(&self.desk, &mut self.pass, Actor::Caller(CALLER))
+        self.pass.system_time(&self.desk, Actor::Caller(CALLER))
     }
 
     /// Cancels a timer of whatever wheel, and answers how many milliseconds were left (`cancel_timer`); None where the
@@ -76,7 +75,8 @@ impl Hub {
     pub fn cancel_timer(&mut self, timer: TimerRef) -> Option<u64>
         ensures { HubSteps self.old (HubBy self.old (λ g. Cancels g (Caller 0) timer result)) self.new }
     {
-        cancel_timer(&self.desk, &mut self.pass, Actor::Caller(CALLER), timer)
+        self.pass
+            .cancel_timer(&self.desk, Actor::Caller(CALLER), timer)
     }
 
     /// How many milliseconds are left of a timer of whatever wheel (`read_timer`); None where the reference names no
@@ -84,7 +84,8 @@ impl Hub {
     pub fn read_timer(&mut self, timer: TimerRef) -> Option<u64>
         ensures { HubSteps self.old (HubBy self.old (λ g. Reads g (Caller 0) timer result)) self.new }
     {
-        read_timer(&self.desk, &mut self.pass, Actor::Caller(CALLER), timer)
+        self.pass
+            .read_timer(&self.desk, Actor::Caller(CALLER), timer)
     }
 
     /// Whether a process hasn't exited (`is_process_alive`).
@@ -92,6 +93,7 @@ impl Hub {
         requires { process < self.old.settings.processes }
         ensures { HubSteps self.old (HubBy self.old (λ g. TellsAlive g (Caller 0) process result)) self.new }
     {
-        is_alive(&self.desk, &mut self.pass, Actor::Caller(CALLER), process)
+        self.pass
+            .is_alive(&self.desk, Actor::Caller(CALLER), process)
     }
 }

@@ -60,8 +60,8 @@
 //! nothing, `serve` keeps the request in the hand, `advance` and `advance_some` let no timer expire, `deliver` and
 //! `deliver_some` keep what wasn't handed over, `shard` and `seat` leave everything as it was.
 //!
-//! It stands on `ert_defs`, `ert_clock`, `ert_effects`, `ert_table`, `ert_calls`, `ert_wheel`, `ert_timers`, `ert_mail`
-//! and `ert_world`, and its proofs on the laws of `ert_laws`.
+//! It stands on `ert_defs`, `ert_clock`, `ert_effects`, `ert_table`, `ert_wheel`, `ert_timers`, `ert_mail` and
+//! `ert_world`, and its proofs on the laws of `ert_laws`.
 //!
 //! Nothing is claimed of the time that a call takes, nor of a start for a process of another shard and of a request to
 //! another shard's scheduler, for which a shard has no call. A start asks that the destination is a process of the

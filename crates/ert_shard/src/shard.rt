@@ -1,10 +1,8 @@
 //! The shard of a scheduler, and its calls on the clock and on timers.
-use ert_calls::{cancel_timer, is_alive, monotonic_time, read_timer, system_time, time_offset};
 use ert_defs::{Actor, OffsetState, Start, TimerRef};
 use ert_mail::{InboxPart, MailList, MailPart};
 use ert_table::{Desk, Pass};
-use ert_timers::{StartErr, WheelPart};
-use ert_world::SchedPart;
+use ert_timers::{SchedPart, StartErr, WheelPart};
 use std::marker::Model;
 use std::sync::Arc;
 
@@ -38,7 +36,7 @@ impl Model for Shard {
     ghost use Rattle.std.specs.Coded.{codes};
     ghost use Rattle.ert_shard.specs.Shards.{Owned, owned, share_of, shard_parts_of, AreShardPartsFit};
     ghost use Rattle.ert_timers.specs.Parts.{part_code};
-    ghost use Rattle.ert_words.specs.Turns.{row_code};
+    ghost use Rattle.ert_mail.specs.Turns.{row_code};
 
     ghost Value = { Owned };
 
@@ -94,7 +92,7 @@ impl Shard {
         ensures { ShardSteps self.old (ShardBy self.old (λ g. TellsTime g (Caller (self.old.share.number + 1)) result)) self.new }
     {
         let by = Actor::Caller(self.number + 1);
-        monotonic_time(&self.desk, &mut self.pass, by)
+        self.pass.monotonic_time(&self.desk, by)
     }
 
     /// The time offset, in nanoseconds, with its state (`erlang:time_offset`).
@@ -102,7 +100,7 @@ impl Shard {
         ensures { ShardSteps self.old (ShardBy self.old (λ g. TellsOffset g (Caller (self.old.share.number + 1)) result)) self.new }
     {
         let by = Actor::Caller(self.number + 1);
-        time_offset(&self.desk, &mut self.pass, by)
+        self.pass.time_offset(&self.desk, by)
     }
 
     /// System time, in nanoseconds: monotonic time, and then the time offset added (`erlang:system_time`).
@@ -110,7 +108,7 @@ impl Shard {
         ensures { ShardSteps self.old (ShardBy self.old (λ g. TellsSystemTime g (Caller (self.old.share.number + 1)) result)) self.new }
     {
         let by = Actor::Caller(self.number + 1);
-        system_time(&self.desk, &mut self.pass, by)
+        self.pass.system_time(&self.desk, by)
     }
 
     /// Starts a timer on the shard's wheel, for a process of its own (`erlang` module reference, `start_timer` and
@@ -146,7 +144,7 @@ impl Shard {
         ensures forgotten { OnSome result (ShardHasForgotten self.new timer) }
     {
         let by = Actor::Caller(self.number + 1);
-        let left = cancel_timer(&self.desk, &mut self.pass, by, timer)?;
+        let left = self.pass.cancel_timer(&self.desk, by, timer)?;
         if timer.wheel == self.number {
             self.wheel.forget(&self.pass, timer);
         }
@@ -160,7 +158,7 @@ impl Shard {
         ensures { ShardSteps self.old (ShardBy self.old (λ g. Reads g (Caller (self.old.share.number + 1)) timer result)) self.new }
     {
         let by = Actor::Caller(self.number + 1);
-        read_timer(&self.desk, &mut self.pass, by, timer)
+        self.pass.read_timer(&self.desk, by, timer)
     }
 
     /// Whether a process hasn't exited, of whatever shard (`is_process_alive`).
@@ -169,7 +167,7 @@ impl Shard {
         ensures { ShardSteps self.old (ShardBy self.old (λ g. TellsAlive g (Caller (self.old.share.number + 1)) process result)) self.new }
     {
         let by = Actor::Caller(self.number + 1);
-        is_alive(&self.desk, &mut self.pass, by, process)
+        self.pass.is_alive(&self.desk, by, process)
     }
 }
 

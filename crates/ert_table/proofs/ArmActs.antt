@@ -23,7 +23,7 @@ use Rattle.ert_defs.specs.declared.timer.Start.{Start}
 use Rattle.ert_defs.specs.declared.timer.Status.{Status}
 use Rattle.ert_defs.specs.declared.timer.Status.TheVariants.{Armed}
 use Rattle.ert_defs.specs.declared.timer.TimerRef.{TimerRef}
-use Rattle.ert_words.specs.Ranges.{IsTimer}
+use Rattle.ert_table.specs.Ranges.{IsTimer}
 use Rattle.ert_table.specs.Acts.{Acts, IsHistoryAtStep}
 use Rattle.ert_table.specs.Places.{slot_place}
 use Rattle.ert_defs.specs.Entries.{arm_entry}

@@ -26,7 +26,7 @@ use Rattle.ert_defs.specs.declared.settings.OffsetState.{OffsetState}
 use Rattle.ert_defs.specs.declared.settings.OffsetState.TheVariants.{Preliminary, Final, Volatile}
 use Rattle.ert_defs.specs.declared.settings.Reading.{Reading}
 use Rattle.ert_defs.specs.declared.settings.Settings.{Settings}
-use Rattle.ert_words.specs.Ranges.{IsTime, IsTimeWord, IsOffsetWord}
+use Rattle.ert_table.specs.Ranges.{IsTime, IsTimeWord, IsOffsetWord}
 use Rattle.ert_table.specs.Acts.{Acts}
 use Rattle.ert_defs.specs.Entries.{tick_entry, shift_entry}
 use Rattle.ert_table.specs.Entries.{time_entry, time_in, offset_entry, offset_in, state_where, state_in}

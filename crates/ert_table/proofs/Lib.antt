@@ -1,3 +1,4 @@
+pub mod Armed
 pub mod Holders
 pub mod OneStep
 pub mod Splits
@@ -22,6 +23,11 @@ pub mod ArmActs
 pub mod RenewActs
 pub mod Calls
 pub mod Makings
+pub mod Looks
+pub mod Named
+pub mod Timings
+pub mod Steps
 pub mod Parts
 pub mod Order
 pub mod Noting
+pub mod StandOn

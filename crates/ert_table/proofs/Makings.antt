@@ -1,12 +1,12 @@
 -- Calls of one step and of none, with entries that they may make.
 
-use Rattle.std.proofs.Common.{◌≡◌, List, [], ◌∷◌, ◌++◌, None, refl, sym, ap, subst, ◌∙◌, append_assoc, append-nil}
+use Rattle.std.proofs.Common.{◌≡◌, List, [], ◌∷◌, ◌++◌, None, Result, Ok, Err, refl, sym, ap, subst, ◌∙◌, append_assoc, append-nil}
 use Rattle.ert_defs.specs.Legal.{Legal}
 use Rattle.ert_defs.specs.States.{State, opening, state}
 use Rattle.ert_defs.specs.declared.entry.Entry.{Entry}
 use Rattle.ert_defs.specs.declared.settings.Settings.{Settings}
 use Rattle.ert_defs.proofs.Runs.{legal_first}
-use Rattle.ert_table.specs.Calls.{AppendsAll, IsMade}
+use Rattle.ert_table.specs.Calls.{AppendsAll, IsMade, IsMadeIfOk}
 use Rattle.ert_table.specs.Takes.{Appends, TakesPlace}
 use Rattle.ert_table.specs.declared.view.View.{View}
 use Rattle.ert_table.proofs.Calls.{step_takes_place}
@@ -24,6 +24,12 @@ pub none_made : (g : Settings) (v w : View) (allows : State → List Entry → T
     → w ≡ v → IsMade g v allows w
 none_made g v w allows legal allowed same =
     subst (λ x. IsMade g v allows x) (sym same) (record { entries = []; allowed = allowed; call = takes_none g v legal })
+
+-- a call that answers an error takes no step
+pub if_ok_made : {A E : Type 0} (g : Settings) (v : View) (allows : Result A E → State → List Entry → Type 0) (answer : Result A E) (w : View)
+    → Legal g v.front → IsMadeIfOk g v allows answer w → IsMade g v (allows answer) w
+if_ok_made g v allows (Ok answer) w legal made = made
+if_ok_made g v allows (Err e) w legal omitted = none_made g v w (allows (Err e)) legal omitted.allowed omitted.same
 
 -- a step with two entries is as two steps, between which nothing stands
 pub record IsTwice (g : Settings) (v : View) (e f : Entry) (w : View) : Type 0 where

@@ -14,8 +14,8 @@ use Rattle.ert_defs.specs.declared.settings.Settings.{Settings}
 use Rattle.ert_defs.specs.declared.timer.Status.{Status}
 use Rattle.ert_defs.specs.declared.timer.Status.TheVariants.{Armed, Expired, Delivered, Cancelled, Orphaned, Dropped}
 use Rattle.ert_defs.specs.declared.timer.TimerRef.{TimerRef}
-use Rattle.ert_words.specs.Ranges.{IsTimer, TellsArmed, shown_generation, word_deadline}
-use Rattle.ert_words.proofs.Armed.{code_low}
+use Rattle.ert_table.specs.Ranges.{IsTimer, TellsArmed, shown_generation, word_deadline}
+use Rattle.ert_table.proofs.Armed.{code_low}
 use Rattle.ert_table.specs.Held.{is_held}
 use Rattle.ert_table.specs.Peeking.{Peeks, PeeksAndCancels}
 use Rattle.ert_table.specs.Renewals.{PeeksWord}

@@ -13,7 +13,7 @@ use Rattle.ert_defs.specs.declared.settings.Settings.{Settings}
 use Rattle.ert_defs.specs.declared.timer.Status.{Status}
 use Rattle.ert_defs.specs.declared.timer.Status.TheVariants.{Armed, Expired, Delivered, Cancelled, Orphaned, Dropped}
 use Rattle.ert_defs.specs.declared.timer.TimerRef.{TimerRef}
-use Rattle.ert_words.specs.Ranges.{IsTimer, IsTimerWord, shown_generation, word_deadline, word_generation}
+use Rattle.ert_table.specs.Ranges.{IsTimer, IsTimerWord, shown_generation, word_deadline, word_generation}
 use Rattle.ert_table.specs.Acts.{Acts}
 use Rattle.ert_table.specs.Held.{is_held}
 use Rattle.ert_table.specs.Places.{slot_place}

@@ -16,7 +16,7 @@ use Rattle.ert_defs.specs.declared.settings.Settings.{Settings}
 use Rattle.ert_defs.specs.declared.timer.Start.{Start}
 use Rattle.ert_defs.specs.declared.timer.Status.TheVariants.{Armed, Cancelled}
 use Rattle.ert_defs.specs.declared.timer.TimerRef.{TimerRef}
-use Rattle.ert_words.specs.Ranges.{IsTimer}
+use Rattle.ert_table.specs.Ranges.{IsTimer}
 use Rattle.ert_table.specs.Acts.{Acts, ActsAll, IsHistoryAtStep}
 use Rattle.ert_table.specs.Calls.{AreOnlyOf}
 use Rattle.ert_table.specs.Places.{slot_place}

@@ -25,7 +25,7 @@ use Rattle.ert_defs.specs.declared.timer.TimerRef.{TimerRef}
 use Rattle.ert_defs.specs.declared.timer.When.{When}
 use Rattle.ert_defs.specs.declared.timer.When.TheVariants.{After, At}
 use Rattle.ert_defs.proofs.Uses.{IsBefore}
-use Rattle.ert_words.specs.Ranges.{IsTimer}
+use Rattle.ert_table.specs.Ranges.{IsTimer}
 use Rattle.ert_table.specs.Rule.{IsLegalBy}
 use Rattle.ert_table.proofs.OneStep.{legal_by}
 use Rattle.ert_table.specs.declared.view.View.{View}

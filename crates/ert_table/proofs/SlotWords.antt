@@ -9,10 +9,10 @@ use Rattle.ert_defs.proofs.ExpiredTimers.{row_named}
 use Rattle.ert_defs.specs.declared.timer.Status.{Status}
 use Rattle.ert_defs.specs.declared.timer.Status.TheVariants.{Armed}
 use Rattle.ert_defs.specs.declared.timer.TimerRef.{TimerRef}
-use Rattle.ert_words.specs.Ranges.{IsTimer, shown_generation}
+use Rattle.ert_table.specs.Ranges.{IsTimer, shown_generation}
 use Rattle.ert_table.specs.Settlings.{status_in}
 use Rattle.ert_table.proofs.SlotFacts.{KeepsSlots, row_soon, used_in_range}
-use Rattle.ert_words.proofs.Armed.{code_low}
+use Rattle.ert_table.proofs.Armed.{code_low}
 use Rattle.ert_table.proofs.TimerWords.{word_parts, same_parts}
 
 -- a slot that was never used, and its word

@@ -6,8 +6,8 @@ use Rattle.ert_defs.specs.Timers.{use_of}
 use Rattle.ert_defs.specs.Words.{status_code, timer_word}
 use Rattle.ert_defs.specs.declared.timer.Status.{Status}
 use Rattle.ert_defs.specs.declared.timer.Status.TheVariants.{Armed, Expired, Delivered, Cancelled, Orphaned, Dropped}
-use Rattle.ert_words.specs.Ranges.{IsTimer, shown_generation, word_deadline, word_generation}
-use Rattle.ert_words.proofs.Armed.{use_low, use_high, armed_first, armed_later, order_of, code_high}
+use Rattle.ert_table.specs.Ranges.{IsTimer, shown_generation, word_deadline, word_generation}
+use Rattle.ert_table.proofs.Armed.{use_low, use_high, armed_first, armed_later, order_of, code_high}
 use Rattle.ert_table.specs.Settlings.{status_by, status_in}
 
 by_code : (status : Status) (generation : ℕ) → status_by (status_code status generation) ≡ Some status

@@ -4,13 +4,17 @@ pub mod Desks
 pub mod Entries
 pub mod Held
 pub mod Laws
+pub mod Left
 pub mod Notes
 pub mod Openings
 pub mod Order
 pub mod Peeking
 pub mod Places
+pub mod Published
+pub mod Ranges
 pub mod Renewals
 pub mod Rule
 pub mod Settlings
 pub mod Takes
 pub mod Views
+pub mod WordLaws

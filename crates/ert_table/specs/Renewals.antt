@@ -19,7 +19,7 @@ use Rattle.ert_table.specs.Settlings.{HasRow}
 use Rattle.ert_table.specs.Takes.{Appends}
 use Rattle.ert_table.specs.declared.renew_steps.ArmedWord.{ArmedWord}
 use Rattle.ert_table.specs.declared.view.View.{View}
-use Rattle.ert_words.specs.Ranges.{word_deadline}
+use Rattle.ert_table.specs.Ranges.{word_deadline}
 
 -- a word that was read is that of a timer, armed, and has the deadline of its row
 pub record IsWordOf (s : State) (timer : TimerRef) (read : ArmedWord) : Type 0 where

@@ -20,7 +20,7 @@ use Rattle.ert_table.specs.declared.carry.Settle.TheVariants.{Cancel as ToCancel
 use Rattle.ert_table.specs.declared.carry.TimerCarry.{TimerCarry}
 use Rattle.ert_table.specs.declared.carry.TimerCarry.TheVariants.{Probe as ToProbe, Peek as ToPeek}
 use Rattle.ert_table.specs.declared.view.View.{View}
-use Rattle.ert_words.specs.Ranges.{shown_generation, word_deadline, word_generation}
+use Rattle.ert_table.specs.Ranges.{shown_generation, word_deadline, word_generation}
 
 -- the status of a code
 abbrev pub status_by : ℕ → Option Status

@@ -6,11 +6,11 @@ ghost use Rattle.ert_defs.specs.Entries.{tick_entry, shift_entry};
 ghost use Rattle.ert_table.specs.Entries.{time_entry, time_in, state_where};
 
 use crate::carry::{OffsetCarry, TimeCarry};
+use crate::clock_words::{offset_of, offset_word, time_of, time_word};
 use crate::desk::{Desk, Pass};
 use crate::places::{OFFSET, TIME};
 use crate::plays::{Adds, Carried, Loads};
 use ert_defs::{Act, Actor, Mode, OffsetState, Reading};
-use ert_words::{offset_of, offset_word, time_of, time_word};
 use std::marker::Brand;
 
 impl Pass {

@@ -12,13 +12,13 @@ ghost use Rattle.ert_table.specs.Openings.{first_words};
 ghost use Rattle.ert_table.specs.Places as places;
 ghost use Rattle.ert_table.specs.Places.{AreWords};
 
+use crate::clock_words::offset_word;
 use crate::desk::{Desk, Pass, Words};
 use crate::places::{
     OFFSET, TIME, first_process, process_place, slot_place, wheel_width, word_count,
 };
 use atomic_table::{Closed, Table};
 use ert_defs::{Mode, NoMemory, Settings};
-use ert_words::offset_word;
 use std::alloc::{AllocError, Global};
 
 impl Desk {

@@ -12,14 +12,14 @@ ghost use Rattle.ert_table.specs.Held.{is_held};
 ghost use Rattle.ert_table.specs.Places.{IsPlaceOf};
 ghost use Rattle.ert_table.specs.Renewals.{IsWordOf, MayRenew, PeeksWord, renewal};
 ghost use Rattle.ert_table.specs.declared.carry.Settle.TheVariants.{Cancel as ToCancel};
-ghost use Rattle.ert_words.specs.Ranges.{word_deadline};
+ghost use Rattle.ert_table.specs.Ranges.{word_deadline};
 
 use crate::carry::{Settle, TimerCarry};
 use crate::desk::{Desk, Pass};
 use crate::places::SlotPlace;
 use crate::plays::{CarriedAll, ComparesAll};
+use crate::timer_words::{armed_deadline, word_deadline};
 use ert_defs::{Actor, Start, TimerRef};
-use ert_words::{armed_deadline, word_deadline};
 use std::marker::Brand;
 
 /// The word of a timer that was armed when it was read.

@@ -8,8 +8,8 @@ ghost use Rattle.ert_table.specs.Settlings.{shown_in};
 
 use crate::desk::{Desk, Pass};
 use crate::plays::{Named, Shows};
+use crate::timer_words::timer_of;
 use ert_defs::Status;
-use ert_words::timer_of;
 use std::marker::Brand;
 
 impl Pass {

@@ -16,8 +16,8 @@ use crate::carry::{Settle, TimerCarry};
 use crate::desk::{Desk, Pass};
 use crate::places::SlotPlace;
 use crate::plays::{Adds, Carried, Compares, Loads};
+use crate::timer_words::{armed_deadline, armed_word, timer_of, timer_word, word_after};
 use ert_defs::{Actor, Start, Status, TimerRef};
-use ert_words::{armed_deadline, armed_word, timer_of, timer_word, word_after};
 use std::marker::Brand;
 
 impl Settle {

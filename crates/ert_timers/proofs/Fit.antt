@@ -18,7 +18,7 @@ use Rattle.ert_wheel.specs.declared.row.Key.{Key}
 use Rattle.ert_wheel.proofs.Looking.{key_low}
 use Rattle.ert_wheel.proofs.Parts.{chains_written}
 use Rattle.ert_wheel.proofs.Views.{counts_less}
-use Rattle.ert_words.specs.Free.{FreeSet}
+use Rattle.ert_timers.specs.Free.{FreeSet}
 
 -- a slot without a row has none to drop
 pub set_none : (keys : List (Option Key)) (k : ℕ) → key_in keys k ≡ None → set keys k None ≡ keys

@@ -1,3 +1,5 @@
+pub mod Held
+pub mod Stacks
 pub mod AllSlots
 pub mod Rounding
 pub mod Joined
@@ -40,3 +42,4 @@ pub mod Moved
 pub mod LawsHold
 pub mod Counted
 pub mod Cancelled
+pub mod SchedParts

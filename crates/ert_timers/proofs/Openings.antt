@@ -14,7 +14,7 @@ use Rattle.ert_timers.specs.Slots.{Slot}
 use Rattle.ert_wheel.specs.Rings.{Rings, AreChains}
 use Rattle.ert_wheel.specs.Rows.{key_in}
 use Rattle.ert_wheel.specs.declared.row.Key.{Key}
-use Rattle.ert_words.specs.Free.{FreeSet}
+use Rattle.ert_timers.specs.Free.{FreeSet}
 use Rattle.ert_defs.specs.declared.settings.TheConstants.{MOST_SLOTS, MOST_PROCESSES}
 
 -- there is no key

@@ -14,7 +14,7 @@ use Rattle.ert_defs.specs.declared.settings.Settings.{Settings}
 use Rattle.ert_defs.specs.declared.timer.Status.{Status}
 use Rattle.ert_effects.specs.RoomCalls.{ShowsRoom, TellsRoom, no_room, room_with, with_slot, with_found}
 use Rattle.ert_effects.specs.declared.answers.Room.{Room}
-use Rattle.ert_calls.proofs.Looks.{can_step}
+use Rattle.ert_table.proofs.Looks.{can_step}
 use Rattle.ert_laws.proofs.Since.{rounds_begun}
 use Rattle.ert_table.specs.Calls.{IsMade}
 use Rattle.ert_table.specs.Takes.{Appends, TakesPlace}

@@ -5,6 +5,7 @@ pub mod Dropping
 pub mod Expiring
 pub mod ExpiredLists
 pub mod HeldFor
+pub mod Free
 pub mod Freeing
 pub mod Frees
 pub mod Laws
@@ -15,6 +16,7 @@ pub mod Parts
 pub mod Passed
 pub mod Restarting
 pub mod Rooms
+pub mod SchedParts
 pub mod Searching
 pub mod Sleeping
 pub mod Slots

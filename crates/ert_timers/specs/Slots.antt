@@ -5,7 +5,7 @@ use Rattle.ert_defs.specs.declared.timer.Kind.{Kind}
 use Rattle.ert_defs.specs.declared.timer.Kind.TheVariants.{Wrapped, Bare}
 use Rattle.ert_timers.specs.declared.slot.Stored.{Stored}
 use Rattle.ert_wheel.specs.declared.row.Key.{Key}
-use Rattle.ert_words.specs.Ranges.{word_deadline, word_generation}
+use Rattle.ert_table.specs.Ranges.{word_deadline, word_generation}
 
 -- what is kept of a slot: the generation of its last timer, one above the greatest deadline of all its timers, and
 -- destination, message and kind of the last

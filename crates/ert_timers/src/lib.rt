@@ -76,7 +76,10 @@
 //! (`specs/Tidy`); then it holds as many as are armed. No call but a cancel, which no part makes, ends that, and
 //! `forget` of the cancelled timer mends it. With a pass that holds every actor `drop_settled` makes any part tidy.
 //!
-//! It stands on `ert_defs`, `ert_effects`, `ert_words`, `ert_wheel`, `ert_table` and `ert_calls`.
+//! A `SchedPart` is what the scheduler itself has: the request that it is about to answer, and the list of its expired
+//! timers. The free slots of a wheel (`FreeSlots`) take memory when they are made, and no more.
+//!
+//! It stands on `ert_defs`, `ert_effects`, `ert_wheel` and `ert_table`.
 //!
 //! **`next_due`.** `World::next_due` → `WheelPart::next_due` (`sleeping.rt`) → `Wheel::next_due`: `first_window` finds the
 //! first buckets of a level that have rows by their marks, and `least_in` the least deadline there; where there are too
@@ -105,6 +108,7 @@ mod advancing;
 mod bounded;
 mod dropping;
 mod expired_list;
+mod free_slots;
 mod held_for;
 mod laws;
 mod looking;
@@ -112,6 +116,7 @@ mod moving;
 mod part;
 mod restarting;
 mod room;
+mod sched_part;
 mod sleeping;
 mod slot;
 mod starting;
@@ -124,3 +129,4 @@ pub use laws::{
     tidy_parts_hold_what_is_armed,
 };
 pub use part::{Tally, WheelPart};
+pub use sched_part::SchedPart;

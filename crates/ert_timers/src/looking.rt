@@ -12,7 +12,6 @@ ghost use Rattle.ert_table.specs.Held.{is_held};
 ghost use Rattle.ert_timers.specs.Looking.{LooksDown, LooksAhead, now_in};
 ghost use Rattle.ert_timers.specs.declared.looking.Ahead.{Ahead};
 
-use ert_calls::look;
 use ert_defs::milliseconds::{
     LAST_DEADLINE, NANOSECONDS_PER_MILLISECOND, deadline_at, rounded, rounded_up,
 };
@@ -54,7 +53,7 @@ pub(crate) fn look_down(desk: &Desk, pass: &mut Pass, by: Actor) -> u64
     ensures looks { LooksDown (settings_of desk.now) (view_of pass.old) by result (view_of pass.new) }
     ensures few { result ≤ 8796093022207 }
 {
-    let now = look(desk, pass, by);
+    let now = pass.look(desk, by);
     let (down, _) = rounded(desk.settings(), now);
     down
 }
@@ -69,7 +68,7 @@ pub(crate) fn look_ahead(desk: &Desk, pass: &mut Pass, by: u32, start: &Start) -
     ensures now { IfSome result (λ ahead. now_in ahead ≤ 8796093022207) }
     ensures deadline { IfSome result (λ ahead. ahead.deadline ≤ 8796093022207) }
 {
-    let now = look(desk, pass, Actor::Caller(by));
+    let now = pass.look(desk, Actor::Caller(by));
     ahead_at(desk.settings(), start, now)
 }
 

@@ -5,8 +5,7 @@ use crate::moving::{refused_or, told};
 use crate::part::{Use, WheelPart};
 use ert_defs::{Actor, Kind, Start, TimerRef, USES_OF_ROUND, When};
 use ert_effects::RestartErr;
-use ert_table::{Desk, Pass, SlotPlace};
-use ert_words::armed_word;
+use ert_table::{Desk, Pass, SlotPlace, armed_word};
 
 impl WheelPart {
     ghost use Rattle.std.specs.Prelude.{◌≡◌, ◌≢◌, ◌<◌, true, Err};

@@ -1,11 +1,11 @@
 //! What is stored of a slot, in four words.
 ghost use Rattle.std.specs.Prelude.{◌≡◌, ◌<◌, ◌≤◌, cond, true, false};
 ghost use Rattle.ert_timers.specs.Slots.{is_bare, is_joined, nothing, stored_slot, stored_key};
-ghost use Rattle.ert_words.specs.Ranges.{word_deadline, word_generation};
+ghost use Rattle.ert_table.specs.Ranges.{word_deadline, word_generation};
 
 use ert_defs::Kind;
+use ert_table::{word_deadline, word_generation};
 use ert_wheel::Keyed;
-use ert_words::{word_deadline, word_generation};
 
 /// The place of the destination in `rest`: the kind is below it.
 const DEST: u64 = 1 << 1;

@@ -7,8 +7,7 @@ use crate::looking::{Ahead, look_ahead};
 use crate::part::{Use, WheelPart};
 use ert_defs::{Actor, Start, Status, TimerRef};
 use ert_effects::StartErr;
-use ert_table::{Desk, Pass, Settle, TimerCarry};
-use ert_words::armed_word;
+use ert_table::{Desk, Pass, Settle, TimerCarry, armed_word};
 
 /// How many timers a wheel can have.
 pub(crate) const MOST_TIMERS: u64 = 1 << 53;

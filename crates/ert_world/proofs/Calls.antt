@@ -2,11 +2,8 @@
 
 use Rattle.std.proofs.Common.{◌≡◌, ℕ, zero, suc, ◌<◌, arith, true, false, List, [], ◌∷◌, ◌++◌, filter, slice_index_or, Some, Result, Ok, Err, inl, refl, sym, ap, subst, ◌∙◌, append-nil}
 use Rattle.std.specs.Prelude.{slice_set}
-use Rattle.ert_effects.specs.MailCalls.{Monitors}
 use Rattle.ert_effects.specs.RequestCalls.{Asks}
 use Rattle.ert_effects.specs.Ways.{Growth, Way}
-use Rattle.ert_effects.specs.declared.answers.MonitorErr.{MonitorErr}
-use Rattle.ert_effects.specs.declared.answers.MonitorErr.TheVariants.{Full, NoMemory as WantOfRoom}
 use Rattle.ert_clock.specs.Shown.{ClockStands}
 use Rattle.ert_defs.proofs.Runs.{state-append, legal_then}
 use Rattle.ert_defs.specs.Legal.{Legal, LegalFrom}
@@ -20,17 +17,16 @@ use Rattle.ert_defs.specs.declared.settings.OffsetState.{OffsetState}
 use Rattle.ert_defs.specs.declared.settings.OffsetState.TheVariants.{Preliminary, Final, Volatile}
 use Rattle.ert_defs.specs.declared.settings.Settings.{Settings}
 use Rattle.ert_mail.specs.Inboxes.{Waiting, InboxStands}
-use Rattle.ert_calls.specs.Published.{ReadsByLeastCaller}
-use Rattle.ert_calls.specs.declared.keeper.KeeperPart.{KeeperPart}
-use Rattle.ert_mail.specs.Mailboxes.{Mailbox, IsMonitor, MailboxStands as MailStands}
+use Rattle.ert_table.specs.Published.{ReadsByLeastCaller}
+use Rattle.ert_table.specs.declared.keeper.KeeperPart.{KeeperPart}
+use Rattle.ert_mail.specs.Mailboxes.{Mailbox, MailboxStands as MailStands}
 use Rattle.ert_table.proofs.Calls.{whole_exact}
-use Rattle.ert_table.specs.Calls.{AreOnlyOf, IsMade, IsOmitted, IsMadeIfOk}
+use Rattle.ert_table.specs.Calls.{AreOnlyOf, IsMade}
 use Rattle.ert_table.specs.Desks.{settings_of, view_of, front_of, actors_of, Belongs}
 use Rattle.ert_table.specs.Held.{is_held, least_caller}
 use Rattle.ert_table.specs.Takes.{TakesPlace}
 use Rattle.ert_table.specs.declared.desk.Desk.{Desk}
 use Rattle.ert_table.specs.declared.desk.Pass.{Pass}
-use Rattle.ert_table.specs.declared.view.View.{View}
 use Rattle.ert_world.proofs.Alone.{whole_of, went}
 use Rattle.ert_world.proofs.Armed.{AreCalm, is_cancel}
 use Rattle.ert_world.proofs.Calm.{IsQuiet}
@@ -102,20 +98,6 @@ pub added : (d : Desk) (p q : Pass) (es : List Entry) → front_of q ≡ front_o
 added d p q es front legal =
     let g : Settings = settings_of d in
     legal_then g (opening g) (front_of p) es (subst (Legal g) front legal)
-
--- a call that takes no step is one without entries
-pub omitted_made : (g : Settings) (v : View) (allows : State → List Entry → Type 0) (w : View) → Legal g v.front → IsOmitted g v allows w → IsMade g v allows w
-omitted_made g v allows w legal omitted = record {
-  entries = [];
-  allowed = omitted.allowed;
-  call = subst (λ w. TakesPlace g v [] w) (sym omitted.same)
-      (record { actors = refl; legal = legal; later = []; grown = sym (append-nil v.front); ours = refl });
-}
-
-pub if_ok_made : {A E : Type 0} (g : Settings) (v : View) (allows : Result A E → State → List Entry → Type 0) (answer : Result A E) (w : View)
-    → Legal g v.front → IsMadeIfOk g v allows answer w → IsMade g v (allows answer) w
-if_ok_made g v allows (Ok answer) w legal made = made
-if_ok_made g v allows (Err e) w legal made = omitted_made g v (allows (Err e)) w legal made
 
 -- the parts that these actors have come back as these
 abbrev pub ComeBack : Inside → Desk → Pass → List Actor → AllParts → Type 0
@@ -284,13 +266,6 @@ inbox_called before b d e q i old new allows same is fit belongs low lent named 
     (called_with before b d q (record (parts_in b) { inboxes = slice_set b.inboxes.items n new }) (Caller 0 ∷ (Inbox n ∷ [])) (allows n) has refl belongs made
     (only s made.entries made.allowed) (calm s made.entries made.allowed) (refl, (refl, tt)) refl refl
     (λ stand. inbox_back g (front_of q) [] (parts_in b) n new (rw one below) named stands (caller_back g (front_of q) (Inbox n ∷ []) (parts_in b) 0 stand))))
-
--- a monitor was made or wasn't
-pub monitor_made : (g : Settings) (v : View) (by process : ℕ) (answer : Result ℕ MonitorErr) (w : View) → Legal g v.front
-    → IsMonitor g v by process answer w → IsMade g v (Monitors g by process answer) w
-monitor_made g v by process (Ok number) w legal is = is
-monitor_made g v by process (Err Full) w legal is = is
-monitor_made g v by process (Err WantOfRoom) w legal is = omitted_made g v (Monitors g by process (Err WantOfRoom)) w legal is
 
 -- caller 0 is the least that a world holds
 least_from : (actors : List Actor) (n : ℕ) → is_held actors (Caller 0) ≡ true → least_caller actors (suc n) ≡ Some 0

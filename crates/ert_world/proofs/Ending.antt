@@ -7,7 +7,7 @@ use Rattle.std.proofs.lemmas.Bool.{le-leb, lt-ltb}
 use Rattle.std.proofs.lemmas.List.{set-get_or}
 use Rattle.std.proofs.lemmas.List.Elements.{filter-append}
 use Rattle.std.proofs.lemmas.List.Sums.{count_by-le-length}
-use Rattle.ert_calls.specs.Left.{AtLastStep, IsLeftByLook, IsMadeTellingLeft, TellsLeft}
+use Rattle.ert_table.specs.Left.{AtLastStep, IsLeftByLook, IsMadeTellingLeft, TellsLeft}
 use Rattle.ert_defs.proofs.Slots.{ordered}
 use Rattle.ert_defs.specs.Actors.{IsFree, has_actor, of}
 use Rattle.ert_defs.specs.Entries.{is_ours, look_entry}

@@ -11,13 +11,13 @@ use Rattle.ert_effects.specs.Ways.{Growth, Way, Grows}
 use Rattle.ert_effects.specs.declared.answers.Taken.{Taken}
 use Rattle.ert_effects.specs.declared.answers.Taken.TheVariants.{Mail as First, Empty, Exited}
 use Rattle.ert_mail.proofs.Listing.{listed_less, listed_on, listed_put, with_new, with_there}
-use Rattle.ert_mail.specs.Lists.{is_listed, with_listed}
+use Rattle.ert_mail.specs.Turns.{is_listed, TurnRow}
+use Rattle.ert_mail.specs.Lists.{with_listed}
 use Rattle.ert_mail.specs.Mailboxes.{Mailbox, IsTaken}
 use Rattle.ert_table.specs.Desks.{settings_of, front_of}
 use Rattle.ert_table.specs.declared.desk.Desk.{Desk}
 use Rattle.ert_table.specs.declared.desk.Pass.{Pass}
 use Rattle.ert_timers.proofs.Passing.{loses_none}
-use Rattle.ert_words.specs.Turns.{TurnRow}
 use Rattle.ert_world.proofs.Calls.{Has, Does, does_at, seen_at, processes_at}
 use Rattle.ert_world.proofs.CancelCalls.{DoesCancel, does_cancel_at}
 use Rattle.ert_world.specs.Parts.{AllParts}

@@ -14,7 +14,8 @@ use Rattle.ert_effects.specs.MailCalls.{Takes}
 use Rattle.ert_effects.specs.Ways.{Way, Growth, Then}
 use Rattle.ert_effects.specs.declared.answers.Taken.{Taken}
 use Rattle.ert_effects.specs.declared.answers.Taken.TheVariants.{Mail as Took, Empty, Exited}
-use Rattle.ert_mail.specs.Lists.{AreListed, HaveMailFrom, IsNextIn, LooksForMail, exited_from, exits_seen, is_listed, life_seen, with_mail}
+use Rattle.ert_mail.specs.Turns.{is_listed, TurnRow}
+use Rattle.ert_mail.specs.Lists.{AreListed, HaveMailFrom, IsNextIn, LooksForMail, exited_from, exits_seen, life_seen, with_mail}
 use Rattle.ert_mail.specs.Mailboxes.{Mailbox, mailbox_seen as box}
 use Rattle.ert_table.specs.Calls.{IsMade}
 use Rattle.ert_table.specs.Desks.{settings_of, view_of, front_of, state_of, Belongs}
@@ -26,8 +27,7 @@ use Rattle.ert_world.proofs.Alone.{went}
 use Rattle.ert_world.proofs.Composed.{goes_more, goes_then}
 use Rattle.ert_world.proofs.Listed.{mails_low, with_row}
 use Rattle.ert_world.specs.Mailing.{mail_of, turns_of, FindsMail, IsNextMail, TakesMails, TakesSome}
-use Rattle.ert_words.proofs.Held.{list_any-every}
-use Rattle.ert_words.specs.Turns.{TurnRow}
+use Rattle.ert_mail.proofs.Rows.{list_any-every}
 use Rattle.ert_world.specs.Stepping.{turns_same}
 use Rattle.ert_world.specs.Worlds.{Seen, seen, AreKept, AreSound, Goes, By, HasProcessExited, ListAll, way_of}
 use Rattle.ert_world.specs.declared.mailing.TakeEnd.TheVariants.{Empty as FoundEmpty, Exited as HadExited}

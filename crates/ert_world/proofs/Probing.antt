@@ -27,9 +27,10 @@ use Rattle.ert_world.proofs.Returned.{wheel_back, sched_back}
 use Rattle.ert_world.proofs.SchedCalls.{Had, had, now_stands}
 use Rattle.ert_world.proofs.WheelCalls.{wheel_named}
 use Rattle.ert_world.proofs.Tidying.{lost_hold, one_holds}
-use Rattle.ert_world.specs.Parts.{AllParts, SchedStands}
+use Rattle.ert_timers.specs.SchedParts.{SchedStands}
+use Rattle.ert_world.specs.Parts.{AllParts}
 use Rattle.ert_world.specs.Worlds.{Seen, By}
-use Rattle.ert_world.specs.declared.sched_part.SchedPart.{SchedPart}
+use Rattle.ert_timers.specs.declared.sched_part.SchedPart.{SchedPart}
 use Rattle.ert_world.specs.declared.world.World.TheInside.{Inside}
 
 pub cond_id : (b : Bool) (s : SchedState) → cond b s s ≡ s

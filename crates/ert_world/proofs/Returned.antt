@@ -14,8 +14,9 @@ use Rattle.ert_mail.specs.Inboxes.{Waiting, InboxStands}
 use Rattle.ert_mail.specs.Mailboxes.{Mailbox, MailboxStands as MailStands}
 use Rattle.ert_table.specs.Held.{is_held}
 use Rattle.ert_timers.specs.Parts.{Part, PartStands as WheelStands}
-use Rattle.ert_world.specs.Parts.{AllParts, SchedStands, AreOrdered, Stand}
-use Rattle.ert_world.specs.declared.sched_part.SchedPart.{SchedPart}
+use Rattle.ert_timers.specs.SchedParts.{SchedStands}
+use Rattle.ert_world.specs.Parts.{AllParts, AreOrdered, Stand}
+use Rattle.ert_timers.specs.declared.sched_part.SchedPart.{SchedPart}
 
 -- what holds of the part at a place after one was replaced, by whether it is that
 pub at_place : {X : Type 0} (P : X → Type 0) (xs : List X) (i j : ℕ) (x d : X) → i < length xs → (j ≡ i → P x) → (j ≢ i → P (slice_index_or xs j d))

@@ -17,9 +17,10 @@ use Rattle.ert_world.proofs.Calls.{mail_named}
 use Rattle.ert_world.proofs.Listed.{listed_kept}
 use Rattle.ert_world.proofs.Returned.{lend, mail_back, sched_back}
 use Rattle.ert_world.proofs.SchedCalls.{sched_named, sched_has}
-use Rattle.ert_world.specs.Parts.{AllParts, SchedStands, Stand}
+use Rattle.ert_timers.specs.SchedParts.{SchedStands}
+use Rattle.ert_world.specs.Parts.{AllParts, Stand}
 use Rattle.ert_world.specs.Worlds.{AreKept}
-use Rattle.ert_world.specs.declared.sched_part.SchedPart.{SchedPart}
+use Rattle.ert_timers.specs.declared.sched_part.SchedPart.{SchedPart}
 
 -- a world keeps its parts where a mailbox is what it was but for its room
 pub room_changed : (d : Desk) (p : Pass) (next : ℕ) (parts : AllParts) (i : ℕ) (old new : Mailbox) → AreKept d p next parts

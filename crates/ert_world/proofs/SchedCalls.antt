@@ -23,8 +23,9 @@ use Rattle.ert_mail.proofs.LawsHold.{handing_only, answers_only, picks_only}
 use Rattle.ert_mail.specs.Mailboxes.{Mailbox, HoldsMailboxAndSched, handed, sched_after_answer, MailboxStands as MailStands}
 use Rattle.ert_world.proofs.Calm.{picks_calm, hands_calm}
 use Rattle.ert_world.proofs.Returned.{inbox_back, mail_back, sched_back}
-use Rattle.ert_world.specs.Parts.{AllParts, Stand, SchedStands}
-use Rattle.ert_world.specs.declared.sched_part.SchedPart.{SchedPart}
+use Rattle.ert_timers.specs.SchedParts.{SchedStands}
+use Rattle.ert_world.specs.Parts.{AllParts, Stand}
+use Rattle.ert_timers.specs.declared.sched_part.SchedPart.{SchedPart}
 use Rattle.ert_table.specs.Calls.{IsMade}
 use Rattle.ert_table.specs.Desks.{settings_of, view_of, front_of, Belongs}
 use Rattle.ert_table.specs.Takes.{TakesPlace}
@@ -32,7 +33,7 @@ use Rattle.ert_table.specs.declared.desk.Desk.{Desk}
 use Rattle.ert_table.specs.declared.desk.Pass.{Pass}
 use Rattle.ert_timers.proofs.Settled.{expired_let_go, handed_free}
 use Rattle.ert_timers.specs.ExpiredLists.{Queue}
-use Rattle.ert_words.specs.Turns.{TurnRow}
+use Rattle.ert_mail.specs.Turns.{TurnRow}
 use Rattle.ert_world.proofs.Calls.{Has, Does, Makes, ComeBack, parts_in, exact, added, calm_called, called_with, inbox_named, mail_named, schedulers_at}
 use Rattle.ert_world.proofs.CancelCalls.{DoesBut, finish_but}
 use Rattle.ert_world.proofs.Cancelled.{answer_settles}

@@ -22,7 +22,8 @@ use Rattle.ert_timers.proofs.Passing.{rows_lost}
 use Rattle.ert_timers.specs.Parts.{Part, PartStands as WheelStands}
 use Rattle.ert_timers.specs.Passed.{LosesRows}
 use Rattle.ert_timers.specs.Trying.{HasExpiredSome, HasRefusedSome, IsLeft, LosesSome}
-use Rattle.ert_world.proofs.Advances.{AreOfAdvance, LeaveHand, advances_are, advance_still, advanced, counted}
+use Rattle.ert_timers.proofs.SchedParts.{LeaveHand, advance_still}
+use Rattle.ert_world.proofs.Advances.{AreOfAdvance, advances_are, advanced, counted}
 use Rattle.ert_world.proofs.Armed.{AreCalm}
 use Rattle.ert_world.proofs.Calls.{Has, Does, parts_in, schedulers_at}
 use Rattle.ert_world.proofs.NextDue.{part_at}
@@ -32,7 +33,7 @@ use Rattle.ert_world.proofs.WheelCalls.{wheel_named}
 use Rattle.ert_world.specs.Bounded.{LosesSomeAt}
 use Rattle.ert_world.specs.Held.{HoldsFewer}
 use Rattle.ert_world.specs.Worlds.{Seen, LoseRows}
-use Rattle.ert_world.specs.declared.sched_part.SchedPart.{SchedPart}
+use Rattle.ert_timers.specs.declared.sched_part.SchedPart.{SchedPart}
 use Rattle.ert_world.specs.declared.world.World.TheInside.{Inside}
 
 -- its entries are the first of an advance: of all, or but for the record

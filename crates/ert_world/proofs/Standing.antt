@@ -1,13 +1,7 @@
 -- After a call that others stepped beside, all parts stand that weren't lent to it.
 
 use Rattle.std.proofs.Common.{◌≡◌, ℕ, ◌<◌, true, false, List, [], ◌++◌, slice_index_or, refl, sym, ap, subst, ◌∙◌, append-nil}
-use Rattle.ert_clock.proofs.Stand.{stands_kept}
-use Rattle.ert_clock.specs.Shown.{Shown, ClockStands}
-use Rattle.ert_defs.proofs.Runs.{state-append, clock_stays, sched_stays}
 use Rattle.ert_defs.specs.Actors.{IsFree, of, has_actor}
-use Rattle.ert_defs.specs.Legal.{Legal}
-use Rattle.ert_defs.specs.Mails.{SchedState}
-use Rattle.ert_defs.specs.States.{State, state}
 use Rattle.ert_defs.specs.declared.entry.Actor.{Actor}
 use Rattle.ert_defs.specs.declared.entry.Actor.TheVariants.{Keeper, Wheel, Inbox, Sched, MailOf}
 use Rattle.ert_defs.specs.declared.entry.Entry.{Entry}
@@ -15,8 +9,11 @@ use Rattle.ert_defs.specs.declared.settings.Settings.{Settings}
 use Rattle.ert_mail.specs.Inboxes.{Waiting, InboxStands}
 use Rattle.ert_mail.proofs.LawsHold.{inbox_on, mail_on}
 use Rattle.ert_mail.specs.Mailboxes.{Mailbox, MailboxStands as MailStands}
-use Rattle.ert_world.specs.Parts.{AllParts, SchedStands, AreOrdered, Stand}
-use Rattle.ert_world.specs.declared.sched_part.SchedPart.{SchedPart}
+use Rattle.ert_timers.specs.SchedParts.{SchedStands}
+use Rattle.ert_world.specs.Parts.{AllParts, AreOrdered, Stand}
+use Rattle.ert_timers.specs.declared.sched_part.SchedPart.{SchedPart}
+use Rattle.ert_table.proofs.StandOn.{keeper_on}
+use Rattle.ert_timers.proofs.SchedParts.{sched_on}
 use Rattle.ert_table.proofs.Parts.{entries_after, not_of, free_of_others, free_later}
 use Rattle.ert_table.specs.Calls.{AreOnlyOf}
 use Rattle.ert_table.specs.Held.{is_held, IsActor}
@@ -44,25 +41,6 @@ unfolding grown_by
 free_kept g v es w lent a takes only held apart =
     free_later a v.front w.front (grown_by g v es w takes) (own_kept g v es w lent a takes only held apart)
 
-clock_on : (g : Settings) (f h : List Entry) (k : Shown) → Legal g h → (more : Begins f h) → of h Keeper ≡ of f Keeper → ClockStands g f k → ClockStands g h k
-clock_on g f h k legal more same stands =
-    stands_kept g f h k stands legal
-    (ap (λ l. (state g l).clock) more.grown
-    ∙ (ap (λ (s : State). s.clock) (state-append g f more.later) ∙ clock_stays g (state g f) more.later (free_later Keeper f h more same)))
-
-sched_on : (g : Settings) (f h : List Entry) (p : SchedPart) → (more : Begins f h) → of h (Sched p.wheel) ≡ of f (Sched p.wheel) → SchedStands g f p
-    → SchedStands g h p
-sched_on g f h p more same stands =
-    let still : (state g h).scheds p.wheel ≡ (state g f).scheds p.wheel =
-    ap (λ l. (state g l).scheds p.wheel) more.grown
-    ∙ (ap (λ (s : State). s.scheds p.wheel) (state-append g f more.later)
-    ∙ sched_stays g p.wheel (state g f) more.later (free_later (Sched p.wheel) f h more same)) in
-    record {
-      in_range = stands.in_range;
-      hand = stands.hand ∙ ap (λ (s : SchedState). s.hand) (sym still);
-      expired = stands.expired ∙ ap (λ (s : SchedState). s.expired) (sym still);
-    }
-
 -- parts in order stand on, but for those that are lent
 ordered_on : {X : Type 0} (number : X → ℕ) (old new : X → Type 0) (actor : ℕ → Actor) (lent : List Actor) (count : ℕ) (xs : List X)
     → ((x : X) → number x < count → is_held lent (actor (number x)) ≡ false → old x → new x)
@@ -85,7 +63,7 @@ others_stand g v es w next lent parts takes only holds stand =
     λ a ranged mine apart. own_kept g v es w lent a takes only (holds.rest a ranged mine) apart in
     record {
       legal = takes.legal;
-      keeper = λ apart. clock_on g f h parts.keeper takes.legal more (same Keeper tt tt apart) (stand.keeper refl);
+      keeper = λ apart. keeper_on g f h parts.keeper more (same Keeper tt tt apart) takes.legal (stand.keeper refl);
       wheels = ordered_on (λ (p : Part). p.number) (WheelStands g f) (WheelStands g h) Wheel lent g.schedulers parts.wheels
           (λ p low apart stands. wheel_on g f h p more (same (Wheel p.number) low tt apart) takes.legal stands) stand.wheels;
       inboxes = ordered_on (λ (q : Waiting). q.wheel) (InboxStands g f) (InboxStands g h) Inbox lent g.schedulers parts.inboxes

@@ -22,7 +22,7 @@ use Rattle.ert_timers.specs.Parts.{Part, PartStands as WheelStands}
 use Rattle.ert_timers.specs.Tidy.{IsTidy}
 use Rattle.ert_world.specs.Worlds.{Seen, AreSound, world_sched}
 use Rattle.ert_world.specs.contracts.world.World.{the_view}
-use Rattle.ert_world.specs.declared.sched_part.SchedPart.{SchedPart}
+use Rattle.ert_timers.specs.declared.sched_part.SchedPart.{SchedPart}
 use Rattle.ert_world.specs.declared.world.World.TheInside.{Inside}
 use Rattle.ert_world.proofs.Calls.{parts_in}
 

@@ -17,13 +17,14 @@ use Rattle.ert_timers.specs.Expiring.{HasExpired, TriesHeld}
 use Rattle.ert_timers.specs.Parts.{Part, PartStands as WheelStands}
 use Rattle.ert_timers.specs.Passed.{LosesRows}
 use Rattle.ert_timers.specs.Trying.{expired_after}
-use Rattle.ert_world.proofs.Advances.{AreOfAdvance, advance_leaves, advanced}
+use Rattle.ert_timers.proofs.SchedParts.{advance_leaves}
+use Rattle.ert_world.proofs.Advances.{AreOfAdvance, advanced}
 use Rattle.ert_world.proofs.Calls.{Has, does_at, has_at, parts_in, schedulers_at, seen_at}
 use Rattle.ert_world.proofs.Replaced.{replaced_by}
 use Rattle.ert_world.proofs.SchedCalls.{Had, had}
 use Rattle.ert_world.proofs.WheelCalls.{advance_calm, wheel_named}
 use Rattle.ert_world.specs.Worlds.{AreSound, Goes, Seen, seen}
-use Rattle.ert_world.specs.declared.sched_part.SchedPart.{SchedPart}
+use Rattle.ert_timers.specs.declared.sched_part.SchedPart.{SchedPart}
 use Rattle.ert_world.specs.declared.world.World.TheInside.{Inside}
 
 pub held_is : (p : Part) (to : ℕ) (s : State) (es : List Entry) (held : TriesHeld p to s es) → IsAdvance p.number (to, hits held.tries) es

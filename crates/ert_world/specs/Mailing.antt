@@ -8,8 +8,8 @@ use Rattle.ert_defs.specs.declared.settings.Settings.{Settings}
 use Rattle.ert_effects.specs.MailCalls.{Takes}
 use Rattle.ert_effects.specs.Ways.{Growth, Way, Then, Many}
 use Rattle.ert_effects.specs.declared.answers.Taken.TheVariants.{Mail as Took, Empty, Exited}
-use Rattle.ert_mail.specs.Lists.{LooksForMail, is_listed}
-use Rattle.ert_words.specs.Turns.{TurnRow}
+use Rattle.ert_mail.specs.Turns.{is_listed, TurnRow}
+use Rattle.ert_mail.specs.Lists.{LooksForMail}
 use Rattle.ert_world.specs.Worlds.{Seen, Goes, By, HasProcessExited}
 use Rattle.ert_world.specs.declared.mailing.TakeEnd.{TakeEnd}
 use Rattle.ert_world.specs.declared.mailing.TakeEnd.TheVariants.{Most, Empty as FoundEmpty, Exited as HadExited}

@@ -3,7 +3,6 @@
 use Rattle.std.specs.Prelude.{◌≡◌, ℕ, ◌<◌, false, List, length, Option, None, slice_index_or}
 use Rattle.ert_clock.specs.Shown.{Shown, ClockStands}
 use Rattle.ert_defs.specs.Legal.{Legal}
-use Rattle.ert_defs.specs.States.{state}
 use Rattle.ert_defs.specs.declared.entry.Actor.{Actor}
 use Rattle.ert_defs.specs.declared.entry.Actor.TheVariants.{Keeper, Wheel, Inbox, Sched, MailOf}
 use Rattle.ert_defs.specs.declared.entry.Entry.{Entry}
@@ -12,8 +11,9 @@ use Rattle.ert_mail.specs.Inboxes.{Waiting, InboxStands}
 use Rattle.ert_mail.specs.Mailboxes.{Mailbox, MailboxStands as MailStands}
 use Rattle.ert_table.specs.Held.{is_held}
 use Rattle.ert_timers.specs.Parts.{Part, PartStands as WheelStands}
-use Rattle.ert_words.specs.Turns.{TurnRow}
-use Rattle.ert_world.specs.declared.sched_part.SchedPart.{SchedPart}
+use Rattle.ert_mail.specs.Turns.{TurnRow}
+use Rattle.ert_timers.specs.SchedParts.{SchedStands}
+use Rattle.ert_timers.specs.declared.sched_part.SchedPart.{SchedPart}
 
 -- the parts of a service: the clock's, those of each wheel, inbox, process and scheduler, and the row of the processes that
 -- may have mail, where there is one
@@ -29,12 +29,6 @@ pub record AllParts : Type 0 where
 abbrev pub parts_of : Shown → List Part → List Waiting → List Mailbox → List SchedPart → AllParts
 parts_of keeper wheels inboxes mails scheds =
     record { keeper = keeper; wheels = wheels; inboxes = inboxes; mails = mails; scheds = scheds; turns = None }
-
--- a scheduler's part stands for a history: its hand and its list of expired timers are those of the history
-pub record SchedStands (g : Settings) (h : List Entry) (p : SchedPart) : Type 0 where
-  pub in_range : p.wheel < g.schedulers
-  pub hand : p.hand ≡ ((state g h).scheds p.wheel).hand
-  pub expired : p.expired.rows ≡ ((state g h).scheds p.wheel).expired
 
 -- parts of one kind stand in order of number, so many of them; each stands for its history but those that
 -- are lent to a call

@@ -12,7 +12,7 @@ use Rattle.ert_timers.specs.Slots.{Slot}
 use Rattle.ert_timers.specs.Passed.{LosesRows}
 use Rattle.ert_wheel.specs.Rows.{key_in}
 use Rattle.ert_wheel.specs.declared.row.Key.{Key}
-use Rattle.ert_words.specs.Turns.{TurnRow}
+use Rattle.ert_mail.specs.Turns.{TurnRow}
 use Rattle.ert_world.specs.Ways.{is_unseated}
 use Rattle.ert_world.specs.Worlds.{Seen, ForgetsCancelled, HasForgottenAll, HasPassedAt, LoseRows, TurnsGrow}
 

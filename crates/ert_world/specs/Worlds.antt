@@ -30,7 +30,7 @@ use Rattle.ert_timers.specs.NextDue.{IsNearest, IsNextHeld}
 use Rattle.ert_timers.specs.Parts.{Part}
 use Rattle.ert_timers.specs.Passed.{HasPassed, LosesRows}
 use Rattle.ert_timers.specs.Tidy.{IsTidy}
-use Rattle.ert_words.specs.Turns.{TurnRow}
+use Rattle.ert_mail.specs.Turns.{TurnRow}
 use Rattle.ert_world.specs.Parts.{AllParts, Stand}
 use Rattle.ert_world.specs.Ways.{beside_seats, is_unseated}
 

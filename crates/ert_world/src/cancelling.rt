@@ -1,6 +1,5 @@
 //! The call that cancels all timers of a process, which lives on.
 use crate::world::{CALLER, World};
-use ert_calls::cancel_timer;
 use ert_defs::{Actor, TimerRef};
 
 impl World {
@@ -79,7 +78,7 @@ impl World {
         ensures fewer { HoldsFewer self.old self.new timer.wheel 1 }
     {
         let by = Actor::Caller(CALLER);
-        let left = cancel_timer(&self.desk, &mut self.pass, by, timer);
+        let left = self.pass.cancel_timer(&self.desk, by, timer);
         self.wheels[timer.wheel as usize].forget(&self.pass, timer);
         left
     }

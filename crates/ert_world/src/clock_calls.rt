@@ -1,6 +1,5 @@
 //! The calls of a world on the clock.
 use crate::world::{CALLER, World};
-use ert_calls::{monotonic_time, system_time, time_offset};
 use ert_clock::{ClockErr, Moved};
 use ert_defs::{Actor, OffsetState, Reading};
 
@@ -39,7 +38,7 @@ impl World {
         ensures value { result ≡ self.old.clock.face.time }
         ensures call { Goes self.old (By self.old (λ g. TellsTime g (Caller 0) result)) self.new }
     {
-        monotonic_time(&self.desk, &mut self.pass, Actor::Caller(CALLER))
+        self.pass.monotonic_time(&self.desk, Actor::Caller(CALLER))
     }
 
     /// The time offset, in nanoseconds, with its state (`erlang:time_offset`).
@@ -48,7 +47,7 @@ impl World {
         ensures state { result.1 ≡ self.old.clock.face.state }
         ensures call { Goes self.old (By self.old (λ g. TellsOffset g (Caller 0) result)) self.new }
     {
-        time_offset(&self.desk, &mut self.pass, Actor::Caller(CALLER))
+        self.pass.time_offset(&self.desk, Actor::Caller(CALLER))
     }
 
     /// System time, in nanoseconds: monotonic time plus the time offset (`erlang:system_time`).
@@ -56,6 +55,6 @@ impl World {
         ensures value { result ≡ self.old.clock.face.time +ℤ self.old.clock.face.offset }
         ensures call { Goes self.old (By self.old (λ g. TellsSystemTime g (Caller 0) result)) self.new }
     {
-        system_time(&self.desk, &mut self.pass, Actor::Caller(CALLER))
+        self.pass.system_time(&self.desk, Actor::Caller(CALLER))
     }
 }

@@ -2,7 +2,7 @@
 //!
 //! **Who has what.** A desk's atomic words (`ert_table`) are shared by counted references (`Arc`). A `World` has a
 //! pass that holds every actor of the desk but the callers that have seats, and all parts: the clock's
-//! (`KeeperPart`), for each scheduler its wheel (`ert_timers`), its inbox and a `SchedPart`, for each process its
+//! (`KeeperPart`), for each scheduler its wheel and a `SchedPart` (`ert_timers`) and its inbox, for each process its
 //! mailbox (both `ert_mail`). It makes all calls, by one thread at a time. A seat (`Seat`) has the pass with
 //! one caller: it tells the time, reads and cancels timers and looks whether a process lives, beside the calls of
 //! the world and of all other seats. Nobody takes a lock, and nobody waits. Both may go from thread to thread
@@ -76,8 +76,7 @@
 //! lets no timer expire, `serve` keeps the request in the hand, `deliver` keeps what wasn't handed over, and of a turn what
 //! was done stays done. So each of them can be made again. No call copies a part.
 //!
-//! It stands on `ert_defs`, `ert_clock`, `ert_effects`, `ert_table`, `ert_calls`, `ert_timers`
-//! and `ert_mail`, and its proofs on the laws of `ert_laws`.
+//! It stands on `ert_defs`, `ert_clock`, `ert_effects`, `ert_table`, `ert_timers` and `ert_mail`, and its proofs on the laws of `ert_laws`.
 //!
 //! **Choices.**
 //!
@@ -131,7 +130,6 @@ mod opening;
 mod parts;
 mod reserving;
 mod restart;
-mod sched_part;
 mod seat;
 mod seat_err;
 mod seat_parts;
@@ -150,7 +148,6 @@ pub use laws::{
 };
 pub use mailing::TakeEnd;
 pub use parts::Parts;
-pub use sched_part::SchedPart;
 pub use seat::Seat;
 pub use seat_err::SeatErr;
 pub use steps::{CallerSteps, SchedSteps};

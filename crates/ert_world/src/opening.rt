@@ -4,10 +4,9 @@ ghost use Rattle.ert_defs.specs.Settings.{IsChecked};
 ghost use Rattle.ert_mail.specs.Mailboxes.{IsEmpty};
 ghost use Rattle.ert_world.specs.Openings.{AreNew, IsNewWheel, IsNewInbox, IsNewSched};
 
-use crate::sched_part::SchedPart;
 use ert_defs::{NoMemory, Settings};
 use ert_mail::{InboxPart, MailPart};
-use ert_timers::WheelPart;
+use ert_timers::{SchedPart, WheelPart};
 use std::alloc::Global;
 
 /// The wheels of all schedulers, in order of number: none has a timer.

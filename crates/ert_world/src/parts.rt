@@ -8,13 +8,11 @@ ghost use Rattle.ert_timers.specs.Passed.{LosesRows};
 ghost use Rattle.ert_world.specs.Parts.{AreOrdered};
 ghost use Rattle.ert_world.specs.Worlds.{AreTidy};
 
-use crate::sched_part::SchedPart;
 use crate::world::{CALLER, World};
-use ert_calls::KeeperPart;
 use ert_defs::Settings;
 use ert_mail::{InboxPart, MailPart};
-use ert_table::{Desk, Pass};
-use ert_timers::WheelPart;
+use ert_table::{Desk, KeeperPart, Pass};
+use ert_timers::{SchedPart, WheelPart};
 use std::sync::Arc;
 
 /// All that a world has which gave out no seat, each list in order of number.

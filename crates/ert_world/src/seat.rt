@@ -1,6 +1,5 @@
 //! The seat of a thread.
 use crate::world::World;
-use ert_calls::{cancel_timer, is_alive, monotonic_time, read_timer, system_time, time_offset};
 use ert_defs::{Actor, OffsetState, TimerRef};
 use ert_table::{Desk, Pass};
 use std::marker::Model;
@@ -55,21 +54,24 @@ impl Seat {
     pub fn monotonic_time(&mut self) -> i64
         ensures { Steps self.old (BySeat self.old (λ g. TellsTime g (Caller self.old.number) result)) self.new }
     {
-        monotonic_time(&self.desk, &mut self.pass, Actor::Caller(self.number))
+        self.pass
+            .monotonic_time(&self.desk, Actor::Caller(self.number))
     }
 
     /// The time offset, in nanoseconds, with its state (`erlang:time_offset`).
     pub fn time_offset(&mut self) -> (i64, OffsetState)
         ensures { Steps self.old (BySeat self.old (λ g. TellsOffset g (Caller self.old.number) result)) self.new }
     {
-        time_offset(&self.desk, &mut self.pass, Actor::Caller(self.number))
+        self.pass
+            .time_offset(&self.desk, Actor::Caller(self.number))
     }
 
     /// System time, in nanoseconds: monotonic time, and then the time offset added (`erlang:system_time`).
     pub fn system_time(&mut self) -> i64
         ensures { Steps self.old (BySeat self.old (λ g. TellsSystemTime g (Caller self.old.number) result)) self.new }
     {
-        system_time(&self.desk, &mut self.pass, Actor::Caller(self.number))
+        self.pass
+            .system_time(&self.desk, Actor::Caller(self.number))
     }
 
     /// Cancels a timer, and answers how many milliseconds were left (`cancel_timer`); None where the reference
@@ -78,12 +80,8 @@ impl Seat {
     pub fn cancel_timer(&mut self, timer: TimerRef) -> Option<u64>
         ensures { Steps self.old (BySeat self.old (λ g. Cancels g (Caller self.old.number) timer result)) self.new }
     {
-        cancel_timer(
-            &self.desk,
-            &mut self.pass,
-            Actor::Caller(self.number),
-            timer,
-        )
+        self.pass
+            .cancel_timer(&self.desk, Actor::Caller(self.number), timer)
     }
 
     /// How many milliseconds are left of a timer (`read_timer`); None where the reference names no timer that is
@@ -92,12 +90,8 @@ impl Seat {
     pub fn read_timer(&mut self, timer: TimerRef) -> Option<u64>
         ensures { Steps self.old (BySeat self.old (λ g. Reads g (Caller self.old.number) timer result)) self.new }
     {
-        read_timer(
-            &self.desk,
-            &mut self.pass,
-            Actor::Caller(self.number),
-            timer,
-        )
+        self.pass
+            .read_timer(&self.desk, Actor::Caller(self.number), timer)
     }
 
     /// Whether a process hasn't exited (`is_process_alive`).
@@ -105,12 +99,8 @@ impl Seat {
         requires { process < self.old.settings.processes }
         ensures { Steps self.old (BySeat self.old (λ g. TellsAlive g (Caller self.old.number) process result)) self.new }
     {
-        is_alive(
-            &self.desk,
-            &mut self.pass,
-            Actor::Caller(self.number),
-            process,
-        )
+        self.pass
+            .is_alive(&self.desk, Actor::Caller(self.number), process)
     }
 }
 

@@ -1,8 +1,7 @@
-//! The calls of callers on timers and on the exits of processes. A start and a cancel are always inlined, as a cancel
-//! is in `ert_calls`.
+//! The calls of callers on timers and on the exits of processes. A start and a cancel are always inlined, as
+//! `Pass::cancel_timer` is.
 use crate::chains::exit;
 use crate::world::{CALLER, World};
-use ert_calls::{cancel_timer, is_alive, mark_exit, read_timer};
 use ert_defs::{Actor, Start, TimerRef, USES_OF_ROUND};
 use ert_effects::Room;
 use ert_timers::StartErr;
@@ -81,7 +80,7 @@ impl World {
         ensures forgotten { OnSome result (HasForgotten self.new timer) }
     {
         let by = Actor::Caller(CALLER);
-        let left = cancel_timer(&self.desk, &mut self.pass, by, timer)?;
+        let left = self.pass.cancel_timer(&self.desk, by, timer)?;
         self.wheels[timer.wheel as usize].forget(&self.pass, timer);
         Some(left)
     }
@@ -103,7 +102,8 @@ impl World {
     pub fn read_timer(&mut self, timer: TimerRef) -> Option<u64>
         ensures call { Goes self.old (By self.old (λ g. Reads g (Caller 0) timer result)) self.new }
     {
-        read_timer(&self.desk, &mut self.pass, Actor::Caller(CALLER), timer)
+        self.pass
+            .read_timer(&self.desk, Actor::Caller(CALLER), timer)
     }
 
     /// How many slots of a wheel can take a timer now, and from when on one more can, of those that rest: a slot
@@ -125,7 +125,8 @@ impl World {
         requires { process < self.old.settings.processes }
         ensures call { Goes self.old (By self.old (λ g. TellsAlive g (Caller 0) process result)) self.new }
     {
-        is_alive(&self.desk, &mut self.pass, Actor::Caller(CALLER), process)
+        self.pass
+            .is_alive(&self.desk, Actor::Caller(CALLER), process)
     }
 
     /// Lets a process exit, and tells whether it hadn't before. Its timers stay armed: it is the first step
@@ -136,7 +137,8 @@ impl World {
         ensures stays { Stays self.old self.new }
         ensures exited { HasProcessExited self.new process }
     {
-        mark_exit(&self.desk, &mut self.pass, Actor::Caller(CALLER), process)
+        self.pass
+            .mark_exit(&self.desk, Actor::Caller(CALLER), process)
     }
 
     /// Lets a process exit, cancels its timers in all wheels, and answers true; false, and no more, where it

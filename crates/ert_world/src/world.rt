@@ -2,14 +2,12 @@ ghost use Rattle.std.specs.Prelude.{IfOk};
 ghost use Rattle.ert_defs.specs.Settings.{IsChecked};
 
 use crate::opening::{open_inboxes, open_mails, open_scheds, open_wheels};
-use crate::sched_part::SchedPart;
 use crate::seat::Seat;
 use crate::seat_err::SeatErr;
-use ert_calls::KeeperPart;
 use ert_defs::{Actor, NoMemory, Settings};
 use ert_mail::{InboxPart, MailList, MailPart};
-use ert_table::{Desk, Pass};
-use ert_timers::WheelPart;
+use ert_table::{Desk, KeeperPart, Pass};
+use ert_timers::{SchedPart, WheelPart};
 use std::alloc::Global;
 use std::marker::Model;
 use std::sync::Arc;
@@ -49,7 +47,7 @@ impl Model for World {
     ghost use Rattle.std.specs.Arc.{arc_value};
     ghost use Rattle.std.specs.Coded.{codes};
     ghost use Rattle.ert_timers.specs.Parts.{part_code};
-    ghost use Rattle.ert_words.specs.Turns.{row_code};
+    ghost use Rattle.ert_mail.specs.Turns.{row_code};
     ghost use Rattle.ert_world.specs.Parts.{parts_of};
     ghost use Rattle.ert_world.specs.Worlds.{Seen, seen, AreKept};
 

@@ -2,7 +2,7 @@
 //! `examples/c/tests/lasting.c`.
 
 use ert_defs::Status;
-use ert_words::{offset_of, offset_word, time_of, time_word, timer_of, timer_word};
+use ert_table::{offset_of, offset_word, time_of, time_word, timer_of, timer_word};
 
 /// The last time, counted from the start.
 const LAST: i64 = 8_796_093_022_207_000_000;

@@ -7,7 +7,7 @@ use Rattle.ert_table.specs.Takes.{Appends}
 use Rattle.ert_mail.specs.Lists.{AreListed, exited_from}
 use Rattle.ert_mail.proofs.Listing.{listed_again, none_next, none_waits, some_next, still_listed, with_new}
 use Rattle.ert_mail.proofs.Looked.{Passes, listed_then, look_found, looked_all, looked_last, looked_more, none_there, passed_more, some_there}
-use Rattle.ert_words.specs.Turns.{TurnRow}
+use Rattle.ert_mail.specs.Turns.{TurnRow}
 use Rattle.ert_mail.proofs.list.MailList.next.Goals as goal
 
 pub returns : goal.returns

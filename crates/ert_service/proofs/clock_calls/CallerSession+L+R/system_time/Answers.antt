@@ -10,5 +10,5 @@ returns-clause-call g c =
     let seat = c.args.self.now.seat in
     let by = Caller seat.number in
     simp to_z-of_z
-    (made_alone g.L.DeskName.settings _ by (λ s. TellsSystemTime s by c.system_time.result) seat.pass c.system_time.new.pass c.desk.ensures.settings_is
+    (made_alone g.L.DeskName.settings _ by (λ s. TellsSystemTime s by c.system_time.result) seat.pass c.system_time.new.self c.desk.ensures.settings_is
     seat.sits.actors c.system_time.ensures.call)

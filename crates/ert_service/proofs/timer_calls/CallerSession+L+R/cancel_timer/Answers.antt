@@ -9,7 +9,7 @@ pub returns-clause-call : goal.returns-clause-call
 returns-clause-call g c =
     let seat = c.args.self.now.seat in
     let by = Caller seat.number in
-    made_alone g.L.DeskName.settings _ by (λ s. Cancels s by c.args.timer c.cancel_timer.result) seat.pass c.cancel_timer.new.pass c.desk.ensures.settings_is
+    made_alone g.L.DeskName.settings _ by (λ s. Cancels s by c.args.timer c.cancel_timer.result) seat.pass c.cancel_timer.new.self c.desk.ensures.settings_is
     seat.sits.actors c.cancel_timer.ensures.call.call
 
 pub returns-clause-known : goal.returns-clause-known
@@ -17,6 +17,6 @@ returns-clause-known g c = λ some none.
     let seat = c.args.self.now.seat in
     let by = Caller seat.number in
     let call =
-    made_alone g.L.DeskName.settings _ by (λ s. Cancels s by c.args.timer c.cancel_timer.result) seat.pass c.cancel_timer.new.pass c.desk.ensures.settings_is
+    made_alone g.L.DeskName.settings _ by (λ s. Cancels s by c.args.timer c.cancel_timer.result) seat.pass c.cancel_timer.new.self c.desk.ensures.settings_is
     seat.sits.actors c.cancel_timer.ensures.call.call in
-    none_cancelled g.L.DeskName.settings by c.args.timer c.cancel_timer.result seat.pass c.cancel_timer.new.pass (c.cancel_timer.ensures.belongs.named ∙ ap (λ s. Some s) c.desk.ensures.settings_is) call some none
+    none_cancelled g.L.DeskName.settings by c.args.timer c.cancel_timer.result seat.pass c.cancel_timer.new.self (c.cancel_timer.ensures.belongs.named ∙ ap (λ s. Some s) c.desk.ensures.settings_is) call some none

@@ -9,7 +9,7 @@ pub returns-clause-call : goal.returns-clause-call
 returns-clause-call g c =
     let seat = c.args.self.now.seat in
     let by = Caller seat.number in
-    made_alone g.L.DeskName.settings _ by (λ s. Reads s by c.args.timer c.read_timer.result) seat.pass c.read_timer.new.pass c.desk.ensures.settings_is
+    made_alone g.L.DeskName.settings _ by (λ s. Reads s by c.args.timer c.read_timer.result) seat.pass c.read_timer.new.self c.desk.ensures.settings_is
     seat.sits.actors c.read_timer.ensures.call.call
 
 pub returns-clause-known : goal.returns-clause-known
@@ -17,6 +17,6 @@ returns-clause-known g c = λ some none.
     let seat = c.args.self.now.seat in
     let by = Caller seat.number in
     let call =
-    made_alone g.L.DeskName.settings _ by (λ s. Reads s by c.args.timer c.read_timer.result) seat.pass c.read_timer.new.pass c.desk.ensures.settings_is
+    made_alone g.L.DeskName.settings _ by (λ s. Reads s by c.args.timer c.read_timer.result) seat.pass c.read_timer.new.self c.desk.ensures.settings_is
     seat.sits.actors c.read_timer.ensures.call.call in
-    none_read g.L.DeskName.settings by c.args.timer c.read_timer.result seat.pass c.read_timer.new.pass (c.read_timer.ensures.belongs.named ∙ ap (λ s. Some s) c.desk.ensures.settings_is) call some none
+    none_read g.L.DeskName.settings by c.args.timer c.read_timer.result seat.pass c.read_timer.new.self (c.read_timer.ensures.belongs.named ∙ ap (λ s. Some s) c.desk.ensures.settings_is) call some none

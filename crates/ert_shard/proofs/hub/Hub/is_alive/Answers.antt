@@ -9,7 +9,7 @@ use Rattle.ert_shard.proofs.hub.Hub.is_alive.Goals as goal
 pub invariant_of-self : goal.invariant_of-self
 invariant_of-self c =
     let b = c.self.inside in (
-      (alone_made c.args.self.now c.deref.result.now _ b.pass c.is_alive.new.pass b.left b.first b.next b.homes.items (parts_of b.keeper b.wheels.items b.inboxes.items b.mails.items b.scheds.items)
+      (alone_made c.args.self.now c.deref.result.now _ b.pass c.is_alive.new.self b.left b.first b.next b.homes.items (parts_of b.keeper b.wheels.items b.inboxes.items b.mails.items b.scheds.items)
           (λ g. TellsAlive g (Caller 0) c.args.process c.is_alive.result) c.deref.ensures c.self.view_is c.self.invariant.0 c.is_alive.ensures.belongs c.is_alive.ensures.call
           (λ st es is. (alive_quiet (settings_of c.deref.result.now) (Caller 0) c.args.process c.is_alive.result st es is).only)).fit,
       c.self.invariant.1,
@@ -19,6 +19,6 @@ invariant_of-self c =
 pub returns : goal.returns
 returns c =
     let b = c.self.inside in
-    (alone_made c.args.self.now c.deref.result.now _ b.pass c.is_alive.new.pass b.left b.first b.next b.homes.items (parts_of b.keeper b.wheels.items b.inboxes.items b.mails.items b.scheds.items)
+    (alone_made c.args.self.now c.deref.result.now _ b.pass c.is_alive.new.self b.left b.first b.next b.homes.items (parts_of b.keeper b.wheels.items b.inboxes.items b.mails.items b.scheds.items)
     (λ g. TellsAlive g (Caller 0) c.args.process c.is_alive.result) c.deref.ensures c.self.view_is c.self.invariant.0 c.is_alive.ensures.belongs c.is_alive.ensures.call
     (λ st es is. (alive_quiet (settings_of c.deref.result.now) (Caller 0) c.args.process c.is_alive.result st es is).only)).steps

@@ -10,7 +10,7 @@ use Rattle.ert_shard.proofs.hub.Hub.monotonic_time.Goals as goal
 pub invariant_of-self : goal.invariant_of-self
 invariant_of-self c =
     let b = c.self.inside in (
-      (alone_made c.args.self.now c.deref.result.now _ b.pass c.monotonic_time.new.pass b.left b.first b.next b.homes.items (parts_of b.keeper b.wheels.items b.inboxes.items b.mails.items b.scheds.items)
+      (alone_made c.args.self.now c.deref.result.now _ b.pass c.monotonic_time.new.self b.left b.first b.next b.homes.items (parts_of b.keeper b.wheels.items b.inboxes.items b.mails.items b.scheds.items)
           (λ g. TellsTime g (Caller 0) c.monotonic_time.result) c.deref.ensures c.self.view_is c.self.invariant.0 c.monotonic_time.ensures.belongs c.monotonic_time.ensures.call
           (λ st es is. (time_quiet (settings_of c.deref.result.now) (Caller 0) c.monotonic_time.result st es is).only)).fit,
       c.self.invariant.1,
@@ -22,7 +22,7 @@ returns-clause-call c =
     let b = c.self.inside in
     let fits : FitsSigned w64 c.monotonic_time.result = search rules in
     simp to_z-of_z
-    (alone_made c.args.self.now c.deref.result.now _ b.pass c.monotonic_time.new.pass b.left b.first b.next b.homes.items (parts_of b.keeper b.wheels.items b.inboxes.items b.mails.items b.scheds.items)
+    (alone_made c.args.self.now c.deref.result.now _ b.pass c.monotonic_time.new.self b.left b.first b.next b.homes.items (parts_of b.keeper b.wheels.items b.inboxes.items b.mails.items b.scheds.items)
     (λ g. TellsTime g (Caller 0) c.monotonic_time.result) c.deref.ensures c.self.view_is c.self.invariant.0 c.monotonic_time.ensures.belongs c.monotonic_time.ensures.call
     (λ st es is. (time_quiet (settings_of c.deref.result.now) (Caller 0) c.monotonic_time.result st es is).only)).steps
 
@@ -30,5 +30,5 @@ pub returns-clause-value : goal.returns-clause-value
 returns-clause-value c =
     let b = c.self.inside in
     let fits : FitsSigned w64 c.monotonic_time.result = search rules in
-    simp to_z-of_z (time_told c.args.self.now c.deref.result.now _ b.pass c.monotonic_time.new.pass b.left b.first b.next b.homes.items (parts_of b.keeper b.wheels.items b.inboxes.items b.mails.items b.scheds.items) c.deref.ensures
+    simp to_z-of_z (time_told c.args.self.now c.deref.result.now _ b.pass c.monotonic_time.new.self b.left b.first b.next b.homes.items (parts_of b.keeper b.wheels.items b.inboxes.items b.mails.items b.scheds.items) c.deref.ensures
     c.self.view_is c.self.invariant.0 c.monotonic_time.result c.monotonic_time.ensures.call)

@@ -10,7 +10,7 @@ use Rattle.ert_shard.proofs.hub.Hub.system_time.Goals as goal
 pub invariant_of-self : goal.invariant_of-self
 invariant_of-self c =
     let b = c.self.inside in (
-      (alone_made c.args.self.now c.deref.result.now _ b.pass c.system_time.new.pass b.left b.first b.next b.homes.items (parts_of b.keeper b.wheels.items b.inboxes.items b.mails.items b.scheds.items)
+      (alone_made c.args.self.now c.deref.result.now _ b.pass c.system_time.new.self b.left b.first b.next b.homes.items (parts_of b.keeper b.wheels.items b.inboxes.items b.mails.items b.scheds.items)
           (λ g. TellsSystemTime g (Caller 0) c.system_time.result) c.deref.ensures c.self.view_is c.self.invariant.0 c.system_time.ensures.belongs c.system_time.ensures.call
           (λ st es is. (system_quiet (settings_of c.deref.result.now) (Caller 0) c.system_time.result st es is).only)).fit,
       c.self.invariant.1,
@@ -22,7 +22,7 @@ returns-clause-call c =
     let b = c.self.inside in
     let fits : FitsSigned w64 c.system_time.result = search rules in
     simp to_z-of_z
-    (alone_made c.args.self.now c.deref.result.now _ b.pass c.system_time.new.pass b.left b.first b.next b.homes.items (parts_of b.keeper b.wheels.items b.inboxes.items b.mails.items b.scheds.items)
+    (alone_made c.args.self.now c.deref.result.now _ b.pass c.system_time.new.self b.left b.first b.next b.homes.items (parts_of b.keeper b.wheels.items b.inboxes.items b.mails.items b.scheds.items)
     (λ g. TellsSystemTime g (Caller 0) c.system_time.result) c.deref.ensures c.self.view_is c.self.invariant.0 c.system_time.ensures.belongs c.system_time.ensures.call
     (λ st es is. (system_quiet (settings_of c.deref.result.now) (Caller 0) c.system_time.result st es is).only)).steps
 
@@ -30,5 +30,5 @@ pub returns-clause-value : goal.returns-clause-value
 returns-clause-value c =
     let b = c.self.inside in
     let fits : FitsSigned w64 c.system_time.result = search rules in
-    simp to_z-of_z (system_told c.args.self.now c.deref.result.now _ b.pass c.system_time.new.pass b.left b.first b.next b.homes.items (parts_of b.keeper b.wheels.items b.inboxes.items b.mails.items b.scheds.items) c.deref.ensures
+    simp to_z-of_z (system_told c.args.self.now c.deref.result.now _ b.pass c.system_time.new.self b.left b.first b.next b.homes.items (parts_of b.keeper b.wheels.items b.inboxes.items b.mails.items b.scheds.items) c.deref.ensures
     c.self.view_is c.self.invariant.0 c.system_time.result c.system_time.ensures.call)

@@ -4,8 +4,8 @@ use Rattle.ert_shard.proofs.TriedHeld.{shard_tries_held}
 use Rattle.ert_shard.proofs.Turned.{advance_ok, advance_refused}
 use Rattle.ert_shard.specs.Shards.{share_of, shard_parts_of}
 use Rattle.ert_table.specs.Desks.{settings_of, view_of}
-use Rattle.ert_world.proofs.Advances.{advance_fits}
-use Rattle.ert_world.specs.declared.sched_part.SchedPart.{SchedPart}
+use Rattle.ert_timers.proofs.SchedParts.{advance_fits}
+use Rattle.ert_timers.specs.declared.sched_part.SchedPart.{SchedPart}
 use Rattle.ert_shard.proofs.shard.Shard.advance.Goals as goal
 
 pub invariant_of-self : goal.invariant_of-self

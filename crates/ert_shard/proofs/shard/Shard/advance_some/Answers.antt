@@ -3,8 +3,8 @@ use Rattle.ert_shard.proofs.Called.{did_at, has_at}
 use Rattle.ert_shard.proofs.Turned.{some_ok, some_refused}
 use Rattle.ert_shard.specs.Shards.{share_of, shard_parts_of}
 use Rattle.ert_table.specs.Desks.{settings_of, view_of}
-use Rattle.ert_world.proofs.Advances.{count_fits}
-use Rattle.ert_world.specs.declared.sched_part.SchedPart.{SchedPart}
+use Rattle.ert_timers.proofs.SchedParts.{count_fits}
+use Rattle.ert_timers.specs.declared.sched_part.SchedPart.{SchedPart}
 use Rattle.ert_shard.proofs.shard.Shard.advance_some.Goals as goal
 
 pub invariant_of-self : goal.invariant_of-self

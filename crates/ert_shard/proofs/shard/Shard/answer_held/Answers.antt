@@ -11,7 +11,7 @@ use Rattle.ert_shard.proofs.Requested.{answered_now, asked_gone}
 use Rattle.ert_shard.specs.Shards.{Owned, IsHome, counted_from, share_of, shard_parts_of}
 use Rattle.ert_table.specs.Desks.{state_of}
 use Rattle.ert_world.proofs.Listed.{list_low, listed_now, listed_grown}
-use Rattle.ert_world.specs.declared.sched_part.SchedPart.{SchedPart}
+use Rattle.ert_timers.specs.declared.sched_part.SchedPart.{SchedPart}
 use Rattle.ert_shard.proofs.shard.Shard.answer_held.Goals as goal
 
 pub overflow_sub-place : goal.overflow_sub-place

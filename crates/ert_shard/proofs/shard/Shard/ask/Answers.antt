@@ -3,7 +3,7 @@ use Rattle.ert_effects.specs.RequestCalls.{Asks}
 use Rattle.ert_shard.proofs.Requested.{asked}
 use Rattle.ert_shard.specs.Shards.{share_of, shard_parts_of}
 use Rattle.ert_table.specs.Desks.{settings_of, view_of}
-use Rattle.ert_world.proofs.Calls.{if_ok_made}
+use Rattle.ert_table.proofs.Makings.{if_ok_made}
 use Rattle.ert_shard.proofs.shard.Shard.ask.Goals as goal
 
 pub invariant_of-self : goal.invariant_of-self

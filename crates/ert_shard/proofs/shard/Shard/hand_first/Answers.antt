@@ -15,7 +15,7 @@ use Rattle.ert_world.proofs.Listed.{list_low, listed_now, listed_grown}
 use Rattle.ert_timers.specs.Parts.{Part}
 use Rattle.ert_world.proofs.Reusing.{keeps_reused, loses_reused}
 use Rattle.ert_world.specs.Worlds.{KeepsRows}
-use Rattle.ert_world.specs.declared.sched_part.SchedPart.{SchedPart}
+use Rattle.ert_timers.specs.declared.sched_part.SchedPart.{SchedPart}
 use Rattle.ert_shard.proofs.shard.Shard.hand_first.Goals as goal
 
 pub overflow_sub-place : goal.overflow_sub-place

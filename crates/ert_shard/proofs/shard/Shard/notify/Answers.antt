@@ -5,7 +5,7 @@ use Rattle.ert_mail.proofs.LawsHold.{notifies_only}
 use Rattle.ert_shard.proofs.Called.{mail_stepped, place_low}
 use Rattle.ert_shard.specs.Shards.{Owned, IsHome, counted_from, share_of, shard_parts_of}
 use Rattle.ert_table.specs.Desks.{settings_of, view_of, state_of}
-use Rattle.ert_world.proofs.Calls.{if_ok_made}
+use Rattle.ert_table.proofs.Makings.{if_ok_made}
 use Rattle.ert_world.proofs.Listed.{list_low, listed_now, listed_grown}
 use Rattle.ert_shard.proofs.shard.Shard.notify.Goals as goal
 

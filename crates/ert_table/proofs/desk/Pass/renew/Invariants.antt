@@ -4,7 +4,7 @@ use Rattle.ert_defs.specs.declared.entry.Actor.TheVariants.{Caller}
 use Rattle.ert_table.specs.Desks.{settings_of, front_of}
 use Rattle.ert_table.specs.Renewals.{renewal}
 use Rattle.ert_table.proofs.desk.Pass.renew.Given as goal
-use Rattle.ert_words.specs.Ranges.{word_deadline}
+use Rattle.ert_table.specs.Ranges.{word_deadline}
 
 abbrev pub ghosts-renew_as : goal.ghosts-renew_as
 ghosts-renew_as a = record {

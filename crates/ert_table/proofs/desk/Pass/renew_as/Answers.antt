@@ -14,7 +14,7 @@ use Rattle.ert_table.proofs.OneStep.{may_compare_all_at, finds_all_as}
 use Rattle.ert_table.proofs.RenewActs.{renew_acts}
 use Rattle.ert_table.proofs.WordPlaces.{slot_place-high}
 use Rattle.ert_table.proofs.desk.Pass.renew_as.Goals as goal
-use Rattle.ert_words.specs.Ranges.{word_deadline}
+use Rattle.ert_table.specs.Ranges.{word_deadline}
 
 pub compare_exchange-found-requires : goal.compare_exchange-found-requires
 compare_exchange-found-requires g c =

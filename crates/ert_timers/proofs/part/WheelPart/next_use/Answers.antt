@@ -4,7 +4,7 @@ use Rattle.ert_timers.specs.Parts.{Part, slot_at}
 use Rattle.ert_timers.specs.contracts.part.WheelPart.{the_view}
 use Rattle.ert_timers.proofs.AllSlots.{all_len, read_at}
 use Rattle.ert_timers.proofs.Fit.{written_used}
-use Rattle.ert_words.specs.Free.{free_set}
+use Rattle.ert_timers.specs.Free.{free_set}
 use Rattle.ert_timers.specs.Changes.{next_use}
 use Rattle.ert_timers.specs.Slots.{Slot}
 use Rattle.ert_timers.proofs.part.WheelPart.next_use.Goals as goal

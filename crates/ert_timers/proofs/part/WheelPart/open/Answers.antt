@@ -3,7 +3,7 @@ use Rattle.ert_timers.proofs.Joined.{none_joined}
 use Rattle.ert_timers.specs.Parts.{all_slots}
 use Rattle.ert_timers.proofs.AllSlots.{all_unused}
 use Rattle.ert_timers.proofs.Openings.{fit_open, stands_open}
-use Rattle.ert_words.specs.Free.{free_set}
+use Rattle.ert_timers.specs.Free.{free_set}
 use Rattle.ert_timers.proofs.part.WheelPart.open.Goals as goal
 
 pub invariant_of-result : goal.invariant_of-result

@@ -1,5 +1,5 @@
 use Rattle.std.proofs.Common.{◌≡◌, ◌∙◌, true, [], rules, sym, subst}
-use Rattle.ert_calls.proofs.Named.{names_both, names_no_generation, names_no_slot}
+use Rattle.ert_table.proofs.Named.{names_both, names_no_generation, names_no_slot}
 use Rattle.ert_defs.specs.Legal.{names_timer}
 use Rattle.ert_table.specs.Desks.{settings_of, view_of}
 use Rattle.ert_timers.proofs.Freed.{keeps_uses}

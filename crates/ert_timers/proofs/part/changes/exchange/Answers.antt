@@ -2,7 +2,7 @@ use Rattle.std.proofs.Common.{◌≡◌, ℕ, Bool, true, false, not, Option, So
 use Rattle.std.specs.FinSet as sets
 use Rattle.ert_timers.proofs.Fit.{some_left}
 use Rattle.ert_timers.proofs.part.changes.exchange.Goals as goal
-use Rattle.ert_words.specs.Free.{Free, FreeSet, free_set, with_short, with_long, TakesLong, TakesNextSlot}
+use Rattle.ert_timers.specs.Free.{Free, FreeSet, free_set, with_short, with_long, TakesLong, TakesNextSlot}
 
 -- one of two facts of an answer, as a test says
 of_short : (long : Bool) (o : Option ℕ) (P Q : ℕ → Type 0) → long ≡ false → IfSome o Q → IfSome o (λ k. MatchBool long (P k) (Q k))

@@ -4,7 +4,8 @@ use Rattle.ert_world.proofs.Alone.{stays_by}
 use Rattle.ert_world.proofs.Calls.{has_at, does_at}
 use Rattle.ert_world.proofs.Listed.{kept_by}
 use Rattle.ert_world.proofs.WheelCalls.{lost_rows, replaced_passed}
-use Rattle.ert_world.proofs.Advances.{advance_ok, advance_fits, advance_refused}
+use Rattle.ert_timers.proofs.SchedParts.{advance_fits}
+use Rattle.ert_world.proofs.Advances.{advance_ok, advance_refused}
 use Rattle.ert_world.proofs.TriedHeld.{tries_held_at}
 use Rattle.ert_world.proofs.world.World.advance.Goals as goal
 

@@ -9,9 +9,9 @@ use Rattle.ert_world.proofs.world.World.end_timer.Goals as goal
 pub forget-requires-clause-stands : goal.forget-requires-clause-stands
 forget-requires-clause-stands c =
     let has = has_at c.deref.ensures c.self.view_is c.self.invariant.sound in
-    let done = cancel_called c.args.self.now c.self.inside c.deref.result.now c.cancel_timer-left.new.pass c.args.timer c.cancel_timer-left.result has
+    let done = cancel_called c.args.self.now c.self.inside c.deref.result.now c.cancel_timer-left.new.self c.args.timer c.cancel_timer-left.result has
     c.cancel_timer-left.ensures.belongs c.cancel_timer-left.ensures.call.call in
-    stands_then c.deref.result.now c.cancel_timer-left.new.pass c.self.inside.next (parts_in c.self.inside) c.args.timer.wheel c.index_mut.result.now done.fit
+    stands_then c.deref.result.now c.cancel_timer-left.new.self c.self.inside.next (parts_in c.self.inside) c.args.timer.wheel c.index_mut.result.now done.fit
     (schedulers_at has c.args.timer.wheel c.requires.wheel) c.index_mut.ensures.value
 
 pub forget-requires-clause-last : goal.forget-requires-clause-last
@@ -24,19 +24,19 @@ pub forget-requires-clause-settled : goal.forget-requires-clause-settled
 forget-requires-clause-settled c =
     let has = has_at c.deref.ensures c.self.view_is c.self.invariant.sound in
     let held = held_old c.args.self.now c.self.inside c.deref.result.now c.args.timer.wheel c.index_mut.result.now c.args.timer has c.index_mut.ensures.value c.requires.held in
-    let done = cancel_called c.args.self.now c.self.inside c.deref.result.now c.cancel_timer-left.new.pass c.args.timer c.cancel_timer-left.result has
+    let done = cancel_called c.args.self.now c.self.inside c.deref.result.now c.cancel_timer-left.new.self c.args.timer c.cancel_timer-left.result has
     c.cancel_timer-left.ensures.belongs c.cancel_timer-left.ensures.call.call in
-    settled_then c.deref.result.now c.cancel_timer-left.new.pass c.args.timer done.fit.belongs
-    (ended_over c.args.self.now c.self.inside c.deref.result.now c.cancel_timer-left.new.pass c.index_mut.result.now c.args.timer c.cancel_timer-left.result has
+    settled_then c.deref.result.now c.cancel_timer-left.new.self c.args.timer done.fit.belongs
+    (ended_over c.args.self.now c.self.inside c.deref.result.now c.cancel_timer-left.new.self c.index_mut.result.now c.args.timer c.cancel_timer-left.result has
     c.requires.wheel c.index_mut.ensures.value held done c.cancel_timer-left.ensures.call)
 
 pub invariant_of-self : goal.invariant_of-self
 invariant_of-self c =
     let all =
     (let has = has_at c.deref.ensures c.self.view_is c.self.invariant.sound in
-    let done = cancel_called c.args.self.now c.self.inside c.deref.result.now c.cancel_timer-left.new.pass c.args.timer c.cancel_timer-left.result has
+    let done = cancel_called c.args.self.now c.self.inside c.deref.result.now c.cancel_timer-left.new.self c.args.timer c.cancel_timer-left.result has
     c.cancel_timer-left.ensures.belongs c.cancel_timer-left.ensures.call.call in
-    (does_cancel_at c.deref.ensures (ended c.args.self.now c.self.inside c.deref.result.now c.cancel_timer-left.new.pass c.args.timer c.cancel_timer-left.result
+    (does_cancel_at c.deref.ensures (ended c.args.self.now c.self.inside c.deref.result.now c.cancel_timer-left.new.self c.args.timer c.cancel_timer-left.result
     c.index_mut.result.now c.forget.new.self has done (schedulers_at has c.args.timer.wheel c.requires.wheel) c.index_mut.ensures.value c.forget.ensures.number
     (c.forget.ensures.stands (settings_of c.deref.result.now) done.fit.belongs.named) c.forget.ensures.loses c.forget.ensures.forgotten))) in
     kept_by c.self.inside c.self.inside.list c.self.view_is all.fit all.goes.grows c.self.invariant.listed
@@ -44,18 +44,18 @@ invariant_of-self c =
 pub returns-clause-call : goal.returns-clause-call
 returns-clause-call c =
     let has = has_at c.deref.ensures c.self.view_is c.self.invariant.sound in
-    let done = cancel_called c.args.self.now c.self.inside c.deref.result.now c.cancel_timer-left.new.pass c.args.timer c.cancel_timer-left.result has
+    let done = cancel_called c.args.self.now c.self.inside c.deref.result.now c.cancel_timer-left.new.self c.args.timer c.cancel_timer-left.result has
     c.cancel_timer-left.ensures.belongs c.cancel_timer-left.ensures.call.call in
-    (does_cancel_at c.deref.ensures (ended c.args.self.now c.self.inside c.deref.result.now c.cancel_timer-left.new.pass c.args.timer c.cancel_timer-left.result
+    (does_cancel_at c.deref.ensures (ended c.args.self.now c.self.inside c.deref.result.now c.cancel_timer-left.new.self c.args.timer c.cancel_timer-left.result
     c.index_mut.result.now c.forget.new.self has done (schedulers_at has c.args.timer.wheel c.requires.wheel) c.index_mut.ensures.value c.forget.ensures.number
     (c.forget.ensures.stands (settings_of c.deref.result.now) done.fit.belongs.named) c.forget.ensures.loses c.forget.ensures.forgotten)).goes
 
 pub returns-clause-stays : goal.returns-clause-stays
 returns-clause-stays c =
     let has = has_at c.deref.ensures c.self.view_is c.self.invariant.sound in
-    let done = cancel_called c.args.self.now c.self.inside c.deref.result.now c.cancel_timer-left.new.pass c.args.timer c.cancel_timer-left.result has
+    let done = cancel_called c.args.self.now c.self.inside c.deref.result.now c.cancel_timer-left.new.self c.args.timer c.cancel_timer-left.result has
     c.cancel_timer-left.ensures.belongs c.cancel_timer-left.ensures.call.call in
-    (does_cancel_at c.deref.ensures (ended c.args.self.now c.self.inside c.deref.result.now c.cancel_timer-left.new.pass c.args.timer c.cancel_timer-left.result
+    (does_cancel_at c.deref.ensures (ended c.args.self.now c.self.inside c.deref.result.now c.cancel_timer-left.new.self c.args.timer c.cancel_timer-left.result
     c.index_mut.result.now c.forget.new.self has done (schedulers_at has c.args.timer.wheel c.requires.wheel) c.index_mut.ensures.value c.forget.ensures.number
     (c.forget.ensures.stands (settings_of c.deref.result.now) done.fit.belongs.named) c.forget.ensures.loses c.forget.ensures.forgotten)).stays
 

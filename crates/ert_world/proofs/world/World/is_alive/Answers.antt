@@ -9,7 +9,7 @@ use Rattle.ert_world.proofs.world.World.is_alive.Goals as goal
 pub invariant_of-self : goal.invariant_of-self
 invariant_of-self c =
     let all =
-    ((alone_called c.args.self.now c.self.inside c.deref.result.now _ c.is_alive.new.pass (λ g. TellsAlive g (Caller 0) c.args.process c.is_alive.result) c.deref.ensures c.self.view_is c.self.invariant.sound
+    ((alone_called c.args.self.now c.self.inside c.deref.result.now _ c.is_alive.new.self (λ g. TellsAlive g (Caller 0) c.args.process c.is_alive.result) c.deref.ensures c.self.view_is c.self.invariant.sound
     c.is_alive.ensures.belongs c.is_alive.ensures.call (alive_quiet (settings_of c.deref.result.now) (Caller 0) c.args.process c.is_alive.result))) in
     kept_by c.self.inside c.self.inside.list c.self.view_is all.fit all.goes.grows c.self.invariant.listed
 
@@ -17,6 +17,6 @@ pub returns : goal.returns
 returns c =
     record {
       call =
-          (alone_called c.args.self.now c.self.inside c.deref.result.now _ c.is_alive.new.pass (λ g. TellsAlive g (Caller 0) c.args.process c.is_alive.result) c.deref.ensures c.self.view_is c.self.invariant.sound
+          (alone_called c.args.self.now c.self.inside c.deref.result.now _ c.is_alive.new.self (λ g. TellsAlive g (Caller 0) c.args.process c.is_alive.result) c.deref.ensures c.self.view_is c.self.invariant.sound
           c.is_alive.ensures.belongs c.is_alive.ensures.call (alive_quiet (settings_of c.deref.result.now) (Caller 0) c.args.process c.is_alive.result)).goes;
     }

@@ -6,7 +6,7 @@ use Rattle.ert_mail.specs.Lists.{AreListed, exited_from}
 use Rattle.ert_mail.specs.Mailboxes.{Mailbox}
 use Rattle.ert_table.specs.Desks.{settings_of, state_of}
 use Rattle.ert_table.specs.declared.desk.Desk.{Desk}
-use Rattle.ert_words.specs.Turns.{TurnRow}
+use Rattle.ert_mail.specs.Turns.{TurnRow}
 use Rattle.ert_world.proofs.Calls.{has_at, parts_in}
 use Rattle.ert_world.proofs.Mailed.{Starts, from_zero, have_mail, listed_at_zero, mail_found, next_at_zero, starts_new, starts_there}
 use Rattle.ert_world.specs.Mailing.{FindsMail, turns_of}

@@ -11,7 +11,7 @@ use Rattle.ert_world.proofs.world.World.system_time.Goals as goal
 pub invariant_of-self : goal.invariant_of-self
 invariant_of-self c =
     let all =
-    ((alone_called c.args.self.now c.self.inside c.deref.result.now _ c.system_time.new.pass (λ g. TellsSystemTime g (Caller 0) c.system_time.result) c.deref.ensures c.self.view_is c.self.invariant.sound
+    ((alone_called c.args.self.now c.self.inside c.deref.result.now _ c.system_time.new.self (λ g. TellsSystemTime g (Caller 0) c.system_time.result) c.deref.ensures c.self.view_is c.self.invariant.sound
     c.system_time.ensures.belongs c.system_time.ensures.call (system_quiet (settings_of c.deref.result.now) (Caller 0) c.system_time.result))) in
     kept_by c.self.inside c.self.inside.list c.self.view_is all.fit all.goes.grows c.self.invariant.listed
 
@@ -19,10 +19,10 @@ pub returns-clause-call : goal.returns-clause-call
 returns-clause-call c =
     let fits : FitsSigned w64 c.system_time.result = search rules in
     simp to_z-of_z
-    (alone_called c.args.self.now c.self.inside c.deref.result.now _ c.system_time.new.pass (λ g. TellsSystemTime g (Caller 0) c.system_time.result) c.deref.ensures c.self.view_is c.self.invariant.sound
+    (alone_called c.args.self.now c.self.inside c.deref.result.now _ c.system_time.new.self (λ g. TellsSystemTime g (Caller 0) c.system_time.result) c.deref.ensures c.self.view_is c.self.invariant.sound
     c.system_time.ensures.belongs c.system_time.ensures.call (system_quiet (settings_of c.deref.result.now) (Caller 0) c.system_time.result)).goes
 
 pub returns-clause-value : goal.returns-clause-value
 returns-clause-value c =
     let fits : FitsSigned w64 c.system_time.result = search rules in
-    simp to_z-of_z (system_value c.args.self.now c.self.inside c.deref.result.now c.system_time.new.pass c.system_time.result (has_at c.deref.ensures c.self.view_is c.self.invariant.sound) c.system_time.ensures.call)
+    simp to_z-of_z (system_value c.args.self.now c.self.inside c.deref.result.now c.system_time.new.self c.system_time.result (has_at c.deref.ensures c.self.view_is c.self.invariant.sound) c.system_time.ensures.call)

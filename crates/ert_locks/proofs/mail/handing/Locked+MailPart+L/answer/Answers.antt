@@ -3,7 +3,7 @@ use Rattle.ert_effects.specs.RequestCalls.{Answers}
 use Rattle.ert_locks.proofs.Own.{answers_have}
 use Rattle.ert_locks.proofs.Scheds.{answered_hand, answered_expired}
 use Rattle.ert_table.specs.Desks.{settings_of, view_of}
-use Rattle.ert_world.proofs.Calls.{if_ok_made}
+use Rattle.ert_table.proofs.Makings.{if_ok_made}
 use Rattle.ert_locks.proofs.mail.handing.Locked+MailPart+L.answer.Goals as goal
 
 pub lend-requires-clause-own : goal.lend-requires-clause-own

@@ -1,4 +1,0 @@
-pub mod Looks
-pub mod Named
-pub mod Steps
-pub mod Timings

@@ -1,4 +1,0 @@
-pub mod Armed
-pub mod Held
-pub mod Moved
-pub mod Stacks

@@ -1,4 +1,0 @@
-pub mod Free
-pub mod Laws
-pub mod Ranges
-pub mod Turns
