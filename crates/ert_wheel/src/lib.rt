@@ -53,8 +53,8 @@
 //! whose slot stayed where it was may so stand too early. On the lowest level no row does, since no slot stays there.
 //!
 //! **Rows fall** (`falling`) to lower levels as time goes on. When time comes into the window of a bucket, each row that is left in
-//! it goes to the least bucket of its deadline. That is on a lower level, but for a row that stood too early: it may go to a later
-//! window of the same level or of one above. Where time leaps it comes from the begin of one window that has rows to that of the
+//! it goes to the bucket of its deadline on the level below. One that stood too early goes to the least bucket of its deadline: that may be a
+//! later window of the same level or of one above. Where time leaps it comes from the begin of one window that has rows to that of the
 //! next, so that no such row is passed. Before time comes into a window some rows fall ahead of time, out of the bucket of the next
 //! window: so many for each millisecond that passes as leave few for the begin of the window, at first few and then more.
 //! How many fall ahead is a matter of speed alone: whether a row has fallen yet changes no answer.
