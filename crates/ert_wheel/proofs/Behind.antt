@@ -9,7 +9,7 @@ use Rattle.std.specs.Option.{is_some}
 use Rattle.ert_wheel.proofs.Standing.{not_late}
 use Rattle.ert_wheel.proofs.Times.{later, one_bucket, one_window, some_wide}
 use Rattle.ert_wheel.proofs.Views.{place_is}
-use Rattle.ert_wheel.proofs.Writes.{Sees, ordered_never}
+use Rattle.ert_wheel.proofs.Writes.{Sees, unordered, ordered_never}
 use Rattle.ert_wheel.specs.Falling.{HasRowIn, MayFall}
 use Rattle.ert_wheel.specs.FirstDue.{HasToMove}
 use Rattle.ert_wheel.specs.Levels.{bucket_of_window, MayStand}
@@ -17,8 +17,8 @@ use Rattle.ert_wheel.specs.Rings.{Rings, Place, AreChains, StandsIn, Finds}
 use Rattle.ert_wheel.specs.NextDue.{NoneBefore}
 use Rattle.ert_wheel.specs.Rows.{key_in}
 use Rattle.ert_wheel.specs.Wheels.{held_keys, stand_on, places, AreLevelChains}
+use Rattle.ert_wheel.specs.declared.ordered.Ordered.{Ordered}
 use Rattle.ert_wheel.specs.declared.row.Key.{Key}
-use Rattle.ert_wheel.specs.declared.row.TheConstants.{NEVER}
 
 -- the newest row that stands in the window after that of the next time is due in it or later
 row_left : (next level slot : ℕ) (chains : Rings) (stored : List Key) → 1 ≤ level → MayFall next 1 chains (held_keys chains stored)
@@ -130,10 +130,10 @@ pub none_by : (keys : List (Option Key)) (time to : ℕ) → NoneBefore keys tim
 none_by keys time to none less slot = if_some (key_in keys slot) to (λ k has. omega (arith, less, none slot k has))
 
 -- the wheel after rows fell, where time stands
-pub fell : {next count ordered floor : ℕ} {stored : List Key} {seen : List (Option Key)} {chains new : Rings}
+pub fell : {next count : ℕ} {ordered : Ordered} {floor : ℕ} {stored : List Key} {seen : List (Option Key)} {chains new : Rings} (rising : ℕ)
     → Sees next count ordered floor stored seen chains → new.slots ≡ chains.slots → new.homes ≡ chains.homes
-    → AreLevelChains next 1 new seen → Sees next count NEVER floor stored seen new
-fell s slots homes are = record {
+    → AreLevelChains next 1 new seen → Sees next count (unordered rising) floor stored seen new
+fell rising s slots homes are = record {
   are_stored = s.are_stored;
   above = s.above;
   wheel = record {

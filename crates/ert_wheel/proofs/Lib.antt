@@ -27,7 +27,7 @@ pub mod MarkBits
 pub mod Least
 pub mod Near
 pub mod NextDue
-pub mod Ordered
+pub mod Risen
 pub mod Parts
 pub mod Renumber
 pub mod Reaching

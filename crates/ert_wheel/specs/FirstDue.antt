@@ -1,6 +1,6 @@
 -- The first of the rows that are due.
 
-use Rattle.std.specs.Prelude.{◌≡◌, ◌⊎◌, ℕ, ◌+◌, ◌<◌, ◌≤◌, false, List, Option, Some, max}
+use Rattle.std.specs.Prelude.{◌≡◌, ◌⊎◌, ⊤, ℕ, ◌+◌, ◌<◌, ◌≤◌, false, List, Option, Some, max}
 use Rattle.ert_wheel.specs.NextDue.{NoneBefore, IsNextDue, WindowBegins}
 use Rattle.ert_wheel.specs.Rings.{Place}
 use Rattle.ert_wheel.specs.Rows.{key_in, key_of, row_at, row_told, comes_before}
@@ -46,11 +46,22 @@ pub record HasToMove (keys : List (Option Key)) (passed to : ℕ) : Type 0 where
   pub on : passed ≤ to
   pub begins : BeginsBy keys passed (to + 1)
 
+-- More has to be done first: time hasn't come to a time, or a row is due by then, and rows of its millisecond are to be put in order of
+-- start.
+abbrev pub HasMore : List (Option Key) → ℕ → ℕ → Type 0
+HasMore keys passed to = HasToMove keys passed to ⊎ SomeRowDue keys to
+
 -- what is told of the first row that is due by a time
 abbrev pub IsFirstTold : List (Option Key) → ℕ → ℕ → FirstDue → Type 0
 IsFirstTold keys passed to (First row) = IsFirstRowDue keys to (row_told keys row)
 IsFirstTold keys passed to Nothing = IsPast keys passed to
-IsFirstTold keys passed to Moving = HasToMove keys passed to
+IsFirstTold keys passed to Moving = HasMore keys passed to
+
+-- and of the first row that is due at a time before which none is, where time has come to that
+abbrev pub IsFirstAt : List (Option Key) → ℕ → ℕ → FirstDue → Type 0
+IsFirstAt keys passed time (First row) = IsFirstRowDue keys time (row_told keys row)
+IsFirstAt keys passed time Nothing = time ≤ passed → NoRowDue keys time
+IsFirstAt keys passed time Moving = ⊤
 
 -- where time may come to next: no row is due before that, and it is when the next one is, or just past the time
 pub record IsNextStop (keys : List (Option Key)) (passed to stop : ℕ) : Type 0 where

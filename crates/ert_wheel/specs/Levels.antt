@@ -29,14 +29,15 @@ pub record IsLeastBucket (next time bucket : ℕ) : Type 0 where
   pub least : IsLeastLevel next level time
   pub is : bucket ≡ bucket_on level time
 
--- a level is the next one below another, and a time is in a window of that one
-pub record IsNextBelow (from window level time : ℕ) : Type 0 where
+-- a level is the next one below another, and a time after the next one is in a window of that one
+pub record IsNextBelow (next from window level time : ℕ) : Type 0 where
+  pub later : next < time
   pub below : level + 1 ≡ from
   pub within : time / 512 ^ from ≡ window
 
 -- where a time comes from a window of a level: to the level below, where it is in that window, or to the least level on which it may stand
 abbrev pub IsLevelBelow : ℕ → ℕ → ℕ → ℕ → ℕ → Type 0
-IsLevelBelow next from window level time = IsNextBelow from window level time ⊎ IsLeastLevel next level time
+IsLevelBelow next from window level time = IsNextBelow next from window level time ⊎ IsLeastLevel next level time
 
 -- a bucket is that of a time there
 pub record IsBucketBelow (next from window time bucket : ℕ) : Type 0 where

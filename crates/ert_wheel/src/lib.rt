@@ -148,6 +148,7 @@
 
 mod chains;
 mod falling;
+mod heap;
 mod kept;
 mod keyed;
 mod laws;
@@ -156,7 +157,10 @@ mod links;
 mod marked;
 mod marks;
 mod oldest;
+mod ordered;
 mod ordering;
+mod renewing;
+mod rising;
 mod row;
 mod sorting;
 mod telling;

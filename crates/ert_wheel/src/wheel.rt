@@ -5,6 +5,8 @@ use crate::falling::move_on;
 use crate::kept::Kept;
 use crate::keyed::Keyed;
 use crate::marked::MarkedChains;
+use crate::ordered::Ordered;
+use crate::renewing::{Sorting, sorting_of};
 use crate::row::{HeldRow, LAST, NEVER, Row};
 use crate::windows::bucket;
 use ert_defs::NoMemory;
@@ -44,8 +46,10 @@ pub struct Wheel<T: Keyed> {
     len: u32,
     // How many rows have fallen from the next window of level 1 ahead of time.
     fallen: u32,
-    // The time whose bucket is in order of start; `NEVER` where none is.
-    ordered: u64,
+    // How far the rows of the next time's bucket are known to be in order of start.
+    ordered: Ordered,
+    // How far they are sorted.
+    sorting: Sorting,
     kept: Kept<T>,
     buckets: MarkedChains,
     owners: Chains,
@@ -100,7 +104,11 @@ impl<T: Keyed> Wheel<T> {
             teller: 0,
             len: 0,
             fallen: 0,
-            ordered: NEVER,
+            ordered: Ordered {
+                time: NEVER,
+                rising: 0,
+            },
+            sorting: sorting_of(NEVER),
             kept,
             buckets,
             owners,
@@ -303,7 +311,7 @@ impl<T: Keyed> Wheel<T> {
         let next_time = was.max(after);
         self.fallen = move_on(&mut self.buckets, &self.kept, was, next_time, self.fallen);
         self.next_time = next_time;
-        self.ordered = NEVER;
+        self.ordered.time = NEVER;
         self.floor = self.floor.max(after);
     }
 

@@ -91,8 +91,8 @@ fn far_bucket(next_time: u64, time: u64) -> u32
     bucket_on(4, time)
 }
 
-/// The bucket of a time where it comes from a window of a level: on the level below, where it is in that window, and else on the least
-/// level on which it may stand.
+/// The bucket of a time where it comes from a window of a level: on the level below, where it is in that window and after the next
+/// time, and else on the least level on which it may stand.
 #[inline]
 pub fn bucket_below(next_time: u64, level: u32, window: u64, time: u64) -> u32
     requires next { next_time ≤ time }
@@ -102,7 +102,7 @@ pub fn bucket_below(next_time: u64, level: u32, window: u64, time: u64) -> u32
     ensures is { IsBucketBelow next_time level window time result }
     ensures low { result < BUCKETS }
 {
-    if window_on(level, time) == window {
+    if time > next_time && window_on(level, time) == window {
         return bucket_on(level - 1, time);
     }
     bucket(next_time, time)

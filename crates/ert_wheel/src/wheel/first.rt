@@ -5,16 +5,17 @@ use super::Wheel;
 use crate::falling::{fall_before, fall_on};
 use crate::keyed::Keyed;
 use crate::oldest::oldest_due;
-use crate::ordering::order_next;
+use crate::ordering::order_some;
+use crate::rising::is_due;
 use crate::row::{FirstDue, HeldRow, LAST, NEVER};
 use crate::windows::{begin_of, bucket_of_window, window_on};
 
 impl<T: Keyed> Wheel<T> {
     ghost use Rattle.std.specs.Bool.{OnTrue};
     ghost use Rattle.std.specs.Prelude.{◌≡◌, ◌+◌, ◌-◌, ◌<◌, ◌≤◌, ℕ, IfSome, MatchBool, MatchOption, length, max, min, vec_capacity};
-    ghost use Rattle.ert_wheel.specs.FirstDue.{NoRowDue, HasToMove, IsFirstRowDue, IsFirstTold, IsNextStop, IsReached, MayBeDue, SomeRowDue};
+    ghost use Rattle.ert_wheel.specs.FirstDue.{NoRowDue, HasToMove, IsFirstAt, IsFirstTold, IsNextStop, IsReached, MayBeDue, SomeRowDue};
     ghost use Rattle.ert_wheel.specs.NextDue.{NoneBefore};
-    ghost use Rattle.ert_wheel.specs.Rows.{key_in, row_told};
+    ghost use Rattle.ert_wheel.specs.Rows.{key_in};
     ghost use Rattle.ert_wheel.specs.declared.row.TheConstants.{LAST};
 
     /// Whether a row may be due at `to`: one is due by then or by the next time, or a window begins by then where rows stand. False
@@ -75,7 +76,6 @@ impl<T: Keyed> Wheel<T> {
     /// with its deadline.
     pub fn first_due(&mut self, to: u64, moves: &mut u32, scratch: &mut Vec<HeldRow>) -> FirstDue
         requires to { to < LAST }
-        requires room { length self.old.keys ≤ vec_capacity scratch.old }
         ensures first { IsFirstTold self.old.keys self.new.passed to result }
         ensures keys { self.new.keys ≡ self.old.keys }
         ensures owners { self.new.owners ≡ self.old.owners }
@@ -85,16 +85,52 @@ impl<T: Keyed> Wheel<T> {
         ensures fewer { moves.new ≤ moves.old }
         ensures capacity { vec_capacity scratch.new ≡ vec_capacity scratch.old }
     {
-        let floor = self.floor;
-        if let Some(row) = self.first_at(floor, scratch) {
-            if row.deadline <= to {
-                return FirstDue::Row(row);
-            }
+        if let Some(told) = self.first_kept(to, moves, scratch) {
+            return told;
         }
         match self.reach(to, moves) {
-            Some(stop) => self.first_by(stop, to, scratch),
+            Some(stop) => self.first_by(stop, to, moves, scratch),
             None => FirstDue::Moving,
         }
+    }
+
+    /// What the floor and the kept slot tell of the first row that is due by `to`.
+    #[inline]
+    fn first_kept(
+        &mut self,
+        to: u64,
+        moves: &mut u32,
+        scratch: &mut Vec<HeldRow>,
+    ) -> Option<FirstDue>
+        ensures first { IfSome result (IsFirstTold self.old.keys self.old.passed to) }
+        ensures same { self.new ≡ self.old }
+        ensures fewer { moves.new ≤ moves.old }
+        ensures capacity { vec_capacity scratch.new ≡ vec_capacity scratch.old }
+    {
+        let floor = self.floor;
+        match self.first_at(floor, moves, scratch) {
+            FirstDue::Row(row) => {
+                if row.deadline <= to {
+                    return Some(FirstDue::Row(row));
+                }
+                None
+            }
+            FirstDue::Moving => {
+                if self.is_due_by(to) {
+                    return Some(FirstDue::Moving);
+                }
+                None
+            }
+            FirstDue::Nothing => None,
+        }
+    }
+
+    /// Whether the row of the kept slot is due by a time.
+    #[inline]
+    fn is_due_by(&self, to: u64) -> bool
+        ensures { OnTrue result (SomeRowDue self.now.keys to) }
+    {
+        is_due(&self.buckets, &self.kept, to, self.teller)
     }
 
     /// Lets time come to the least deadline, where that is at most `to`, and else past `to`. Tells that time; None where more
@@ -120,56 +156,63 @@ impl<T: Keyed> Wheel<T> {
     }
 
     /// The first row that is due by `to`, where time has come to its deadline, or past `to`.
-    fn first_by(&mut self, reached: u64, to: u64, scratch: &mut Vec<HeldRow>) -> FirstDue
+    fn first_by(
+        &mut self,
+        reached: u64,
+        to: u64,
+        moves: &mut u32,
+        scratch: &mut Vec<HeldRow>,
+    ) -> FirstDue
         requires reached { IsReached self.old.keys self.old.passed to reached }
-        requires room { length self.old.keys ≤ vec_capacity scratch.old }
         ensures first { IsFirstTold self.old.keys self.new.passed to result }
         ensures same { self.new ≡ self.old }
+        ensures fewer { moves.new ≤ moves.old }
         ensures capacity { vec_capacity scratch.new ≡ vec_capacity scratch.old }
     {
         if reached > to {
             return FirstDue::Nothing;
         }
         self.floor = self.floor.max(reached);
-        match self.first_at(reached, scratch) {
-            Some(row) => FirstDue::Row(row),
-            None => FirstDue::Nothing,
-        }
+        self.first_at(reached, moves, scratch)
     }
 
-    /// The first row where it is due at a time before which none is; None where none is due at that time, if this is no later
-    /// than the next time.
+    /// The first row where it is due at a time before which none is; nothing where none is due at that time, if this is no later
+    /// than the next time. Where more rows have to be put in order before than may, that is told.
     #[inline]
-    fn first_at(&mut self, time: u64, scratch: &mut Vec<HeldRow>) -> Option<HeldRow>
+    fn first_at(&mut self, time: u64, moves: &mut u32, scratch: &mut Vec<HeldRow>) -> FirstDue
         requires before { NoneBefore self.old.keys time }
-        requires room { length self.old.keys ≤ vec_capacity scratch.old }
-        ensures first { MatchOption result (time ≤ self.old.passed → NoRowDue self.old.keys time) (λ row. IsFirstRowDue self.old.keys time (row_told self.old.keys row)) }
+        ensures first { IsFirstAt self.old.keys self.old.passed time result }
         ensures same { self.new ≡ self.old }
+        ensures fewer { moves.new ≤ moves.old }
         ensures capacity { vec_capacity scratch.new ≡ vec_capacity scratch.old }
     {
-        order_next(
+        let done = order_some(
             &mut self.buckets,
             &self.kept,
-            self.ordered,
+            &mut self.ordered,
+            &mut self.sorting,
             self.next_time,
+            moves,
             scratch,
         );
-        self.ordered = self.next_time;
-        oldest_due(
-            &self.buckets,
-            &self.kept,
-            bucket_of_window(0, self.next_time),
-            time,
-        )
+        if !done {
+            return FirstDue::Moving;
+        }
+        let home = bucket_of_window(0, self.next_time);
+        let Some(row) = oldest_due(&self.buckets, &self.kept, home, time) else {
+            return FirstDue::Nothing;
+        };
+        FirstDue::Row(row)
     }
 
     /// Where time may come to next: how early a row may be due by `to`, or the millisecond after it.
-    fn next_stop(&self, to: u64) -> u64
+    fn next_stop(&mut self, to: u64) -> u64
         requires { to < LAST }
-        ensures { IsNextStop self.now.keys self.now.passed to result }
+        ensures stop { IsNextStop self.old.keys self.old.passed to result }
+        ensures same { self.new ≡ self.old }
     {
-        match self.earliest() {
-            Some(early) => early.time.min(to + 1),
+        match self.next_due() {
+            Some(time) => time.min(to + 1),
             None => to + 1,
         }
     }
@@ -225,7 +268,7 @@ impl<T: Keyed> Wheel<T> {
         }
         let begin = begin_of(level, window);
         self.pass_slowly(begin - 2, moves);
-        self.ordered = NEVER;
+        self.ordered.time = NEVER;
         fall_before(&mut self.buckets, &self.kept, self.next_time, level, moves)
     }
 
@@ -250,7 +293,7 @@ impl<T: Keyed> Wheel<T> {
             moves,
         );
         self.next_time = next_time;
-        self.ordered = NEVER;
+        self.ordered.time = NEVER;
         self.floor = self.floor.max(after);
     }
 }

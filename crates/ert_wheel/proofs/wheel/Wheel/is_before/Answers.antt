@@ -27,7 +27,7 @@ pub invariant_of-self : goal.invariant_of-self
 invariant_of-self g c = record {
   alike = alike_after c.self-2.invariant.alike refl refl c.fall_before.ensures.slots c.fall_before.ensures.written refl refl;
   rows = is_kept
-      (fell (sees c.self-2.invariant.rows c.self-2.view_is) c.fall_before.ensures.slots c.fall_before.ensures.homes
+      (fell c.self-2.inside.ordered.rising (sees c.self-2.invariant.rows c.self-2.view_is) c.fall_before.ensures.slots c.fall_before.ensures.homes
       (subst (λ (keys : List (Option Key)). AreLevelChains c.self-2.inside.next_time 1 c.fall_before.new.chains keys) (ap keys_of c.self-2.view_is)
       c.fall_before.ensures.moved));
 }
@@ -35,7 +35,7 @@ invariant_of-self g c = record {
 pub returns-clause-keys : goal.returns-clause-keys
 returns-clause-keys g c =
     is_held
-    (fell (sees c.self-2.invariant.rows c.self-2.view_is) c.fall_before.ensures.slots c.fall_before.ensures.homes
+    (fell c.self-2.inside.ordered.rising (sees c.self-2.invariant.rows c.self-2.view_is) c.fall_before.ensures.slots c.fall_before.ensures.homes
     (subst (λ (keys : List (Option Key)). AreLevelChains c.self-2.inside.next_time 1 c.fall_before.new.chains keys) (ap keys_of c.self-2.view_is)
     c.fall_before.ensures.moved))
     ∙ c.pass_slowly.ensures.keys

@@ -21,7 +21,7 @@ fall_on-self-inside-requires-clause-kept g c = c.self.invariant.alike.records
 pub invariant_of-self : goal.invariant_of-self
 invariant_of-self g c = record {
   alike = alike_after c.self.invariant.alike refl refl c.fall_on-self-inside.ensures.slots c.fall_on-self-inside.ensures.written refl refl;
-  rows = is_kept (moved c.args.to (c.min-after.result + 1) (sees c.self.invariant.rows c.self.view_is) c.requires (omega (arith, c.min-after.ensures)) c.max-self-inside.ensures
+  rows = is_kept (moved c.args.to (c.min-after.result + 1) c.self.inside.ordered.rising (sees c.self.invariant.rows c.self.view_is) c.requires (omega (arith, c.min-after.ensures)) c.max-self-inside.ensures
       (omega (arith, c.max-next_time.ensures, c.min-after.ensures, c.self.invariant.rows.wheel.time))
       c.fall_on-self-inside.ensures.slots c.fall_on-self-inside.ensures.homes
       (subst (λ (keys : List (Option Key)). AreLevelChains c.max-next_time.result 1 c.fall_on-self-inside.new.chains keys) (ap keys_of c.self.view_is)
@@ -30,7 +30,7 @@ invariant_of-self g c = record {
 
 pub returns-clause-keys : goal.returns-clause-keys
 returns-clause-keys g c =
-    is_held (moved c.args.to (c.min-after.result + 1) (sees c.self.invariant.rows c.self.view_is) c.requires (omega (arith, c.min-after.ensures)) c.max-self-inside.ensures
+    is_held (moved c.args.to (c.min-after.result + 1) c.self.inside.ordered.rising (sees c.self.invariant.rows c.self.view_is) c.requires (omega (arith, c.min-after.ensures)) c.max-self-inside.ensures
     (omega (arith, c.max-next_time.ensures, c.min-after.ensures, c.self.invariant.rows.wheel.time))
     c.fall_on-self-inside.ensures.slots c.fall_on-self-inside.ensures.homes
     (subst (λ (keys : List (Option Key)). AreLevelChains c.max-next_time.result 1 c.fall_on-self-inside.new.chains keys) (ap keys_of c.self.view_is)
