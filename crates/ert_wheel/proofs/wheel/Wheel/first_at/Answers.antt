@@ -34,4 +34,4 @@ returns-clause-first g c =
 pub returns-clause-same : goal.returns-clause-same
 returns-clause-same g c =
     let s = sees_ordered c.self.invariant.rows c.self.view_is c.order_next.ensures.ordered in
-    same_held (is_held s ∙ sym (ap keys_of c.self.view_is)) c.self.view_is
+    same_held (is_held s ∙ sym (ap keys_of c.self.view_is)) c.order_next.ensures.stands c.self.view_is
