@@ -114,6 +114,9 @@ behind keys there next time level passed some most b stands row = record {
     };
   };
 }
+  where
+    window : passed / 512 ^ level + 1 ≡ time / 512 ^ level
+    window = ap (λ t. t / 512 ^ level + 1) stands ∙ b.last
 
 pub left_behind : (keys : List (Option Key)) (there : List (Option ℕ)) (next time level passed : ℕ) (left : Bool) → 1 ≤ level → level ≤ 4 → BeginsAfter next time level
     → passed ≡ time / 512 ^ level * 512 ^ level - 1 → OnTrue left (HasRowIn keys there level (passed / 512 ^ level + 1))

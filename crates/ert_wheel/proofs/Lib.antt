@@ -38,6 +38,7 @@ pub mod StandsOn
 pub mod Staying
 pub mod Steps
 pub mod Views
+pub mod TakesMore
 pub mod Times
 pub mod Told
 pub mod Turning

@@ -1,9 +1,10 @@
 -- The row of a slot tells when the next one is due.
 
-use Rattle.std.proofs.Common.{◌≡◌, ◌↔◌, ◌≢◌, ◌⊎◌, ℕ, max, ◌+◌, ◌*◌, ◌/◌, ◌^◌, ◌<◌, ◌≤◌, Bool, nat_eq, List, Option, Some, None, IfNone, IfSome, option_map, sym, subst, ◌∙◌, ap, inl, inr, refl, arith}
+use Rattle.std.proofs.Common.{◌≡◌, ◌↔◌, ◌≢◌, ◌⊎◌, ℕ, max, ◌+◌, ◌*◌, ◌/◌, ◌^◌, ◌<◌, ◌≤◌, Bool, true, nat_eq, List, Option, Some, None, IfNone, IfSome, option_map, sym, subst, ◌∙◌, ap, inl, inr, refl, arith}
 use Rattle.std.proofs.Math.Nat.{div-lt_iff_lt-mul, mul-div_cancel}
-use Rattle.std.proofs.lemmas.Bool.{eq-eqb, eqb-true}
+use Rattle.std.proofs.lemmas.Bool.{eq-eqb, eqb-true, false≢true}
 use Rattle.std.specs.Bool.{IsTrue}
+use Rattle.std.specs.Option.{is_some}
 use Rattle.ert_wheel.proofs.Homes.{home_of_key, home_of_slot}
 use Rattle.ert_wheel.proofs.Looking.{key_low}
 use Rattle.ert_wheel.proofs.Standing.{end_of, window_low}
@@ -41,6 +42,12 @@ next_by keys stands passed time slot none tells = record {
         | inr b ↦ inr (record { slot = slot; key = tells.key; has = tells.has; in_window = b })
       ];
 }
+
+-- where one is known that does
+pub next_some : (keys : List (Option Key)) (stands : List (Option ℕ)) (passed time : ℕ) (found : Option ℕ) → NoneBefore keys time
+    → IfSome found (TellsNext keys stands passed time) → is_some found ≡ true → IsNextDue keys stands passed time
+next_some keys stands passed time None none tells some = absurd (false≢true some)
+next_some keys stands passed time (Some slot) none tells some = next_by keys stands passed time slot none tells
 
 -- the row of a slot that is due at a time tells it
 pub due_tells : (keys : List (Option Key)) (stands : List (Option ℕ)) (passed time slot : ℕ) → IsDueOf keys slot time → TellsNext keys stands passed time slot

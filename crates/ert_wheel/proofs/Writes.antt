@@ -20,7 +20,6 @@ use Rattle.ert_wheel.specs.Replacing.{MovesOrStays}
 use Rattle.ert_wheel.specs.Rings.{Rings, Place, MayPut, Puts, MayTake, GivesUpPlace}
 use Rattle.ert_wheel.specs.Rows.{Held, key_in, times, due_count, left_at}
 use Rattle.ert_wheel.specs.Falling.{MayMoveOn}
-use Rattle.ert_wheel.specs.Standing.{bucket_in}
 use Rattle.ert_wheel.specs.Wheels.{no_key, held_keys, stand_on, place_of, places, AreLevelChains, AreOrderedChains, IsWheel, IsWheelKept, IsWheelAlike}
 use Rattle.ert_wheel.specs.declared.row.Key.{Key}
 use Rattle.ert_wheel.specs.declared.row.Row.{Row}
@@ -209,7 +208,7 @@ inserted {next = next} {seen = seen} {chains = chains} {slot = slot} {key = key}
     (omega (arith, s.wheel.slots, s.wheel.few)) (numbers_below n)))
 
 -- the key that a slot has is the one that is stored
-held_stored : {next count ordered floor : ℕ} {stored : List Key} {seen : List (Option Key)} {chains : Rings} (slot : ℕ)
+pub held_stored : {next count ordered floor : ℕ} {stored : List Key} {seen : List (Option Key)} {chains : Rings} (slot : ℕ)
     → Sees next count ordered floor stored seen chains → (o : Option Key) → key_in seen slot ≡ o → IsSome o → key_in seen slot ≡ Some (get_or stored slot no_key)
 held_stored slot s None is held = absurd (true≢false (sym held))
 held_stored {stored = stored} slot s (Some key) is held =
@@ -402,7 +401,6 @@ pub record TakesOut {T : Type 0} (old now : Held T) (rows : List Row) : Type 0 w
   pub len : length now.keys ≡ length old.keys
   pub stays : (j : ℕ) → times j rows ≡ 0 → key_in now.keys j ≡ key_in old.keys j
   pub gone : (j : ℕ) → 0 < times j rows → key_in now.keys j ≡ None
-  pub stood : (j : ℕ) (key : Key) → key_in now.keys j ≡ Some key → bucket_in now.stands j ≡ bucket_in old.stands j
   pub owners : now.owners ≡ old.owners
   pub values : now.values ≡ old.values
   pub passed : now.passed ≡ old.passed

@@ -9,11 +9,11 @@ use Rattle.ert_wheel.specs.Rows.{key_in}
 use Rattle.ert_wheel.specs.declared.row.Key.{Key}
 
 -- more steps than a chain has
-pub far : ℕ
+unfoldable pub far : ℕ
 far = 2 ^ 64 + 2
 
 -- the home to whose head the links lead from a node, in so many steps
-pub home_from : ℕ → Rings → ℕ → Option ℕ
+unfoldable pub home_from : ℕ → Rings → ℕ → Option ℕ
 home_from zero r x = None
 home_from (suc n) r x = cond (nat_lt x r.slots) (home_from n r (next_at r.links x)) (Some (x - r.slots))
 
@@ -37,11 +37,22 @@ pub record StandsAt (stands : List (Option ℕ)) (passed slot time : ℕ) : Type
   pub highest : level ≤ 4
   pub in_window : StandsInWindow stands passed level (time / 512 ^ level) slot
 
--- The row of a slot comes to the bucket of a time on some level that shows the time. No other row moves.
+-- The row of a slot stands in the bucket of its deadline on some level that shows it. A late one may stand in that of a time on the
+-- lowest level, which was the first that wasn't passed.
+pub record StandsDue (stands : List (Option ℕ)) (passed slot deadline : ℕ) : Type 0 where
+  pub level : ℕ
+  pub highest : level ≤ 4
+  pub time : ℕ
+  pub in_window : StandsInWindow stands passed level (time / 512 ^ level) slot
+  pub due : (time ≡ deadline) ⊎ ((level ≡ 0) × (deadline ≤ time) × (time ≤ passed))
+
+-- The row of a slot comes to the bucket of a time on some level that shows the time: the lowest one, where that is the first that
+-- wasn't passed. No other row moves.
 pub record ComesTo (old new : List (Option ℕ)) (passed slot time : ℕ) : Type 0 where
   pub level : ℕ
   pub highest : level ≤ 4
   pub near : time / 512 ^ level / 512 ≤ passed / 512 ^ level / 512 + 1
+  pub lowest : time ≡ passed → level ≡ 0
   pub is : new ≡ slice_set old slot (Some (bucket_on level time))
 
 -- no row moves, where the row of a slot may stay for a later deadline
@@ -55,8 +66,7 @@ pub record StaysThere (keys : List (Option Key)) (old new : List (Option ℕ)) (
 abbrev pub ComesOrStays : List (Option Key) → List (Option ℕ) → List (Option ℕ) → ℕ → ℕ → ℕ → Type 0
 ComesOrStays keys old new passed slot time = StaysThere keys old new passed slot time ⊎ ComesTo old new passed slot time
 
--- Time moves on: each row stands where it stood, or in the bucket of its own deadline on some level. A late row has the
--- bucket of the first time that wasn't passed.
-abbrev pub StayOrFall : List (Option Key) → ℕ → List (Option ℕ) → List (Option ℕ) → Type 0
-StayOrFall keys passed old new = (slot : ℕ) (key : Key) → key_in keys slot ≡ Some key
-    → (bucket_in new slot ≡ bucket_in old slot) ⊎ StandsAt new passed slot (max key.deadline passed)
+-- each row stands where its slot stood, or in the bucket of its own deadline on some level
+pub record StayOrFall (keys : List (Option Key)) (passed : ℕ) (old new : List (Option ℕ)) : Type 0 where
+  pub each : (slot : ℕ) (key : Key) → key_in keys slot ≡ Some key
+      → (bucket_in new slot ≡ bucket_in old slot) ⊎ StandsDue new passed slot key.deadline

@@ -1,7 +1,7 @@
 use Rattle.std.proofs.Common.{◌<◌, ℕ}
-use Rattle.ert_wheel.specs.NextDue.{TellsNext}
-use Rattle.ert_wheel.proofs.wheel.Wheel.find_told.Given as goal
+use Rattle.ert_wheel.specs.NextDue.{IsDueOf}
+use Rattle.ert_wheel.proofs.wheel.Wheel.find_due.Given as goal
 
--- no slot below tells it
+-- the row of no slot below is due at it
 abbrev pub invariant-loop-slot : goal.invariant-loop-slot
-invariant-loop-slot g l = (slot : ℕ) → slot < l.slot → TellsNext l.self.keys l.self.passed l.time slot → ⊥
+invariant-loop-slot g l = (slot : ℕ) → slot < l.slot → IsDueOf l.self.keys slot l.time → ⊥

@@ -33,7 +33,7 @@ returns-in-Some-clause-first g c =
 pub returns-in-None-clause-first : goal.returns-in-None-clause-first
 returns-in-None-clause-first g c =
     subst (λ (n : ℕ). IsPast c.args.self.now.keys n c.args.to) (sym (ap passed_of c.in-None.ensures.same))
-    (none_at_stop c.args.self.now.keys c.self.inside.next_time c.args.to c.args.reached
-    (subst (λ (n : ℕ). IsReached c.args.self.now.keys n c.args.to c.args.reached) (sym (ap passed_of c.self.view_is)) c.requires.reached)
+    (none_at_stop c.args.self.now.keys c.args.self.now.stands c.self.inside.next_time c.args.to c.args.reached
+    (subst (λ (n : ℕ). IsReached c.args.self.now.keys c.args.self.now.stands n c.args.to c.args.reached) (sym (ap passed_of c.self.view_is)) c.requires.reached)
     (omega (arith, c.if-reached-to.false))
     (subst (λ (keys : List (Option Key)). c.args.reached ≤ c.self.inside.next_time → NoRowDue keys c.args.reached) (ap keys_of c.self.view_is) c.in-None.ensures.first))
