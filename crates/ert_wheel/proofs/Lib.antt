@@ -19,8 +19,10 @@ pub mod Collecting
 pub mod Counting
 pub mod Empties
 pub mod Enters
+pub mod Fallen
 pub mod Falls
 pub mod Following
+pub mod Homes
 pub mod Lists
 pub mod Looking
 pub mod MarkBits
@@ -32,9 +34,11 @@ pub mod Parts
 pub mod Renumber
 pub mod Reaching
 pub mod Standing
+pub mod StandsOn
 pub mod Staying
 pub mod Steps
 pub mod Views
+pub mod TakesMore
 pub mod Times
 pub mod Told
 pub mod Turning

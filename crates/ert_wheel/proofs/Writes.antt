@@ -32,9 +32,9 @@ pub record Sees (next count : ℕ) (ordered : Ordered) (floor : ℕ) (stored : L
   pub above : (slot : ℕ) (key : Key) → key_in seen slot ≡ Some key → floor ≤ key.deadline
   pub are_stored : AreStored stored seen
 
-pub sees : {T : Type 0} {next count : ℕ} {ordered : Ordered} {floor : ℕ} {stored : List Key} {chains owners : Rings} {values : List T} {passed : ℕ} {held : Held T}
+pub sees : {T : Type 0} {next count : ℕ} {ordered : Ordered} {floor : ℕ} {stored : List Key} {chains owners : Rings} {values : List T} {passed : ℕ} {stands : List (Option ℕ)} {held : Held T}
     → IsWheelKept next count ordered floor (held_keys chains stored) chains
-    → ◌≡◌ {A = Held T} (record { keys = held_keys chains stored; owners = owners; values = values; passed = passed }) held
+    → ◌≡◌ {A = Held T} (record { keys = held_keys chains stored; stands = stands; owners = owners; values = values; passed = passed }) held
     → Sees next count ordered floor stored held.keys chains
 sees {T} {next = next} {count = count} {ordered = ordered} {floor = floor} {stored = stored} {chains = chains} w is =
     subst (λ (h : Held T). Sees next count ordered floor stored h.keys chains) is
@@ -48,9 +48,9 @@ pub record IsLowIn (stored : List Key) (seen : List (Option Key)) (buckets owner
   pub low_owner : slot < owners.written
   pub is_slot : slot < owners.slots
 
-pub low_in : {T : Type 0} {next count : ℕ} {ordered : Ordered} {floor : ℕ} {kept : KeptSlots T} {buckets owners : Rings} {values : List T} {passed : ℕ} {held : Held T} (slot : ℕ)
+pub low_in : {T : Type 0} {next count : ℕ} {ordered : Ordered} {floor : ℕ} {kept : KeptSlots T} {buckets owners : Rings} {values : List T} {passed : ℕ} {stands : List (Option ℕ)} {held : Held T} (slot : ℕ)
     → IsWheelAlike next count ordered floor kept buckets owners
-    → ◌≡◌ {A = Held T} (record { keys = held_keys buckets kept.keys; owners = owners; values = values; passed = passed }) held
+    → ◌≡◌ {A = Held T} (record { keys = held_keys buckets kept.keys; stands = stands; owners = owners; values = values; passed = passed }) held
     → slot < held.owners.written → IsLowIn kept.keys held.keys buckets owners slot
 low_in {T} {kept = kept} {buckets = buckets} slot w is low =
     let owned = ap (λ (h : Held T). h.owners.written) is in
@@ -64,9 +64,9 @@ low_in {T} {kept = kept} {buckets = buckets} slot w is low =
     }
 
 -- a slot that has a row is written
-pub row_written : {T : Type 0} {next count : ℕ} {ordered : Ordered} {floor : ℕ} {kept : KeptSlots T} {buckets owners : Rings} {values : List T} {passed : ℕ} {held : Held T} (slot : ℕ) (key : Key)
+pub row_written : {T : Type 0} {next count : ℕ} {ordered : Ordered} {floor : ℕ} {kept : KeptSlots T} {buckets owners : Rings} {values : List T} {passed : ℕ} {stands : List (Option ℕ)} {held : Held T} (slot : ℕ) (key : Key)
     → IsWheelAlike next count ordered floor kept buckets owners
-    → ◌≡◌ {A = Held T} (record { keys = held_keys buckets kept.keys; owners = owners; values = values; passed = passed }) held
+    → ◌≡◌ {A = Held T} (record { keys = held_keys buckets kept.keys; stands = stands; owners = owners; values = values; passed = passed }) held
     → key_in held.keys slot ≡ Some key → slot < held.owners.written
 row_written {T} {kept = kept} {buckets = buckets} slot key w is has =
     let low = key_stored buckets kept.keys slot key (ap (λ (h : Held T). key_in h.keys slot) is ∙ has) in
@@ -87,6 +87,9 @@ alike_after a keys room slots written owned few = record {
 -- the parts of what is held
 abbrev pub keys_of : {T : Type 0} → Held T → List (Option Key)
 keys_of h = h.keys
+
+abbrev pub stands_of : {T : Type 0} → Held T → List (Option ℕ)
+stands_of h = h.stands
 
 abbrev pub owners_of : {T : Type 0} → Held T → Rings
 owners_of h = h.owners
@@ -112,21 +115,23 @@ is_kept {next = next} {count = count} {ordered = ordered} {floor = floor} {chain
     subst (λ (ks : List (Option Key)). IsWheelKept next count ordered floor ks chains) (sym (is_held s)) (record { wheel = s.wheel; above = s.above })
 
 -- where more is known of the order of the next bucket
-pub sees_ordered : {T : Type 0} {next count : ℕ} {ordered now : Ordered} {floor passed : ℕ} {stored : List Key} {chains owners new : Rings} {values : List T} {held : Held T}
+pub sees_ordered : {T : Type 0} {next count : ℕ} {ordered now : Ordered} {floor passed : ℕ} {stored : List Key} {chains owners new : Rings} {values : List T} {stands : List (Option ℕ)} {held : Held T}
     → IsWheelKept next count ordered floor (held_keys chains stored) chains
-    → ◌≡◌ {A = Held T} (record { keys = held_keys chains stored; owners = owners; values = values; passed = passed }) held
+    → ◌≡◌ {A = Held T} (record { keys = held_keys chains stored; stands = stands; owners = owners; values = values; passed = passed }) held
     → ((n : ℕ) → IsWheel next n ordered (held_keys chains stored) chains → IsWheel next n now (held_keys chains stored) new)
     → Sees next count now floor stored held.keys new
-sees_ordered {T} {next} {count} {ordered} {now} {floor} {passed} {stored} {chains} {owners} {new} {values} {held} w is orders =
+sees_ordered {T} {next} {count} {ordered} {now} {floor} {passed} {stored} {chains} {owners} {new} {values} {stands} {held} w is orders =
     subst (λ (h : Held T). Sees next count now floor stored h.keys new) is
     (record { wheel = orders count w.wheel; above = w.above; are_stored = stored_held chains stored })
 
--- what is held where other chains hold the same keys
-pub same_held : {T : Type 0} {keys other : List (Option Key)} {owners : Rings} {values : List T} {passed : ℕ} {held : Held T} → other ≡ keys
-    → ◌≡◌ {A = Held T} (record { keys = keys; owners = owners; values = values; passed = passed }) held
-    → ◌≡◌ {A = Held T} (record { keys = other; owners = owners; values = values; passed = passed }) held
-same_held {T} {keys} {other} {owners} {values} {passed} {held} same is =
-    ap (λ (ks : List (Option Key)). record { keys = ks; owners = owners; values = values; passed = passed }) same ∙ is
+-- what is held where other chains hold the same keys in the same buckets
+pub same_held : {T : Type 0} {keys other : List (Option Key)} {stands there : List (Option ℕ)} {owners : Rings} {values : List T} {passed : ℕ} {held : Held T}
+    → other ≡ keys → there ≡ stands
+    → ◌≡◌ {A = Held T} (record { keys = keys; stands = stands; owners = owners; values = values; passed = passed }) held
+    → ◌≡◌ {A = Held T} (record { keys = other; stands = there; owners = owners; values = values; passed = passed }) held
+same_held {T} {keys} {other} {stands} {there} {owners} {values} {passed} {held} same same' is =
+    ap (λ (ks : List (Option Key)). record { keys = ks; stands = there; owners = owners; values = values; passed = passed }) same
+    ∙ (ap (λ (st : List (Option ℕ)). record { keys = keys; stands = st; owners = owners; values = values; passed = passed }) same' ∙ is)
 
 -- a slot without a row can be put into a chain
 pub may_put : {next count : ℕ} {ordered : Ordered} {floor : ℕ} {stored : List Key} {seen : List (Option Key)} {chains : Rings} {slot home : ℕ}
@@ -204,7 +209,7 @@ inserted {next = next} {seen = seen} {chains = chains} {slot = slot} {key = key}
     (omega (arith, s.wheel.slots, s.wheel.few)) (numbers_below n)))
 
 -- the key that a slot has is the one that is stored
-held_stored : {next count : ℕ} {ordered : Ordered} {floor : ℕ} {stored : List Key} {seen : List (Option Key)} {chains : Rings} (slot : ℕ)
+pub held_stored : {next count : ℕ} {ordered : Ordered} {floor : ℕ} {stored : List Key} {seen : List (Option Key)} {chains : Rings} (slot : ℕ)
     → Sees next count ordered floor stored seen chains → (o : Option Key) → key_in seen slot ≡ o → IsSome o → key_in seen slot ≡ Some (get_or stored slot no_key)
 held_stored slot s None is held = absurd (true≢false (sym held))
 held_stored {stored = stored} slot s (Some key) is held =

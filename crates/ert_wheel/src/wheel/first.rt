@@ -16,6 +16,7 @@ impl<T: Keyed> Wheel<T> {
     ghost use Rattle.ert_wheel.specs.FirstDue.{NoRowDue, HasToMove, IsFirstAt, IsFirstTold, IsNextStop, IsReached, MayBeDue, SomeRowDue};
     ghost use Rattle.ert_wheel.specs.NextDue.{NoneBefore};
     ghost use Rattle.ert_wheel.specs.Rows.{key_in};
+    ghost use Rattle.ert_wheel.specs.Standing.{StayOrFall};
     ghost use Rattle.ert_wheel.specs.declared.row.TheConstants.{LAST};
 
     /// Whether a row may be due at `to`: one is due by then or by the next time, or a window begins by then where rows stand. False
@@ -25,7 +26,7 @@ impl<T: Keyed> Wheel<T> {
     /// next time's window of 512 milliseconds it looks at a few words, and at no row; else it looks for the next due row.
     #[inline]
     pub fn may_be_due(&self, to: u64) -> bool
-        ensures { MatchBool result (MayBeDue self.now.keys self.now.passed to) (NoRowDue self.now.keys to) }
+        ensures { MatchBool result (MayBeDue self.now.keys self.now.stands self.now.passed to) (NoRowDue self.now.keys to) }
     {
         if to < self.floor {
             return false;
@@ -53,7 +54,7 @@ impl<T: Keyed> Wheel<T> {
     #[inline(never)]
     fn begins_by(&self, to: u64) -> bool
         requires { self.now.passed ≤ to }
-        ensures { MatchBool result (MayBeDue self.now.keys self.now.passed to) (NoRowDue self.now.keys to) }
+        ensures { MatchBool result (MayBeDue self.now.keys self.now.stands self.now.passed to) (NoRowDue self.now.keys to) }
     {
         match self.earliest() {
             Some(early) => early.time <= to,
@@ -76,8 +77,9 @@ impl<T: Keyed> Wheel<T> {
     /// with its deadline.
     pub fn first_due(&mut self, to: u64, moves: &mut u32, scratch: &mut Vec<HeldRow>) -> FirstDue
         requires to { to < LAST }
-        ensures first { IsFirstTold self.old.keys self.new.passed to result }
+        ensures first { IsFirstTold self.old.keys self.new.stands self.new.passed to result }
         ensures keys { self.new.keys ≡ self.old.keys }
+        ensures stands { StayOrFall self.old.keys self.new.passed self.old.stands self.new.stands }
         ensures owners { self.new.owners ≡ self.old.owners }
         ensures values { self.new.values ≡ self.old.values }
         ensures passed { self.old.passed ≤ self.new.passed }
@@ -102,7 +104,7 @@ impl<T: Keyed> Wheel<T> {
         moves: &mut u32,
         scratch: &mut Vec<HeldRow>,
     ) -> Option<FirstDue>
-        ensures first { IfSome result (IsFirstTold self.old.keys self.old.passed to) }
+        ensures first { IfSome result (IsFirstTold self.old.keys self.old.stands self.old.passed to) }
         ensures same { self.new ≡ self.old }
         ensures fewer { moves.new ≤ moves.old }
         ensures capacity { vec_capacity scratch.new ≡ vec_capacity scratch.old }
@@ -137,8 +139,9 @@ impl<T: Keyed> Wheel<T> {
     /// rows have to fall before than may.
     fn reach(&mut self, to: u64, moves: &mut u32) -> Option<u64>
         requires { to < LAST }
-        ensures reached { MatchOption result (HasToMove self.old.keys self.new.passed to) (IsReached self.old.keys self.new.passed to) }
+        ensures reached { MatchOption result (HasToMove self.old.keys self.new.stands self.new.passed to) (IsReached self.old.keys self.new.stands self.new.passed to) }
         ensures keys { self.new.keys ≡ self.old.keys }
+        ensures stands { StayOrFall self.old.keys self.new.passed self.old.stands self.new.stands }
         ensures owners { self.new.owners ≡ self.old.owners }
         ensures values { self.new.values ≡ self.old.values }
         ensures passed { self.old.passed ≤ self.new.passed }
@@ -163,8 +166,8 @@ impl<T: Keyed> Wheel<T> {
         moves: &mut u32,
         scratch: &mut Vec<HeldRow>,
     ) -> FirstDue
-        requires reached { IsReached self.old.keys self.old.passed to reached }
-        ensures first { IsFirstTold self.old.keys self.new.passed to result }
+        requires reached { IsReached self.old.keys self.old.stands self.old.passed to reached }
+        ensures first { IsFirstTold self.old.keys self.new.stands self.new.passed to result }
         ensures same { self.new ≡ self.old }
         ensures fewer { moves.new ≤ moves.old }
         ensures capacity { vec_capacity scratch.new ≡ vec_capacity scratch.old }
@@ -208,7 +211,7 @@ impl<T: Keyed> Wheel<T> {
     /// Where time may come to next: how early a row may be due by `to`, or the millisecond after it.
     fn next_stop(&mut self, to: u64) -> u64
         requires { to < LAST }
-        ensures stop { IsNextStop self.old.keys self.old.passed to result }
+        ensures stop { IsNextStop self.old.keys self.old.stands self.old.passed to result }
         ensures same { self.new ≡ self.old }
     {
         match self.next_due() {
@@ -223,8 +226,9 @@ impl<T: Keyed> Wheel<T> {
         requires before { NoneBefore self.old.keys time }
         requires later { self.old.passed < time }
         requires most { time ≤ LAST }
-        ensures come { MatchBool result (self.new.passed ≡ time) (HasToMove self.old.keys self.new.passed (time - 1)) }
+        ensures come { MatchBool result (self.new.passed ≡ time) (HasToMove self.old.keys self.new.stands self.new.passed (time - 1)) }
         ensures keys { self.new.keys ≡ self.old.keys }
+        ensures stands { StayOrFall self.old.keys self.new.passed self.old.stands self.new.stands }
         ensures owners { self.new.owners ≡ self.old.owners }
         ensures values { self.new.values ≡ self.old.values }
         ensures passed { self.old.passed ≤ self.new.passed }
@@ -254,8 +258,9 @@ impl<T: Keyed> Wheel<T> {
         requires before { NoneBefore self.old.keys time }
         requires later { self.old.passed < time }
         requires most { time ≤ LAST }
-        ensures left { OnTrue result (HasToMove self.old.keys self.new.passed (time - 1)) }
+        ensures left { OnTrue result (HasToMove self.old.keys self.new.stands self.new.passed (time - 1)) }
         ensures keys { self.new.keys ≡ self.old.keys }
+        ensures stands { StayOrFall self.old.keys self.new.passed self.old.stands self.new.stands }
         ensures owners { self.new.owners ≡ self.old.owners }
         ensures values { self.new.values ≡ self.old.values }
         ensures passed { self.old.passed ≤ self.new.passed }
@@ -276,6 +281,7 @@ impl<T: Keyed> Wheel<T> {
     fn pass_slowly(&mut self, to: u64, moves: &mut u32)
         requires { (slot : ℕ) → IfSome (key_in self.old.keys slot) (λ key. to < key.deadline) }
         ensures keys { self.new.keys ≡ self.old.keys }
+        ensures stands { StayOrFall self.old.keys self.new.passed self.old.stands self.new.stands }
         ensures owners { self.new.owners ≡ self.old.owners }
         ensures values { self.new.values ≡ self.old.values }
         ensures passed { self.new.passed ≡ max self.old.passed (min (to + 1) LAST) }

@@ -29,7 +29,7 @@ invariant_of-self g c = record {
 pub returns-then-not-done-clause-same : goal.returns-then-not-done-clause-same
 returns-then-not-done-clause-same g c =
     let s = sees_ordered c.self.invariant.rows c.self.view_is c.order_some-done.ensures.wheel in
-    same_held (is_held s ∙ sym (ap keys_of c.self.view_is)) c.self.view_is
+    same_held (is_held s ∙ sym (ap keys_of c.self.view_is)) c.order_some-done.ensures.stands c.self.view_is
 
 pub invariant_of-self-in_default : goal.invariant_of-self-in_default
 invariant_of-self-in_default g c = record {
@@ -46,12 +46,12 @@ invariant_of-self-2 g c = record {
 pub returns-in_default-clause-same : goal.returns-in_default-clause-same
 returns-in_default-clause-same g c =
     let s = sees_ordered c.self.invariant.rows c.self.view_is c.order_some-done.ensures.wheel in
-    same_held (is_held s ∙ sym (ap keys_of c.self.view_is)) c.self.view_is
+    same_held (is_held s ∙ sym (ap keys_of c.self.view_is)) c.order_some-done.ensures.stands c.self.view_is
 
 pub returns-clause-same : goal.returns-clause-same
 returns-clause-same g c =
     let s = sees_ordered c.self.invariant.rows c.self.view_is c.order_some-done.ensures.wheel in
-    same_held (is_held s ∙ sym (ap keys_of c.self.view_is)) c.self.view_is
+    same_held (is_held s ∙ sym (ap keys_of c.self.view_is)) c.order_some-done.ensures.stands c.self.view_is
 
 pub returns-clause-first : goal.returns-clause-first
 returns-clause-first g c =

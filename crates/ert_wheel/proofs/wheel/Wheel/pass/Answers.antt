@@ -5,6 +5,8 @@ use Rattle.ert_wheel.proofs.wheel.Wheel.pass.Goals as goal
 use Rattle.ert_wheel.specs.Falling.{MayMoveOn}
 use Rattle.ert_wheel.specs.Wheels.{AreLevelChains}
 use Rattle.ert_wheel.specs.declared.row.Key.{Key}
+use Rattle.ert_wheel.specs.Rows.{Held}
+use Rattle.ert_wheel.specs.Standing.{homes_of, StayOrFall}
 
 pub move_on-self-inside-requires-clause-may : goal.move_on-self-inside-requires-clause-may
 move_on-self-inside-requires-clause-may g c =
@@ -41,3 +43,8 @@ returns-clause-owners g c = ap owners_of c.self.view_is
 
 pub returns-clause-passed : goal.returns-clause-passed
 returns-clause-passed g c = omega (arith, ap passed_of c.self.view_is, c.max-next_time.ensures, c.min-after.ensures)
+
+pub returns-clause-stands : goal.returns-clause-stands
+returns-clause-stands g c =
+    subst (λ (h : Held _). StayOrFall h.keys c.max-next_time.result h.stands (homes_of c.move_on-self-inside.new.chains)) c.self.view_is
+    c.move_on-self-inside.ensures.stands
