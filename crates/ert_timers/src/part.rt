@@ -53,7 +53,7 @@ pub struct WheelPart {
 }
 
 // Most of it are the marks of the buckets.
-const _: () = prove!(size_of::<WheelPart>() == 784);
+const _: () = prove!(size_of::<WheelPart>() == 824);
 
 /// How many timers of a wheel there were.
 #[derive(Clone, Copy, Debug, PartialEq, Eq)]

@@ -63,7 +63,8 @@ impl<T: Keyed> Wheel<T> {
     }
 
     /// The first row, by deadline and then by order, where its deadline is at most `to`. It stays in the wheel. Where no row is
-    /// due by then, time passes `to`. `scratch` has room for one row of each slot; what is in it means nothing.
+    /// due by then, time passes `to`. `scratch` is to have room for one row of each slot. What is in it is a hint of the last call: the next
+    /// one comes on faster where it is kept.
     ///
     /// Time moves on to the row's deadline, where that is later than the next time. Before it comes into another window of a
     /// level the rows of the window's bucket fall, so many at most as `moves` has, which are counted down. Where more are
@@ -71,10 +72,10 @@ impl<T: Keyed> Wheel<T> {
     /// level at most, and a row that was replaced once more. Rows that stand too early in the windows between are counted too, but
     /// don't hold time up: on each level there are no more than `next_due` looks at.
     ///
-    /// The bucket of the next time is put in order of start once, when the first row of it is asked for. That is a walk over it where
-    /// its rows came in order, and else a sort. The other work is constant, but where rows were put in late since time moved on. Then
-    /// it looks at the rows of the next time's bucket that are older than the first, and at all of them where a row is the first
-    /// with its deadline.
+    /// The bucket of the next time is put in order of start before its first row is told. That is a walk over it where its rows came in
+    /// order, eight rows for each of the moves, and else a sort, one row for each. The other work is constant, but where rows were put in
+    /// late since time moved on. Then it looks at the rows of the next time's bucket that are older than the first, and at all of them
+    /// where a row is the first with its deadline.
     pub fn first_due(&mut self, to: u64, moves: &mut u32, scratch: &mut Vec<HeldRow>) -> FirstDue
         requires to { to < LAST }
         ensures first { IsFirstTold self.old.keys self.new.stands self.new.passed to result }
