@@ -817,12 +817,12 @@ int32_t ert_world_turn(ert_world *world, uint32_t scheduler, ert_turned *turned)
  * is due by `to`, as after ert_world_turn, and none has expired. The turn serves up to 64 requests, as ert_world_turn
  * does. With `most` 0 no timer expires or moves, and the call only reports whether there is more.
  *
- * The work is in proportion to `most`, with two exceptions. Timers move within the wheel as their deadlines come near, at
+ * The work is in proportion to `most`, with one exception. Timers move within the wheel as their deadlines come near, at
  * most `most` in a turn: if turns follow each other, a few in each millisecond; after a sleep, those of the windows that
- * begin (of 512 milliseconds, of 512 times that, and so on), in as many turns as they take. The exceptions: all timers that
- * are due in one millisecond are put in order of their starts by the first turn that comes to them; and timers that were
- * started when their deadline had passed are all looked at once for each deadline among them, and more often if they were
- * not started in order of deadline.
+ * begin (of 512 milliseconds, of 512 times that, and so on), in as many turns as they take. Before the first timer of a
+ * millisecond expires all that are due in it are put in order of their starts, in as many turns as that takes: few if
+ * none was restarted. The exception: timers that were started when their deadline had passed are all looked at once for
+ * each deadline among them, and more often if they were not started in order of deadline.
  *
  * ERT_NO_MEMORY: as of ert_world_turn, but that the list needs room for `most` timers, or for all that are on the wheel
  * if those are fewer. ERT_RANGE: there is no such scheduler. ERT_CLOSED.

@@ -19,7 +19,7 @@ use Rattle.ert_table.specs.declared.view.View.{View}
 use Rattle.ert_timers.specs.ExpiredLists.{Queue}
 use Rattle.ert_timers.specs.Parts.{Part, PartStands}
 use Rattle.ert_timers.specs.Passed.{HoldsEach, HoldsNone, LosesRows, HasPassed}
-use Rattle.ert_wheel.specs.FirstDue.{HasToMove}
+use Rattle.ert_wheel.specs.FirstDue.{HasMore}
 use Rattle.ert_wheel.specs.Rows.{key_in}
 use Rattle.ert_wheel.specs.declared.row.Key.{Key}
 
@@ -69,12 +69,12 @@ pub record HasDue (p : Part) (to : ℕ) : Type 0 where
   pub has : key_in p.keys slot ≡ Some key
   pub due : key.deadline ≤ to
 
--- what is left: a row that is due by a time, or nothing, and then the wheel has passed the time; or it hasn't come to it, and
--- rows have to move first
+-- what is left: a row that is due by a time, or nothing, and then the wheel has passed the time; or rows have to move first, before
+-- the wheel comes to the time, or before the first of the rows that are due is known
 abbrev pub IsLeft : Part → ℕ → Left → Type 0
 IsLeft p to Nothing = HasPassed p to
 IsLeft p to Due = HasDue p to
-IsLeft p to Moving = HasToMove p.keys p.passed to
+IsLeft p to Moving = HasMore p.keys p.passed to
 
 -- so many rows fewer are held: just the most where more are due, and else so many at most
 abbrev pub LosesSome : Left → ℕ → Part → Part → Type 0

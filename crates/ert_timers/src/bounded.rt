@@ -20,9 +20,9 @@ impl WheelPart {
 
     /// Advances as `advance` does, but tries so many timers at most, and tells what is left.
     ///
-    /// Where more are due it has tried just so many, and the next advance goes on with the others. So many rows at most move to
-    /// lower levels of the wheel: where time can't come on for that, `Left::Moving` is told, and the next advance goes on with
-    /// the moves. With 0 none is tried and none moves. All memory is taken before the first timer expires: after NoMemory
+    /// Where more are due it has tried just so many, and the next advance goes on with the others. So many rows at most move in
+    /// the wheel, to lower levels or into order of start: where none can expire for that, `Left::Moving` is told, and the next advance
+    /// goes on with the moves. With 0 none is tried and none moves. All memory is taken before the first timer expires: after NoMemory
     /// none has.
     pub fn advance_some(
         &mut self,

@@ -53,7 +53,7 @@ pub struct WheelPart {
 }
 
 // Most of it are the marks of the buckets.
-const _: () = prove!(size_of::<WheelPart>() == 784);
+const _: () = prove!(size_of::<WheelPart>() == 824);
 
 /// How many timers of a wheel there were.
 #[derive(Clone, Copy, Debug, PartialEq, Eq)]
@@ -230,14 +230,18 @@ impl WheelPart {
         find_row(&mut self.wheel, process)
     }
 
-    /// The vector of an advance, empty and with room for a row of each slot. It is to be kept again (`keep_list`).
+    /// The vector of an advance, with room for a row of each slot. It is to be kept again (`keep_list`). What it has in it an advance
+    /// with a bound may go on with.
     pub(crate) fn lend_list(&mut self) -> Result<Vec<HeldRow>, NoMemory>
         ensures part { self.new ≡ self.old }
         ensures room { IfOk result (λ due. length self.old.keys ≤ vec_capacity due) }
     {
         let mut due = mem::replace(&mut self.due, Vec::new(self.alloc));
-        due.clear();
-        due.reserve(self.wheel.slots() as usize)?;
+        let slots = self.wheel.slots() as usize;
+        if due.capacity() < slots {
+            due.clear();
+            due.reserve(slots)?;
+        }
         Ok(due)
     }
 

@@ -1,59 +1,55 @@
 -- Rows that are left in the window before which time stands.
 
-use Rattle.std.proofs.Common.{◌≡◌, ◌≢◌, ℕ, suc, ◌+◌, ◌-◌, ◌*◌, ◌/◌, ◌^◌, ◌<◌, ◌≤◌, max, Bool, true, false, List, Option, Some, None, IfSome, sym, subst, ◌∙◌, ap, inl, inr, refl, arith}
+use Rattle.std.proofs.Common.{◌≡◌, ◌≢◌, ℕ, suc, ◌+◌, ◌-◌, ◌*◌, ◌/◌, ◌^◌, ◌<◌, ◌≤◌, Bool, true, false, List, Option, Some, None, IfSome, sym, subst, ◌∙◌, ap, inl, inr, refl, arith}
 use Rattle.std.proofs.Math.Nat.{pow-succ', suc-mul, mul-le-mul_right, div-mul-le_self, div-lt_iff_lt-mul}
 use Rattle.std.proofs.lemmas.Bool.{cases_lt}
 use Rattle.std.proofs.lemmas.Nat.{div_below}
 use Rattle.std.specs.Bool.{OnTrue}
 use Rattle.std.specs.Option.{is_some}
-use Rattle.ert_wheel.proofs.Standing.{not_late}
-use Rattle.ert_wheel.proofs.Times.{later, one_bucket, one_window, some_wide}
+use Rattle.ert_wheel.proofs.Homes.{home_of_slot}
+use Rattle.ert_wheel.proofs.Times.{later, some_wide}
 use Rattle.ert_wheel.proofs.Views.{place_is}
-use Rattle.ert_wheel.proofs.Writes.{Sees, ordered_never}
+use Rattle.ert_wheel.proofs.Writes.{Sees, unordered, ordered_never}
 use Rattle.ert_wheel.specs.Falling.{HasRowIn, MayFall}
 use Rattle.ert_wheel.specs.FirstDue.{HasToMove}
-use Rattle.ert_wheel.specs.Levels.{bucket_of_window, MayStand}
+use Rattle.ert_wheel.specs.Levels.{bucket_of_window}
 use Rattle.ert_wheel.specs.Rings.{Rings, Place, AreChains, StandsIn, Finds}
 use Rattle.ert_wheel.specs.NextDue.{NoneBefore}
 use Rattle.ert_wheel.specs.Rows.{key_in}
+use Rattle.ert_wheel.specs.Standing.{homes_of}
 use Rattle.ert_wheel.specs.Wheels.{held_keys, stand_on, places, AreLevelChains}
+use Rattle.ert_wheel.specs.declared.ordered.Ordered.{Ordered}
 use Rattle.ert_wheel.specs.declared.row.Key.{Key}
-use Rattle.ert_wheel.specs.declared.row.TheConstants.{NEVER}
 
--- the newest row that stands in the window after that of the next time is due in it or later
-row_left : (next level slot : ℕ) (chains : Rings) (stored : List Key) → 1 ≤ level → MayFall next 1 chains (held_keys chains stored)
+-- the newest row that stands in the window after that of the next time
+row_left : (next level slot : ℕ) (chains : Rings) (stored : List Key) → MayFall next 1 chains (held_keys chains stored)
     → ((places : ℕ → Option Place) → AreChains chains places
     → Finds chains places (bucket_of_window level (next / 512 ^ level + 1)) (2 ^ 64) (Some slot))
-    → HasRowIn (held_keys chains stored) level (next / 512 ^ level + 1)
-row_left next level slot chains stored some may finds =
+    → HasRowIn (held_keys chains stored) (homes_of chains) level (next / 512 ^ level + 1)
+row_left next level slot chains stored may finds =
     let keys : List (Option Key) = held_keys chains stored in
     let spot : Key → Place = stand_on next may.are.level may.are.time may.are.rank in
-    let there : StandsIn (places spot keys) (bucket_of_window level (next / 512 ^ level + 1)) slot = (finds (places spot keys) may.are.are).stands.1 in
+    let f = finds (places spot keys) may.are.are in
+    let there : StandsIn (places spot keys) (bucket_of_window level (next / 512 ^ level + 1)) slot = f.stands.1 in
     let k = place_is spot (key_in keys slot) there.place there.has in
-    let key : Key = k.0 in
-    let t : ℕ = max (may.are.time key) next in
-    let fit : MayStand next 1 (may.are.level key) t = may.are.levelled.fit slot key k.1 in
-    let b = one_bucket (may.are.level key) level (t / 512 ^ may.are.level key) (next / 512 ^ level + 1) (ap (λ (p : Place). p.home) k.2 ∙ there.at_home) in
-    let e : t / 512 ^ may.are.level key ≡ t / 512 ^ level = ap (λ l. t / 512 ^ l) b.level in
-    let n : next / 512 ^ may.are.level key ≡ next / 512 ^ level = ap (λ l. next / 512 ^ l) b.level in
-    let window : t / 512 ^ level ≡ next / 512 ^ level + 1 =
-    one_window (next / 512 ^ level) (t / 512 ^ level) (next / 512 ^ level + 1) (later level next t (omega arith)) (omega arith) (omega (arith, fit.near, e, n)) (omega arith)
-    (omega (arith, b.place, e)) in
-    let in_time : t ≡ may.are.time key = not_late next (may.are.level key) (may.are.time key) (omega (arith, b.level, some)) fit in
-    let up : t ≤ key.deadline = omega (arith, in_time, may.are.levelled.early slot key k.1) in
-    record { slot = slot; key = key; has = k.1; within = omega (arith, window, later level t key.deadline up) }
+    record {
+      slot = slot;
+      key = k.0;
+      has = k.1;
+      at = home_of_slot chains (places spot keys) slot (bucket_of_window level (next / 512 ^ level + 1)) may.are.are f.stands.0 there;
+    }
 
 -- whether there is one
 pub rows_left : (next level window bucket : ℕ) (chains : Rings) (stored : List Key) (found : Option ℕ) (told : Bool) → told ≡ is_some found
-    → 1 ≤ level → MayFall next 1 chains (held_keys chains stored) → window ≡ next / 512 ^ level + 1 → bucket ≡ bucket_of_window level window
+    → MayFall next 1 chains (held_keys chains stored) → window ≡ next / 512 ^ level + 1 → bucket ≡ bucket_of_window level window
     → ((places : ℕ → Option Place) → AreChains chains places → Finds chains places bucket (2 ^ 64) found)
-    → OnTrue told (HasRowIn (held_keys chains stored) level (next / 512 ^ level + 1))
-rows_left next level window bucket chains stored None told is some may at there finds =
-    subst (λ (b : Bool). OnTrue b (HasRowIn (held_keys chains stored) level (next / 512 ^ level + 1))) (sym is) tt
-rows_left next level window bucket chains stored (Some slot) told is some may at there finds =
+    → OnTrue told (HasRowIn (held_keys chains stored) (homes_of chains) level (next / 512 ^ level + 1))
+rows_left next level window bucket chains stored None told is may at there finds =
+    subst (λ (b : Bool). OnTrue b (HasRowIn (held_keys chains stored) (homes_of chains) level (next / 512 ^ level + 1))) (sym is) tt
+rows_left next level window bucket chains stored (Some slot) told is may at there finds =
     let e : bucket ≡ bucket_of_window level (next / 512 ^ level + 1) = there ∙ ap (bucket_of_window level) at in
-    subst (λ (b : Bool). OnTrue b (HasRowIn (held_keys chains stored) level (next / 512 ^ level + 1))) (sym is)
-    (row_left next level slot chains stored some may
+    subst (λ (b : Bool). OnTrue b (HasRowIn (held_keys chains stored) (homes_of chains) level (next / 512 ^ level + 1))) (sym is)
+    (row_left next level slot chains stored may
     (subst (λ (b : ℕ). (places : ℕ → Option Place) → AreChains chains places → Finds chains places b (2 ^ 64) (Some slot)) e finds))
 
 -- a later time is in a later window of a level: where that begins
@@ -95,30 +91,38 @@ begins_after next time level some less apart =
     }
 
 -- where rows are left, time stands before the begin of their window
-behind : (keys : List (Option Key)) (next time level passed : ℕ) → 1 ≤ level → level ≤ 4 → BeginsAfter next time level
-    → passed ≡ time / 512 ^ level * 512 ^ level - 1 → HasRowIn keys level (passed / 512 ^ level + 1) → HasToMove keys passed (time - 1)
-behind keys next time level passed some most b stands row = record {
+behind : (keys : List (Option Key)) (there : List (Option ℕ)) (next time level passed : ℕ) → 1 ≤ level → level ≤ 4 → BeginsAfter next time level
+    → passed ≡ time / 512 ^ level * 512 ^ level - 1 → HasRowIn keys there level (passed / 512 ^ level + 1) → HasToMove keys there passed (time - 1)
+behind keys there next time level passed some most b stands row = record {
   on = omega (arith, stands, b.by, b.wide);
   begins = record {
     time = time / 512 ^ level * 512 ^ level;
     by = omega (arith, b.by, b.wide);
     begins = record {
-      later = omega (arith, stands, b.wide);
-      level = level;
-      above = some;
-      highest = most;
-      window = time / 512 ^ level;
-      begin = refl;
-      some = record { slot = row.slot; key = row.key; has = row.has };
+      slot = row.slot;
+      key = row.key;
+      has = row.has;
+      in_window = record {
+        later = omega (arith, stands, b.wide);
+        level = level;
+        above = some;
+        highest = most;
+        window = time / 512 ^ level;
+        begin = refl;
+        there = record { near = omega (arith, window); at = row.at ∙ ap (λ w. Some (bucket_of_window level w)) window };
+      };
     };
   };
 }
+  where
+    window : passed / 512 ^ level + 1 ≡ time / 512 ^ level
+    window = ap (λ t. t / 512 ^ level + 1) stands ∙ b.last
 
-pub left_behind : (keys : List (Option Key)) (next time level passed : ℕ) (left : Bool) → 1 ≤ level → level ≤ 4 → BeginsAfter next time level
-    → passed ≡ time / 512 ^ level * 512 ^ level - 1 → OnTrue left (HasRowIn keys level (passed / 512 ^ level + 1))
-    → OnTrue left (HasToMove keys passed (time - 1))
-left_behind keys next time level passed false some most b stands row = tt
-left_behind keys next time level passed true some most b stands row = behind keys next time level passed some most b stands row
+pub left_behind : (keys : List (Option Key)) (there : List (Option ℕ)) (next time level passed : ℕ) (left : Bool) → 1 ≤ level → level ≤ 4 → BeginsAfter next time level
+    → passed ≡ time / 512 ^ level * 512 ^ level - 1 → OnTrue left (HasRowIn keys there level (passed / 512 ^ level + 1))
+    → OnTrue left (HasToMove keys there passed (time - 1))
+left_behind keys there next time level passed false some most b stands row = tt
+left_behind keys there next time level passed true some most b stands row = behind keys there next time level passed some most b stands row
 
 -- none is due by a time before that of which that is known
 if_some : (key : Option Key) (to : ℕ) → ((k : Key) → key ≡ Some k → to < k.deadline) → IfSome key (λ k. to < k.deadline)
@@ -130,10 +134,10 @@ pub none_by : (keys : List (Option Key)) (time to : ℕ) → NoneBefore keys tim
 none_by keys time to none less slot = if_some (key_in keys slot) to (λ k has. omega (arith, less, none slot k has))
 
 -- the wheel after rows fell, where time stands
-pub fell : {next count ordered floor : ℕ} {stored : List Key} {seen : List (Option Key)} {chains new : Rings}
+pub fell : {next count : ℕ} {ordered : Ordered} {floor : ℕ} {stored : List Key} {seen : List (Option Key)} {chains new : Rings} (rising : ℕ)
     → Sees next count ordered floor stored seen chains → new.slots ≡ chains.slots → new.homes ≡ chains.homes
-    → AreLevelChains next 1 new seen → Sees next count NEVER floor stored seen new
-fell s slots homes are = record {
+    → AreLevelChains next 1 new seen → Sees next count (unordered rising) floor stored seen new
+fell rising s slots homes are = record {
   are_stored = s.are_stored;
   above = s.above;
   wheel = record {

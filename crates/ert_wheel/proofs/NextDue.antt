@@ -2,17 +2,20 @@
 
 use Rattle.std.proofs.Common.{◌≡◌, ℕ, ◌+◌, ◌*◌, ◌/◌, ◌<◌, ◌≤◌, ◌^◌, max, min, List, Option, Some, sym, subst, ◌∙◌, ap, inl, inr, arith}
 use Rattle.std.proofs.lemmas.Bool.{cases_eq, cases_lt}
+use Rattle.ert_wheel.proofs.Homes.{home_of_slot}
 use Rattle.ert_wheel.proofs.Least.{at_place}
 use Rattle.ert_wheel.proofs.Looking.{key_low}
 use Rattle.ert_wheel.proofs.Near.{stands_at_time}
 use Rattle.ert_wheel.proofs.Standing.{end_of, begins, window_before_end, window_later}
 use Rattle.ert_wheel.proofs.Times.{before_window, some_wide}
 use Rattle.ert_wheel.proofs.Views.{place_is}
+use Rattle.ert_wheel.specs.Falling.{HasRowIn}
 use Rattle.ert_wheel.specs.Levels.{bucket_of_window}
 use Rattle.ert_wheel.specs.Marks.{FirstWindow}
-use Rattle.ert_wheel.specs.NextDue.{HasSomeRow, IsLeastIn, IsEarlyOrNever, NoneOn, NoneBefore}
+use Rattle.ert_wheel.specs.NextDue.{IsLeastIn, IsEarlyOrNever, NoneOn, NoneBefore}
 use Rattle.ert_wheel.specs.Rings.{Rings, Place}
 use Rattle.ert_wheel.specs.Rows.{key_in}
+use Rattle.ert_wheel.specs.Standing.{homes_of}
 use Rattle.ert_wheel.specs.Walks.{StandOnLevels}
 use Rattle.ert_wheel.specs.Wheels.{home_on, stand_on, places}
 use Rattle.ert_wheel.specs.declared.row.Key.{Key}
@@ -88,30 +91,42 @@ module _ {next level : ℕ} {keys : List (Option Key)} {chains : Rings} {levels 
       let low = window_before_end next (levels key) t (omega (arith, stand.low slot key has, stand.levelled.early slot key has, stand.fits)) (stand.levelled.fit slot key has) in
       none slot key has on (omega (arith, past, low, ap (λ l. end_of l next) on, ap (λ l. t / 512 ^ l) on))
 
-  -- where a window has a row there is one
+  -- where a window has a row, one stands there
   pub has_there : (window end found : ℕ) → found < end
-      → FirstWindow chains (places (stand_on next levels stand.time stand.rank) keys) level window end found → HasSomeRow keys
+      → FirstWindow chains (places (stand_on next levels stand.time stand.rank) keys) level window end found → HasRowIn keys (homes_of chains) level found
   has_there window end found low first =
+      let spot : Key → Place = stand_on next levels stand.time stand.rank in
       let h = first.has_slot low in
-      let k = place_is (stand_on next levels stand.time stand.rank) (key_in keys h.slot) h.stands.place h.stands.has in
-      record { slot = h.slot; key = k.0; has = k.1 }
+      let k = place_is spot (key_in keys h.slot) h.stands.place h.stands.has in
+      record {
+        slot = h.slot;
+        key = k.0;
+        has = k.1;
+        at = home_of_slot chains (places spot keys) h.slot (bucket_of_window level found) stand.are h.low h.stands;
+      }
 
--- the begin of a window of a level above the lowest
-pub begins_there : {keys : List (Option Key)} (next level window time : ℕ) → 1 ≤ level → level ≤ 4 → next / 512 ^ level < window
-    → time ≡ window * 512 ^ level → HasSomeRow keys → IsEarlyOrNever keys next time
-begins_there next level window time above highest later is some =
+-- the begin of a window of a level above the lowest in which a row stands
+pub begins_there : {keys : List (Option Key)} {stands : List (Option ℕ)} (next level window time : ℕ) → 1 ≤ level → level ≤ 4 → next / 512 ^ level < window
+    → window < end_of level next → time ≡ window * 512 ^ level → HasRowIn keys stands level window → IsEarlyOrNever keys stands next time
+begins_there next level window time above highest later near is row =
     inl (inr (record {
-      later = omega (arith, is, before_window next window (512 ^ level) (some_wide level) later);
-      level = level;
-      above = above;
-      highest = highest;
-      window = window;
-      begin = is;
-      some = some;
+      slot = row.slot;
+      key = row.key;
+      has = row.has;
+      in_window = record {
+        later = omega (arith, is, before_window next window (512 ^ level) (some_wide level) later);
+        level = level;
+        above = above;
+        highest = highest;
+        window = window;
+        begin = is;
+        there = record { near = omega (arith, near); at = row.at };
+      };
     }))
 
 -- the least deadline that a look found
-pub early_looked : {keys : List (Option Key)} {spot : Key → Place} {bucket least : ℕ} (next : ℕ) → IsLeastIn keys spot bucket NEVER least → IsEarlyOrNever keys next least
+pub early_looked : {keys : List (Option Key)} {stands : List (Option ℕ)} {spot : Key → Place} {bucket least : ℕ} (next : ℕ) → IsLeastIn keys spot bucket NEVER least
+    → IsEarlyOrNever keys stands next least
 early_looked next looks =
     elim looks.near [
       | inl due ↦ inl (inl (record { slot = due.slot; key = due.key; has = due.has; at = due.at }))
@@ -119,11 +134,12 @@ early_looked next looks =
     ]
 
 -- the earlier of two
-pub earlier_is : (keys : List (Option Key)) (next a b : ℕ) → IsEarlyOrNever keys next a → IsEarlyOrNever keys next b → IsEarlyOrNever keys next (min a b)
-earlier_is keys next a b first second =
+pub earlier_is : (keys : List (Option Key)) (stands : List (Option ℕ)) (next a b : ℕ) → IsEarlyOrNever keys stands next a → IsEarlyOrNever keys stands next b
+    → IsEarlyOrNever keys stands next (min a b)
+earlier_is keys stands next a b first second =
     elim (cases_lt a b) [
-      | inl less ↦ let e : a ≡ min a b = omega arith in subst (λ n. IsEarlyOrNever keys next n) e first
-      | inr more ↦ let e : b ≡ min a b = omega arith in subst (λ n. IsEarlyOrNever keys next n) e second
+      | inl less ↦ let e : a ≡ min a b = omega arith in subst (λ n. IsEarlyOrNever keys stands next n) e first
+      | inr more ↦ let e : b ≡ min a b = omega arith in subst (λ n. IsEarlyOrNever keys stands next n) e second
     ]
 
 -- no row that stands below a level is due before a time

@@ -5,12 +5,12 @@ use Rattle.std.proofs.Math.ListN.{get_or-eq_default}
 use Rattle.std.proofs.lemmas.Bool.{cases_lt}
 use Rattle.std.proofs.lemmas.List.{length-replicate, get_or-replicate}
 use Rattle.std.proofs.lemmas.List.Folds.{sum_by-replicate}
-use Rattle.ert_wheel.proofs.Writes.{Sees}
+use Rattle.ert_wheel.proofs.Writes.{Sees, unordered}
 use Rattle.ert_wheel.specs.Rings.{Rings, Place, AreChains}
 use Rattle.ert_wheel.specs.Rows.{key_in}
 use Rattle.ert_wheel.specs.Wheels.{stand_on, place_of, places}
 use Rattle.ert_wheel.specs.declared.row.Key.{Key}
-use Rattle.ert_wheel.specs.declared.row.TheConstants.{NEVER, BUCKETS}
+use Rattle.ert_wheel.specs.declared.row.TheConstants.{BUCKETS}
 
 -- none is among none, and so no slot has a place
 no_key_in : (n j : ℕ) → key_in (replicate n None) j ≡ None
@@ -26,7 +26,7 @@ no_place : (spot : Key → Place) (n j : ℕ) → places spot (replicate n None)
 no_place spot n j = ap (place_of spot) (no_key_in n j)
 
 pub opened : (slots : ℕ) (stored : List Key) (chains : Rings) → chains.slots ≡ slots → chains.homes ≡ BUCKETS → AreChains chains (λ _. None)
-    → slots < 2 ^ 32 → Sees 0 0 NEVER 0 stored (replicate slots None) chains
+    → slots < 2 ^ 32 → Sees 0 0 (unordered 0) 0 stored (replicate slots None) chains
 opened slots stored chains low homes are few =
     let none : length (replicate {A = Option Key} slots None) ≡ slots = length-replicate {A = Option Key} slots None in
     record {
@@ -51,7 +51,8 @@ opened slots stored chains low homes are few =
             exact = λ j key has. (let no : None ≡ Some key = sym (no_key_in slots j) ∙ has in absurd cc);
           };
           are = subst (λ (p : ℕ → Option Place). AreChains chains p) (λ i j. sym (no_place (stand_on 0 (λ _. 0) (λ _. 0) (λ _. 0)) slots j) i) are;
-          in_order = λ is i j x y has. (let no : None ≡ Some x = sym (no_key_in slots i) ∙ has in absurd cc);
+          in_order = λ is all i j x y has. (let no : None ≡ Some x = sym (no_key_in slots i) ∙ has in absurd cc);
+          rises = λ is first has. (let no : None ≡ Some first = sym (no_key_in slots _) ∙ has in absurd cc);
         };
       };
     }

@@ -10,13 +10,15 @@ use Rattle.ert_wheel.proofs.Looking.{key_low}
 use Rattle.ert_wheel.proofs.Standing.{end_after}
 use Rattle.ert_wheel.proofs.Times.{lowest}
 use Rattle.ert_wheel.proofs.Views.{place_is}
-use Rattle.ert_wheel.specs.FirstDue.{NoRowDue, IsFirstRowDue, IsPast, IsReached, MayBeDue, NoneDueIn, IsOldestDue, SomeRowDue}
+use Rattle.ert_wheel.specs.FirstDue.{NoRowDue, IsFirstRowDue, IsFirstAt, IsFirstTold, IsPast, IsReached, MayBeDue, NoneDueIn, IsOldestDue, SomeRowDue}
 use Rattle.ert_wheel.specs.Levels.{bucket_of_window}
 use Rattle.ert_wheel.specs.NextDue.{NoneBefore}
 use Rattle.ert_wheel.specs.Rings.{Rings, Place, AreChains, StandsIn, Finds}
 use Rattle.ert_wheel.specs.Rows.{key_in, key_of, row_at, row_told, comes_before}
 use Rattle.ert_wheel.specs.Walks.{StandOnLevels}
 use Rattle.ert_wheel.specs.Wheels.{held_keys, stand_on, place_of, places, InOrder}
+use Rattle.ert_wheel.specs.declared.row.FirstDue.{FirstDue}
+use Rattle.ert_wheel.specs.declared.row.FirstDue.TheVariants.{Row as First, Nothing, Moving}
 use Rattle.ert_wheel.specs.declared.row.HeldRow.{HeldRow}
 use Rattle.ert_wheel.specs.declared.row.Key.{Key}
 use Rattle.ert_wheel.specs.declared.row.Row.{Row}
@@ -84,20 +86,31 @@ module _ {next : ℕ} {keys : List (Option Key)} {chains : Rings} {levels : Key 
       (looks (stand_on next levels stand.time stand.rank) (subst (λ (ks : List (Option Key)). AreChains chains (places (stand_on next levels stand.time stand.rank) ks)) (sym is) stand.are))))
 
 -- where it has come no further than the time, some row is due
-not_past : (keys : List (Option Key)) (passed to stop : ℕ) → IsReached keys passed to stop → stop ≤ to → NoRowDue keys stop → ⊥
-not_past keys passed to stop r by none =
+not_past : (keys : List (Option Key)) (stands : List (Option ℕ)) (passed to stop : ℕ) → IsReached keys stands passed to stop → stop ≤ to → NoRowDue keys stop → ⊥
+not_past keys stands passed to stop r by none =
     elim (r.next.due by).near [
       | inl due ↦ omega (arith, due.at, none due.slot due.key due.has)
-      | inr begins ↦ omega (arith, r.on, begins.later)
+      | inr begins ↦ omega (arith, r.on, begins.in_window.later)
     ]
 
-pub first_at_stop : (keys : List (Option Key)) (to stop : ℕ) (row : HeldRow) → stop ≤ to
+first_at_stop : (keys : List (Option Key)) (to stop : ℕ) (row : HeldRow) → stop ≤ to
     → IsFirstRowDue keys stop (row_told keys row) → IsFirstRowDue keys to (row_told keys row)
 first_at_stop keys to stop row by f = record { held = f.held; due = omega (arith, by, f.due); first = f.first }
 
-pub none_at_stop : (keys : List (Option Key)) (passed to stop : ℕ) → IsReached keys passed to stop → stop ≤ to
+none_at_stop : (keys : List (Option Key)) (stands : List (Option ℕ)) (passed to stop : ℕ) → IsReached keys stands passed to stop → stop ≤ to
     → (stop ≤ passed → NoRowDue keys stop) → IsPast keys passed to
-none_at_stop keys passed to stop r by none = absurd (not_past keys passed to stop r by (none r.on))
+none_at_stop keys stands passed to stop r by none = absurd (not_past keys stands passed to stop r by (none r.on))
+
+-- what is told of the time that time has come to is told of the time up to which it may come
+pub told_at_stop : (keys : List (Option Key)) (stands : List (Option ℕ)) (passed to stop : ℕ) (told : FirstDue) → IsReached keys stands passed to stop
+    → stop ≤ to → IsFirstAt keys passed stop told → IsFirstTold keys stands passed to told
+told_at_stop keys stands passed to stop (First row) r by f = first_at_stop keys to stop row by f
+told_at_stop keys stands passed to stop Nothing r by none = none_at_stop keys stands passed to stop r by none
+told_at_stop keys stands passed to stop Moving r by f =
+    elim (r.next.due by).near [
+      | inl due ↦ inr (record { slot = due.slot; key = due.key; has = due.has; by = omega (arith, due.at, by) })
+      | inr begins ↦ absurd (omega (arith, r.on, begins.in_window.later))
+    ]
 
 -- whether a row is late or due at the next time, by the newest of its bucket
 pub any_due : {next : ℕ} {keys : List (Option Key)} {chains : Rings} {levels : Key → ℕ} (stand : StandOnLevels next chains keys levels) (found : Option ℕ)
@@ -131,7 +144,7 @@ any_due {next} {keys} {chains} {levels} stand (Some slot) told {bucket} is at fi
     (record { slot = slot; key = k.0; has = k.1; by = omega (arith, t) })
 
 -- and so by a time up to that
-pub any_due_by : (keys : List (Option Key)) (passed to : ℕ) (told : Bool) → to ≤ passed → MatchBool told (SomeRowDue keys passed) (NoRowDue keys passed)
-    → MatchBool told (MayBeDue keys passed to) (NoRowDue keys to)
-any_due_by keys passed to true up due = inl (record { slot = due.slot; key = due.key; has = due.has; by = omega (arith, due.by) })
-any_due_by keys passed to false up none = λ slot key has. omega (arith, up, none slot key has)
+pub any_due_by : (keys : List (Option Key)) (stands : List (Option ℕ)) (passed to : ℕ) (told : Bool) → to ≤ passed → MatchBool told (SomeRowDue keys passed) (NoRowDue keys passed)
+    → MatchBool told (MayBeDue keys stands passed to) (NoRowDue keys to)
+any_due_by keys stands passed to true up due = inl (record { slot = due.slot; key = due.key; has = due.has; by = omega (arith, due.by) })
+any_due_by keys stands passed to false up none = λ slot key has. omega (arith, up, none slot key has)

@@ -11,6 +11,7 @@ use Rattle.ert_wheel.specs.Levels.{MayStand, StaysPut}
 use Rattle.ert_wheel.specs.Rings.{Rings, Place, AreChains, with_place}
 use Rattle.ert_wheel.specs.Rows.{key_in}
 use Rattle.ert_wheel.specs.Wheels.{stand_on, place_of, places, AreOrderedChains}
+use Rattle.ert_wheel.specs.declared.ordered.Ordered.{Ordered}
 use Rattle.ert_wheel.specs.declared.row.Key.{Key}
 
 -- a row of a slot with an order above all, which is due in no earlier window than the one before it
@@ -19,7 +20,7 @@ pub record KeepsSpot (next : ℕ) (keys : List (Option Key)) (slot : ℕ) (old k
   pub has : key_in keys slot ≡ Some old
   pub put : StaysPut next old.deadline (max key.deadline next)
 
-module _ {next ordered slot : ℕ} {chains : Rings} {keys : List (Option Key)} {old key : Key} (s : KeepsSpot next keys slot old key)
+module _ {next : ℕ} {ordered : Ordered} {slot : ℕ} {chains : Rings} {keys : List (Option Key)} {old key : Key} (s : KeepsSpot next keys slot old key)
     (a : AreOrderedChains next ordered chains keys) where
   abbrev l : ℕ
   l = a.level old
@@ -99,7 +100,7 @@ module _ {next ordered slot : ℕ} {chains : Rings} {keys : List (Option Key)} {
     levelled = levelled_with a.levelled (newest_with s.new) stands;
     are = chained_with next l t (a.rank old) a.level a.time a.rank (newest_with s.new)
         (subst (λ (p : ℕ → Option Place). AreChains chains p) (λ i j. same_places j i) a.are);
-    in_order = λ is i j x y has has' x_due y_due less. elim (either i x (newest_with s.new) has) [
+    in_order = λ is all i j x y has has' x_due y_due less. elim (either i x (newest_with s.new) has) [
       | inl (at, x_is) ↦ absurd (omega (arith, x_due, not_due, ap (λ (k : Key). k.deadline) x_is))
       | inr (ne, was, apart) ↦ elim (either j y (newest_with s.new) has') [
         | inl (at', y_is) ↦ absurd (omega (arith, y_due, not_due, ap (λ (k : Key). k.deadline) y_is))
@@ -108,8 +109,22 @@ module _ {next ordered slot : ℕ} {chains : Rings} {keys : List (Option Key)} {
               arith,
               given_there a.rank key.order (a.rank old) x apart,
               given_there a.rank key.order (a.rank old) y apart',
-              a.in_order is i j x y was was' x_due y_due less,
+              a.in_order is all i j x y was was' x_due y_due less,
             )
+      ]
+    ];
+    rises = λ is first has_first due i j x y has has' x_due y_due up up' less. elim (either ordered.rising first (newest_with s.new) has_first) [
+      | inl (at, first_is) ↦ absurd (omega (arith, due, not_due, ap (λ (k : Key). k.deadline) first_is))
+      | inr (ne'', was'', apart'') ↦ elim (either i x (newest_with s.new) has) [
+        | inl (at, x_is) ↦ absurd (omega (arith, x_due, not_due, ap (λ (k : Key). k.deadline) x_is))
+        | inr (ne, was, apart) ↦ elim (either j y (newest_with s.new) has') [
+          | inl (at', y_is) ↦ absurd (omega (arith, y_due, not_due, ap (λ (k : Key). k.deadline) y_is))
+          | inr (ne', was', apart') ↦
+              let f = given_there a.rank key.order (a.rank old) first apart'' in
+              let g = given_there a.rank key.order (a.rank old) x apart in
+              let h = given_there a.rank key.order (a.rank old) y apart' in
+              omega (arith, g, h, a.rises is first was'' due i j x y was was' x_due y_due (omega (arith, up, f, g)) (omega (arith, up', f, h)) less)
+        ]
       ]
     ];
   }

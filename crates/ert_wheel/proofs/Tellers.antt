@@ -1,108 +1,154 @@
 -- The row of a slot tells when the next one is due.
 
-use Rattle.std.proofs.Common.{Bool, true, false, None, option_map, subst, sym, ◌∙◌, refl, ◌≡◌, ℕ, ◌-◌, ◌*◌, ◌/◌, ◌%◌, ◌^◌, ◌<◌, List, Option, Some, ap, inl, inr, arith}
-use Rattle.std.specs.Bool.{OnTrue}
-use Rattle.ert_wheel.proofs.Closer.{narrower}
-use Rattle.ert_wheel.specs.NextDue.{NoneBefore, IsNextDue, Tells, IsToldBy, TellsNext}
+use Rattle.std.proofs.Common.{◌≡◌, ◌↔◌, ◌≢◌, ◌⊎◌, ℕ, max, ◌*◌, ◌/◌, ◌^◌, ◌<◌, ◌≤◌, true, nat_eq, List, Option, Some, None, IfNone, IfSome, option_map, sym, ◌∙◌, ap, inl, inr, refl, arith}
+use Rattle.std.proofs.Math.Nat.{div-lt_iff_lt-mul, mul-div_cancel}
+use Rattle.std.proofs.lemmas.Bool.{eq-eqb, eqb-true, false≢true}
+use Rattle.std.specs.Bool.{IsTrue}
+use Rattle.std.specs.Option.{is_some}
+use Rattle.ert_wheel.proofs.Homes.{home_of_key, home_of_slot}
+use Rattle.ert_wheel.proofs.Looking.{key_low}
+use Rattle.ert_wheel.proofs.Standing.{end_of, window_low}
+use Rattle.ert_wheel.proofs.Times.{later, one_bucket, one_window, some_wide}
+use Rattle.ert_wheel.proofs.Views.{place_is}
+use Rattle.ert_wheel.specs.Levels.{bucket_of_window}
+use Rattle.ert_wheel.specs.NextDue.{NoneBefore, NoneBeginsOn, IsDueOf, IsInWindow, IsNextDue, TellsNext}
+use Rattle.ert_wheel.specs.Rings.{Rings, Place, StandsIn, Finds}
 use Rattle.ert_wheel.specs.Rows.{key_in, told_at}
+use Rattle.ert_wheel.specs.Standing.{homes_of, bucket_in}
+use Rattle.ert_wheel.specs.Walks.{StandOnLevels}
+use Rattle.ert_wheel.specs.Wheels.{stand_on, place_of, places}
 use Rattle.ert_wheel.specs.declared.row.HeldRow.{HeldRow}
 use Rattle.ert_wheel.specs.declared.row.Key.{Key}
+use Rattle.ert_wheel.specs.declared.row.TheConstants.{NEVER}
 
--- a deadline tells a time that comes later: it is that one, or not before a window that begins then
-pub told_by : (passed time deadline : ℕ) → passed < time → Tells deadline time → IsToldBy passed time deadline
-told_by passed time deadline later tells =
-    elim tells [
-      | inl at ↦ inl at
-      | inr begins ↦ inr (record {
-        later = later;
-        level = 1;
-        above = omega arith;
-        highest = omega arith;
-        window = time / 512;
-        begin = at begins.0;
-        at_or_after = begins.1;
-      })
-    ]
-  where
-    at : time % 512 ≡ 0 → time ≡ time / 512 * 512 ^ 1
-    at whole = let p : ◌≡◌ {A = ℕ} (512 ^ 1) 512 = refl in omega (arith, whole, ap (λ m. time / 512 * m) p)
+from_begin : (next w m : ℕ) → 0 < m → next < w * m → next / m < w
+from_begin next w m wide less = (div-lt_iff_lt-mul {k = m} {x = next} {y = w} wide).1 less
 
-pub tells_by : (passed time deadline : ℕ) → IsToldBy passed time deadline → Tells deadline time
-tells_by passed time deadline told =
-    elim told [
-      | inl at ↦ inl at
-      | inr b ↦
-          let n : ℕ = b.window * 512 ^ (b.level - 1) in
-          let e : time ≡ n * 512 = b.begin ∙ narrower b.window 1 b.level b.above in
-          inr (omega (arith, e), b.at_or_after)
-    ]
+whole : (w m : ℕ) → 0 < m → w * m / m ≡ w
+whole w m wide = mul-div_cancel w wide
+
+one_begin : (v w m : ℕ) → 0 < m → v * m ≡ w * m → v ≡ w
+one_begin v w m wide same = sym (whole v m wide) ∙ (ap (λ n. n / m) same ∙ whole w m wide)
 
 -- where no row is due before a time, and one tells it, the next one is due then
-pub next_by : (keys : List (Option Key)) (passed time slot : ℕ) → NoneBefore keys time → TellsNext keys passed time slot → IsNextDue keys passed time
-next_by keys passed time slot none tells = record {
+pub next_by : (keys : List (Option Key)) (stands : List (Option ℕ)) (passed time slot : ℕ) → NoneBefore keys time → TellsNext keys stands passed time slot
+    → IsNextDue keys stands passed time
+next_by keys stands passed time slot none tells = record {
   some = record { slot = slot; key = tells.key; has = tells.has };
   none_before = none;
   near =
       elim tells.told [
         | inl at ↦ inl (record { slot = slot; key = tells.key; has = tells.has; at = at })
-        | inr b ↦ inr (record {
-          later = b.later;
-          level = b.level;
-          above = b.above;
-          highest = b.highest;
-          window = b.window;
-          begin = b.begin;
-          some = record { slot = slot; key = tells.key; has = tells.has };
-        })
+        | inr b ↦ inr (record { slot = slot; key = tells.key; has = tells.has; in_window = b })
       ];
 }
 
--- the row of a slot tells a time, as it is read
-pub tells_row : (keys : List (Option Key)) (passed time slot : ℕ) (row : HeldRow) → Some row ≡ option_map (told_at slot) (key_in keys slot)
-    → IsToldBy passed time row.deadline → TellsNext keys passed time slot
-tells_row keys passed time slot row is told = at (key_in keys slot) refl is
+-- where one is known that does
+pub next_some : (keys : List (Option Key)) (stands : List (Option ℕ)) (passed time : ℕ) (found : Option ℕ) → NoneBefore keys time
+    → IfSome found (TellsNext keys stands passed time) → is_some found ≡ true → IsNextDue keys stands passed time
+next_some keys stands passed time None none tells some = absurd (false≢true some)
+next_some keys stands passed time (Some slot) none tells some = next_by keys stands passed time slot none tells
+
+-- the row of a slot that is due at a time tells it
+pub due_tells : (keys : List (Option Key)) (stands : List (Option ℕ)) (passed time slot : ℕ) → IsDueOf keys slot time → TellsNext keys stands passed time slot
+due_tells keys stands passed time slot due = record { key = due.key; has = due.has; told = inl due.at }
+
+-- whether it is, as the row is read
+pub due_row : (keys : List (Option Key)) (time slot : ℕ) (row : HeldRow) → Some row ≡ option_map (told_at slot) (key_in keys slot)
+    → IsTrue (nat_eq row.deadline time) ↔ IsDueOf keys slot time
+due_row keys time slot row is = at (key_in keys slot) refl is
   where
-    at : (o : Option Key) → key_in keys slot ≡ o → Some row ≡ option_map (told_at slot) o → TellsNext keys passed time slot
+    at : (o : Option Key) → key_in keys slot ≡ o → Some row ≡ option_map (told_at slot) o → IsTrue (nat_eq row.deadline time) ↔ IsDueOf keys slot time
     at None has bad = absurd cc
     at (Some key) has is =
         let same : row ≡ told_at slot key = cc in
-        let deadline : row.deadline ≡ key.deadline = ap (λ (r : HeldRow). r.deadline) same in
-        record { key = key; has = has; told = subst (λ (d : ℕ). IsToldBy passed time d) deadline told }
+        let deadline : row.deadline ≡ key.deadline = ap (λ (r : HeldRow). r.deadline) same in (
+          (λ yes. record { key = key; has = has; at = sym deadline ∙ eqb-true row.deadline time yes }),
+          (λ due.
+              let one : Some due.key ≡ Some key = sym due.has ∙ has in
+              let that : due.key ≡ key = cc in
+              eq-eqb row.deadline time (deadline ∙ ap (λ (k : Key). k.deadline) (sym that) ∙ due.at)),
+        )
 
--- and none where it doesn't
-pub row_tells : (keys : List (Option Key)) (passed time slot : ℕ) (row : HeldRow) → Some row ≡ option_map (told_at slot) (key_in keys slot)
-    → TellsNext keys passed time slot → IsToldBy passed time row.deadline
-row_tells keys passed time slot row is tells =
-    let here : Some row ≡ Some (told_at slot tells.key) = is ∙ ap (option_map (told_at slot)) tells.has in
-    let same : row ≡ told_at slot tells.key = cc in
-    subst (λ (d : ℕ). IsToldBy passed time d) (sym (ap (λ (r : HeldRow). r.deadline) same)) tells.told
+module _ {next : ℕ} {keys : List (Option Key)} {chains : Rings} {levels : Key → ℕ} (stand : StandOnLevels next chains keys levels) where
+  abbrev spot : Key → Place
+  spot = stand_on next levels stand.time stand.rank
 
--- where a look at its deadline finds that, no row being due before
-pub told_row : (keys : List (Option Key)) (passed time slot : ℕ) (row : HeldRow) (yes : Bool) → NoneBefore keys time → passed < time
-    → Some row ≡ option_map (told_at slot) (key_in keys slot) → (yes ≡ true → Tells row.deadline time) → OnTrue yes (IsNextDue keys passed time)
-told_row keys passed time slot row false none later is tells = tt
-told_row keys passed time slot row true none later is tells =
-    next_by keys passed time slot none (tells_row keys passed time slot row is (told_by passed time row.deadline later (tells refl)))
+  -- the window in which a row stands
+  its_window : (time slot : ℕ) (key : Key) → key_in keys slot ≡ Some key → (b : IsInWindow (homes_of chains) next time slot)
+      → b.window < end_of b.level next
+  its_window time slot key has b =
+      let t : ℕ = max (stand.time key) next in
+      let fit = stand.levelled.fit slot key has in
+      let some : Some (spot key).home ≡ Some (bucket_of_window b.level b.window) = sym (home_of_key chains spot keys slot key stand.slots stand.are has) ∙ b.there.at in
+      let same : (spot key).home ≡ bucket_of_window b.level b.window = cc in
+      let one = one_bucket (levels key) b.level (t / 512 ^ levels key) b.window same in
+      let e : t / 512 ^ levels key ≡ t / 512 ^ b.level = ap (λ l. t / 512 ^ l) one.level in
+      let n : next / 512 ^ levels key ≡ next / 512 ^ b.level = ap (λ l. next / 512 ^ l) one.level in
+      let up : next / 512 ^ b.level ≤ b.window = omega (arith, from_begin next b.window (512 ^ b.level) (some_wide b.level) (omega (arith, b.later, b.begin))) in
+      let window : t / 512 ^ b.level ≡ b.window =
+      one_window (next / 512 ^ b.level) (t / 512 ^ b.level) b.window (later b.level next t (omega arith)) up
+      (omega (arith, fit.near, e, n)) b.there.near (omega (arith, one.place, e)) in
+      let low : t < NEVER = omega (arith, stand.low slot key has, stand.levelled.early slot key has, stand.fits) in
+      omega (arith, b.there.near, window, window_low b.level t b.highest low)
 
--- some row tells when the next one is due: where a window begins then, any does
-pub some_tells : (keys : List (Option Key)) (passed time : ℕ) → IsNextDue keys passed time → (slot : ℕ) × TellsNext keys passed time slot
-some_tells keys passed time next =
-    elim next.near [
-      | inl due ↦ (due.slot, record { key = due.key; has = due.has; told = inl due.at })
-      | inr b ↦ (
-        b.some.slot,
+  -- the newest row of the bucket of a window that begins at a time
+  module _ (level window time : ℕ) (above : 1 ≤ level) (highest : level ≤ 4) (later : next < time) (begin : time ≡ window * 512 ^ level)
+      (near : window < end_of level next) where
+    newest_tells : (slot : ℕ) → Finds chains (places spot keys) (bucket_of_window level window) (2 ^ 64) (Some slot)
+        → TellsNext keys (homes_of chains) next time slot
+    newest_tells slot f =
+        let there : StandsIn (places spot keys) (bucket_of_window level window) slot = f.stands.1 in
+        let k = place_is spot (key_in keys slot) there.place there.has in
         record {
-          key = b.some.key;
-          has = b.some.has;
+          key = k.0;
+          has = k.1;
           told = inr (record {
-            later = b.later;
-            level = b.level;
-            above = b.above;
-            highest = b.highest;
-            window = b.window;
-            begin = b.begin;
-            at_or_after = next.none_before b.some.slot b.some.key b.some.has;
+            later = later;
+            level = level;
+            above = above;
+            highest = highest;
+            window = window;
+            begin = begin;
+            there = record {
+              near = omega (arith, near);
+              at = home_of_slot chains (places spot keys) slot (bucket_of_window level window) stand.are f.stands.0 there;
+            };
           });
-        },
-      )
-    ]
+        }
+
+    pub found_tells : (found : Option ℕ) → Finds chains (places spot keys) (bucket_of_window level window) (2 ^ 64) found
+        → IfSome found (TellsNext keys (homes_of chains) next time)
+    found_tells None f = tt
+    found_tells (Some slot) f = newest_tells slot f
+
+    pub found_none : (found : Option ℕ) → Finds chains (places spot keys) (bucket_of_window level window) (2 ^ 64) found
+        → IfNone found (NoneBeginsOn keys (homes_of chains) next level time)
+    found_none (Some slot) f = tt
+    found_none None f = λ w on.
+        let b = w.in_window in
+        let one : b.window ≡ window = one_begin b.window window (512 ^ level) (some_wide level)
+        (ap (λ l. b.window * 512 ^ l) (sym on) ∙ sym b.begin ∙ begin) in
+        let at : bucket_in (homes_of chains) w.slot ≡ Some (bucket_of_window level window) =
+        b.there.at ∙ (ap (λ l. Some (bucket_of_window l b.window)) on ∙ ap (λ v. Some (bucket_of_window level v)) one) in
+        let some : Some (spot w.key).home ≡ Some (bucket_of_window level window) = sym (home_of_key chains spot keys w.slot w.key stand.slots stand.are w.has) ∙ at in
+        let home : (spot w.key).home ≡ bucket_of_window level window = cc in
+        let p : Place = spot w.key in
+        let there : places spot keys w.slot ≡ Some p = ap (place_of spot) w.has in
+        absurd (omega (arith, f.greatest w.slot p (omega (arith, stand.slots, key_low keys w.slot w.key w.has)) there home (stand.are.orders w.slot p there)))
+
+  -- none where the time isn't the begin of a window that the level shows
+  pub none_begins : (level time : ℕ) → (time / 512 ^ level * 512 ^ level ≢ time) ⊎ (end_of level next ≤ time / 512 ^ level)
+      → NoneBeginsOn keys (homes_of chains) next level time
+  none_begins level time not = λ w on.
+      let b = w.in_window in
+      let begin : time ≡ b.window * 512 ^ level = b.begin ∙ ap (λ l. b.window * 512 ^ l) on in
+      let is : time / 512 ^ level ≡ b.window = ap (λ t. t / 512 ^ level) begin ∙ whole b.window (512 ^ level) (some_wide level) in
+      elim not [
+        | inl apart ↦ apart (ap (λ v. v * 512 ^ level) is ∙ sym begin)
+        | inr past ↦ absurd (omega (arith, past, is, its_window time w.slot w.key w.has b, ap (λ l. end_of l next) on))
+      ]
+
+-- and none at a time that isn't later
+pub none_early : {keys : List (Option Key)} {stands : List (Option ℕ)} (passed level time : ℕ) → time ≤ passed → NoneBeginsOn keys stands passed level time
+none_early passed level time early = λ w on. absurd (omega (arith, early, w.in_window.later))

@@ -21,19 +21,20 @@ use Rattle.ert_wheel.specs.Rings.{Rings, Place, MayPut, Puts, MayTake, GivesUpPl
 use Rattle.ert_wheel.specs.Rows.{Held, key_in, times, due_count, left_at}
 use Rattle.ert_wheel.specs.Falling.{MayMoveOn}
 use Rattle.ert_wheel.specs.Wheels.{no_key, held_keys, stand_on, place_of, places, AreLevelChains, AreOrderedChains, IsWheel, IsWheelKept, IsWheelAlike}
+use Rattle.ert_wheel.specs.declared.ordered.Ordered.{Ordered}
 use Rattle.ert_wheel.specs.declared.row.Key.{Key}
 use Rattle.ert_wheel.specs.declared.row.Row.{Row}
 use Rattle.ert_wheel.specs.declared.row.TheConstants.{NEVER, BUCKETS}
 
 -- a wheel as it is seen, and what it stores
-pub record Sees (next count ordered floor : ℕ) (stored : List Key) (seen : List (Option Key)) (chains : Rings) : Type 0 where
+pub record Sees (next count : ℕ) (ordered : Ordered) (floor : ℕ) (stored : List Key) (seen : List (Option Key)) (chains : Rings) : Type 0 where
   pub wheel : IsWheel next count ordered seen chains
   pub above : (slot : ℕ) (key : Key) → key_in seen slot ≡ Some key → floor ≤ key.deadline
   pub are_stored : AreStored stored seen
 
-pub sees : {T : Type 0} {next count ordered floor : ℕ} {stored : List Key} {chains owners : Rings} {values : List T} {passed : ℕ} {held : Held T}
+pub sees : {T : Type 0} {next count : ℕ} {ordered : Ordered} {floor : ℕ} {stored : List Key} {chains owners : Rings} {values : List T} {passed : ℕ} {stands : List (Option ℕ)} {held : Held T}
     → IsWheelKept next count ordered floor (held_keys chains stored) chains
-    → ◌≡◌ {A = Held T} (record { keys = held_keys chains stored; owners = owners; values = values; passed = passed }) held
+    → ◌≡◌ {A = Held T} (record { keys = held_keys chains stored; stands = stands; owners = owners; values = values; passed = passed }) held
     → Sees next count ordered floor stored held.keys chains
 sees {T} {next = next} {count = count} {ordered = ordered} {floor = floor} {stored = stored} {chains = chains} w is =
     subst (λ (h : Held T). Sees next count ordered floor stored h.keys chains) is
@@ -47,9 +48,9 @@ pub record IsLowIn (stored : List Key) (seen : List (Option Key)) (buckets owner
   pub low_owner : slot < owners.written
   pub is_slot : slot < owners.slots
 
-pub low_in : {T : Type 0} {next count ordered floor : ℕ} {kept : KeptSlots T} {buckets owners : Rings} {values : List T} {passed : ℕ} {held : Held T} (slot : ℕ)
+pub low_in : {T : Type 0} {next count : ℕ} {ordered : Ordered} {floor : ℕ} {kept : KeptSlots T} {buckets owners : Rings} {values : List T} {passed : ℕ} {stands : List (Option ℕ)} {held : Held T} (slot : ℕ)
     → IsWheelAlike next count ordered floor kept buckets owners
-    → ◌≡◌ {A = Held T} (record { keys = held_keys buckets kept.keys; owners = owners; values = values; passed = passed }) held
+    → ◌≡◌ {A = Held T} (record { keys = held_keys buckets kept.keys; stands = stands; owners = owners; values = values; passed = passed }) held
     → slot < held.owners.written → IsLowIn kept.keys held.keys buckets owners slot
 low_in {T} {kept = kept} {buckets = buckets} slot w is low =
     let owned = ap (λ (h : Held T). h.owners.written) is in
@@ -63,9 +64,9 @@ low_in {T} {kept = kept} {buckets = buckets} slot w is low =
     }
 
 -- a slot that has a row is written
-pub row_written : {T : Type 0} {next count ordered floor : ℕ} {kept : KeptSlots T} {buckets owners : Rings} {values : List T} {passed : ℕ} {held : Held T} (slot : ℕ) (key : Key)
+pub row_written : {T : Type 0} {next count : ℕ} {ordered : Ordered} {floor : ℕ} {kept : KeptSlots T} {buckets owners : Rings} {values : List T} {passed : ℕ} {stands : List (Option ℕ)} {held : Held T} (slot : ℕ) (key : Key)
     → IsWheelAlike next count ordered floor kept buckets owners
-    → ◌≡◌ {A = Held T} (record { keys = held_keys buckets kept.keys; owners = owners; values = values; passed = passed }) held
+    → ◌≡◌ {A = Held T} (record { keys = held_keys buckets kept.keys; stands = stands; owners = owners; values = values; passed = passed }) held
     → key_in held.keys slot ≡ Some key → slot < held.owners.written
 row_written {T} {kept = kept} {buckets = buckets} slot key w is has =
     let low = key_stored buckets kept.keys slot key (ap (λ (h : Held T). key_in h.keys slot) is ∙ has) in
@@ -87,6 +88,9 @@ alike_after a keys room slots written owned few = record {
 abbrev pub keys_of : {T : Type 0} → Held T → List (Option Key)
 keys_of h = h.keys
 
+abbrev pub stands_of : {T : Type 0} → Held T → List (Option ℕ)
+stands_of h = h.stands
+
 abbrev pub owners_of : {T : Type 0} → Held T → Rings
 owners_of h = h.owners
 
@@ -94,41 +98,43 @@ abbrev pub passed_of : {T : Type 0} → Held T → ℕ
 passed_of h = h.passed
 
 -- what is stored, where it is told otherwise
-pub stored_as : {next count ordered floor : ℕ} {stored other : List Key} {seen : List (Option Key)} {chains : Rings}
+pub stored_as : {next count : ℕ} {ordered : Ordered} {floor : ℕ} {stored other : List Key} {seen : List (Option Key)} {chains : Rings}
     → other ≡ stored → Sees next count ordered floor stored seen chains → Sees next count ordered floor other seen chains
 stored_as {next = next} {count = count} {ordered = ordered} {floor = floor} {seen = seen} {chains = chains} same s =
     subst (λ (keys : List Key). Sees next count ordered floor keys seen chains) (sym same) s
 
 -- this is held
-pub is_held : {next count ordered floor : ℕ} {stored : List Key} {seen : List (Option Key)} {chains : Rings}
+pub is_held : {next count : ℕ} {ordered : Ordered} {floor : ℕ} {stored : List Key} {seen : List (Option Key)} {chains : Rings}
     → Sees next count ordered floor stored seen chains → held_keys chains stored ≡ seen
 is_held {next = next} {stored = stored} {seen = seen} {chains = chains} s =
     held_is chains (stand_on next s.wheel.are.level s.wheel.are.time s.wheel.are.rank) stored seen s.wheel.slots s.are_stored s.wheel.are.are
 
-pub is_kept : {next count ordered floor : ℕ} {stored : List Key} {seen : List (Option Key)} {chains : Rings}
+pub is_kept : {next count : ℕ} {ordered : Ordered} {floor : ℕ} {stored : List Key} {seen : List (Option Key)} {chains : Rings}
     → Sees next count ordered floor stored seen chains → IsWheelKept next count ordered floor (held_keys chains stored) chains
 is_kept {next = next} {count = count} {ordered = ordered} {floor = floor} {chains = chains} s =
     subst (λ (ks : List (Option Key)). IsWheelKept next count ordered floor ks chains) (sym (is_held s)) (record { wheel = s.wheel; above = s.above })
 
--- after the next bucket was put in order
-pub sees_ordered : {T : Type 0} {next count ordered floor passed : ℕ} {stored : List Key} {chains owners new : Rings} {values : List T} {held : Held T}
+-- where more is known of the order of the next bucket
+pub sees_ordered : {T : Type 0} {next count : ℕ} {ordered now : Ordered} {floor passed : ℕ} {stored : List Key} {chains owners new : Rings} {values : List T} {stands : List (Option ℕ)} {held : Held T}
     → IsWheelKept next count ordered floor (held_keys chains stored) chains
-    → ◌≡◌ {A = Held T} (record { keys = held_keys chains stored; owners = owners; values = values; passed = passed }) held
-    → ((n : ℕ) → IsWheel next n ordered (held_keys chains stored) chains → IsWheel next n next (held_keys chains stored) new)
-    → Sees next count next floor stored held.keys new
-sees_ordered {T} {next} {count} {ordered} {floor} {passed} {stored} {chains} {owners} {new} {values} {held} w is orders =
-    subst (λ (h : Held T). Sees next count next floor stored h.keys new) is
+    → ◌≡◌ {A = Held T} (record { keys = held_keys chains stored; stands = stands; owners = owners; values = values; passed = passed }) held
+    → ((n : ℕ) → IsWheel next n ordered (held_keys chains stored) chains → IsWheel next n now (held_keys chains stored) new)
+    → Sees next count now floor stored held.keys new
+sees_ordered {T} {next} {count} {ordered} {now} {floor} {passed} {stored} {chains} {owners} {new} {values} {stands} {held} w is orders =
+    subst (λ (h : Held T). Sees next count now floor stored h.keys new) is
     (record { wheel = orders count w.wheel; above = w.above; are_stored = stored_held chains stored })
 
--- what is held where other chains hold the same keys
-pub same_held : {T : Type 0} {keys other : List (Option Key)} {owners : Rings} {values : List T} {passed : ℕ} {held : Held T} → other ≡ keys
-    → ◌≡◌ {A = Held T} (record { keys = keys; owners = owners; values = values; passed = passed }) held
-    → ◌≡◌ {A = Held T} (record { keys = other; owners = owners; values = values; passed = passed }) held
-same_held {T} {keys} {other} {owners} {values} {passed} {held} same is =
-    ap (λ (ks : List (Option Key)). record { keys = ks; owners = owners; values = values; passed = passed }) same ∙ is
+-- what is held where other chains hold the same keys in the same buckets
+pub same_held : {T : Type 0} {keys other : List (Option Key)} {stands there : List (Option ℕ)} {owners : Rings} {values : List T} {passed : ℕ} {held : Held T}
+    → other ≡ keys → there ≡ stands
+    → ◌≡◌ {A = Held T} (record { keys = keys; stands = stands; owners = owners; values = values; passed = passed }) held
+    → ◌≡◌ {A = Held T} (record { keys = other; stands = there; owners = owners; values = values; passed = passed }) held
+same_held {T} {keys} {other} {stands} {there} {owners} {values} {passed} {held} same same' is =
+    ap (λ (ks : List (Option Key)). record { keys = ks; stands = there; owners = owners; values = values; passed = passed }) same
+    ∙ (ap (λ (st : List (Option ℕ)). record { keys = keys; stands = st; owners = owners; values = values; passed = passed }) same' ∙ is)
 
 -- a slot without a row can be put into a chain
-pub may_put : {next count ordered floor : ℕ} {stored : List Key} {seen : List (Option Key)} {chains : Rings} {slot home : ℕ}
+pub may_put : {next count : ℕ} {ordered : Ordered} {floor : ℕ} {stored : List Key} {seen : List (Option Key)} {chains : Rings} {slot home : ℕ}
     → Sees next count ordered floor stored seen chains → slot < length seen → key_in seen slot ≡ None → home < BUCKETS
     → MayPut chains slot home
 may_put {next = next} {seen = seen} s low vacant in_range = record {
@@ -140,7 +146,7 @@ may_put {next = next} {seen = seen} s low vacant in_range = record {
 }
 
 -- the count of rows leaves room for one more where a slot has none
-pub count_fits : {next count ordered floor : ℕ} {stored : List Key} {seen : List (Option Key)} {chains : Rings} (slot : ℕ) (key : Key)
+pub count_fits : {next count : ℕ} {ordered : Ordered} {floor : ℕ} {stored : List Key} {seen : List (Option Key)} {chains : Rings} (slot : ℕ) (key : Key)
     → Sees next count ordered floor stored seen chains → slot < length seen → key_in seen slot ≡ None → count + 1 < 2 ^ 32
 count_fits {seen = seen} slot key s low vacant = omega (
   arith,
@@ -162,7 +168,7 @@ is_newest : {slot : ℕ} {seen : List (Option Key)} {key : Key} → CanStore see
 is_newest can = record { low = can.low; newest = can.newest; order = can.order }
 
 -- the wheel with another row of a slot, or its first
-stored_row : {next count count' ordered floor floor' : ℕ} {stored : List Key} {seen : List (Option Key)} {chains new : Rings} {slot : ℕ} {key : Key}
+stored_row : {next count count' : ℕ} {ordered : Ordered} {floor floor' : ℕ} {stored : List Key} {seen : List (Option Key)} {chains new : Rings} {slot : ℕ} {key : Key}
     → Sees next count ordered floor stored seen chains → CanStore seen slot key → slot < length stored
     → new.slots ≡ chains.slots → new.homes ≡ chains.homes
     → floor' ≡ min floor key.deadline → count' ≡ count_by is_some (set seen slot (Some key))
@@ -189,7 +195,7 @@ stored_row {next = next} {stored = stored} {seen = seen} {new = new} {slot = slo
 }
 
 -- the wheel with a row put in
-pub inserted : {next count ordered floor floor' : ℕ} {stored : List Key} {seen : List (Option Key)} {chains new : Rings} {slot : ℕ} {key : Key} {home : ℕ}
+pub inserted : {next count : ℕ} {ordered : Ordered} {floor floor' : ℕ} {stored : List Key} {seen : List (Option Key)} {chains new : Rings} {slot : ℕ} {key : Key} {home : ℕ}
     → Sees next count ordered floor stored seen chains → CanStore seen slot key → slot < length stored → key_in seen slot ≡ None
     → IsLeastBucket next (max key.deadline next) home
     → new.slots ≡ chains.slots → new.homes ≡ chains.homes → Puts chains new slot home → floor' ≡ min floor key.deadline
@@ -203,14 +209,14 @@ inserted {next = next} {seen = seen} {chains = chains} {slot = slot} {key = key}
     (omega (arith, s.wheel.slots, s.wheel.few)) (numbers_below n)))
 
 -- the key that a slot has is the one that is stored
-held_stored : {next count ordered floor : ℕ} {stored : List Key} {seen : List (Option Key)} {chains : Rings} (slot : ℕ)
+pub held_stored : {next count : ℕ} {ordered : Ordered} {floor : ℕ} {stored : List Key} {seen : List (Option Key)} {chains : Rings} (slot : ℕ)
     → Sees next count ordered floor stored seen chains → (o : Option Key) → key_in seen slot ≡ o → IsSome o → key_in seen slot ≡ Some (get_or stored slot no_key)
 held_stored slot s None is held = absurd (true≢false (sym held))
 held_stored {stored = stored} slot s (Some key) is held =
     is ∙ ap (λ (k : Key). Some k) (sym (get_or_from_slice_get stored slot key no_key (s.are_stored slot key is)))
 
 -- the wheel with another row of a slot
-pub replaced : {next count ordered floor floor' was : ℕ} {stored : List Key} {seen : List (Option Key)} {chains new : Rings} {slot : ℕ} {key : Key}
+pub replaced : {next count : ℕ} {ordered : Ordered} {floor floor' was : ℕ} {stored : List Key} {seen : List (Option Key)} {chains new : Rings} {slot : ℕ} {key : Key}
     → Sees next count ordered floor stored seen chains → CanStore seen slot key → slot < length stored → IsSome (key_in seen slot)
     → was ≡ (get_or stored slot no_key).deadline → MovesOrStays next was (max key.deadline next) chains new slot
     → new.slots ≡ chains.slots → new.homes ≡ chains.homes → floor' ≡ min floor key.deadline
@@ -234,20 +240,20 @@ replaced {next = next} {ordered = ordered} {stored = stored} {seen = seen} {chai
     ])
 
 -- where a slot is alone it has no row, and else the one that is stored
-pub looks_alone : {next count ordered floor : ℕ} {stored : List Key} {seen : List (Option Key)} {chains : Rings} {slot : ℕ}
+pub looks_alone : {next count : ℕ} {ordered : Ordered} {floor : ℕ} {stored : List Key} {seen : List (Option Key)} {chains : Rings} {slot : ℕ}
     → Sees next count ordered floor stored seen chains → slot < length seen → next_at chains.links slot ≡ slot → key_in seen slot ≡ None
 looks_alone {stored = stored} {chains = chains} {slot = slot} s low e =
     ap (λ (ks : List (Option Key)). key_in ks slot) (sym (is_held s)) ∙ held_at chains stored slot (omega (arith, s.wheel.slots))
     ∙ key_alone chains.links stored slot e
 
-pub looks_apart : {next count ordered floor : ℕ} {stored : List Key} {seen : List (Option Key)} {chains : Rings} {slot : ℕ}
+pub looks_apart : {next count : ℕ} {ordered : Ordered} {floor : ℕ} {stored : List Key} {seen : List (Option Key)} {chains : Rings} {slot : ℕ}
     → Sees next count ordered floor stored seen chains → slot < length seen → slot < length stored → next_at chains.links slot ≢ slot
     → key_in seen slot ≡ Some (get_or stored slot no_key)
 looks_apart {stored = stored} {chains = chains} {slot = slot} s low written ne =
     ap (λ (ks : List (Option Key)). key_in ks slot) (sym (is_held s)) ∙ held_at chains stored slot (omega (arith, s.wheel.slots))
     ∙ key_apart chains.links stored slot written ne
 
-pub may_take : {next count ordered floor : ℕ} {stored : List Key} {seen : List (Option Key)} {chains : Rings} {slot : ℕ}
+pub may_take : {next count : ℕ} {ordered : Ordered} {floor : ℕ} {stored : List Key} {seen : List (Option Key)} {chains : Rings} {slot : ℕ}
     → Sees next count ordered floor stored seen chains → slot < length seen → MayTake chains slot
 may_take {next = next} {seen = seen} s low = record {
   places = places (stand_on next s.wheel.are.level s.wheel.are.time s.wheel.are.rank) seen;
@@ -256,13 +262,13 @@ may_take {next = next} {seen = seen} s low = record {
 }
 
 -- one row at least is counted
-pub count_holds : {next count ordered floor : ℕ} {stored : List Key} {seen : List (Option Key)} {chains : Rings} {slot : ℕ} {key : Key}
+pub count_holds : {next count : ℕ} {ordered : Ordered} {floor : ℕ} {stored : List Key} {seen : List (Option Key)} {chains : Rings} {slot : ℕ} {key : Key}
     → Sees next count ordered floor stored seen chains → slot < length seen → key_in seen slot ≡ Some key → 1 ≤ count
 count_holds {seen = seen} {slot = slot} {key = key} s low held =
     omega (arith, s.wheel.counts, counts_less seen slot key low held)
 
 -- the chains without it
-left_chains : {next ordered slot : ℕ} {seen : List (Option Key)} {chains new : Rings} → slot < length seen → AreOrderedChains next ordered chains seen
+left_chains : {next : ℕ} {ordered : Ordered} {slot : ℕ} {seen : List (Option Key)} {chains new : Rings} → slot < length seen → AreOrderedChains next ordered chains seen
     → GivesUpPlace chains new slot → AreOrderedChains next ordered new (set seen slot None)
 left_chains {next} {ordered} {slot} {seen} {chains} {new} low a takes =
     let was : (j : ℕ) (k : Key) → key_in (set seen slot None) j ≡ Some k → key_in seen j ≡ Some k =
@@ -281,11 +287,12 @@ left_chains {next} {ordered} {slot} {seen} {chains} {new} low a takes =
         bounded = λ j k has. a.levelled.bounded j k (was j k has);
       };
       are = chains_set new spot seen slot None low (takes (places spot seen) a.are);
-      in_order = λ is i j x y has has'. a.in_order is i j x y (was i x has) (was j y has');
+      in_order = λ is all i j x y has has'. a.in_order is all i j x y (was i x has) (was j y has');
+      rises = λ is first has_first due i j x y has has'. a.rises is first (was ordered.rising first has_first) due i j x y (was i x has) (was j y has');
     }
 
 -- the wheel with a row taken out
-pub removed : {next count ordered floor : ℕ} {stored : List Key} {seen : List (Option Key)} {chains new : Rings} {slot : ℕ} {key : Key}
+pub removed : {next count : ℕ} {ordered : Ordered} {floor : ℕ} {stored : List Key} {seen : List (Option Key)} {chains new : Rings} {slot : ℕ} {key : Key}
     → Sees next count ordered floor stored seen chains → slot < length seen → key_in seen slot ≡ Some key
     → new.slots ≡ chains.slots → new.homes ≡ chains.homes → GivesUpPlace chains new slot
     → Sees next (count - 1) ordered floor stored (set seen slot None) new
@@ -318,11 +325,15 @@ pub vacant_view : (seen : List (Option Key)) (slot : ℕ) → key_in seen slot �
 vacant_view seen slot none = sym (set-get_or seen slot None) ∙ ap (set seen slot) none
 
 -- the chains, whatever the order of a bucket
-pub level_chains : {next ordered : ℕ} {keys : List (Option Key)} {chains : Rings} → AreOrderedChains next ordered chains keys → AreLevelChains next 1 chains keys
+pub level_chains : {next : ℕ} {ordered : Ordered} {keys : List (Option Key)} {chains : Rings} → AreOrderedChains next ordered chains keys → AreLevelChains next 1 chains keys
 level_chains a = record { level = a.level; time = a.time; rank = a.rank; levelled = a.levelled; are = a.are }
 
 -- and where none is known to be in order
-pub ordered_never : {next : ℕ} {keys : List (Option Key)} {chains : Rings} → next < NEVER → AreLevelChains next 1 chains keys → AreOrderedChains next NEVER chains keys
+abbrev pub unordered : ℕ → Ordered
+unordered rising = record { time = NEVER; rising = rising }
+
+pub ordered_never : {next rising : ℕ} {keys : List (Option Key)} {chains : Rings} → next < NEVER → AreLevelChains next 1 chains keys
+    → AreOrderedChains next (unordered rising) chains keys
 ordered_never early a = record {
   level = a.level;
   time = a.time;
@@ -330,10 +341,11 @@ ordered_never early a = record {
   levelled = a.levelled;
   are = a.are;
   in_order = λ is. absurd (omega (arith, is, early));
+  rises = λ is. absurd (omega (arith, is, early));
 }
 
 -- time may move on where all that is passed is gone
-pub may_move : {next next' count ordered : ℕ} {keys : List (Option Key)} {chains : Rings} (to : ℕ) → IsWheel next count ordered keys chains
+pub may_move : {next next' count : ℕ} {ordered : Ordered} {keys : List (Option Key)} {chains : Rings} (to : ℕ) → IsWheel next count ordered keys chains
     → ((j : ℕ) → IfSome (key_in keys j) (λ key. to < key.deadline)) → next ≤ next' → next' ≤ max next (to + 1)
     → next' < NEVER → MayMoveOn chains keys next next'
 may_move to w none up low fits = record {
@@ -346,12 +358,12 @@ may_move to w none up low fits = record {
 }
 
 -- and the wheel after that
-pub moved : {next next' count ordered floor floor' : ℕ} {stored : List Key} {seen : List (Option Key)} {chains new : Rings} (to after : ℕ)
+pub moved : {next next' count : ℕ} {ordered : Ordered} {floor floor' : ℕ} {stored : List Key} {seen : List (Option Key)} {chains new : Rings} (to after rising : ℕ)
     → Sees next count ordered floor stored seen chains → ((j : ℕ) → IfSome (key_in seen j) (λ key. to < key.deadline))
     → after ≤ to + 1 → floor' ≡ max floor after
     → next' < NEVER → new.slots ≡ chains.slots → new.homes ≡ chains.homes
-    → AreLevelChains next' 1 new seen → Sees next' count NEVER floor' stored seen new
-moved to after s none low up fits slots homes are = record {
+    → AreLevelChains next' 1 new seen → Sees next' count (unordered rising) floor' stored seen new
+moved to after rising s none low up fits slots homes are = record {
   are_stored = s.are_stored;
   above = λ j key has.
       let later : to < key.deadline = subst (λ (o : Option Key). IfSome o (λ k. to < k.deadline)) has (none j) in
@@ -368,7 +380,7 @@ moved to after s none low up fits slots homes are = record {
 }
 
 -- the wheel where more slots are written
-pub grown : {next count ordered floor : ℕ} {stored : List Key} {seen : List (Option Key)} {chains : Rings} (more : List Key) (written : ℕ)
+pub grown : {next count : ℕ} {ordered : Ordered} {floor : ℕ} {stored : List Key} {seen : List (Option Key)} {chains : Rings} (more : List Key) (written : ℕ)
     → Sees next count ordered floor stored seen chains → Sees next count ordered floor (stored ++ more) seen (record chains { written = written })
 grown {next = next} {stored = stored} {seen = seen} {chains = chains} more written s = record {
   are_stored = stored_more stored more seen s.are_stored;
@@ -386,6 +398,7 @@ grown {next = next} {stored = stored} {seen = seen} {chains = chains} more writt
       rank = s.wheel.are.rank;
       levelled = s.wheel.are.levelled;
       in_order = s.wheel.are.in_order;
+      rises = s.wheel.are.rises;
       are = chains_written chains written (places (stand_on next s.wheel.are.level s.wheel.are.time s.wheel.are.rank) seen) s.wheel.are.are;
     };
   };

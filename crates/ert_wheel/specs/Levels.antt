@@ -1,6 +1,6 @@
 -- Levels of buckets: on which of them a time may stand, seen from the next time, which is the first that wasn't passed.
 
-use Rattle.std.specs.Prelude.{◌≡◌, ℕ, ◌+◌, ◌*◌, ◌/◌, ◌%◌, ◌<◌, ◌≤◌, ◌^◌}
+use Rattle.std.specs.Prelude.{◌≡◌, ◌⊎◌, ℕ, ◌+◌, ◌*◌, ◌/◌, ◌%◌, ◌<◌, ◌≤◌, ◌^◌}
 
 -- the bucket of a window on a level: a level has 1,024 buckets, which its windows take in turn
 abbrev pub bucket_of_window : ℕ → ℕ → ℕ
@@ -27,6 +27,22 @@ pub record IsLeastLevel (next level time : ℕ) : Type 0 where
 pub record IsLeastBucket (next time bucket : ℕ) : Type 0 where
   pub level : ℕ
   pub least : IsLeastLevel next level time
+  pub is : bucket ≡ bucket_on level time
+
+-- a level is the next one below another, and a time after the next one is in a window of that one
+pub record IsNextBelow (next from window level time : ℕ) : Type 0 where
+  pub later : next < time
+  pub below : level + 1 ≡ from
+  pub within : time / 512 ^ from ≡ window
+
+-- where a time comes from a window of a level: to the level below, where it is in that window, or to the least level on which it may stand
+abbrev pub IsLevelBelow : ℕ → ℕ → ℕ → ℕ → ℕ → Type 0
+IsLevelBelow next from window level time = IsNextBelow next from window level time ⊎ IsLeastLevel next level time
+
+-- a bucket is that of a time there
+pub record IsBucketBelow (next from window time bucket : ℕ) : Type 0 where
+  pub level : ℕ
+  pub below : IsLevelBelow next from window level time
   pub is : bucket ≡ bucket_on level time
 
 -- A row that was due at a time may be due at another one without a move: that is in no earlier window of 512 milliseconds, and

@@ -10,5 +10,6 @@ pub mod Ordering
 pub mod Replacing
 pub mod Rings
 pub mod Rows
+pub mod Standing
 pub mod Walks
 pub mod Wheels

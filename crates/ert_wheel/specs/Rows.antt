@@ -1,4 +1,4 @@
--- A wheel as its user sees it: the key of each slot that has a row, and the chains of the owners.
+-- A wheel as its user sees it: the key of each slot that has a row and where it stands, and the chains of the owners.
 
 use Rattle.std.specs.Prelude.{ℕ, Bool, ◌||◌, ◌&&◌, List, Option, Some, None, cond, map, nat_lt, nat_le, nat_eq, count_by, slice_index_or}
 use Rattle.ert_wheel.specs.Rings.{Rings}
@@ -6,10 +6,11 @@ use Rattle.ert_wheel.specs.declared.row.Key.{Key}
 use Rattle.ert_wheel.specs.declared.row.HeldRow.{HeldRow}
 use Rattle.ert_wheel.specs.declared.row.Row.{Row}
 
--- what a wheel holds: by slot the key of its row, for each owner a chain of slots, a value of each slot that is written,
--- and the first time that wasn't passed
+-- what a wheel holds: by slot the key of its row and the bucket in which it stands, for each owner a chain of slots, a value of
+-- each slot that is written, and the first time that wasn't passed
 pub record Held (T : Type 0) : Type 0 where
   pub keys : List (Option Key)
+  pub stands : List (Option ℕ)
   pub owners : Rings
   pub values : List T
   pub passed : ℕ

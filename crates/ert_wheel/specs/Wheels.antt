@@ -9,6 +9,8 @@ use Rattle.ert_wheel.specs.Links.{next_at}
 use Rattle.ert_wheel.specs.Rings.{Rings, Place, AreChains}
 use Rattle.ert_wheel.specs.Rows.{key_in}
 use Rattle.ert_wheel.specs.declared.links.Link.{Link}
+use Rattle.ert_wheel.specs.declared.ordered.TheConstants.{ALL}
+use Rattle.ert_wheel.specs.declared.ordered.Ordered.{Ordered}
 use Rattle.ert_wheel.specs.declared.row.TheConstants.{NEVER, BUCKETS}
 use Rattle.ert_wheel.specs.declared.row.Key.{Key}
 
@@ -62,17 +64,24 @@ abbrev pub InOrder : ℕ → List (Option Key) → (Key → ℕ) → Type 0
 InOrder next keys rank = (i j : ℕ) (x y : Key) → key_in keys i ≡ Some x → key_in keys j ≡ Some y
     → x.deadline ≤ next → y.deadline ≤ next → x.order < y.order → rank x < rank y
 
--- the same, and where the bucket of the next time was put in order it is so
-pub record AreOrderedChains (next ordered : ℕ) (chains : Rings) (keys : List (Option Key)) : Type 0 where
+-- and so of those whose ranks are no less than that of a slot's row, where that one is due by then
+abbrev pub RisesFrom : ℕ → List (Option Key) → (Key → ℕ) → ℕ → Type 0
+RisesFrom next keys rank slot = (first : Key) → key_in keys slot ≡ Some first → first.deadline ≤ next
+    → (i j : ℕ) (x y : Key) → key_in keys i ≡ Some x → key_in keys j ≡ Some y
+    → x.deadline ≤ next → y.deadline ≤ next → rank first ≤ rank x → rank first ≤ rank y → x.order < y.order → rank x < rank y
+
+-- the same, and the bucket of the next time is in order as far as is known
+pub record AreOrderedChains (next : ℕ) (ordered : Ordered) (chains : Rings) (keys : List (Option Key)) : Type 0 where
   pub level : Key → ℕ
   pub time : Key → ℕ
   pub rank : Key → ℕ
   pub levelled : AreLevelled next 1 keys level time
   pub are : AreChains chains (places (stand_on next level time rank) keys)
-  pub in_order : ordered ≡ next → InOrder next keys rank
+  pub in_order : ordered.time ≡ next → ordered.rising ≡ ALL → InOrder next keys rank
+  pub rises : ordered.time ≡ next → RisesFrom next keys rank ordered.rising
 
 -- the chains are those of the buckets, and the count is that of the rows
-pub record IsWheel (next_time count ordered : ℕ) (keys : List (Option Key)) (chains : Rings) : Type 0 where
+pub record IsWheel (next_time count : ℕ) (ordered : Ordered) (keys : List (Option Key)) (chains : Rings) : Type 0 where
   pub slots : length keys ≡ chains.slots
   pub few : length keys < 2 ^ 32
   pub homes : chains.homes ≡ BUCKETS
@@ -82,11 +91,11 @@ pub record IsWheel (next_time count ordered : ℕ) (keys : List (Option Key)) (c
   pub are : AreOrderedChains next_time ordered chains keys
 
 -- and no row is due before a floor
-pub record IsWheelKept (next_time count ordered floor : ℕ) (keys : List (Option Key)) (chains : Rings) : Type 0 where
+pub record IsWheelKept (next_time count : ℕ) (ordered : Ordered) (floor : ℕ) (keys : List (Option Key)) (chains : Rings) : Type 0 where
   pub wheel : IsWheel next_time count ordered keys chains
   pub above : (slot : ℕ) (key : Key) → key_in keys slot ≡ Some key → floor ≤ key.deadline
 
 -- and each slot that is written is so everywhere
-pub record IsWheelAlike {T : Type 0} (next_time count ordered floor : ℕ) (kept : KeptSlots T) (buckets owners : Rings) : Type 0 where
+pub record IsWheelAlike {T : Type 0} (next_time count : ℕ) (ordered : Ordered) (floor : ℕ) (kept : KeptSlots T) (buckets owners : Rings) : Type 0 where
   pub rows : IsWheelKept next_time count ordered floor (held_keys buckets kept.keys) buckets
   pub alike : AreAlike kept buckets owners

@@ -2,6 +2,7 @@
 
 ghost use Rattle.std.specs.Prelude.{◌≡◌, ◌+◌, ◌<◌, ◌≤◌, ℕ, length, vec_capacity};
 ghost use Rattle.ert_wheel.specs.NextDue.{NoneBefore, MayLookAbove, IsEarlyOrNever, NoneOn};
+ghost use Rattle.ert_wheel.specs.Standing.{homes_of};
 ghost use Rattle.ert_wheel.specs.Walks.{StandOnLevels, AreCollected, MayCollectLevel, MayLook};
 ghost use Rattle.ert_wheel.specs.Wheels.{held_keys};
 ghost use Rattle.ert_wheel.specs.declared.row.Key.{Key};
@@ -58,7 +59,7 @@ pub fn early_above<T: Keyed>(
     requires may { MayLookAbove next_time chains.now (held_keys chains.now kept.now.keys) near.time }
     requires kept { length kept.now.keys ≡ chains.now.written }
     ensures none_before { NoneBefore (held_keys chains.now kept.now.keys) result.time }
-    ensures early { IsEarlyOrNever (held_keys chains.now kept.now.keys) next_time result.time }
+    ensures early { IsEarlyOrNever (held_keys chains.now kept.now.keys) (homes_of chains.now) next_time result.time }
 {
     let mut earliest = near;
     let mut level = 1;
@@ -87,10 +88,10 @@ fn early_on<T: Keyed>(
     requires level { 1 ≤ level }
     requires highest { level ≤ 4 }
     requires may { MayLook next_time chains.now (held_keys chains.now kept.now.keys) }
-    requires early { IsEarlyOrNever (held_keys chains.now kept.now.keys) next_time before.time }
+    requires early { IsEarlyOrNever (held_keys chains.now kept.now.keys) (homes_of chains.now) next_time before.time }
     requires kept { length kept.now.keys ≡ chains.now.written }
     ensures low { result.time ≤ before.time }
-    ensures early { IsEarlyOrNever (held_keys chains.now kept.now.keys) next_time result.time }
+    ensures early { IsEarlyOrNever (held_keys chains.now kept.now.keys) (homes_of chains.now) next_time result.time }
     ensures none { (levels : Key → ℕ)
         → StandOnLevels next_time chains.now (held_keys chains.now kept.now.keys) levels
         → NoneOn (held_keys chains.now kept.now.keys) levels level result.time }

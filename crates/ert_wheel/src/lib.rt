@@ -53,8 +53,8 @@
 //! whose slot stayed where it was may so stand too early. On the lowest level no row does, since no slot stays there.
 //!
 //! **Rows fall** (`falling`) to lower levels as time goes on. When time comes into the window of a bucket, each row that is left in
-//! it goes to the least bucket of its deadline. That is on a lower level, but for a row that stood too early: it may go to a later
-//! window of the same level or of one above. Where time leaps it comes from the begin of one window that has rows to that of the
+//! it goes to the bucket of its deadline on the level below. One that stood too early goes to the least bucket of its deadline: that may be a
+//! later window of the same level or of one above. Where time leaps it comes from the begin of one window that has rows to that of the
 //! next, so that no such row is passed. Before time comes into a window some rows fall ahead of time, out of the bucket of the next
 //! window: so many for each millisecond that passes as leave few for the begin of the window, at first few and then more.
 //! How many fall ahead is a matter of speed alone: whether a row has fallen yet changes no answer.
@@ -62,7 +62,7 @@
 //! The newest slot of a bucket falls first, and it comes to the oldest end of the bucket below. New rows come to the newest end. So
 //! a bucket's rows mostly stand in order of start, but where some were replaced. No clause needs that: a chain is a set of slots.
 //! Whoever tells rows puts them in order: a step of time sorts those that are due, and `first_due` puts the bucket of the next time in order
-//! (`ordering`) when the first row of it is asked for. A fall costs as much as a start does in the wheel, with two misses of the
+//! (`ordering`) before it tells the first row of it. A fall costs as much as a start does in the wheel, with two misses of the
 //! caches where there are many rows.
 //!
 //! **Marks** (`Marks`, `MarkedChains`). A bit for each bucket tells whether it has a slot: a put into an empty one sets
@@ -90,15 +90,17 @@
 //!
 //! **The first due row** (`first_due`) is told one at a time, for whoever may not take all that are due at once. Time moves
 //! on to the least deadline first, where that is due. Then the row is in the bucket of the next time: the oldest that has
-//! that deadline. The bucket is put in order of start once, when time has come to it: where it isn't so already, its rows are
-//! sorted in a vector that the caller lends. Then this is the bucket's oldest row, but where rows were put in late; the floor tells
-//! their least deadline once it was looked for. So a call looks at one row, and at all of that bucket once for each time and once
-//! for each deadline of late rows. A late row that is older than another and has a later deadline is looked at before that one. Where
+//! that deadline. The bucket is put in order of start first, so much of it in a call as its bound allows. A walk from the newest
+//! row down tells whether it is so already (`rising`). Where it isn't, the rows are taken into a heap in a vector that the caller
+//! lends, and then each is made the newest of the bucket, in order of start (`renewing`); after that comes the walk. What is kept of
+//! that between the calls are hints, but for how far the walk has come: it holds whatever rows come in or go. Then the first row is the
+//! bucket's oldest, but where rows were put in late; the floor tells their least deadline once it was looked for. So a call looks at
+//! one row, and at all of that bucket once for each deadline of late rows. A late row that is older than another and has a later deadline is looked at before that one. Where
 //! no row is due, time passes the time that was asked for.
 //!
 //! So many rows at most fall in such a call, whatever time has leapt. Before time comes into another window of a level it
 //! stands in the last millisecond before that, until the bucket of the window is empty: the windows of the highest level
-//! first, so four times at most. Where more rows are left than may fall the call says so, and the next one goes on there. Rows of
+//! first, so four times at most. Where more rows are left than may fall, or to be put in order, the call says so, and the next one goes on there. Rows of
 //! the windows between stood too early; they move without a stop, and on each level there are no more than `next_due` looks at.
 //!
 //! **Owners.** `own` puts a slot into the chain of an owner as its newest, `disown` takes it out, `is_owned` tells whether
@@ -148,6 +150,7 @@
 
 mod chains;
 mod falling;
+mod heap;
 mod kept;
 mod keyed;
 mod laws;
@@ -156,7 +159,10 @@ mod links;
 mod marked;
 mod marks;
 mod oldest;
+mod ordered;
 mod ordering;
+mod renewing;
+mod rising;
 mod row;
 mod sorting;
 mod telling;

@@ -58,7 +58,7 @@ pub enum FirstDue {
     Row(HeldRow),
     /// No row is due, and that time was passed.
     Nothing,
-    /// Rows have to fall before time can come to it: more than may.
+    /// Rows have to fall before time can come to it, or to be put in order before the first is known: more than may.
     Moving,
 }
 

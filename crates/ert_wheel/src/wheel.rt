@@ -5,6 +5,8 @@ use crate::falling::move_on;
 use crate::kept::Kept;
 use crate::keyed::Keyed;
 use crate::marked::MarkedChains;
+use crate::ordered::Ordered;
+use crate::renewing::{Sorting, sorting_of};
 use crate::row::{HeldRow, LAST, NEVER, Row};
 use crate::windows::bucket;
 use ert_defs::NoMemory;
@@ -21,8 +23,8 @@ mod replacing;
 ///
 /// It has room for one row of each slot below a number that is fixed when it is made, and takes no
 /// memory after that. A contract sees it as the list of the slots' keys, with None for a slot without a
-/// row, as the list of the values of those that are written, as the chains of the owners, and as the first time that wasn't
-/// passed.
+/// row, as the list of the buckets in which the rows stand, as the list of the values of those that are written, as the chains
+/// of the owners, and as the first time that wasn't passed.
 ///
 /// The slots below a number are written, at first none (`write_up_to`). A slot that is written has a value with a row or
 /// without, and may so be in an owner's chain. One that isn't has no row, no value and no owner, and no call is made for it.
@@ -44,8 +46,10 @@ pub struct Wheel<T: Keyed> {
     len: u32,
     // How many rows have fallen from the next window of level 1 ahead of time.
     fallen: u32,
-    // The time whose bucket is in order of start; `NEVER` where none is.
-    ordered: u64,
+    // How far the rows of the next time's bucket are known to be in order of start.
+    ordered: Ordered,
+    // How far they are sorted.
+    sorting: Sorting,
     kept: Kept<T>,
     buckets: MarkedChains,
     owners: Chains,
@@ -53,12 +57,14 @@ pub struct Wheel<T: Keyed> {
 
 impl<T: Keyed> Model for Wheel<T> {
     ghost use Rattle.ert_wheel.specs.Rows.{Held};
+    ghost use Rattle.ert_wheel.specs.Standing.{homes_of};
     ghost use Rattle.ert_wheel.specs.Wheels.{held_keys, IsWheelAlike};
 
     ghost Value = { Held T };
 
     ghost view = { λ w. record {
       keys = held_keys w.buckets w.kept.keys;
+      stands = homes_of w.buckets;
       owners = w.owners;
       values = w.kept.values;
       passed = w.next_time;
@@ -73,9 +79,9 @@ impl<T: Keyed> Wheel<T> {
     ghost use Rattle.std.specs.List.{slice_get};
     ghost use Rattle.std.specs.List.Sorted.{IsSortedBy};
     ghost use Rattle.std.specs.Option.{is_some};
-    ghost use Rattle.ert_wheel.specs.NextDue.{NoRow, IsNextDue};
     ghost use Rattle.ert_wheel.specs.Rings.{Place, AreChains, MayPut, Puts, PutsInHome, MayTake, GivesUpPlace, Finds};
     ghost use Rattle.ert_wheel.specs.Rows.{key_in, key_of, rows_told, told_at, times, due_count, left_at, comes_before};
+    ghost use Rattle.ert_wheel.specs.Standing.{ComesTo, StayOrFall};
     ghost use Rattle.ert_wheel.specs.declared.row.TheConstants.{NEVER, LAST};
 
     /// A wheel without rows, with room for one of each slot below `slots`, of which none is written. The numbers of
@@ -84,6 +90,7 @@ impl<T: Keyed> Wheel<T> {
         requires slots { slots ≤ 2 ^ 30 }
         requires owners { owners ≤ 2 ^ 30 }
         ensures keys { IfOk result (λ wheel. wheel.keys ≡ replicate slots None) }
+        ensures stands { IfOk result (λ wheel. wheel.stands ≡ replicate slots None) }
         ensures slots { IfOk result (λ wheel. wheel.owners.slots ≡ slots) }
         ensures homes { IfOk result (λ wheel. wheel.owners.homes ≡ owners) }
         ensures unowned { IfOk result (λ wheel. AreChains wheel.owners (λ _. None)) }
@@ -100,7 +107,11 @@ impl<T: Keyed> Wheel<T> {
             teller: 0,
             len: 0,
             fallen: 0,
-            ordered: NEVER,
+            ordered: Ordered {
+                time: NEVER,
+                rising: 0,
+            },
+            sorting: sorting_of(NEVER),
             kept,
             buckets,
             owners,
@@ -159,6 +170,7 @@ impl<T: Keyed> Wheel<T> {
         requires most { count ≤ length self.old.keys }
         requires owned { count ≤ self.old.owners.slots }
         ensures keys { self.new.keys ≡ self.old.keys }
+        ensures stands { self.new.stands ≡ self.old.stands }
         ensures owners { self.new.owners ≡ record self.old.owners { written = count } }
         ensures values { self.new.values ≡ self.old.values ++ replicate (count - self.old.owners.written) value }
         ensures passed { self.new.passed ≡ self.old.passed }
@@ -183,6 +195,7 @@ impl<T: Keyed> Wheel<T> {
         requires written { slot < self.old.owners.written }
         requires same { IfSome (slice_get self.old.values slot) (λ old. T.key value ≡ T.key old) }
         ensures keys { self.new.keys ≡ self.old.keys }
+        ensures stands { self.new.stands ≡ self.old.stands }
         ensures owners { self.new.owners ≡ self.old.owners }
         ensures values { self.new.values ≡ slice_set self.old.values slot value }
         ensures passed { self.new.passed ≡ self.old.passed }
@@ -202,6 +215,7 @@ impl<T: Keyed> Wheel<T> {
         requires newest { (slot : ℕ) → IfSome (key_in self.old.keys slot) (λ key. key.order < row.order) }
         requires key { T.key value ≡ key_of row }
         ensures keys { self.new.keys ≡ slice_set self.old.keys row.slot (Some (key_of row)) }
+        ensures stands { ComesTo self.old.stands self.new.stands self.old.passed row.slot (max row.deadline self.old.passed) }
         ensures owners { self.new.owners ≡ self.old.owners }
         ensures values { self.new.values ≡ slice_set self.old.values row.slot value }
         ensures passed { self.new.passed ≡ self.old.passed }
@@ -219,6 +233,7 @@ impl<T: Keyed> Wheel<T> {
         requires { slot < self.old.owners.written }
         ensures found { IsTrue result ↔ IsSome (key_in self.old.keys slot) }
         ensures left { self.new.keys ≡ slice_set self.old.keys slot None }
+        ensures stands { self.new.stands ≡ slice_set self.old.stands slot None }
         ensures owners { self.new.owners ≡ self.old.owners }
         ensures values { self.new.values ≡ self.old.values }
         ensures passed { self.new.passed ≡ self.old.passed }
@@ -237,6 +252,7 @@ impl<T: Keyed> Wheel<T> {
         requires may { MayPut self.old.owners slot owner }
         requires written { slot < self.old.owners.written }
         ensures keys { self.new.keys ≡ self.old.keys }
+        ensures stands { self.new.stands ≡ self.old.stands }
         ensures values { self.new.values ≡ self.old.values }
         ensures passed { self.new.passed ≡ self.old.passed }
         ensures slots { self.new.owners.slots ≡ self.old.owners.slots }
@@ -254,6 +270,7 @@ impl<T: Keyed> Wheel<T> {
         requires may { MayTake self.old.owners slot }
         requires written { slot < self.old.owners.written }
         ensures keys { self.new.keys ≡ self.old.keys }
+        ensures stands { self.new.stands ≡ self.old.stands }
         ensures values { self.new.values ≡ self.old.values }
         ensures passed { self.new.passed ≡ self.old.passed }
         ensures slots { self.new.owners.slots ≡ self.old.owners.slots }
@@ -294,6 +311,7 @@ impl<T: Keyed> Wheel<T> {
     pub fn pass(&mut self, to: u64)
         requires { (slot : ℕ) → IfSome (key_in self.old.keys slot) (λ key. to < key.deadline) }
         ensures keys { self.new.keys ≡ self.old.keys }
+        ensures stands { StayOrFall self.old.keys self.new.passed self.old.stands self.new.stands }
         ensures owners { self.new.owners ≡ self.old.owners }
         ensures values { self.new.values ≡ self.old.values }
         ensures passed { self.new.passed ≡ max self.old.passed (min (to + 1) LAST) }
@@ -303,7 +321,7 @@ impl<T: Keyed> Wheel<T> {
         let next_time = was.max(after);
         self.fallen = move_on(&mut self.buckets, &self.kept, was, next_time, self.fallen);
         self.next_time = next_time;
-        self.ordered = NEVER;
+        self.ordered.time = NEVER;
         self.floor = self.floor.max(after);
     }
 
@@ -315,6 +333,7 @@ impl<T: Keyed> Wheel<T> {
         ensures sorted { IsSortedBy comes_before (rows_told self.old.keys out.new.items) }
         ensures capacity { vec_capacity out.new ≡ vec_capacity out.old }
         ensures left { self.new.keys ≡ map (left_at to) self.old.keys }
+        ensures stands { StayOrFall self.new.keys self.new.passed self.old.stands self.new.stands }
         ensures owners { self.new.owners ≡ self.old.owners }
         ensures values { self.new.values ≡ self.old.values }
         ensures passed { self.new.passed ≡ max self.old.passed (min (to + 1) LAST) }

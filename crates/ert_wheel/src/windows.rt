@@ -1,7 +1,7 @@
 //! The windows of levels, and the buckets of times on them.
 
 ghost use Rattle.std.specs.Prelude.{◌≡◌, ◌+◌, ◌*◌, ◌/◌, ◌^◌, ◌<◌, ◌≤◌, min};
-ghost use Rattle.ert_wheel.specs.Levels.{bucket_of_window, bucket_on, IsLeastBucket};
+ghost use Rattle.ert_wheel.specs.Levels.{bucket_of_window, bucket_on, IsBucketBelow, IsLeastBucket};
 ghost use Rattle.ert_wheel.specs.declared.row.TheConstants.{NEVER, BUCKETS};
 
 use crate::row::NEVER;
@@ -89,6 +89,23 @@ fn far_bucket(next_time: u64, time: u64) -> u32
         return bucket_on(3, time);
     }
     bucket_on(4, time)
+}
+
+/// The bucket of a time where it comes from a window of a level: on the level below, where it is in that window and after the next
+/// time, and else on the least level on which it may stand.
+#[inline]
+pub fn bucket_below(next_time: u64, level: u32, window: u64, time: u64) -> u32
+    requires next { next_time ≤ time }
+    requires time { time < NEVER }
+    requires level { 1 ≤ level }
+    requires highest { level ≤ 4 }
+    ensures is { IsBucketBelow next_time level window time result }
+    ensures low { result < BUCKETS }
+{
+    if time > next_time && window_on(level, time) == window {
+        return bucket_on(level - 1, time);
+    }
+    bucket(next_time, time)
 }
 
 /// The end of the windows of a level in which a time may be that stands on it.

@@ -11,7 +11,7 @@ use Rattle.ert_effects.specs.declared.answers.Left.TheVariants.{Nothing, Due, Mo
 use Rattle.ert_effects.specs.declared.answers.Turned.{Turned}
 use Rattle.ert_timers.specs.Parts.{Part}
 use Rattle.ert_timers.specs.Trying.{IsLeft}
-use Rattle.ert_wheel.specs.FirstDue.{HasToMove}
+use Rattle.ert_wheel.specs.FirstDue.{HasMore}
 use Rattle.ert_wheel.specs.Rows.{key_in}
 use Rattle.ert_world.proofs.SomeAdvanced.{fewer_through}
 use Rattle.ert_world.specs.Bounded.{AreLeft, DeliversSome, HasDoneMost, IsLeftAt, IsMoreAt, LosesSomeAt}
@@ -35,7 +35,7 @@ left_kept p q to Due kept due = record {
   due = due.due;
 }
 left_kept p q to Moving kept behind =
-    subst (λ keys. HasToMove keys q.passed to) (sym kept.keys) (subst (λ n. HasToMove p.keys n to) (sym kept.time) behind)
+    subst (λ keys. HasMore keys q.passed to) (sym kept.keys) (subst (λ n. HasMore p.keys n to) (sym kept.time) behind)
 
 pub left_at : (a b : Seen) (i to : ℕ) (left : Left) → KeepRows a b → IsLeftAt a i to left → IsLeftAt b i to left
 left_at a b i to left kept told d = left_kept _ _ to left (kept i d) (told d)

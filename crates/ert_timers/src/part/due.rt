@@ -16,8 +16,8 @@ impl WheelPart {
     ghost use Rattle.ert_wheel.specs.NextDue.{IsNextDue, TellsNext};
     ghost use Rattle.ert_wheel.specs.FirstDue.{IsFirstTold};
 
-    /// The first row that is due at `to`, by deadline and then by start, where so many rows at most may move to lower levels of
-    /// the wheel; they are counted down. The time of the wheel goes on with it, and past `to` where no row is due. `scratch` is the
+    /// The first row that is due at `to`, by deadline and then by start, where so many rows at most may move in the wheel; they are
+    /// counted down. The time of the wheel goes on with it, and past `to` where no row is due. `scratch` is the
     /// vector of an advance: rows of one deadline are put in order of start there.
     pub(crate) fn first_row_due(
         &mut self,

@@ -5,16 +5,18 @@ use super::Wheel;
 use crate::falling::{fall_before, fall_on};
 use crate::keyed::Keyed;
 use crate::oldest::oldest_due;
-use crate::ordering::order_next;
+use crate::ordering::order_some;
+use crate::rising::is_due;
 use crate::row::{FirstDue, HeldRow, LAST, NEVER};
 use crate::windows::{begin_of, bucket_of_window, window_on};
 
 impl<T: Keyed> Wheel<T> {
     ghost use Rattle.std.specs.Bool.{OnTrue};
     ghost use Rattle.std.specs.Prelude.{◌≡◌, ◌+◌, ◌-◌, ◌<◌, ◌≤◌, ℕ, IfSome, MatchBool, MatchOption, length, max, min, vec_capacity};
-    ghost use Rattle.ert_wheel.specs.FirstDue.{NoRowDue, HasToMove, IsFirstRowDue, IsFirstTold, IsNextStop, IsReached, MayBeDue, SomeRowDue};
+    ghost use Rattle.ert_wheel.specs.FirstDue.{NoRowDue, HasToMove, IsFirstAt, IsFirstTold, IsNextStop, IsReached, MayBeDue, SomeRowDue};
     ghost use Rattle.ert_wheel.specs.NextDue.{NoneBefore};
-    ghost use Rattle.ert_wheel.specs.Rows.{key_in, row_told};
+    ghost use Rattle.ert_wheel.specs.Rows.{key_in};
+    ghost use Rattle.ert_wheel.specs.Standing.{StayOrFall};
     ghost use Rattle.ert_wheel.specs.declared.row.TheConstants.{LAST};
 
     /// Whether a row may be due at `to`: one is due by then or by the next time, or a window begins by then where rows stand. False
@@ -24,7 +26,7 @@ impl<T: Keyed> Wheel<T> {
     /// next time's window of 512 milliseconds it looks at a few words, and at no row; else it looks for the next due row.
     #[inline]
     pub fn may_be_due(&self, to: u64) -> bool
-        ensures { MatchBool result (MayBeDue self.now.keys self.now.passed to) (NoRowDue self.now.keys to) }
+        ensures { MatchBool result (MayBeDue self.now.keys self.now.stands self.now.passed to) (NoRowDue self.now.keys to) }
     {
         if to < self.floor {
             return false;
@@ -52,7 +54,7 @@ impl<T: Keyed> Wheel<T> {
     #[inline(never)]
     fn begins_by(&self, to: u64) -> bool
         requires { self.now.passed ≤ to }
-        ensures { MatchBool result (MayBeDue self.now.keys self.now.passed to) (NoRowDue self.now.keys to) }
+        ensures { MatchBool result (MayBeDue self.now.keys self.now.stands self.now.passed to) (NoRowDue self.now.keys to) }
     {
         match self.earliest() {
             Some(early) => early.time <= to,
@@ -61,7 +63,8 @@ impl<T: Keyed> Wheel<T> {
     }
 
     /// The first row, by deadline and then by order, where its deadline is at most `to`. It stays in the wheel. Where no row is
-    /// due by then, time passes `to`. `scratch` has room for one row of each slot; what is in it means nothing.
+    /// due by then, time passes `to`. `scratch` is to have room for one row of each slot. What is in it is a hint of the last call: the next
+    /// one comes on faster where it is kept.
     ///
     /// Time moves on to the row's deadline, where that is later than the next time. Before it comes into another window of a
     /// level the rows of the window's bucket fall, so many at most as `moves` has, which are counted down. Where more are
@@ -69,15 +72,15 @@ impl<T: Keyed> Wheel<T> {
     /// level at most, and a row that was replaced once more. Rows that stand too early in the windows between are counted too, but
     /// don't hold time up: on each level there are no more than `next_due` looks at.
     ///
-    /// The bucket of the next time is put in order of start once, when the first row of it is asked for. That is a walk over it where
-    /// its rows came in order, and else a sort. The other work is constant, but where rows were put in late since time moved on. Then
-    /// it looks at the rows of the next time's bucket that are older than the first, and at all of them where a row is the first
-    /// with its deadline.
+    /// The bucket of the next time is put in order of start before its first row is told. That is a walk over it where its rows came in
+    /// order, eight rows for each of the moves, and else a sort, one row for each. The other work is constant, but where rows were put in
+    /// late since time moved on. Then it looks at the rows of the next time's bucket that are older than the first, and at all of them
+    /// where a row is the first with its deadline.
     pub fn first_due(&mut self, to: u64, moves: &mut u32, scratch: &mut Vec<HeldRow>) -> FirstDue
         requires to { to < LAST }
-        requires room { length self.old.keys ≤ vec_capacity scratch.old }
-        ensures first { IsFirstTold self.old.keys self.new.passed to result }
+        ensures first { IsFirstTold self.old.keys self.new.stands self.new.passed to result }
         ensures keys { self.new.keys ≡ self.old.keys }
+        ensures stands { StayOrFall self.old.keys self.new.passed self.old.stands self.new.stands }
         ensures owners { self.new.owners ≡ self.old.owners }
         ensures values { self.new.values ≡ self.old.values }
         ensures passed { self.old.passed ≤ self.new.passed }
@@ -85,24 +88,61 @@ impl<T: Keyed> Wheel<T> {
         ensures fewer { moves.new ≤ moves.old }
         ensures capacity { vec_capacity scratch.new ≡ vec_capacity scratch.old }
     {
-        let floor = self.floor;
-        if let Some(row) = self.first_at(floor, scratch) {
-            if row.deadline <= to {
-                return FirstDue::Row(row);
-            }
+        if let Some(told) = self.first_kept(to, moves, scratch) {
+            return told;
         }
         match self.reach(to, moves) {
-            Some(stop) => self.first_by(stop, to, scratch),
+            Some(stop) => self.first_by(stop, to, moves, scratch),
             None => FirstDue::Moving,
         }
+    }
+
+    /// What the floor and the kept slot tell of the first row that is due by `to`.
+    #[inline]
+    fn first_kept(
+        &mut self,
+        to: u64,
+        moves: &mut u32,
+        scratch: &mut Vec<HeldRow>,
+    ) -> Option<FirstDue>
+        ensures first { IfSome result (IsFirstTold self.old.keys self.old.stands self.old.passed to) }
+        ensures same { self.new ≡ self.old }
+        ensures fewer { moves.new ≤ moves.old }
+        ensures capacity { vec_capacity scratch.new ≡ vec_capacity scratch.old }
+    {
+        let floor = self.floor;
+        match self.first_at(floor, moves, scratch) {
+            FirstDue::Row(row) => {
+                if row.deadline <= to {
+                    return Some(FirstDue::Row(row));
+                }
+                None
+            }
+            FirstDue::Moving => {
+                if self.is_due_by(to) {
+                    return Some(FirstDue::Moving);
+                }
+                None
+            }
+            FirstDue::Nothing => None,
+        }
+    }
+
+    /// Whether the row of the kept slot is due by a time.
+    #[inline]
+    fn is_due_by(&self, to: u64) -> bool
+        ensures { OnTrue result (SomeRowDue self.now.keys to) }
+    {
+        is_due(&self.buckets, &self.kept, to, self.teller)
     }
 
     /// Lets time come to the least deadline, where that is at most `to`, and else past `to`. Tells that time; None where more
     /// rows have to fall before than may.
     fn reach(&mut self, to: u64, moves: &mut u32) -> Option<u64>
         requires { to < LAST }
-        ensures reached { MatchOption result (HasToMove self.old.keys self.new.passed to) (IsReached self.old.keys self.new.passed to) }
+        ensures reached { MatchOption result (HasToMove self.old.keys self.new.stands self.new.passed to) (IsReached self.old.keys self.new.stands self.new.passed to) }
         ensures keys { self.new.keys ≡ self.old.keys }
+        ensures stands { StayOrFall self.old.keys self.new.passed self.old.stands self.new.stands }
         ensures owners { self.new.owners ≡ self.old.owners }
         ensures values { self.new.values ≡ self.old.values }
         ensures passed { self.old.passed ≤ self.new.passed }
@@ -120,56 +160,63 @@ impl<T: Keyed> Wheel<T> {
     }
 
     /// The first row that is due by `to`, where time has come to its deadline, or past `to`.
-    fn first_by(&mut self, reached: u64, to: u64, scratch: &mut Vec<HeldRow>) -> FirstDue
-        requires reached { IsReached self.old.keys self.old.passed to reached }
-        requires room { length self.old.keys ≤ vec_capacity scratch.old }
-        ensures first { IsFirstTold self.old.keys self.new.passed to result }
+    fn first_by(
+        &mut self,
+        reached: u64,
+        to: u64,
+        moves: &mut u32,
+        scratch: &mut Vec<HeldRow>,
+    ) -> FirstDue
+        requires reached { IsReached self.old.keys self.old.stands self.old.passed to reached }
+        ensures first { IsFirstTold self.old.keys self.new.stands self.new.passed to result }
         ensures same { self.new ≡ self.old }
+        ensures fewer { moves.new ≤ moves.old }
         ensures capacity { vec_capacity scratch.new ≡ vec_capacity scratch.old }
     {
         if reached > to {
             return FirstDue::Nothing;
         }
         self.floor = self.floor.max(reached);
-        match self.first_at(reached, scratch) {
-            Some(row) => FirstDue::Row(row),
-            None => FirstDue::Nothing,
-        }
+        self.first_at(reached, moves, scratch)
     }
 
-    /// The first row where it is due at a time before which none is; None where none is due at that time, if this is no later
-    /// than the next time.
+    /// The first row where it is due at a time before which none is; nothing where none is due at that time, if this is no later
+    /// than the next time. Where more rows have to be put in order before than may, that is told.
     #[inline]
-    fn first_at(&mut self, time: u64, scratch: &mut Vec<HeldRow>) -> Option<HeldRow>
+    fn first_at(&mut self, time: u64, moves: &mut u32, scratch: &mut Vec<HeldRow>) -> FirstDue
         requires before { NoneBefore self.old.keys time }
-        requires room { length self.old.keys ≤ vec_capacity scratch.old }
-        ensures first { MatchOption result (time ≤ self.old.passed → NoRowDue self.old.keys time) (λ row. IsFirstRowDue self.old.keys time (row_told self.old.keys row)) }
+        ensures first { IsFirstAt self.old.keys self.old.passed time result }
         ensures same { self.new ≡ self.old }
+        ensures fewer { moves.new ≤ moves.old }
         ensures capacity { vec_capacity scratch.new ≡ vec_capacity scratch.old }
     {
-        order_next(
+        let done = order_some(
             &mut self.buckets,
             &self.kept,
-            self.ordered,
+            &mut self.ordered,
+            &mut self.sorting,
             self.next_time,
+            moves,
             scratch,
         );
-        self.ordered = self.next_time;
-        oldest_due(
-            &self.buckets,
-            &self.kept,
-            bucket_of_window(0, self.next_time),
-            time,
-        )
+        if !done {
+            return FirstDue::Moving;
+        }
+        let home = bucket_of_window(0, self.next_time);
+        let Some(row) = oldest_due(&self.buckets, &self.kept, home, time) else {
+            return FirstDue::Nothing;
+        };
+        FirstDue::Row(row)
     }
 
     /// Where time may come to next: how early a row may be due by `to`, or the millisecond after it.
-    fn next_stop(&self, to: u64) -> u64
+    fn next_stop(&mut self, to: u64) -> u64
         requires { to < LAST }
-        ensures { IsNextStop self.now.keys self.now.passed to result }
+        ensures stop { IsNextStop self.old.keys self.old.stands self.old.passed to result }
+        ensures same { self.new ≡ self.old }
     {
-        match self.earliest() {
-            Some(early) => early.time.min(to + 1),
+        match self.next_due() {
+            Some(time) => time.min(to + 1),
             None => to + 1,
         }
     }
@@ -180,8 +227,9 @@ impl<T: Keyed> Wheel<T> {
         requires before { NoneBefore self.old.keys time }
         requires later { self.old.passed < time }
         requires most { time ≤ LAST }
-        ensures come { MatchBool result (self.new.passed ≡ time) (HasToMove self.old.keys self.new.passed (time - 1)) }
+        ensures come { MatchBool result (self.new.passed ≡ time) (HasToMove self.old.keys self.new.stands self.new.passed (time - 1)) }
         ensures keys { self.new.keys ≡ self.old.keys }
+        ensures stands { StayOrFall self.old.keys self.new.passed self.old.stands self.new.stands }
         ensures owners { self.new.owners ≡ self.old.owners }
         ensures values { self.new.values ≡ self.old.values }
         ensures passed { self.old.passed ≤ self.new.passed }
@@ -211,8 +259,9 @@ impl<T: Keyed> Wheel<T> {
         requires before { NoneBefore self.old.keys time }
         requires later { self.old.passed < time }
         requires most { time ≤ LAST }
-        ensures left { OnTrue result (HasToMove self.old.keys self.new.passed (time - 1)) }
+        ensures left { OnTrue result (HasToMove self.old.keys self.new.stands self.new.passed (time - 1)) }
         ensures keys { self.new.keys ≡ self.old.keys }
+        ensures stands { StayOrFall self.old.keys self.new.passed self.old.stands self.new.stands }
         ensures owners { self.new.owners ≡ self.old.owners }
         ensures values { self.new.values ≡ self.old.values }
         ensures passed { self.old.passed ≤ self.new.passed }
@@ -225,7 +274,7 @@ impl<T: Keyed> Wheel<T> {
         }
         let begin = begin_of(level, window);
         self.pass_slowly(begin - 2, moves);
-        self.ordered = NEVER;
+        self.ordered.time = NEVER;
         fall_before(&mut self.buckets, &self.kept, self.next_time, level, moves)
     }
 
@@ -233,6 +282,7 @@ impl<T: Keyed> Wheel<T> {
     fn pass_slowly(&mut self, to: u64, moves: &mut u32)
         requires { (slot : ℕ) → IfSome (key_in self.old.keys slot) (λ key. to < key.deadline) }
         ensures keys { self.new.keys ≡ self.old.keys }
+        ensures stands { StayOrFall self.old.keys self.new.passed self.old.stands self.new.stands }
         ensures owners { self.new.owners ≡ self.old.owners }
         ensures values { self.new.values ≡ self.old.values }
         ensures passed { self.new.passed ≡ max self.old.passed (min (to + 1) LAST) }
@@ -250,7 +300,7 @@ impl<T: Keyed> Wheel<T> {
             moves,
         );
         self.next_time = next_time;
-        self.ordered = NEVER;
+        self.ordered.time = NEVER;
         self.floor = self.floor.max(after);
     }
 }

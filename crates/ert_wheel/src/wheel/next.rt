@@ -3,15 +3,14 @@ use super::Wheel;
 use crate::keyed::Keyed;
 use crate::levels::{begin_in, early_above};
 use crate::row::NEVER;
-use crate::telling::{Early, is_told_by, tells};
+use crate::telling::Early;
 use crate::walk::least_in;
-use crate::windows::{bucket_of_window, windows_end};
+use crate::windows::{begin_of, bucket_of_window, window_on, windows_end};
 
 impl<T: Keyed> Wheel<T> {
-    ghost use Rattle.std.specs.Bool.{OnTrue};
-    ghost use Rattle.std.specs.Prelude.{◌≡◌, ◌↔◌, ◌<◌, ◌≤◌, ℕ, IfNone, IfSome, IsSome, IsTrue, MatchOption};
+    ghost use Rattle.std.specs.Prelude.{◌≡◌, ◌↔◌, ◌<◌, ◌≤◌, IfNone, IfSome, IsSome, IsTrue, MatchOption};
     ghost use Rattle.ert_wheel.specs.FirstDue.{SomeRowDue};
-    ghost use Rattle.ert_wheel.specs.NextDue.{NoRow, NoneBefore, IsNextDue, TellsNext};
+    ghost use Rattle.ert_wheel.specs.NextDue.{NoRow, NoneBeginsOn, IsDueAt, IsDueOf, IsNextDue, TellsNext, WindowBegins};
 
     /// How early the next row may be due, in milliseconds; None exactly where there is no row.
     ///
@@ -25,16 +24,17 @@ impl<T: Keyed> Wheel<T> {
     /// where these are all, the answer is exact. Only where a row was put in late since the last pass does it look at each late
     /// row, and at those of the next time.
     ///
-    /// The answer is kept, with the slot whose row told it. Until time comes to it, an earlier row is put in or that slot's row
-    /// goes or moves to another bucket, a call is a few comparisons.
+    /// The answer is kept, with the slot whose row told it. As long as that row is due then, or a row stands in the window that
+    /// begins then, and no earlier row is put in, a call is a few comparisons.
     pub fn next_due(&mut self) -> Option<u64>
-        ensures due { MatchOption result (NoRow self.old.keys) (IsNextDue self.old.keys self.old.passed) }
+        ensures due { MatchOption result (NoRow self.old.keys) (IsNextDue self.old.keys self.old.stands self.old.passed) }
         ensures keys { self.new.keys ≡ self.old.keys }
+        ensures stands { self.new.stands ≡ self.old.stands }
         ensures owners { self.new.owners ≡ self.old.owners }
         ensures values { self.new.values ≡ self.old.values }
         ensures passed { self.new.passed ≡ self.old.passed }
     {
-        if self.is_told(self.floor) {
+        if self.told_at(self.floor).is_some() {
             return Some(self.floor);
         }
         let early = self.earliest()?;
@@ -43,79 +43,101 @@ impl<T: Keyed> Wheel<T> {
         Some(early.time)
     }
 
-    /// Whether a time before which no row is due is when the next one is, as far as the row of the kept slot tells.
-    #[inline]
-    fn is_told(&self, time: u64) -> bool
-        requires { NoneBefore self.now.keys time }
-        ensures { OnTrue result (IsNextDue self.now.keys self.now.passed time) }
-    {
-        if time <= self.next_time || self.teller as usize >= self.kept.len() {
-            return false;
-        }
-        match self.row(self.teller) {
-            Some(row) => tells(row.deadline, time),
-            None => false,
-        }
-    }
-
-    /// The slot of a row that tells when the next one is due: it is due at that time, or no earlier than a window that begins then.
+    /// The slot of a row that tells when the next one is due: it is due at that time, or stands in a window that begins then.
     /// None only where the time is before the first that wasn't passed, as where a row was put in late.
     ///
-    /// After `next_due` it is the slot that is kept: a few comparisons. Only where that has no such row does it go over the
-    /// slots.
+    /// After `next_due` it is the slot that is kept, or one of the window that begins then: a few comparisons. Only where there is no
+    /// such row does it go over the slots.
     #[inline]
     pub fn teller(&self, time: u64) -> Option<u32>
-        requires { IsNextDue self.now.keys self.now.passed time }
-        ensures tells { IfSome result (TellsNext self.now.keys self.now.passed time) }
+        requires { IsNextDue self.now.keys self.now.stands self.now.passed time }
+        ensures tells { IfSome result (TellsNext self.now.keys self.now.stands self.now.passed time) }
         ensures late { IfNone result (time < self.now.passed) }
     {
-        if self.tells_next(self.teller, time) {
-            return Some(self.teller);
+        if let Some(slot) = self.told_at(time) {
+            return Some(slot);
         }
         if time < self.next_time {
             return None;
         }
-        self.find_told(time)
+        self.find_due(time)
     }
 
-    /// The answer of `next_due` that is kept, with the slot whose row tells it; None where it doesn't stand any more, or no row
+    /// The answer of `next_due` that is kept, with the slot of a row that tells it; None where it doesn't stand any more, or no row
     /// is known to tell it.
     #[inline]
     pub fn kept_due(&self) -> Option<(u64, u32)>
-        ensures due { IfSome result (λ kept. IsNextDue self.now.keys self.now.passed kept.0) }
-        ensures tells { IfSome result (λ kept. TellsNext self.now.keys self.now.passed kept.0 kept.1) }
+        ensures due { IfSome result (λ kept. IsNextDue self.now.keys self.now.stands self.now.passed kept.0) }
+        ensures tells { IfSome result (λ kept. TellsNext self.now.keys self.now.stands self.now.passed kept.0 kept.1) }
     {
-        if self.tells_next(self.teller, self.floor) {
-            Some((self.floor, self.teller))
-        } else {
-            None
+        match self.told_at(self.floor) {
+            Some(slot) => Some((self.floor, slot)),
+            None => None,
         }
     }
 
-    /// Whether a slot is written whose row tells a time.
+    /// The slot of a row that tells a time: the one that is kept, where its row is due then, or one that stands in a window that
+    /// begins then. None only where no row does.
     #[inline]
-    fn tells_next(&self, slot: u32, time: u64) -> bool
-        ensures { IsTrue result ↔ TellsNext self.now.keys self.now.passed time slot }
+    fn told_at(&self, time: u64) -> Option<u32>
+        ensures tells { IfSome result (TellsNext self.now.keys self.now.stands self.now.passed time) }
+        ensures none { IfNone result (WindowBegins self.now.keys self.now.stands self.now.passed time → ⊥) }
+    {
+        if self.is_due_at(self.teller, time) {
+            return Some(self.teller);
+        }
+        let mut level = 1;
+        while level <= 4 {
+            if let Some(slot) = self.stands_from(level, time) {
+                return Some(slot);
+            }
+            level += 1;
+        }
+        None
+    }
+
+    /// Whether a slot is written whose row is due at a time.
+    #[inline]
+    fn is_due_at(&self, slot: u32, time: u64) -> bool
+        ensures { IsTrue result ↔ IsDueOf self.now.keys slot time }
     {
         if slot as usize >= self.kept.len() {
             return false;
         }
         match self.row(slot) {
-            Some(row) => is_told_by(self.next_time, time, row.deadline),
+            Some(row) => row.deadline == time,
             None => false,
         }
     }
 
-    /// The least slot whose row tells when the next one is due.
+    /// A slot that stands in the window of a level that begins at a time, where that is after the next time.
+    #[inline]
+    fn stands_from(&self, level: u32, time: u64) -> Option<u32>
+        requires level { 1 ≤ level }
+        requires highest { level ≤ 4 }
+        ensures tells { IfSome result (TellsNext self.now.keys self.now.stands self.now.passed time) }
+        ensures none { IfNone result (NoneBeginsOn self.now.keys self.now.stands self.now.passed level time) }
+    {
+        let window = window_on(level, time);
+        if time <= self.next_time || begin_of(level, window) != time {
+            return None;
+        }
+        if window >= windows_end(level, self.next_time) {
+            return None;
+        }
+        self.buckets.newest(bucket_of_window(level, window))
+    }
+
+    /// The least slot whose row is due at a time.
     #[cold]
     #[inline(never)]
-    fn find_told(&self, time: u64) -> Option<u32>
-        requires { IsNextDue self.now.keys self.now.passed time }
-        ensures tells { IfSome result (TellsNext self.now.keys self.now.passed time) }
+    fn find_due(&self, time: u64) -> Option<u32>
+        requires { IsDueAt self.now.keys time }
+        ensures tells { IfSome result (TellsNext self.now.keys self.now.stands self.now.passed time) }
         ensures found { IsSome result }
     {
         for slot in 0..self.kept.len() as u32 {
-            if self.tells_next(slot, time) {
+            if self.is_due_at(slot, time) {
                 return Some(slot);
             }
         }
@@ -124,7 +146,7 @@ impl<T: Keyed> Wheel<T> {
 
     /// How early the next row may be due, and a slot that tells it.
     pub(super) fn earliest(&self) -> Option<Early>
-        ensures { MatchOption result (NoRow self.now.keys) (λ early. IsNextDue self.now.keys self.now.passed early.time) }
+        ensures { MatchOption result (NoRow self.now.keys) (λ early. IsNextDue self.now.keys self.now.stands self.now.passed early.time) }
     {
         if self.is_empty() {
             return None;
@@ -153,7 +175,7 @@ impl<T: Keyed> Wheel<T> {
     #[inline]
     fn due_at_once(&self) -> Option<Early>
         requires { SomeRowDue self.now.keys self.now.passed }
-        ensures { MatchOption result (NoRow self.now.keys) (λ early. IsNextDue self.now.keys self.now.passed early.time) }
+        ensures { MatchOption result (NoRow self.now.keys) (λ early. IsNextDue self.now.keys self.now.stands self.now.passed early.time) }
     {
         let home = bucket_of_window(0, self.next_time);
         if self.floor >= self.next_time {

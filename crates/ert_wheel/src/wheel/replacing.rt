@@ -13,8 +13,9 @@ use crate::row::Row;
 use crate::windows::bucket;
 
 impl<T: Keyed> Wheel<T> {
-    ghost use Rattle.std.specs.Prelude.{◌≡◌, ◌<◌, ℕ, Some, IfSome, IsSome, slice_set};
+    ghost use Rattle.std.specs.Prelude.{◌≡◌, ◌<◌, ℕ, Some, IfSome, IsSome, max, slice_set};
     ghost use Rattle.ert_wheel.specs.Rows.{key_in, key_of};
+    ghost use Rattle.ert_wheel.specs.Standing.{ComesOrStays};
     ghost use Rattle.ert_wheel.specs.declared.row.TheConstants.{NEVER};
 
     /// Puts a row in the place of the one that its slot has, with a value of the slot that has the row's key in it, as a
@@ -31,27 +32,21 @@ impl<T: Keyed> Wheel<T> {
         requires newest { (slot : ℕ) → IfSome (key_in self.old.keys slot) (λ key. key.order < row.order) }
         requires key { T.key value ≡ key_of row }
         ensures keys { self.new.keys ≡ slice_set self.old.keys row.slot (Some (key_of row)) }
+        ensures stands { ComesOrStays self.old.keys self.old.stands self.new.stands self.old.passed row.slot (max row.deadline self.old.passed) }
         ensures owners { self.new.owners ≡ self.old.owners }
         ensures values { self.new.values ≡ slice_set self.old.values row.slot value }
         ensures passed { self.new.passed ≡ self.old.passed }
     {
         let was = self.kept.deadline(row.slot);
-        move_row(
-            &mut self.buckets,
-            &mut self.teller,
-            self.next_time,
-            was,
-            row,
-        );
+        move_row(&mut self.buckets, self.next_time, was, row);
         self.kept.set(row.slot, value);
         lower(&mut self.floor, &mut self.teller, row);
     }
 }
 
-/// Moves a slot to the bucket of its row, from that of another one that was due at a time, where it doesn't stay put. A slot that
-/// moves doesn't tell any more when the next row is due.
+/// Moves a slot to the bucket of its row, from that of another one that was due at a time, where it doesn't stay put.
 #[inline(always)]
-fn move_row(chains: &mut MarkedChains, teller: &mut u32, next_time: u64, was: u64, row: Row)
+fn move_row(chains: &mut MarkedChains, next_time: u64, was: u64, row: Row)
     requires may { MayTake chains.old row.slot }
     requires written { row.slot < chains.old.written }
     requires next { next_time < NEVER }
@@ -66,9 +61,6 @@ fn move_row(chains: &mut MarkedChains, teller: &mut u32, next_time: u64, was: u6
     }
     let home = bucket(next_time, row.deadline.max(next_time));
     chains.renew(row.slot, home);
-    if *teller == row.slot {
-        *teller = u32::MAX;
-    }
 }
 
 /// Whether a row that was due at one time stays where it is if it is due at another one.

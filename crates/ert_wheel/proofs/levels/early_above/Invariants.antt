@@ -2,6 +2,7 @@ use Rattle.std.proofs.Common.{◌-◌, ◌≤◌, ℕ}
 use Rattle.ert_wheel.proofs.NextDue.{NoneBelow}
 use Rattle.ert_wheel.proofs.levels.early_above.Given as goal
 use Rattle.ert_wheel.specs.NextDue.{IsEarlyOrNever, NoneOn}
+use Rattle.ert_wheel.specs.Standing.{homes_of}
 use Rattle.ert_wheel.specs.Walks.{StandOnLevels}
 use Rattle.ert_wheel.specs.Wheels.{held_keys}
 use Rattle.ert_wheel.specs.declared.row.Key.{Key}
@@ -15,7 +16,7 @@ pub record Looked (level : ℕ) (early below : Type 0) : Type 0 where
 
 abbrev pub invariant-loop-level : goal.invariant-loop-level
 invariant-loop-level g l =
-    Looked l.level (IsEarlyOrNever (held_keys l.chains l.kept.keys) l.next_time l.earliest.time)
+    Looked l.level (IsEarlyOrNever (held_keys l.chains l.kept.keys) (homes_of l.chains) l.next_time l.earliest.time)
     ((levels : Key → ℕ) → StandOnLevels l.next_time l.chains (held_keys l.chains l.kept.keys) levels
     → NoneOn (held_keys l.chains l.kept.keys) levels 0 l.fn.near.time
     → NoneBelow (held_keys l.chains l.kept.keys) levels l.level l.earliest.time)

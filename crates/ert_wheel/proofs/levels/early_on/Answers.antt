@@ -3,6 +3,7 @@ use Rattle.ert_wheel.proofs.NextDue.{NoneUpTo, none_first, none_skip, none_looke
 use Rattle.ert_wheel.proofs.Standing.{end_after, end_low}
 use Rattle.ert_wheel.proofs.levels.early_on.Goals as goal
 use Rattle.ert_wheel.specs.NextDue.{IsEarlyOrNever}
+use Rattle.ert_wheel.specs.Standing.{homes_of}
 use Rattle.ert_wheel.specs.Wheels.{held_keys, stand_on, places}
 
 pub first_window-window-requires-clause-from : goal.first_window-window-requires-clause-from
@@ -36,6 +37,7 @@ returns-then-begin-earliest-clause-none g c = λ levels stand.
 pub returns-in_default-clause-early : goal.returns-in_default-clause-early
 returns-in_default-clause-early g c =
     begins_there c.args.next_time c.args.level c.loop-window.window c.begin_in.result.time c.requires.level c.requires.highest c.loop-window.invariant.after
+    (omega (arith, c.loop-window-test.true, c.windows_end-end.ensures))
     (c.begin_in.ensures ∙ c.begin_of-begin.ensures) (c.loop-window.invariant.some c.loop-window-test.true)
 
 pub returns-in_default-clause-none : goal.returns-in_default-clause-none
@@ -51,6 +53,7 @@ first_window-window-requires-in-loop-window-clause-end g c =
 pub loop-window-preserved : goal.loop-window-preserved
 loop-window-preserved g c =
     let keys = held_keys c.args.chains.now c.args.kept.now.keys in
+    let stands = homes_of c.args.chains.now in
     let may = c.requires.may in
     let i = c.loop-window.invariant in
     record {
@@ -58,8 +61,8 @@ loop-window-preserved g c =
       up = c.first_window-window-in-loop-window.ensures.low;
       low = omega (arith, i.low, c.earlier-earliest.ensures);
       early_is =
-          subst (λ (n : ℕ). IsEarlyOrNever keys c.args.next_time n) (sym c.earlier-earliest.ensures)
-          (earlier_is keys c.args.next_time c.loop-window.earliest.time c.in-Some.least.time i.early_is
+          subst (λ (n : ℕ). IsEarlyOrNever keys stands c.args.next_time n) (sym c.earlier-earliest.ensures)
+          (earlier_is keys stands c.args.next_time c.loop-window.earliest.time c.in-Some.least.time i.early_is
           (early_looked c.args.next_time (c.in-Some.ensures.least (stand_on c.args.next_time may.level may.stand.time may.stand.rank) may.stand.are)));
       none_so_far = λ levels stand.
           none_skip {keys = keys} stand c.requires.level c.requires.highest (c.loop-window.window + 1) c.windows_end-end.result c.first_window-window-in-loop-window.result c.earlier-earliest.result.time

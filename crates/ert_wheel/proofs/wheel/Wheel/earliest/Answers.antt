@@ -11,6 +11,8 @@ use Rattle.ert_wheel.specs.NextDue.{NoneBefore, IsEarlyOrNever, IsNextDue, MayLo
 use Rattle.ert_wheel.specs.Wheels.{held_keys, stand_on, places}
 use Rattle.ert_wheel.specs.declared.row.Key.{Key}
 use Rattle.ert_wheel.specs.declared.row.TheConstants.{NEVER}
+use Rattle.ert_wheel.specs.Rows.{Held}
+use Rattle.ert_wheel.specs.Standing.{homes_of}
 
 pub returns-then-is_empty : goal.returns-then-is_empty
 returns-then-is_empty g c = no_row c.args.self.now.keys (search rules)
@@ -42,10 +44,10 @@ returns-then-near-end g c =
     let some : count_by is_some keys ≢ 0 = λ none. (search (rules, none)) in
     let look = wheel_stands (sees c.self.invariant.rows c.self.view_is).wheel in
     let time = c.early_above.result.time in
-    subst (λ (n : ℕ). IsNextDue keys n time) (ap passed_of c.self.view_is)
+    subst (λ (h : Held _). IsNextDue keys h.stands h.passed time) c.self.view_is
     (early_next time look.stand (has_row keys some)
     (subst (λ (ks : List (Option Key)). NoneBefore ks time) (ap keys_of c.self.view_is) c.early_above.ensures.none_before)
-    (subst (λ (ks : List (Option Key)). IsEarlyOrNever ks next time) (ap keys_of c.self.view_is) c.early_above.ensures.early))
+    (subst (λ (ks : List (Option Key)). IsEarlyOrNever ks (homes_of c.self.inside.buckets) next time) (ap keys_of c.self.view_is) c.early_above.ensures.early))
 
 pub returns-then-near-self-2 : goal.returns-then-near-self-2
 returns-then-near-self-2 g c =
@@ -53,10 +55,10 @@ returns-then-near-self-2 g c =
     let next = c.self.inside.next_time in
     let look = wheel_stands (sees c.self.invariant.rows c.self.view_is).wheel in
     let first = c.first_window-near.ensures.first (places (stand_on next look.level look.stand.time look.stand.rank) keys) look.stand.are in
-    subst (λ (n : ℕ). IsNextDue keys n c.begin_in-first.result.time) (ap passed_of c.self.view_is)
-    (subst (λ (n : ℕ). IsNextDue keys next n) (sym c.begin_in-first.ensures)
+    subst (λ (h : Held _). IsNextDue keys h.stands h.passed c.begin_in-first.result.time) c.self.view_is
+    (subst (λ (n : ℕ). IsNextDue keys (homes_of c.self.inside.buckets) next n) (sym c.begin_in-first.ensures)
     (near_due look.stand first c.first_window-near.ensures.up c.first_window-near.ensures.low (omega (arith, c.windows_end-end.ensures))
-    (omega (arith, c.if-near-self.false, c.first_window-near.ensures.up)) (omega (arith, c.if-near-self-2.true)) c.windows_end-end.ensures))
+    (homes_of c.self.inside.buckets) (omega (arith, c.if-near-self.false, c.first_window-near.ensures.up)) (omega (arith, c.if-near-self-2.true)) c.windows_end-end.ensures))
 
 pub early_above-requires-2-clause-may : goal.early_above-requires-2-clause-may
 early_above-requires-2-clause-may g c =
@@ -77,7 +79,7 @@ returns g c =
     let some : count_by is_some keys ≢ 0 = λ none. (search (rules, none)) in
     let look = wheel_stands (sees c.self.invariant.rows c.self.view_is).wheel in
     let time = c.early_above-2.result.time in
-    subst (λ (n : ℕ). IsNextDue keys n time) (ap passed_of c.self.view_is)
+    subst (λ (h : Held _). IsNextDue keys h.stands h.passed time) c.self.view_is
     (early_next time look.stand (has_row keys some)
     (subst (λ (ks : List (Option Key)). NoneBefore ks time) (ap keys_of c.self.view_is) c.early_above-2.ensures.none_before)
-    (subst (λ (ks : List (Option Key)). IsEarlyOrNever ks next time) (ap keys_of c.self.view_is) c.early_above-2.ensures.early))
+    (subst (λ (ks : List (Option Key)). IsEarlyOrNever ks (homes_of c.self.inside.buckets) next time) (ap keys_of c.self.view_is) c.early_above-2.ensures.early))

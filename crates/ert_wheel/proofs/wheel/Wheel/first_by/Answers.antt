@@ -1,9 +1,10 @@
-use Rattle.std.proofs.Common.{◌≡◌, ◌≤◌, ℕ, List, Option, Some, ap, subst, sym, arith}
-use Rattle.ert_wheel.proofs.Reaching.{first_at_stop, none_at_stop}
+use Rattle.std.proofs.Common.{◌≡◌, ℕ, List, Option, Some, ◌∙◌, ap, subst, sym, arith}
+use Rattle.ert_wheel.proofs.Reaching.{told_at_stop}
 use Rattle.ert_wheel.proofs.Writes.{keys_of, passed_of}
 use Rattle.ert_wheel.proofs.wheel.Wheel.first_by.Goals as goal
-use Rattle.ert_wheel.specs.FirstDue.{NoRowDue, IsFirstRowDue, IsPast, IsReached}
-use Rattle.ert_wheel.specs.Rows.{key_in, row_told}
+use Rattle.ert_wheel.specs.FirstDue.{IsFirstAt, IsReached}
+use Rattle.ert_wheel.specs.Rows.{Held, key_in}
+use Rattle.ert_wheel.specs.Wheels.{held_keys}
 use Rattle.ert_wheel.specs.declared.row.Key.{Key}
 
 pub invariant_of-self : goal.invariant_of-self
@@ -21,19 +22,19 @@ invariant_of-self g c = record {
   };
 }
 
-pub first_at-requires-clause-before : goal.first_at-requires-clause-before
-first_at-requires-clause-before g c = λ slot key has.
-    c.requires.reached.next.none_before slot key (subst (λ (keys : List (Option Key)). key_in keys slot ≡ Some key) (ap keys_of c.self.view_is) has)
+pub first_at-requires : goal.first_at-requires
+first_at-requires g c = record {
+  before = λ slot key has.
+      c.requires.reached.next.none_before slot key (subst (λ (keys : List (Option Key)). key_in keys slot ≡ Some key) (ap keys_of c.self.view_is) has);
+}
 
-pub returns-in-Some-clause-first : goal.returns-in-Some-clause-first
-returns-in-Some-clause-first g c =
-    first_at_stop c.args.self.now.keys c.args.to c.args.reached c.in-Some.row (omega (arith, c.if-reached-to.false))
-    (subst (λ (keys : List (Option Key)). IsFirstRowDue keys c.args.reached (row_told keys c.in-Some.row)) (ap keys_of c.self.view_is) c.in-Some.ensures.first)
-
-pub returns-in-None-clause-first : goal.returns-in-None-clause-first
-returns-in-None-clause-first g c =
-    subst (λ (n : ℕ). IsPast c.args.self.now.keys n c.args.to) (sym (ap passed_of c.in-None.ensures.same))
-    (none_at_stop c.args.self.now.keys c.self.inside.next_time c.args.to c.args.reached
-    (subst (λ (n : ℕ). IsReached c.args.self.now.keys n c.args.to c.args.reached) (sym (ap passed_of c.self.view_is)) c.requires.reached)
-    (omega (arith, c.if-reached-to.false))
-    (subst (λ (keys : List (Option Key)). c.args.reached ≤ c.self.inside.next_time → NoRowDue keys c.args.reached) (ap keys_of c.self.view_is) c.in-None.ensures.first))
+pub returns-clause-first : goal.returns-clause-first
+returns-clause-first g c =
+    let r : IsReached c.args.self.now.keys c.first_at.new.self.stands c.first_at.new.self.passed c.args.to c.args.reached =
+    subst (λ (h : Held _). IsReached c.args.self.now.keys h.stands h.passed c.args.to c.args.reached)
+    (sym (c.first_at.ensures.same ∙ c.self.view_is)) c.requires.reached in
+    let told : IsFirstAt c.args.self.now.keys c.first_at.new.self.passed c.args.reached c.first_at.result =
+    subst (λ (keys : List (Option Key)). IsFirstAt keys c.first_at.new.self.passed c.args.reached c.first_at.result) (ap keys_of c.self.view_is)
+    (subst (λ (n : ℕ). IsFirstAt (held_keys c.self.inside.buckets c.self.inside.kept.keys) n c.args.reached c.first_at.result)
+    (sym (ap passed_of c.first_at.ensures.same)) c.first_at.ensures.first) in
+    told_at_stop c.args.self.now.keys c.first_at.new.self.stands c.first_at.new.self.passed c.args.to c.args.reached c.first_at.result r (omega (arith, c.if-reached-to.false)) told

@@ -1,9 +1,11 @@
-use Rattle.std.proofs.Common.{ℕ, ap, set, subst, ◌∙◌, length, rules, arith, refl}
+use Rattle.std.proofs.Common.{ℕ, ap, max, set, subst, ◌∙◌, length, rules, arith, refl}
 use Rattle.std.proofs.lemmas.List.{length-set}
+use Rattle.ert_wheel.proofs.Fallen.{put_comes}
 use Rattle.ert_wheel.proofs.Writes.{sees, low_in, alike_after, is_held, is_kept, may_put, count_fits, stored_as, inserted}
 use Rattle.ert_wheel.proofs.wheel.Wheel.insert.Goals as goal
-use Rattle.ert_wheel.specs.Rows.{key_of}
+use Rattle.ert_wheel.specs.Rows.{Held, key_of}
 use Rattle.ert_wheel.specs.Levels.{IsLeastBucket}
+use Rattle.ert_wheel.specs.Standing.{homes_of, ComesTo}
 
 pub put-requires-clause-may : goal.put-requires-clause-may
 put-requires-clause-may g c =
@@ -45,3 +47,10 @@ returns-clause-keys g c =
     })
     (low_in c.args.row.slot c.self.invariant c.self.view_is c.requires.slot).low_record
     c.requires.vacant (subst (λ (t : ℕ). IsLeastBucket c.self.inside.next_time t c.bucket-home.result) c.max.ensures c.bucket-home.ensures.is) c.put.ensures.slots c.put.ensures.homes c.put.ensures.chains c.lower.ensures))
+
+pub returns-clause-stands : goal.returns-clause-stands
+returns-clause-stands g c =
+    let time = max c.args.row.deadline c.self.inside.next_time in
+    subst (λ (h : Held _). ComesTo h.stands (homes_of c.put.new.self) h.passed c.args.row.slot (max c.args.row.deadline h.passed)) c.self.view_is
+    (put_comes (sees c.self.invariant.rows c.self.view_is) (low_in c.args.row.slot c.self.invariant c.self.view_is c.requires.slot).low_key {time = time}
+    c.put.ensures.slots c.requires.vacant (subst (λ (t : ℕ). IsLeastBucket c.self.inside.next_time t c.bucket-home.result) c.max.ensures c.bucket-home.ensures.is) c.put.ensures.chains)

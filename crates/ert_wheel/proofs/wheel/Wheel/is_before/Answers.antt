@@ -1,11 +1,14 @@
-use Rattle.std.proofs.Common.{◌≡◌, ◌+◌, ◌-◌, ◌*◌, ◌/◌, ◌^◌, ◌∙◌, List, Option, ap, refl, subst, sym, arith}
+use Rattle.std.proofs.Common.{◌≡◌, ◌+◌, ◌-◌, ◌*◌, ◌/◌, ◌^◌, ◌∙◌, ℕ, List, Option, ap, refl, subst, sym, arith}
 use Rattle.std.specs.Bool.{OnTrue}
 use Rattle.ert_wheel.proofs.Behind.{begins_after, fell, left_behind, none_by}
 use Rattle.ert_wheel.proofs.Writes.{sees, alike_after, is_held, is_kept, keys_of, passed_of}
+use Rattle.ert_wheel.proofs.StandsOn.{stay_on}
 use Rattle.ert_wheel.proofs.wheel.Wheel.is_before.Goals as goal
 use Rattle.ert_wheel.specs.Falling.{HasRowIn}
 use Rattle.ert_wheel.specs.Wheels.{AreLevelChains}
 use Rattle.ert_wheel.specs.declared.row.Key.{Key}
+use Rattle.ert_wheel.specs.Rows.{Held}
+use Rattle.ert_wheel.specs.Standing.{homes_of, StayOrFall}
 
 pub overflow_sub-begin : goal.overflow_sub-begin
 overflow_sub-begin g c =
@@ -27,7 +30,7 @@ pub invariant_of-self : goal.invariant_of-self
 invariant_of-self g c = record {
   alike = alike_after c.self-2.invariant.alike refl refl c.fall_before.ensures.slots c.fall_before.ensures.written refl refl;
   rows = is_kept
-      (fell (sees c.self-2.invariant.rows c.self-2.view_is) c.fall_before.ensures.slots c.fall_before.ensures.homes
+      (fell c.self-2.inside.ordered.rising (sees c.self-2.invariant.rows c.self-2.view_is) c.fall_before.ensures.slots c.fall_before.ensures.homes
       (subst (λ (keys : List (Option Key)). AreLevelChains c.self-2.inside.next_time 1 c.fall_before.new.chains keys) (ap keys_of c.self-2.view_is)
       c.fall_before.ensures.moved));
 }
@@ -35,7 +38,7 @@ invariant_of-self g c = record {
 pub returns-clause-keys : goal.returns-clause-keys
 returns-clause-keys g c =
     is_held
-    (fell (sees c.self-2.invariant.rows c.self-2.view_is) c.fall_before.ensures.slots c.fall_before.ensures.homes
+    (fell c.self-2.inside.ordered.rising (sees c.self-2.invariant.rows c.self-2.view_is) c.fall_before.ensures.slots c.fall_before.ensures.homes
     (subst (λ (keys : List (Option Key)). AreLevelChains c.self-2.inside.next_time 1 c.fall_before.new.chains keys) (ap keys_of c.self-2.view_is)
     c.fall_before.ensures.moved))
     ∙ c.pass_slowly.ensures.keys
@@ -48,9 +51,9 @@ returns-clause-left g c =
     c.begin_of-begin.ensures ∙ ap (λ w. w * 512 ^ c.args.level) c.window_on-window.ensures in
     let stands : c.self-2.inside.next_time ≡ c.args.time / 512 ^ c.args.level * 512 ^ c.args.level - 1 =
     omega (arith, begin, b.after, b.by, b.wide, c.requires.most, c.pass_slowly.ensures.passed, ap passed_of c.self.view_is, ap passed_of c.self-2.view_is) in
-    left_behind c.args.self.now.keys c.self.inside.next_time c.args.time c.args.level c.self-2.inside.next_time c.fall_before.result
+    left_behind c.args.self.now.keys (homes_of c.fall_before.new.chains) c.self.inside.next_time c.args.time c.args.level c.self-2.inside.next_time c.fall_before.result
     c.requires.level c.requires.highest b stands
-    (subst (λ (keys : List (Option Key)). OnTrue c.fall_before.result (HasRowIn keys c.args.level (c.self-2.inside.next_time / 512 ^ c.args.level + 1)))
+    (subst (λ (keys : List (Option Key)). OnTrue c.fall_before.result (HasRowIn keys (homes_of c.fall_before.new.chains) c.args.level (c.self-2.inside.next_time / 512 ^ c.args.level + 1)))
     (ap keys_of c.self-2.view_is ∙ c.pass_slowly.ensures.keys) c.fall_before.ensures.left)
 
 pub returns-clause-no_further : goal.returns-clause-no_further
@@ -62,3 +65,9 @@ returns-clause-no_further g c =
     let stands : c.self-2.inside.next_time ≡ c.args.time / 512 ^ c.args.level * 512 ^ c.args.level - 1 =
     omega (arith, begin, b.after, b.by, b.wide, c.requires.most, c.pass_slowly.ensures.passed, ap passed_of c.self.view_is, ap passed_of c.self-2.view_is) in
     omega (arith, stands, b.by, b.wide)
+
+pub returns-clause-stands : goal.returns-clause-stands
+returns-clause-stands g c =
+    stay_on (subst (λ (n : ℕ). StayOrFall c.args.self.now.keys n c.args.self.now.stands c.pass_slowly.new.self.stands) (sym (ap passed_of c.self-2.view_is)) c.pass_slowly.ensures.stands)
+    (subst (λ (keys : List (Option Key)). StayOrFall keys c.self-2.inside.next_time c.pass_slowly.new.self.stands (homes_of c.fall_before.new.chains)) c.pass_slowly.ensures.keys
+    (subst (λ (h : Held _). StayOrFall h.keys c.self-2.inside.next_time h.stands (homes_of c.fall_before.new.chains)) c.self-2.view_is c.fall_before.ensures.stands))

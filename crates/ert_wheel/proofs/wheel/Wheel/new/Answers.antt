@@ -1,4 +1,5 @@
 use Rattle.std.proofs.Common.{◌∙◌, length, ap, sym, arith}
+use Rattle.ert_wheel.proofs.Fallen.{no_homes}
 use Rattle.ert_wheel.proofs.Opening.{opened}
 use Rattle.ert_wheel.proofs.Writes.{is_held, is_kept}
 use Rattle.ert_wheel.proofs.wheel.Wheel.new.Goals as goal
@@ -21,3 +22,8 @@ pub returns-clause-keys : goal.returns-clause-keys
 returns-clause-keys g c =
     let chains = c.in_ok-buckets in
     is_held (opened c.args.slots c.in_ok-kept.kept.keys chains.buckets chains.ensures.slots chains.ensures.homes chains.ensures.empty (omega (arith, c.requires.slots)))
+
+pub returns-clause-stands : goal.returns-clause-stands
+returns-clause-stands g c =
+    let chains = c.in_ok-buckets in
+    no_homes chains.buckets c.args.slots chains.ensures.empty chains.ensures.slots

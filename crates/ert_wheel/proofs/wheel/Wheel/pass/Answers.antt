@@ -5,6 +5,8 @@ use Rattle.ert_wheel.proofs.wheel.Wheel.pass.Goals as goal
 use Rattle.ert_wheel.specs.Falling.{MayMoveOn}
 use Rattle.ert_wheel.specs.Wheels.{AreLevelChains}
 use Rattle.ert_wheel.specs.declared.row.Key.{Key}
+use Rattle.ert_wheel.specs.Rows.{Held}
+use Rattle.ert_wheel.specs.Standing.{homes_of, StayOrFall}
 
 pub move_on-self-inside-requires-clause-may : goal.move_on-self-inside-requires-clause-may
 move_on-self-inside-requires-clause-may g c =
@@ -21,7 +23,7 @@ move_on-self-inside-requires-clause-kept g c = c.self.invariant.alike.records
 pub invariant_of-self : goal.invariant_of-self
 invariant_of-self g c = record {
   alike = alike_after c.self.invariant.alike refl refl c.move_on-self-inside.ensures.slots c.move_on-self-inside.ensures.written refl refl;
-  rows = is_kept (moved c.args.to (c.min-after.result + 1) (sees c.self.invariant.rows c.self.view_is) c.requires (omega (arith, c.min-after.ensures)) c.max-self-inside.ensures
+  rows = is_kept (moved c.args.to (c.min-after.result + 1) c.self.inside.ordered.rising (sees c.self.invariant.rows c.self.view_is) c.requires (omega (arith, c.min-after.ensures)) c.max-self-inside.ensures
       (omega (arith, c.max-next_time.ensures, c.min-after.ensures, c.self.invariant.rows.wheel.time))
       c.move_on-self-inside.ensures.slots c.move_on-self-inside.ensures.homes
       (subst (λ (keys : List (Option Key)). AreLevelChains c.max-next_time.result 1 c.move_on-self-inside.new.chains keys) (ap keys_of c.self.view_is)
@@ -30,7 +32,7 @@ invariant_of-self g c = record {
 
 pub returns-clause-keys : goal.returns-clause-keys
 returns-clause-keys g c =
-    is_held (moved c.args.to (c.min-after.result + 1) (sees c.self.invariant.rows c.self.view_is) c.requires (omega (arith, c.min-after.ensures)) c.max-self-inside.ensures
+    is_held (moved c.args.to (c.min-after.result + 1) c.self.inside.ordered.rising (sees c.self.invariant.rows c.self.view_is) c.requires (omega (arith, c.min-after.ensures)) c.max-self-inside.ensures
     (omega (arith, c.max-next_time.ensures, c.min-after.ensures, c.self.invariant.rows.wheel.time))
     c.move_on-self-inside.ensures.slots c.move_on-self-inside.ensures.homes
     (subst (λ (keys : List (Option Key)). AreLevelChains c.max-next_time.result 1 c.move_on-self-inside.new.chains keys) (ap keys_of c.self.view_is)
@@ -41,3 +43,8 @@ returns-clause-owners g c = ap owners_of c.self.view_is
 
 pub returns-clause-passed : goal.returns-clause-passed
 returns-clause-passed g c = omega (arith, ap passed_of c.self.view_is, c.max-next_time.ensures, c.min-after.ensures)
+
+pub returns-clause-stands : goal.returns-clause-stands
+returns-clause-stands g c =
+    subst (λ (h : Held _). StayOrFall h.keys c.max-next_time.result h.stands (homes_of c.move_on-self-inside.new.chains)) c.self.view_is
+    c.move_on-self-inside.ensures.stands

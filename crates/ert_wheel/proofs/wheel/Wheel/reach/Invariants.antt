@@ -2,11 +2,13 @@ use Rattle.std.proofs.Common.{◌≡◌, ◌+◌, ◌-◌, ◌≤◌, ℕ, max}
 use Rattle.ert_wheel.proofs.wheel.Wheel.reach.Given as goal
 use Rattle.ert_wheel.specs.FirstDue.{IsNextStop}
 use Rattle.ert_wheel.specs.Rows.{Held}
+use Rattle.ert_wheel.specs.Standing.{StayOrFall}
 
 -- time went on, and this is told of where it may come next
 pub record Comes {T : Type 0} (first now : Held T) (to stop most moves : ℕ) : Type 0 where
-  pub told : IsNextStop now.keys now.passed to stop
+  pub told : IsNextStop now.keys now.stands now.passed to stop
   pub keys : now.keys ≡ first.keys
+  pub stands : StayOrFall first.keys now.passed first.stands now.stands
   pub owners : now.owners ≡ first.owners
   pub values : now.values ≡ first.values
   pub passed : first.passed ≤ now.passed

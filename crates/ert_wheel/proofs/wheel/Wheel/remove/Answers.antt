@@ -1,7 +1,10 @@
-use Rattle.std.proofs.Common.{sym, refl, ◌∙◌}
+use Rattle.std.proofs.Common.{◌≡◌, None, set, subst, sym, refl, ◌∙◌}
 use Rattle.std.proofs.lemmas.Bool.{true≢false}
+use Rattle.ert_wheel.proofs.Fallen.{stays_nowhere, take_leaves}
 use Rattle.ert_wheel.proofs.Writes.{sees, low_in, alike_after, is_held, is_kept, found_none, found_some, looks_alone, looks_apart, may_take, count_holds, removed, vacant_view}
 use Rattle.ert_wheel.proofs.wheel.Wheel.remove.Goals as goal
+use Rattle.ert_wheel.specs.Rows.{Held}
+use Rattle.ert_wheel.specs.Standing.{homes_of}
 
 pub is_alone-requires : goal.is_alone-requires
 is_alone-requires g c = (low_in c.args.slot c.self.invariant c.self.view_is c.requires).low_bucket
@@ -39,3 +42,16 @@ returns-clause-left g c =
     is_held (removed (sees c.self.invariant.rows c.self.view_is) (low_in c.args.slot c.self.invariant c.self.view_is c.requires).low_key
     (looks_apart (sees c.self.invariant.rows c.self.view_is) (low_in c.args.slot c.self.invariant c.self.view_is c.requires).low_key (low_in c.args.slot c.self.invariant c.self.view_is c.requires).low_record (λ e. true≢false (sym (c.is_alone.ensures.1 e) ∙ c.if-is_alone.false)))
     c.take.ensures.slots c.take.ensures.homes c.take.ensures.chains)
+
+pub returns-then-is_alone-clause-stands : goal.returns-then-is_alone-clause-stands
+returns-then-is_alone-clause-stands g c =
+    let s = sees c.self.invariant.rows c.self.view_is in
+    let low = (low_in c.args.slot c.self.invariant c.self.view_is c.requires).low_key in
+    subst (λ (h : Held _). h.stands ≡ set h.stands c.args.slot None) c.self.view_is
+    (stays_nowhere s low (looks_alone s low (c.is_alone.ensures.0 c.if-is_alone.true)))
+
+pub returns-clause-stands : goal.returns-clause-stands
+returns-clause-stands g c =
+    subst (λ (h : Held _). homes_of c.take.new.self ≡ set h.stands c.args.slot None) c.self.view_is
+    (take_leaves (sees c.self.invariant.rows c.self.view_is) (low_in c.args.slot c.self.invariant c.self.view_is c.requires).low_key c.take.ensures.slots
+    c.take.ensures.chains)

@@ -1,7 +1,11 @@
-use Rattle.std.proofs.Common.{ap, set, ◌∙◌, length, arith, refl}
+use Rattle.std.proofs.Common.{ap, get_or, max, set, subst, ◌∙◌, length, arith, refl}
 use Rattle.std.proofs.lemmas.List.{length-set}
-use Rattle.ert_wheel.proofs.Writes.{sees, low_in, alike_after, is_held, is_kept, may_take, replaced, stored_as}
+use Rattle.ert_wheel.proofs.Fallen.{moves_comes}
+use Rattle.ert_wheel.proofs.Writes.{sees, held_stored, low_in, alike_after, is_held, is_kept, may_take, replaced, stored_as}
 use Rattle.ert_wheel.proofs.wheel.Wheel.replace.Goals as goal
+use Rattle.ert_wheel.specs.Rows.{Held, key_in}
+use Rattle.ert_wheel.specs.Standing.{homes_of, ComesOrStays}
+use Rattle.ert_wheel.specs.Wheels.{no_key}
 
 pub move_row-requires-clause-may : goal.move_row-requires-clause-may
 move_row-requires-clause-may g c = may_take (sees c.self.invariant.rows c.self.view_is) (low_in c.args.row.slot c.self.invariant c.self.view_is c.requires.slot).low_key
@@ -40,3 +44,11 @@ returns-clause-keys g c =
 
 pub deadline-was-requires : goal.deadline-was-requires
 deadline-was-requires g c = (low_in c.args.row.slot c.self.invariant c.self.view_is c.requires.slot).low_record
+
+pub returns-clause-stands : goal.returns-clause-stands
+returns-clause-stands g c =
+    let s = sees c.self.invariant.rows c.self.view_is in
+    let low = low_in c.args.row.slot c.self.invariant c.self.view_is c.requires.slot in
+    subst (λ (h : Held _). ComesOrStays c.args.self.now.keys h.stands (homes_of c.move_row.new.chains) h.passed c.args.row.slot (max c.args.row.deadline h.passed)) c.self.view_is
+    (moves_comes s low.low_key (get_or c.self.inside.kept.keys c.args.row.slot no_key) c.move_row.ensures.slots
+    (held_stored c.args.row.slot s (key_in c.args.self.now.keys c.args.row.slot) refl c.requires.held) c.deadline-was.ensures c.move_row.ensures.moves)

@@ -1,9 +1,11 @@
 use Rattle.std.proofs.Common.{◌≡◌, ◌-◌, ◌∙◌, ◌++◌, length, replicate, length-append, sym, ap, subst, arith}
 use Rattle.std.proofs.lemmas.List.{length-replicate}
-use Rattle.ert_wheel.proofs.Writes.{Sees, grown, is_held, is_kept, sees, stored_as}
+use Rattle.ert_wheel.proofs.Fallen.{grown_homes}
+use Rattle.ert_wheel.proofs.Writes.{Sees, stands_of, grown, is_held, is_kept, sees, stored_as}
 use Rattle.ert_wheel.proofs.wheel.Wheel.write_up_to.Goals as goal
 use Rattle.ert_wheel.specs.Rings.{Rings}
 use Rattle.ert_wheel.specs.Rows.{Held}
+use Rattle.ert_wheel.specs.Standing.{homes_of}
 
 pub invariant_of-self : goal.invariant_of-self
 invariant_of-self g c =
@@ -51,3 +53,8 @@ returns-clause-values g c =
     c.write_up_to.ensures.values
     ∙ (ap (λ n. c.self.inside.kept.values ++ replicate (c.args.count - n) c.args.value) same
     ∙ ap (λ (h : Held _). h.values ++ replicate (c.args.count - c.args.self.now.owners.written) c.args.value) c.self.view_is)
+
+pub returns-clause-stands : goal.returns-clause-stands
+returns-clause-stands g c =
+    ap homes_of c.write_up_to-2.ensures
+    ∙ (grown_homes c.args.count (sees c.self.invariant.rows c.self.view_is).wheel ∙ ap stands_of c.self.view_is)
