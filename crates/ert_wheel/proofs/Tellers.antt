@@ -65,9 +65,9 @@ due_row keys time slot row is = at (key_in keys slot) refl is
         let deadline : row.deadline ≡ key.deadline = ap (λ (r : HeldRow). r.deadline) same in (
           (λ yes. record { key = key; has = has; at = sym deadline ∙ eqb-true row.deadline time yes }),
           (λ due.
-          let one : Some due.key ≡ Some key = sym due.has ∙ has in
-          let that : due.key ≡ key = cc in
-          eq-eqb row.deadline time (deadline ∙ ap (λ (k : Key). k.deadline) (sym that) ∙ due.at)),
+              let one : Some due.key ≡ Some key = sym due.has ∙ has in
+              let that : due.key ≡ key = cc in
+              eq-eqb row.deadline time (deadline ∙ ap (λ (k : Key). k.deadline) (sym that) ∙ due.at)),
         )
 
 module _ {next : ℕ} {keys : List (Option Key)} {chains : Rings} {levels : Key → ℕ} (stand : StandOnLevels next chains keys levels) where
