@@ -28,12 +28,14 @@ set_twice (z ∷ xs) zero x y = refl
 set_twice (z ∷ xs) (suc k) x y = ap (λ (l : List _). z ∷ l) (set_twice xs k x y)
 
 -- so it is the same for a timer that is put in whether the row before it had gone
-pub kept_again : (p : Part) (k : ℕ) (start : Start) (next : Use) → kept p k start next ≡ kept (dropped p k) k start next
-kept_again p k start next =
+pub kept_again : (p : Part) (k : ℕ) (start : Start) (next : Use) (stands : List (Option ℕ))
+    → kept p k start next stands ≡ kept (dropped p k) k start next stands
+kept_again p k start next stands =
     ap (λ (keys : List (Option Key)). let q : Part = record p {
       slots = set p.slots k (slot_for next (slot_at p.slots k).above start);
       keys = keys;
       arms = p.arms + 1;
+      stands = stands;
     } in q) (sym (set_twice p.keys k None (Some (record { deadline = next.deadline; order = p.arms }))))
 
 -- without its row the slot is free

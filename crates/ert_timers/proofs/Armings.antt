@@ -163,10 +163,10 @@ rows_armed g h w k slots keys slot key s t timer row legal holds later live arme
         (get_or-set_other slots k j slot unused other)
 
 -- no row has come but that of the timer
-gains_armed : (p : Part) (k : ℕ) (coming : Use) (start : Start) (timer : TimerRef)
+gains_armed : (p : Part) (k : ℕ) (coming : Use) (start : Start) (stands : List (Option ℕ)) (timer : TimerRef)
     → timer ≡ last_timer p.number (set p.slots k (slot_for coming (slot_at p.slots k).above start)) k → k < length p.keys
-    → GainsOne {E = StartErr} p (kept p k start coming) (Ok timer)
-gains_armed p k coming start timer named wide j seen is =
+    → GainsOne {E = StartErr} p (kept p k start coming stands) (Ok timer)
+gains_armed p k coming start stands timer named wide j seen is =
     let slot : Slot = slot_for coming (slot_at p.slots k).above start in
     elim (cases_eq j k) [
       | inl here ↦ inr (ap (λ (t : TimerRef). Ok t) (named ∙ ap (last_timer p.number (set p.slots k slot)) (sym here)))
@@ -180,14 +180,14 @@ gains_armed p k coming start timer named wide j seen is =
 -- the part stands with the new timer
 pub arms : (g : Settings) (v : View) (by : ℕ) (p q : Part) (k : ℕ) (coming : Use) (start : Start) (timer : TimerRef) (u : View) → PartStands g v.front p
     → HoldsCaller g v by p.number → MayBecomeFree p k → IsUseFor g (state g v.front) by p.number k start coming
-    → q ≡ kept p k start coming → timer ≡ last_timer q.number q.slots k → Appends g v (arm_entry by timer start) u
+    → q ≡ kept p k start coming q.stands → timer ≡ last_timer q.number q.slots k → Appends g v (arm_entry by timer start) u
     → Arms g v by p q k coming start timer u
 arms g v by p q k coming start timer u stands holds free can part timer_is step =
     let w : ℕ = p.number in
     let deadline : ℕ = coming.deadline in
     let slot : Slot = slot_for coming (slot_at p.slots k).above start in
     let key : Key = record { deadline = deadline; order = p.arms } in
-    let r : Part = kept p k start coming in
+    let r : Part = kept p k start coming q.stands in
     let named : timer ≡ last_timer w (set p.slots k slot) k = timer_is ∙ ap (λ (x : Part). last_timer x.number x.slots k) part in
     let slot_same : slot_at (set p.slots k slot) k ≡ slot = get_or-set_same p.slots k slot unused free.low in
     let wide : k < length p.keys = omega (arith, free.low, stands.holds.wide, stands.holds.many) in
@@ -285,7 +285,7 @@ arms g v by p q k coming start timer u stands holds free can part timer_is step 
       }));
       dest = ap (λ (x : Part). (slot_at x.slots timer.slot).dest) part
           ∙ (ap (λ n. (slot_at (set p.slots k slot) n).dest) slot_is ∙ ap (λ (x : Slot). x.dest) slot_same);
-      rows = subst (λ (x : Part). GainsOne {E = StartErr} p x (Ok timer)) (sym part) (gains_armed p k coming start timer named wide);
+      rows = subst (λ (x : Part). GainsOne {E = StartErr} p x (Ok timer)) (sym part) (gains_armed p k coming start q.stands timer named wide);
       named = timer_is;
     }
   where
@@ -304,7 +304,7 @@ arms g v by p q k coming start timer u stands holds free can part timer_is step 
 pub may_arm : (g : Settings) (v : View) (by : ℕ) (p q : Part) (k : ℕ) (coming : Use) (start : Start) (timer : TimerRef) → PartStands g v.front p
     → HoldsCaller g v by p.number → MayBecomeFree p k → is_taken ((state g v.front).status (last_timer p.number p.slots k)) ≡ false
     → start.dest < g.processes → IsUseFor g (state g v.front) by p.number k start coming → p.arms < 9007199254740992
-    → q ≡ kept p k start coming → timer ≡ last_timer q.number q.slots k → MayStep g v (arm_entry by timer start)
+    → q ≡ kept p k start coming q.stands → timer ≡ last_timer q.number q.slots k → MayStep g v (arm_entry by timer start)
 may_arm g v by p q k coming start timer stands holds free usable dest can few part timer_is =
     let slot : Slot = slot_for coming (slot_at p.slots k).above start in
     let named : timer ≡ last_timer p.number (set p.slots k slot) k = timer_is ∙ ap (λ (x : Part). last_timer x.number x.slots k) part in

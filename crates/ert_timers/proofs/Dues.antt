@@ -282,7 +282,7 @@ idle_due p to none = record {
   in_order = λ i j d low high. absurd (omega (arith, high));
 }
 
-pub idle_is : (p : Part) (to : ℕ) (may : Bool) → MatchBool may (MayBeDue p.keys p.passed to) (NoRowDue p.keys to)
+pub idle_is : (p : Part) (to : ℕ) (may : Bool) → MatchBool may (MayBeDue p.keys p.stands p.passed to) (NoRowDue p.keys to)
     → OnTrue (not may) (AreDue p to [])
 idle_is p to true told = tt
 idle_is p to false none = idle_due p to none

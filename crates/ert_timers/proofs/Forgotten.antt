@@ -39,7 +39,7 @@ stands_dropped g h p k key stands held settled =
     record {
       checked = stands.checked;
       legal = stands.legal;
-      holds = holds_with g s s p (set p.keys k None) p.expires p.orphans stands.holds later (omega arith) (length-set p.keys k None)
+      holds = holds_with g s s p (set p.keys k None) (set p.stands k None) p.expires p.orphans stands.holds later (omega arith) (length-set p.keys k None)
           (rows_dropped g h p.number p.slots p.keys s stands.legal stands.holds.rows later k low settled
           (λ j seen is. stands.holds.rows.live j seen (key_left p.keys k j seen low is).1));
       counted = record { arms = stands.counted.arms; expires = stands.counted.expires; orphans = stands.counted.orphans };

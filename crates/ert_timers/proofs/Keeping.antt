@@ -113,7 +113,7 @@ pub fit_kept : (p : Part) (free : FreeSet) (owners new : Rings) (k : ℕ) (start
     (fit : AreFieldsFit p.slots p.keys free owners p.arms p.expires p.orphans) → free.held ≡ p.free → MayBecomeFree p k
     → p.arms < 9007199254740992 → start.dest < owners.homes → new.slots ≡ owners.slots → new.homes ≡ owners.homes → new.written ≡ owners.written
     → Joins new fit.chained.places k start.dest p.arms
-    → let q = kept p k start next in AreFieldsFit q.slots q.keys free new q.arms q.expires q.orphans
+    → let q = kept p k start next p.stands in AreFieldsFit q.slots q.keys free new q.arms q.expires q.orphans
 fit_kept p free owners new k start next fit same can few dest slots homes written joins =
     let slot : Slot = slot_for next (slot_at p.slots k).above start in
     let key : Key = record { deadline = next.deadline; order = p.arms } in
@@ -227,19 +227,21 @@ written_twice old mid new n m one two = record {
   slots = λ k. two.slots k ∙ one.slots k;
   joined = λ joined. two.joined (one.joined joined);
   passed = two.passed ∙ one.passed;
+  stands = two.stands ∙ one.stands;
 }
 
 -- a part is seen as before then, but for the slots that are held free
 pub seen_written : (p : Part) (old new : Held Stored) (free : sets.FinSet nat_cmp) (written : ℕ) → IsWritten old new written → p.processes ≡ old.owners.homes
-    → p.slots ≡ all_slots old.values old.owners.slots → p.keys ≡ old.keys → p.passed ≡ old.passed
-    → (let q : Part = record p { processes = new.owners.homes; slots = all_slots new.values new.owners.slots; keys = new.keys; free = free; passed = new.passed } in q)
+    → p.slots ≡ all_slots old.values old.owners.slots → p.keys ≡ old.keys → p.passed ≡ old.passed → p.stands ≡ old.stands
+    → (let q : Part = record p { processes = new.owners.homes; slots = all_slots new.values new.owners.slots; keys = new.keys; free = free; passed = new.passed; stands = new.stands } in q)
     ≡ (let q : Part = record p { free = free } in q)
-seen_written p old new free written is homes slots keys passed = λ i. (let q : Part = record p {
+seen_written p old new free written is homes slots keys passed stands = λ i. (let q : Part = record p {
   processes = (ap (λ (r : Rings). r.homes) is.owners ∙ sym homes) i;
   slots = (is.slots new.owners.slots ∙ (ap (λ (r : Rings). all_slots old.values r.slots) is.owners ∙ sym slots)) i;
   keys = (is.keys ∙ sym keys) i;
   free = free;
   passed = (is.passed ∙ sym passed) i;
+  stands = (is.stands ∙ sym stands) i;
 } in q)
 
 -- and fits

@@ -56,7 +56,7 @@ stand_on g f h p longer same legal stands =
       checked = stands.checked;
       legal = legal;
       holds =
-          holds_with g (state g f) (state g h) p p.keys p.expires p.orphans stands.holds later rises refl
+          holds_with g (state g f) (state g h) p p.keys p.stands p.expires p.orphans stands.holds later rises refl
           (rows_later g f w p.slots p.keys (state g h) stands.legal stands.holds.rows later
           (λ k key is. subst (λ (t : State). IsLive (t.status (last_timer w p.slots k))) (sym run_is)
           (live_free g (last_timer w p.slots k) (state g f) m from free (stands.holds.rows.live k key is))));

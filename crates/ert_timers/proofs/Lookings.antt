@@ -141,7 +141,7 @@ looks_resting g v by now p q k found u stands holds low away step none gone rest
       full = λ is. inr (ap (λ (x : Part). is_resting (slot_at x.slots k) now) (sym gone) ∙ rests);
       rested = λ held. (let no : true ≡ false = sym held ∙ (ap (λ (x : Part). sets.contains x.free k) gone ∙ away) in cc);
       since = since_same g v by p.number k found u step holds.wheel;
-      loses = subst (LosesRows p) (sym gone) (loses_row p (dropped p k) k (subst (λ n. k < n) (sym stands.holds.wide) low) refl refl refl refl (λ j was. was));
+      loses = subst (LosesRows p) (sym gone) (loses_row p (dropped p k) k (subst (λ n. k < n) (sym stands.holds.wide) low) refl refl refl refl refl (λ j was. was));
       still = still_untaken g v by p k found u holds step;
       meets = λ untaken awake.
           (let no : true ≡ false = sym rests ∙ (ap (λ (x : Part). is_resting (slot_at x.slots k) now) gone ∙ awake) in cc);
@@ -179,7 +179,7 @@ looks_free g v by now p q r k found u stands holds past low step none gone awake
       rested = λ held. here;
       since = since_same g v by p.number k found u step holds.wheel;
       loses = subst (LosesRows p) (sym all)
-          (loses_row p (freed (dropped p k) k) k (subst (λ n. k < n) (sym stands.holds.wide) low) refl refl refl refl (λ j was. put_keeps p.free k j was));
+          (loses_row p (freed (dropped p k) k) k (subst (λ n. k < n) (sym stands.holds.wide) low) refl refl refl refl refl (λ j was. put_keeps p.free k j was));
       still = still_untaken g v by p k found u holds step;
       meets = λ untaken is. ap (λ (x : Part). sets.contains x.free k) all ∙ put_here p.free k;
       next = ap (λ (x : Part). x.next_look) all;

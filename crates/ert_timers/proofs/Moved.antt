@@ -148,10 +148,10 @@ slot_apart g s by p q timer k start next has held is =
     kept_away false = has.free.away
 
 -- what the wheel holds then
-pub gone_moved : (p q : Part) (timer : TimerRef) (k : ℕ) (start : Start) (next : Use) → k ≢ timer.slot → (IsHeld p timer → ⊥) → q ≡ kept p k start next
+pub gone_moved : (p q : Part) (timer : TimerRef) (k : ℕ) (start : Start) (next : Use) → k ≢ timer.slot → (IsHeld p timer → ⊥) → q ≡ kept p k start next q.stands
     → IsHeld q timer → ⊥
 gone_moved p q timer k start next other gone is held =
-    let there : IsHeld (kept p k start next) timer = subst (λ (x : Part). IsHeld x timer) is held in
+    let there : IsHeld (kept p k start next q.stands) timer = subst (λ (x : Part). IsHeld x timer) is held in
     gone (record {
       low = subst (λ n. timer.slot < n) (length-set p.slots k _) there.low;
       named = there.named ∙ ap (λ (x : Slot). timer_at p.number timer.slot x.generation) (get_or-set_other p.slots k timer.slot _ unused (λ same. other (sym same)));
@@ -226,7 +226,7 @@ gains_moved p p' q r named one gains other j key is =
 
 -- and none of the old one is left
 pub gone_armed : (p p' q : Part) (timer : TimerRef) (k : ℕ) (start : Start) (next : Use) → MayBecomeFree p k → (timer.wheel ≡ p.number → IsHeld p timer)
-    → (IsHeld p' timer → ⊥) → p'.number ≡ p.number → q ≡ kept p' k start next → IsHeld q timer → ⊥
+    → (IsHeld p' timer → ⊥) → p'.number ≡ p.number → q ≡ kept p' k start next q.stands → IsHeld q timer → ⊥
 gone_armed p p' q timer k start next free held gone number part there =
     let wheel : timer.wheel ≡ p.number =
     ap (λ (t : TimerRef). t.wheel) there.named ∙ (ap (λ (x : Part). x.number) part ∙ number) in

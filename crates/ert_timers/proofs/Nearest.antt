@@ -39,14 +39,14 @@ is_nearest g s p (Some time) holds tidy told =
         armed = armed_of g s p due.slot due.key holds tidy due.has;
         at = due.at;
       })
-      | inr b ↦ inr (record {
+      | inr w ↦ (let b = w.in_window in inr (record {
         later = b.later;
         level = b.level;
         above = b.above;
         highest = b.highest;
         window = b.window;
         begin = b.begin;
-        row = held_row p.number p.slots b.some.slot b.some.key;
-        armed = armed_of g s p b.some.slot b.some.key holds tidy b.some.has;
-      })
+        row = held_row p.number p.slots w.slot w.key;
+        armed = armed_of g s p w.slot w.key holds tidy w.has;
+      }))
     ]

@@ -54,7 +54,7 @@ has_word g h by w k start coming legal is =
     (told_deadline g h by w k start coming timer legal is refl)
 
 -- the generation of the new timer
-pub new_generation : (p q : Part) (k : ℕ) (start : Start) (coming : Use) (timer : TimerRef) → k < length p.slots → q ≡ kept p k start coming
+pub new_generation : (p q : Part) (k : ℕ) (start : Start) (coming : Use) (timer : TimerRef) → k < length p.slots → q ≡ kept p k start coming q.stands
     → timer ≡ last_timer q.number q.slots k → timer.generation ≡ coming.generation
 new_generation p q k start coming timer low part timer_is =
     let slot : Slot = slot_for coming (slot_at p.slots k).above start in
@@ -62,7 +62,7 @@ new_generation p q k start coming timer low part timer_is =
     ∙ ap (λ (x : Slot). x.generation) (get_or-set_same p.slots k slot unused low)
 
 pub deadline_is : (g : Settings) (h : List Entry) (by : ℕ) (p q : Part) (k : ℕ) (coming : Use) (start : Start) (timer : TimerRef) → Legal g h
-    → k < length p.slots → IsUseFor g (state g h) by p.number k start coming → q ≡ kept p k start coming → timer ≡ last_timer q.number q.slots k
+    → k < length p.slots → IsUseFor g (state g h) by p.number k start coming → q ≡ kept p k start coming q.stands → timer ≡ last_timer q.number q.slots k
     → option_map (deadline_told timer.generation) (deadline_of g start ((state g h).looked (Caller by))) ≡ Some coming.deadline
 deadline_is g h by p q k coming start timer legal low is part timer_is =
     told_deadline g h by p.number k start coming timer legal is (new_generation p q k start coming timer low part timer_is)

@@ -38,12 +38,12 @@ pub back : (g : Settings) (v : View) (e : Entry) (u : View) (p : Part) (k : ℕ)
     → key_in p.keys k ≡ Some key → Appends g v e u → is_held v.actors (Wheel p.number) ≡ true
     → ((state g u.front).status (last_timer p.number p.slots k) ≢ Some Armed)
     → ((state g u.front).status (last_timer p.number p.slots k) ≢ Some Expired)
-    → PartStands g u.front (record p { keys = set p.keys k None; expires = p.expires; orphans = p.orphans + cond hit 1 0 })
+    → PartStands g u.front (record p { keys = set p.keys k None; expires = p.expires; orphans = p.orphans + cond hit 1 0; stands = set p.stands k None })
     → PartStands g u.front (given_back p k hit)
 back g v e u p k key hit stands held step wheel settled unexpired gone = record {
   checked = gone.checked;
   legal = gone.legal;
-  holds = holds_back g u.front (record p { keys = set p.keys k None; expires = p.expires; orphans = p.orphans + cond hit 1 0 }) k gone.checked
+  holds = holds_back g u.front (record p { keys = set p.keys k None; expires = p.expires; orphans = p.orphans + cond hit 1 0; stands = set p.stands k None }) k gone.checked
       gone.legal (omega (arith, key_low p.keys k key held, stands.holds.wide)) gone.holds
       (takes_none ((state g u.front).status (last_timer p.number p.slots k)) settled unexpired);
   counted = record { arms = gone.counted.arms; expires = gone.counted.expires; orphans = gone.counted.orphans };
@@ -176,7 +176,7 @@ ends_exited g v by p q dest deadline timer was u w is has step orphans =
       stands = orphans.stands;
       loses = loses_row p q timer.slot (key_low p.keys timer.slot (record { deadline = deadline; order = has.order }) has.held)
           (ap (λ (x : Part). x.number) orphans.part) (ap (λ (x : Part). x.slots) orphans.part) (ap (λ (x : Part). x.keys) orphans.part)
-          (ap (λ (x : Part). x.passed) orphans.part) (given_keeps p q timer.slot (is_hit orphans.missed) orphans.part);
+          (ap (λ (x : Part). x.passed) orphans.part) (ap (λ (x : Part). x.stands) orphans.part) (given_keeps p q timer.slot (is_hit orphans.missed) orphans.part);
     }
 
 -- a pass holds the same actors after a step

@@ -1,6 +1,6 @@
 -- Rows go, and each of their timers is tried once.
 
-use Rattle.std.proofs.Common.{◌≡◌, ◌≢◌, ℕ, zero, suc, ◌<◌, ◌≤◌, cond, count_by, List, [], ◌∷◌, ◌++◌, length, Option, Some, None, IfSome, refl, sym, ap, subst, ◌∙◌, set, arith}
+use Rattle.std.proofs.Common.{◌≡◌, ◌≢◌, ℕ, zero, suc, ◌<◌, ◌≤◌, cond, count_by, List, [], ◌∷◌, ◌++◌, length, Option, Some, None, IfSome, refl, sym, ap, subst, ◌∙◌, set, inl, arith, get_or-set_other}
 use Rattle.std.proofs.lemmas.List.Sums.{sum_by-cons}
 use Rattle.std.specs.Option.{is_some}
 use Rattle.ert_defs.specs.Timers.{Row}
@@ -14,9 +14,11 @@ use Rattle.ert_timers.proofs.Rows.{key_left}
 use Rattle.ert_wheel.proofs.Looking.{key_low}
 use Rattle.ert_wheel.specs.Rows.{key_in}
 use Rattle.ert_wheel.specs.declared.row.Key.{Key}
+use Rattle.ert_wheel.proofs.StandsOn.{stay_all, stay_then}
+use Rattle.ert_wheel.specs.Standing.{bucket_in}
 
 pub loses_none : (p : Part) → LosesRows p p
-loses_none p = record { number = refl; slots = refl; left = λ k key is. is; time = omega arith; frees = λ k was. was }
+loses_none p = record { number = refl; slots = refl; left = λ k key is. is; time = omega arith; frees = λ k was. was; stands = stay_all p.keys p.passed p.stands }
 
 pub loses_then : (p q r : Part) → LosesRows p q → LosesRows q r → LosesRows p r
 loses_then p q r one other = record {
@@ -25,6 +27,7 @@ loses_then p q r one other = record {
   left = λ k key is. one.left k key (other.left k key is);
   time = omega (arith, one.time, other.time);
   frees = λ k was. other.frees k (one.frees k was);
+  stands = stay_then other.time (λ k key is. other.left k key is) one.stands other.stands;
 }
 
 -- the row of a slot goes
@@ -38,13 +41,18 @@ row_goes p q k low number slots keys time = record {
 }
 
 pub loses_row : (p q : Part) (k : ℕ) → k < length p.keys → q.number ≡ p.number → q.slots ≡ p.slots → q.keys ≡ set p.keys k None → q.passed ≡ p.passed
-    → KeepsFree p q → LosesRows p q
-loses_row p q k low number slots keys time frees = record {
+    → q.stands ≡ set p.stands k None → KeepsFree p q → LosesRows p q
+loses_row p q k low number slots keys time stands frees = record {
   number = number;
   slots = slots;
   left = λ j key is. (key_left p.keys k j key low (ap (λ ks. key_in ks j) (sym keys) ∙ is)).1;
   time = omega arith;
   frees = frees;
+  stands = record {
+    each = λ j key is.
+        inl (ap (λ (s : List (Option ℕ)). bucket_in s j) stands
+        ∙ get_or-set_other p.stands k j None None (key_left p.keys k j key low (ap (λ ks. key_in ks j) (sym keys) ∙ is)).0);
+  };
 }
 
 -- rows that are lost have gone

@@ -94,7 +94,7 @@ probes_settled g v p q k found u stands holds low step not left is = record {
 }
 
 -- what a slot's row tells, whose timer is armed
-pub nearest_by : (g : Settings) (s : State) (p : Part) (time k : ℕ) → FitsState g s p → TellsNext p.keys p.passed time k
+pub nearest_by : (g : Settings) (s : State) (p : Part) (time k : ℕ) → FitsState g s p → TellsNext p.keys p.stands p.passed time k
     → s.status (last_timer p.number p.slots k) ≡ Some Armed → IsNearest s p.number p.passed (Some time)
 nearest_by g s p time k fits tells armed =
     let is : IsArmed s p.number (held_row p.number p.slots k tells.key) = record {
@@ -119,7 +119,7 @@ nearest_by g s p time k fits tells armed =
 -- the row of a slot goes, and its slot is held free
 given_loses : (p q : Part) (k : ℕ) (key : Key) → key_in p.keys k ≡ Some key → q ≡ given_back p k false → LosesRows p q
 given_loses p q k key has is =
-    subst (LosesRows p) (sym is) (loses_row p (given_back p k false) k (key_low p.keys k key has) refl refl refl refl (given_keeps p (given_back p k false) k false refl))
+    subst (LosesRows p) (sym is) (loses_row p (given_back p k false) k (key_low p.keys k key has) refl refl refl refl refl (given_keeps p (given_back p k false) k false refl))
 
 given_fewer : (p q : Part) (k : ℕ) (key : Key) → key_in p.keys k ≡ Some key → q ≡ given_back p k false → HasLost 1 p q
 given_fewer p q k key has is =
@@ -240,7 +240,7 @@ pub record IsAnswered (g : Settings) (q t : Part) (time : ℕ) (x : View) : Type
   pub stands : PartStands g x.front q
   pub near : IsNearest (state g x.front) q.number q.passed (Some time)
 
-answered : (g : Settings) (u x : View) (q t : Part) (time k : ℕ) → TellsNext q.keys q.passed time k → ProbesRow g u q t k true x → IsAnswered g q t time x
+answered : (g : Settings) (u x : View) (q t : Part) (time k : ℕ) → TellsNext q.keys q.stands q.passed time k → ProbesRow g u q t k true x → IsAnswered g q t time x
 answered g u x q t time k tells one =
     let found : one.found ≡ Some Armed = armed_is one.found (sym one.told) in
     let left : PartStands g x.front q = subst (PartStands g x.front) one.part one.stands in
@@ -252,10 +252,10 @@ answered g u x q t time k tells one =
 
 -- its timer was found armed
 pub asks_armed : (g : Settings) (v u x : View) (p q r t : Part) (n most time k : ℕ) (answer : Option ℕ) → DropsNext g v p q n u → n < most → r ≡ q
-    → IsNextHeld q answer → answer ≡ Some time → TellsNext r.keys r.passed time k → (b : Bool) → b ≡ true → ProbesRow g u r t k b x
+    → IsNextHeld q answer → answer ≡ Some time → TellsNext r.keys r.stands r.passed time k → (b : Bool) → b ≡ true → ProbesRow g u r t k b x
     → AsksOn g v p t most (Some time) x
 asks_armed g v u x p q r t n most time k answer some low is held told tells b armed probed =
-    let at : TellsNext q.keys q.passed time k = subst (λ (y : Part). TellsNext y.keys y.passed time k) is tells in
+    let at : TellsNext q.keys q.stands q.passed time k = subst (λ (y : Part). TellsNext y.keys y.stands y.passed time k) is tells in
     let one : ProbesRow g u q t k true x = subst (λ (a : Bool). ProbesRow g u q t k a x) armed (subst (λ (y : Part). ProbesRow g u y t k b x) is probed) in
     let done : IsAnswered g q t time x = answered g u x q t time k at one in
     let last : Probed = record { slot = k; found = one.found } in
@@ -299,14 +299,14 @@ asks_anew g v u p q answer on = record {
 }
 
 -- the timer of the answer that was kept was found armed
-pub asks_kept : (g : Settings) (v x : View) (p t : Part) (time k : ℕ) → PartStands g v.front p → IsNextHeld p (Some time) → TellsNext p.keys p.passed time k
+pub asks_kept : (g : Settings) (v x : View) (p t : Part) (time k : ℕ) → PartStands g v.front p → IsNextHeld p (Some time) → TellsNext p.keys p.stands p.passed time k
     → (b : Bool) → b ≡ true → ProbesRow g v p t k b x → AsksNext g v p t (Some time) x
 asks_kept g v x p t time k stands held tells b armed probed =
     asks_anew g v x p t (Some time)
     (asks_armed g v v x p p p t 0 1024 time k (Some time) (drops_none g v p stands) (omega arith) refl held refl tells b armed probed)
 
 -- it was found settled, and others were asked for
-pub asks_more : (g : Settings) (v u x : View) (p q r : Part) (time k : ℕ) (answer : Option ℕ) → TellsNext p.keys p.passed time k → (b : Bool) → b ≡ false
+pub asks_more : (g : Settings) (v u x : View) (p q r : Part) (time k : ℕ) (answer : Option ℕ) → TellsNext p.keys p.stands p.passed time k → (b : Bool) → b ≡ false
     → ProbesRow g v p q k b u → AsksOn g u q r 1023 answer x → AsksNext g v p r answer x
 asks_more g v u x p q r time k answer tells b not probed on =
     let one : ProbesRow g v p q k false u = subst (λ (a : Bool). ProbesRow g v p q k a u) not probed in
@@ -339,20 +339,20 @@ asks_more g v u x p q r time k answer tells b not probed on =
 
 -- it was found settled
 pub drops_next : (g : Settings) (v u x : View) (p q r t : Part) (n time k : ℕ) → DropsNext g v p q n u → r ≡ q
-    → TellsNext r.keys r.passed time k → (b : Bool) → b ≡ false → ProbesRow g u r t k b x → DropsNext g v p t (n + 1) x
+    → TellsNext r.keys r.stands r.passed time k → (b : Bool) → b ≡ false → ProbesRow g u r t k b x → DropsNext g v p t (n + 1) x
 drops_next g v u x p q r t n time k some is tells b not probed =
-    let at : TellsNext q.keys q.passed time k = subst (λ (y : Part). TellsNext y.keys y.passed time k) is tells in
+    let at : TellsNext q.keys q.stands q.passed time k = subst (λ (y : Part). TellsNext y.keys y.stands y.passed time k) is tells in
     let one : ProbesRow g u q t k false x = subst (λ (a : Bool). ProbesRow g u q t k a x) not (subst (λ (y : Part). ProbesRow g u y t k b x) is probed) in
     drops_more g v u x p q t n k at.key some at.has one
 
 -- the slot of a row that is told is one of the part
-pub told_low : (g : Settings) (h : List Entry) (p q : Part) (time k : ℕ) → PartStands g h p → q ≡ p → TellsNext q.keys q.passed time k → k < length q.slots
+pub told_low : (g : Settings) (h : List Entry) (p q : Part) (time k : ℕ) → PartStands g h p → q ≡ p → TellsNext q.keys q.stands q.passed time k → k < length q.slots
 told_low g h p q time k stands is tells =
     let low : k < length q.keys = key_low q.keys k tells.key tells.has in
     omega (arith, low, ap (λ (y : Part). length y.keys) is, ap (λ (y : Part). length y.slots) is, stands.holds.wide, stands.holds.many)
 
-pub told_has : (keys : List (Option Key)) (passed time k : ℕ) → TellsNext keys passed time k → IsSome (key_in keys k)
-told_has keys passed time k tells = subst IsSome (sym tells.has) refl
+pub told_has : (keys : List (Option Key)) (stands : List (Option ℕ)) (passed time k : ℕ) → TellsNext keys stands passed time k → IsSome (key_in keys k)
+told_has keys stands passed time k tells = subst IsSome (sym tells.has) refl
 
 -- a pass that holds the scheduler and its wheel does so still
 pub still_sched : (v u : View) (p q r : Part) → HoldsSched v p.number → u.actors ≡ v.actors → q.number ≡ p.number → r ≡ q → HoldsSched u r.number

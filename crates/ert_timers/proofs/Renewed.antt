@@ -225,7 +225,7 @@ pub record RenewsTwice (g : Settings) (v : View) (by : ℕ) (p q : Part) (timer 
 
 pub renews_twice : (g : Settings) (v : View) (by : ℕ) (p q : Part) (timer : TimerRef) (start : Start) (next : Use) (named : TimerRef) (left : ℕ) (u : View)
     → PartStands g v.front p → HoldsCaller g v by p.number → MayStay p timer → IsStanding p timer → IsUseFor g (state g v.front) by p.number timer.slot start next
-    → q ≡ kept p timer.slot start next → named ≡ last_timer q.number q.slots timer.slot
+    → q ≡ kept p timer.slot start next q.stands → named ≡ last_timer q.number q.slots timer.slot
     → AppendsAll g v (cancel_entry (Caller by) timer (Some left) ∷ (arm_entry by (timer_at timer.wheel timer.slot next.generation) start ∷ [])) u
     → RenewsTwice g v by p q timer start next named left u
 renews_twice g v by p q timer start next named left u stands holds stay standing is part named_is step =
@@ -240,7 +240,7 @@ renews_twice g v by p q timer start next named left u stands holds stay standing
     let less = stands_again g m.front p timer stands_m standing.last can settled in
     let still = told_still g v (cancel_entry (Caller by) timer (Some left)) m by w twice.one holds refl refl (λ x. refl) in
     let use_m = use_still g (state g v.front) (state g m.front) by w k start next still is in
-    let part' : q ≡ kept (dropped p k) k start next = part ∙ kept_again p k start next in
+    let part' : q ≡ kept (dropped p k) k start next q.stands = part ∙ kept_again p k start next q.stands in
     let generation : named.generation ≡ next.generation = new_generation p q k start next named standing.last.low part named_is in
     let same : timer_at timer.wheel k next.generation ≡ named =
     ap (λ n. timer_at n k next.generation) (stay.wheel ∙ sym (ap (λ (t : TimerRef). t.wheel) named_is ∙ ap (λ (x : Part). x.number) part))
@@ -399,7 +399,7 @@ renew_missed g v by timer look deadline generation start hit u missed step =
 pub renew_hit : (g : Settings) (v u z : View) (by : ℕ) (p q : Part) (timer : TimerRef) (start : Start) (read : ArmedWord) (next : Use) (named : TimerRef) (hit : Bool)
     → (r : IsReady g v u by p timer start read next) → MayStay p timer → hit ≡ true
     → AppendsAll g u (renewal g ((state g u.front).looked (Caller by)) by timer (word_deadline read.word) next.generation start hit) z
-    → q ≡ kept p timer.slot start next → named ≡ last_timer q.number q.slots timer.slot → RenewsTwice g u by p q timer start next named r.read.found z
+    → q ≡ kept p timer.slot start next q.stands → named ≡ last_timer q.number q.slots timer.slot → RenewsTwice g u by p q timer start next named r.read.found z
 renew_hit g v u z by p q timer start read next named hit r stay hits step part named_is =
     let look : ℤ = (state g u.front).looked (Caller by) in
     let two = subst (λ b. AppendsAll g u (renewal g look by timer (word_deadline read.word) next.generation start b) z) hits step in

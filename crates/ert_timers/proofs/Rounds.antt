@@ -218,7 +218,7 @@ around_from g v by now p r next u round from some end all = record {
   rested = all.rested;
   since = all.since;
   look = all.look;
-  loses = record { number = all.loses.number; slots = all.loses.slots; left = all.loses.left; time = all.loses.time; frees = all.loses.frees };
+  loses = record { number = all.loses.number; slots = all.loses.slots; left = all.loses.left; time = all.loses.time; frees = all.loses.frees; stands = all.loses.stands };
   goes_on = record { from = from; some = some; next = all.next ∙ end };
   meets = all.meets;
 }

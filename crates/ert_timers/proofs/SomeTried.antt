@@ -28,6 +28,7 @@ use Rattle.ert_timers.specs.Trying.{HasDue, HasExpiredSome, IsLooked, IsTriedSom
 use Rattle.ert_wheel.specs.FirstDue.{NoRowDue, IsFirstRowDue}
 use Rattle.ert_wheel.specs.Rows.{key_of}
 use Rattle.ert_wheel.specs.declared.row.Row.{Row as WheelRow}
+use Rattle.ert_wheel.specs.Standing.{StayOrFall}
 
 -- the look with which it begins
 pub is_looked : (g : Settings) (v : View) (p : Part) (to : ℕ) (u : View) → PartStands g v.front p → HoldsSched v p.number
@@ -38,14 +39,15 @@ is_looked g v p to u stands holds looks = record {
 }
 
 -- a part for which this holds, where the time of its wheel goes on
-pub looked_come_to : (g : Settings) (h : List Entry) (p q : Part) (to passed : ℕ) → q ≡ come_to p passed → IsLooked g h p to → IsLooked g h q to
+pub looked_come_to : (g : Settings) (h : List Entry) (p q : Part) (to passed : ℕ) → q ≡ come_to p passed q.stands → IsLooked g h p to → IsLooked g h q to
 looked_come_to g h p q to passed is looked =
-    subst (λ (x : Part). IsLooked g h x to) (sym is) (record { stands = stands_come_to g h p passed looked.stands; told = looked.told })
+    subst (λ (x : Part). IsLooked g h x to) (sym is) (record { stands = stands_come_to g h p passed q.stands looked.stands; told = looked.told })
 
-pub tried_come_to : (g : Settings) (v : View) (p q r : Part) (to n : ℕ) (old new : Queue) (u : View) → r ≡ come_to q r.passed → q.passed ≤ r.passed
+pub tried_come_to : (g : Settings) (v : View) (p q r : Part) (to n : ℕ) (old new : Queue) (u : View) → r ≡ come_to q r.passed r.stands → q.passed ≤ r.passed
+    → StayOrFall q.keys r.passed q.stands r.stands
     → TriesRows g v p q to n old new u → TriesRows g v p r to n old new u
-tried_come_to g v p q r to n old new u is up some =
-    subst (λ (x : Part). TriesRows g v p x to n old new u) (sym is) (tries_come_to g v p q to n r.passed old new u some up)
+tried_come_to g v p q r to n old new u is up falls some =
+    subst (λ (x : Part). TriesRows g v p x to n old new u) (sym is) (tries_come_to g v p q to n r.passed r.stands old new u some up falls)
 
 -- so many rows fewer are held then
 pub loses_some : (g : Settings) (v : View) (p q : Part) (to most : ℕ) (left : Left) (old new : Queue) (u : View) → IsTriedSome g v p q to most left old new u

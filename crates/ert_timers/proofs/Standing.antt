@@ -32,9 +32,9 @@ use Rattle.ert_timers.proofs.Rows.{rows_later}
 use Rattle.ert_wheel.specs.declared.row.Key.{Key}
 
 -- a part stands as before where it holds fewer slots free, and where the time of its wheel goes on
-pub stands_with : (g : Settings) (h : List Entry) (p : Part) (free : sets.FinSet nat_cmp) (passed : ℕ) → PartStands g h p
-    → ((k : ℕ) → sets.contains free k ≡ true → sets.contains p.free k ≡ true) → PartStands g h (record p { free = free; passed = passed })
-stands_with g h p free passed stands held = record {
+pub stands_with : (g : Settings) (h : List Entry) (p : Part) (free : sets.FinSet nat_cmp) (passed : ℕ) (there : List (Option ℕ)) → PartStands g h p
+    → ((k : ℕ) → sets.contains free k ≡ true → sets.contains p.free k ≡ true) → PartStands g h (record p { free = free; passed = passed; stands = there })
+stands_with g h p free passed there stands held = record {
   checked = stands.checked;
   legal = stands.legal;
   holds = record {
@@ -97,10 +97,10 @@ same_since u v time later same rises rested =
     no_more a b c low high = omega (arith, low, high)
 
 -- the part with these keys and counts fits a later state
-pub holds_with : (g : Settings) (s t : State) (p : Part) (keys : List (Option Key)) (expired orphaned : ℕ) → FitsState g s p
+pub holds_with : (g : Settings) (s t : State) (p : Part) (keys : List (Option Key)) (there : List (Option ℕ)) (expired orphaned : ℕ) → FitsState g s p
     → IsLater p.number s t → clock_at g s ≤ clock_at g t → length keys ≡ length p.keys → HoldsRows t p.number p.slots keys
-    → FitsState g t (record p { keys = keys; expires = expired; orphans = orphaned })
-holds_with g s t p keys expired orphaned holds later rises wide rows = record {
+    → FitsState g t (record p { keys = keys; expires = expired; orphans = orphaned; stands = there })
+holds_with g s t p keys there expired orphaned holds later rises wide rows = record {
   number = holds.number;
   processes = holds.processes;
   many = holds.many;
@@ -212,7 +212,7 @@ stands_step g v e u p stands step held calm = record {
   legal = step.legal;
   holds =
       let later = later_step g v e u p.number step held calm.arm in
-      holds_with g (state g v.front) (state g u.front) p p.keys p.expires p.orphans stands.holds later (clock_stepped g v e u stands.checked step) refl
+      holds_with g (state g v.front) (state g u.front) p p.keys p.stands p.expires p.orphans stands.holds later (clock_stepped g v e u stands.checked step) refl
       (rows_later g v.front p.number p.slots p.keys (state g u.front) stands.legal stands.holds.rows later
       (λ k key is.
       live_step g v e u (last_timer p.number p.slots k) step held (no_end e.event calm.expire calm.orphan (last_timer p.number p.slots k))

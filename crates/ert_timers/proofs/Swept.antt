@@ -105,7 +105,8 @@ sweeps_more g v by process p q r row timer u w some holds next is one =
       held = held_push p some.tries t some.held (subst (IsHeld p) (sym named)
           (was_held p q row.slot (key_of row) some.loses (some.stands.holds.wide ∙ sym some.stands.holds.many) next.1));
       none = none_more q r row.slot some.tries t low named number slots keys time some.none;
-      loses = loses_then p q r some.loses (loses_row q r row.slot low number slots keys time (given_keeps q r timer.timer.slot (is_hit one.missed) one.part));
+      loses = loses_then p q r some.loses (loses_row q r row.slot low number slots keys time
+          (ap (λ (x : Part). x.stands) one.part ∙ ap (λ (x : Row). set q.stands x.timer.slot None) is) (given_keeps q r timer.timer.slot (is_hit one.missed) one.part));
       frees = frees_then p q r some.loses (given_keeps q r timer.timer.slot (is_hit one.missed) one.part) some.frees (frees_given q r timer.timer.slot (is_hit one.missed) one.part);
       call = subst (λ es. TakesPlace g v es w) (sym (map-append (λ (x : Try). orphans_by by p.number x.timer x.missed) some.tries (t ∷ [])))
           (takes_place_then g v u w (orphan_entries by p.number some.tries) (e ∷ []) some.call (step_takes_place g u e w step));

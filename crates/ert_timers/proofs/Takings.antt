@@ -22,7 +22,7 @@ use Rattle.ert_timers.proofs.Rounds.{round_are_probes}
 -- the part stands when a slot is held free no more
 picked_stands : (g : Settings) (v : View) (p q : Part) (k : ℕ) → PartStands g v.front p → q ≡ picked p k → PartStands g v.front q
 picked_stands g v p q k stands is =
-    subst (λ (x : Part). PartStands g v.front x) (sym is) (stands_with g v.front p (picked p k).free p.passed stands (λ j held. taken_was p.free k j held))
+    subst (λ (x : Part). PartStands g v.front x) (sym is) (stands_with g v.front p (picked p k).free p.passed p.stands stands (λ j held. taken_was p.free k j held))
 
 -- it has lost no row
 fewer_picked : (p : Part) (k : ℕ) → HasFewerRows p (picked p k)

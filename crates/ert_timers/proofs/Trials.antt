@@ -1,6 +1,6 @@
 -- The loop over the due rows of an advance, and the whole call.
 
-use Rattle.std.proofs.Common.{◌≡◌, ℕ, ◌+◌, ◌≤◌, true, false, ◌||◌, nat_eq, List, [], ◌∷◌, ◌++◌, length, All, drop, Some, Result, Ok, Err, inr, refl, sym, ap, subst, ◌∙◌, arith}
+use Rattle.std.proofs.Common.{◌≡◌, ℕ, ◌+◌, ◌≤◌, true, false, ◌||◌, nat_eq, List, [], ◌∷◌, ◌++◌, length, All, drop, Some, Result, Ok, Err, inr, refl, sym, ap, subst, ◌∙◌, arith, Option}
 use Rattle.std.proofs.lemmas.Bool.Decides.{nat_tests}
 use Rattle.std.proofs.lemmas.List.Sorted.{sorted_far}
 use Rattle.std.specs.Cmp.{IsStrictWeakOrder}
@@ -33,6 +33,7 @@ use Rattle.ert_timers.proofs.Tried.{self, waits_by}
 use Rattle.ert_timers.proofs.Trying.{tries_none, tries_more, looked_more, stands_come_to, tries_come_to}
 use Rattle.ert_wheel.specs.Rows.{key_in, key_of, times, due_count, comes_before}
 use Rattle.ert_wheel.specs.declared.row.Row.{Row as WheelRow}
+use Rattle.ert_wheel.specs.Standing.{StayOrFall}
 
 -- nothing was tried yet
 pub expires_none : (g : Settings) (v : View) (p : Part) (to : ℕ) (due : List WheelRow) (q : Queue) → IsReady g v.front p to due
@@ -57,12 +58,13 @@ expires_more g v p q r to due n row old mid new u w some held next wheel one =
     }
 
 -- and what was tried before a wheel passed a time was tried
-pub expires_gone_on : (g : Settings) (v : View) (p q : Part) (to : ℕ) (due : List WheelRow) (n : ℕ) (old new : Queue) (u : View)
-    → ExpiresSome g v p q to due n old new u → ExpiresSome g v p (gone_on q to) to due n old new u
-expires_gone_on g v p q to due n old new u some = record {
-  done = tries_come_to g v p q to n (gone_on q to).passed old new u some.done (omega arith);
+pub expires_gone_on : (g : Settings) (v : View) (p q : Part) (to : ℕ) (there : List (Option ℕ)) (due : List WheelRow) (n : ℕ) (old new : Queue) (u : View)
+    → StayOrFall q.keys (gone_on q to there).passed q.stands there
+    → ExpiresSome g v p q to due n old new u → ExpiresSome g v p (gone_on q to there) to due n old new u
+expires_gone_on g v p q to there due n old new u falls some = record {
+  done = tries_come_to g v p q to n (gone_on q to there).passed there old new u some.done (omega arith) falls;
   ready = record {
-    stands = stands_come_to g u.front q (gone_on q to).passed some.ready.stands;
+    stands = stands_come_to g u.front q (gone_on q to there).passed there some.ready.stands;
     told = some.ready.told;
     due = record { each = some.ready.due.each; held = some.ready.due.held; in_order = some.ready.due.in_order };
   };
@@ -140,12 +142,13 @@ has_tried g v p p' q q' k to due n old old' new u w number first last rows down 
     }
 
 -- where none is due, all were tried
-pub has_idled : (g : Settings) (v : View) (p q : Part) (k to : ℕ) (list : Queue) (u : View) → k ≡ p.number → q ≡ gone_on p to
+pub has_idled : (g : Settings) (v : View) (p q : Part) (k to : ℕ) (list : Queue) (u : View) → k ≡ p.number → q ≡ gone_on p to q.stands
+    → StayOrFall p.keys q.passed p.stands q.stands
     → LooksDown g v (Sched k) to u → AreDue p to [] → PartStands g v.front p → HoldsSched v p.number → HasTried g v p q to list list u
-has_idled g v p q k to list u number gone looks none stands holds =
+has_idled g v p q k to list u number gone falls looks none stands holds =
     let ready = ready_looked g v p to [] u stands holds (subst (λ n. LooksDown g v (Sched n) to u) number looks) none in
-    has_tried g v p p (gone_on p to) q k to [] 0 list list list u u number refl gone refl looks
-    (expires_gone_on g u p p to [] 0 list list u (expires_none g u p to [] list ready)) (omega arith) holds
+    has_tried g v p p (gone_on p to q.stands) q k to [] 0 list list list u u number refl gone refl looks
+    (expires_gone_on g u p p to q.stands [] 0 list list u (subst (λ n. StayOrFall p.keys n p.stands q.stands) (ap (λ (x : Part). x.passed) gone) falls) (expires_none g u p to [] list ready)) (omega arith) holds
 
 -- the end is recorded after the tries
 pub has_expired : (g : Settings) (v : View) (p q : Part) (k to : ℕ) (old new : Queue) (u x : View) → k ≡ p.number → HasTried g v p q to old new u

@@ -84,14 +84,14 @@ pub stands_gone : (g : Settings) (v : View) (e : Entry) (u : View) (p : Part) (k
     → ((j : ℕ) → j ≢ k → ends e.event (last_timer p.number p.slots j) ≡ false)
     → (state g u.front).status (last_timer p.number p.slots k) ≢ Some Armed
     → expired ≡ entries_of is_expire p.number u.front → orphaned ≡ entries_of is_orphan p.number u.front
-    → PartStands g u.front (record p { keys = set p.keys k None; expires = expired; orphans = orphaned })
+    → PartStands g u.front (record p { keys = set p.keys k None; expires = expired; orphans = orphaned; stands = set p.stands k None })
 stands_gone g v e u p k expired orphaned stands low step wheel unarmed others settled expires_are orphans_are =
     let later = later_step g v e u p.number step wheel unarmed in
     record {
       checked = stands.checked;
       legal = step.legal;
       holds =
-          holds_with g (state g v.front) (state g u.front) p (set p.keys k None) expired orphaned stands.holds later
+          holds_with g (state g v.front) (state g u.front) p (set p.keys k None) (set p.stands k None) expired orphaned stands.holds later
           (clock_stepped g v e u stands.checked step) (length-set p.keys k None)
           (rows_dropped g v.front p.number p.slots p.keys (state g u.front) stands.legal stands.holds.rows later k low settled
           (λ j seen is.

@@ -33,6 +33,7 @@ use Rattle.ert_wheel.specs.Rows.{key_in, key_of}
 use Rattle.ert_wheel.specs.declared.row.Row.{Row as WheelRow}
 use Rattle.ert_wheel.proofs.Looking.{key_low}
 use Rattle.ert_wheel.proofs.Views.{counts_less}
+use Rattle.ert_wheel.specs.Standing.{StayOrFall}
 
 -- no step took place
 pub no_step : (g : Settings) (v : View) → Legal g v.front → TakesPlace g v [] v
@@ -118,7 +119,7 @@ tries_more g v p q r to n row old mid new u w some stands its due wheel one =
       once = once_more q row.slot (key_of row) some.tries t its refl some.none some.once;
       held = held_push p some.tries t some.held (was_held p q row.slot (key_of row) some.loses (stands.holds.wide ∙ sym stands.holds.many) its);
       none = none_more q r row.slot some.tries t low refl mine slots keys time some.none;
-      loses = loses_then p q r some.loses (loses_row q r row.slot low mine slots keys time (λ k was. ap (λ (x : Part). sets.contains x.free k) one.part ∙ was));
+      loses = loses_then p q r some.loses (loses_row q r row.slot low mine slots keys time (ap (λ (x : Part). x.stands) one.part) (λ k was. ap (λ (x : Part). sets.contains x.free k) one.part ∙ was));
       fewer = omega (arith, some.fewer, row_counted q r row its keys);
       rows = (later_step g u (expires_by p.number t.timer t.missed) w p.number step
           (subst (λ k. is_held u.actors (Wheel k) ≡ true) some.number wheel) (no_arm p.number t.timer t.missed)).rows ∙ some.rows;
@@ -149,17 +150,20 @@ looked_more g q r to row mid new u w told held one =
     told ∙ (ap (down g) (sym look) ∙ ap (λ k. down g ((state g w.front).looked (Sched k))) (sym (ap (λ (x : Part). x.number) one.part)))
 
 -- a part stands as before where the time of its wheel goes on
-pub stands_come_to : (g : Settings) (h : List Entry) (p : Part) (passed : ℕ) → PartStands g h p → PartStands g h (come_to p passed)
-stands_come_to g h p passed stands = stands_with g h p p.free passed stands (λ k held. held)
+pub stands_come_to : (g : Settings) (h : List Entry) (p : Part) (passed : ℕ) (there : List (Option ℕ)) → PartStands g h p
+    → PartStands g h (come_to p passed there)
+stands_come_to g h p passed there stands = stands_with g h p p.free passed there stands (λ k held. held)
 
 -- it has lost no row
-pub loses_come_to : (p : Part) (passed : ℕ) → p.passed ≤ passed → LosesRows p (come_to p passed)
-loses_come_to p passed up = record { number = refl; slots = refl; left = λ k key is. is; time = up; frees = λ k was. was }
+pub loses_come_to : (p : Part) (passed : ℕ) (there : List (Option ℕ)) → p.passed ≤ passed → StayOrFall p.keys passed p.stands there
+    → LosesRows p (come_to p passed there)
+loses_come_to p passed there up falls = record { number = refl; slots = refl; left = λ k key is. is; time = up; frees = λ k was. was; stands = falls }
 
 -- and what was tried before that was tried
-pub tries_come_to : (g : Settings) (v : View) (p q : Part) (to n passed : ℕ) (old new : Queue) (u : View)
-    → TriesRows g v p q to n old new u → q.passed ≤ passed → TriesRows g v p (come_to q passed) to n old new u
-tries_come_to g v p q to n passed old new u some up = record {
+pub tries_come_to : (g : Settings) (v : View) (p q : Part) (to n passed : ℕ) (there : List (Option ℕ)) (old new : Queue) (u : View)
+    → TriesRows g v p q to n old new u → q.passed ≤ passed → StayOrFall q.keys passed q.stands there
+    → TriesRows g v p (come_to q passed there) to n old new u
+tries_come_to g v p q to n passed there old new u some up falls = record {
   tries = some.tries;
   gained = some.gained;
   tried = some.tried;
@@ -167,8 +171,8 @@ tries_come_to g v p q to n passed old new u some up = record {
   due = some.due;
   once = some.once;
   held = some.held;
-  none = holds_less q (come_to q passed) some.tries (fewer_rows (loses_come_to q passed up)) some.none;
-  loses = loses_then p q (come_to q passed) some.loses (loses_come_to q passed up);
+  none = holds_less q (come_to q passed there) some.tries (fewer_rows (loses_come_to q passed there up falls)) some.none;
+  loses = loses_then p q (come_to q passed there) some.loses (loses_come_to q passed there up falls);
   fewer = some.fewer;
   rows = some.rows;
   call = some.call;

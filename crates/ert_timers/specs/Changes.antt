@@ -1,6 +1,6 @@
 -- How the calls of a part change what it keeps.
 
-use Rattle.std.specs.Prelude.{◌≡◌, ℕ, ◌+◌, ◌*◌, ◌<◌, ◌≤◌, Bool, false, cond, not, ◌&&◌, nat_lt, max, min, length, count_by, Option, Some, None, slice_set}
+use Rattle.std.specs.Prelude.{◌≡◌, ℕ, ◌+◌, ◌*◌, ◌<◌, ◌≤◌, Bool, false, cond, not, ◌&&◌, nat_lt, max, min, length, count_by, List, Option, Some, None, slice_set}
 use Rattle.std.specs.FinSet as set
 use Rattle.std.specs.Option.{is_some}
 use Rattle.ert_defs.specs.Timers.{use_of}
@@ -49,7 +49,7 @@ freed p k = record p { free = set.insert p.free k }
 
 -- a slot has no row any more
 abbrev pub dropped : Part → ℕ → Part
-dropped p k = record p { keys = slice_set p.keys k None }
+dropped p k = record p { keys = slice_set p.keys k None; stands = slice_set p.stands k None }
 
 -- the row of a slot has just gone: fewer timers are held, have expired or were cancelled for an exit than
 -- were armed
@@ -61,7 +61,7 @@ pub record LostRow (p : Part) (k : ℕ) : Type 0 where
 
 -- the row of a timer that expired, or missed that, goes
 abbrev pub let_go : Part → ℕ → Bool → Part
-let_go p k expired = record p { keys = slice_set p.keys k None; expires = p.expires + cond expired 1 0 }
+let_go p k expired = record p { keys = slice_set p.keys k None; expires = p.expires + cond expired 1 0; stands = slice_set p.stands k None }
 
 -- the row of a timer that was cancelled for an exit, or before that, goes, and its slot is held free where its
 -- round has uses left
@@ -70,6 +70,7 @@ given_back p k orphaned = record p {
   keys = slice_set p.keys k None;
   free = cond (has_uses (slot_at p.slots k)) (set.insert p.free k) p.free;
   orphans = p.orphans + cond orphaned 1 0;
+  stands = slice_set p.stands k None;
 }
 
 -- a slot whose timer takes it no more is held free where its round has uses left
@@ -86,17 +87,18 @@ slot_for next above start = record {
   kind = start.kind;
 }
 
--- a slot has the timer of a start
-abbrev pub kept : Part → ℕ → Start → Use → Part
-kept p k start next = record p {
+-- a slot has the timer of a start, and the rows stand in these buckets
+abbrev pub kept : Part → ℕ → Start → Use → List (Option ℕ) → Part
+kept p k start next stands = record p {
   slots = slice_set p.slots k (slot_for next (slot_at p.slots k).above start);
   keys = slice_set p.keys k (Some (record { deadline = next.deadline; order = p.arms }));
   arms = p.arms + 1;
+  stands = stands;
 }
 
--- the wheel has passed a time
-abbrev pub gone_on : Part → ℕ → Part
-gone_on p to = record p { passed = max p.passed (min (to + 1) LAST) }
+-- the wheel has passed a time, and the rows stand in these buckets
+abbrev pub gone_on : Part → ℕ → List (Option ℕ) → Part
+gone_on p to stands = record p { passed = max p.passed (min (to + 1) LAST); stands = stands }
 
 -- a row of a process, or that the process has none
 abbrev pub NextOf : Part → ℕ → Option Row → Type 0

@@ -43,4 +43,4 @@ IsNearest s w passed (Some time) = SomeArmedAt s w time ⊎ BeginsArmed s w pass
 
 -- how early the next row that a part holds is due, and None where it holds none
 abbrev pub IsNextHeld : Part → Option ℕ → Type 0
-IsNextHeld p answer = MatchOption answer (NoRow p.keys) (IsNextDue p.keys p.passed)
+IsNextHeld p answer = MatchOption answer (NoRow p.keys) (IsNextDue p.keys p.stands p.passed)

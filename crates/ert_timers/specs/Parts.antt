@@ -33,8 +33,8 @@ use Rattle.ert_defs.specs.declared.settings.TheConstants.{MOST_SLOTS, MOST_PROCE
 
 -- the part of one scheduler's timers: its number, the number of processes, by slot what is kept of the last
 -- timer, by slot the key of the row that is held as armed, the slots that are held free, how many timers were
--- armed, expired and were cancelled for an exit, the first time that its wheel hasn't passed, in milliseconds, and the
--- slot at which the next looks for a free one begin
+-- armed, expired and were cancelled for an exit, the first time that its wheel hasn't passed, in milliseconds, the slot at
+-- which the next looks for a free one begin, and by slot the bucket of the wheel in which the row stands
 pub record Part : Type 0 where
   pub number : ℕ
   pub processes : ℕ
@@ -46,14 +46,15 @@ pub record Part : Type 0 where
   pub orphans : ℕ
   pub passed : ℕ
   pub next_look : ℕ
+  pub stands : List (Option ℕ)
 
 -- a part is stored as a tuple of its fields
 abbrev pub part_code : Coded Part
 part_code =
-    code_by (ℕ × (ℕ × (List Slot × (List (Option Key) × (set.FinSet nat_cmp × (ℕ × (ℕ × (ℕ × (ℕ × ℕ)))))))))
+    code_by (ℕ × (ℕ × (List Slot × (List (Option Key) × (set.FinSet nat_cmp × (ℕ × (ℕ × (ℕ × (ℕ × (ℕ × List (Option ℕ)))))))))))
     (coded× coded_ℕ (coded× coded_ℕ (coded× (coded_list slot_code) (coded× (coded_list (coded_option key_code))
-    (coded× (set.code coded_ℕ) (coded× coded_ℕ (coded× coded_ℕ (coded× coded_ℕ (coded× coded_ℕ coded_ℕ)))))))))
-    (λ p. (p.number, (p.processes, (p.slots, (p.keys, (p.free, (p.arms, (p.expires, (p.orphans, (p.passed, p.next_look))))))))))
+    (coded× (set.code coded_ℕ) (coded× coded_ℕ (coded× coded_ℕ (coded× coded_ℕ (coded× coded_ℕ (coded× coded_ℕ (coded_list (coded_option coded_ℕ))))))))))))
+    (λ p. (p.number, (p.processes, (p.slots, (p.keys, (p.free, (p.arms, (p.expires, (p.orphans, (p.passed, (p.next_look, p.stands)))))))))))
     (λ t. record {
       number = t.0;
       processes = t.1.0;
@@ -64,7 +65,8 @@ part_code =
       expires = t.1.1.1.1.1.1.0;
       orphans = t.1.1.1.1.1.1.1.0;
       passed = t.1.1.1.1.1.1.1.1.0;
-      next_look = t.1.1.1.1.1.1.1.1.1;
+      next_look = t.1.1.1.1.1.1.1.1.1.0;
+      stands = t.1.1.1.1.1.1.1.1.1.1;
     })
     (λ _. refl)
 
@@ -146,6 +148,7 @@ pub record IsWritten (old new : Held Stored) (written : ℕ) : Type 0 where
   pub slots : (n : ℕ) → all_slots new.values n ≡ all_slots old.values n
   pub joined : AreJoined old.values old.owners → AreJoined new.values new.owners
   pub passed : new.passed ≡ old.passed
+  pub stands : new.stands ≡ old.stands
 
 -- a timer whose row is held has this status: it is armed, or was cancelled by one who told the part nothing
 abbrev pub IsLive : Option Status → Type 0

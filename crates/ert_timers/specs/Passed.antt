@@ -8,6 +8,7 @@ use Rattle.ert_timers.specs.Frees.{KeepsFree}
 use Rattle.ert_timers.specs.Parts.{Part, last_timer}
 use Rattle.ert_wheel.specs.Rows.{key_in}
 use Rattle.ert_wheel.specs.declared.row.Key.{Key}
+use Rattle.ert_wheel.specs.Standing.{StayOrFall}
 
 -- each row that is held is due later than a time, and the wheel has passed that
 pub record HasPassed (p : Part) (to : ℕ) : Type 0 where
@@ -21,13 +22,15 @@ pub record HasFewerRows (p q : Part) : Type 0 where
   pub left : (k : ℕ) (key : Key) → key_in q.keys k ≡ Some key → key_in p.keys k ≡ Some key
   pub time : p.passed ≤ q.passed
 
--- the same, and each slot that was held free is so still
+-- the same, each slot that was held free is so still, and each row that is left stands where it stood or in the bucket of its own
+-- deadline on some level
 pub record LosesRows (p q : Part) : Type 0 where
   pub number : q.number ≡ p.number
   pub slots : q.slots ≡ p.slots
   pub left : (k : ℕ) (key : Key) → key_in q.keys k ≡ Some key → key_in p.keys k ≡ Some key
   pub time : p.passed ≤ q.passed
   pub frees : KeepsFree p q
+  pub stands : StayOrFall q.keys q.passed p.stands q.stands
 
 -- a row of a slot was held before, and is of the same timer
 abbrev pub WasHeld : Part → Part → ℕ → Key → Type 0

@@ -51,7 +51,7 @@ pub record IsUseFor (g : Settings) (s : State) (by wheel slot : ℕ) (start : St
 -- a timer is armed in a slot
 pub record Arms (g : Settings) (v : View) (by : ℕ) (p q : Part) (slot : ℕ) (next : Use) (start : Start) (timer : TimerRef) (u : View) : Type 0 where
   pub step : Appends g v (arm_entry by timer start) u
-  pub part : q ≡ kept p slot start next
+  pub part : q ≡ kept p slot start next q.stands
   pub stands : PartStands g u.front q
   pub holds : HoldsTimer q timer next.deadline
   pub dest : (slot_at q.slots timer.slot).dest ≡ start.dest

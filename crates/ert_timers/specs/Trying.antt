@@ -1,6 +1,6 @@
 -- Timers that are due are tried, one after the other: so many at most, or all.
 
-use Rattle.std.specs.Prelude.{◌≡◌, ℕ, ◌+◌, ◌≤◌, pos, List, ◌++◌, length, count_by, Some, Result, Ok, Err}
+use Rattle.std.specs.Prelude.{◌≡◌, ℕ, ◌+◌, ◌≤◌, pos, List, ◌++◌, length, count_by, Option, Some, Result, Ok, Err}
 use Rattle.std.specs.Option.{is_some}
 use Rattle.ert_defs.specs.Milliseconds.{down}
 use Rattle.ert_defs.specs.States.{state}
@@ -58,9 +58,9 @@ pub record IsTriedSome (g : Settings) (v : View) (p q : Part) (to most : ℕ) (l
   pub done : TriesRows g v p q to count old new u
   pub looked : IsLooked g u.front q to
 
--- the time of a part's wheel goes on
-abbrev pub come_to : Part → ℕ → Part
-come_to p passed = record p { passed = passed }
+-- the time of a part's wheel goes on, and the rows stand in these buckets
+abbrev pub come_to : Part → ℕ → List (Option ℕ) → Part
+come_to p passed stands = record p { passed = passed; stands = stands }
 
 -- some row is due by a time
 pub record HasDue (p : Part) (to : ℕ) : Type 0 where
@@ -74,7 +74,7 @@ pub record HasDue (p : Part) (to : ℕ) : Type 0 where
 abbrev pub IsLeft : Part → ℕ → Left → Type 0
 IsLeft p to Nothing = HasPassed p to
 IsLeft p to Due = HasDue p to
-IsLeft p to Moving = HasMore p.keys p.passed to
+IsLeft p to Moving = HasMore p.keys p.stands p.passed to
 
 -- so many rows fewer are held: just the most where more are due, and else so many at most
 abbrev pub LosesSome : Left → ℕ → Part → Part → Type 0

@@ -87,6 +87,7 @@ impl Model for WheelPart {
       orphans = p.orphans;
       passed = p.wheel.passed;
       next_look = p.next_look;
+      stands = p.wheel.stands;
     } };
 
     ghost invariant = { λ p. AreStoredFit p.wheel.values p.wheel.keys (free_set p.free) p.wheel.owners p.arms p.expires p.orphans };
@@ -103,6 +104,7 @@ impl WheelPart {
     ghost use Rattle.ert_timers.specs.Changes.{NextOf, gone_on};
     ghost use Rattle.ert_timers.specs.NextDue.{IsNextHeld};
     ghost use Rattle.ert_wheel.specs.Rows.{key_in, key_of, row_told, rows_told, told_at};
+    ghost use Rattle.ert_wheel.specs.Standing.{StayOrFall};
 
     /// The part of a wheel of a desk that has just been opened. It has no timer.
     pub fn open(alloc: Global, settings: &Settings, wheel: u32) -> Result<WheelPart, NoMemory>
@@ -278,7 +280,8 @@ impl WheelPart {
     /// Tells the wheel that nothing is due up to `to`.
     pub(crate) fn go_on(&mut self, to: u64)
         requires { (slot : ℕ) → IfSome (key_in self.old.keys slot) (λ key. to < key.deadline) }
-        ensures { self.new ≡ gone_on self.old to }
+        ensures part { self.new ≡ gone_on self.old to self.new.stands }
+        ensures stands { StayOrFall self.old.keys self.new.passed self.old.stands self.new.stands }
     {
         self.wheel.pass(to);
     }
@@ -321,6 +324,7 @@ fn find_row(wheel: &mut Wheel<Stored>, process: u32) -> Option<HeldRow>
     ensures homes { wheel.new.owners.homes ≡ wheel.old.owners.homes }
     ensures written { wheel.new.owners.written ≡ wheel.old.owners.written }
     ensures passed { wheel.new.passed ≡ wheel.old.passed }
+    ensures stands { wheel.new.stands ≡ wheel.old.stands }
     ensures finds { (places : ℕ → Option Place) → AreChains wheel.old.owners places
         → FindsRow wheel.old.keys places process wheel.new.owners (option_map (row_told wheel.old.keys) result) }
 {

@@ -232,6 +232,7 @@ impl<T: Keyed> Wheel<T> {
     pub fn remove(&mut self, slot: u32) -> bool
         requires { slot < self.old.owners.written }
         ensures found { IsTrue result ↔ IsSome (key_in self.old.keys slot) }
+        ensures none { key_in self.old.keys slot ≡ None → self.new ≡ self.old }
         ensures left { self.new.keys ≡ slice_set self.old.keys slot None }
         ensures stands { self.new.stands ≡ slice_set self.old.stands slot None }
         ensures owners { self.new.owners ≡ self.old.owners }

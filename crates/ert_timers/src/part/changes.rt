@@ -91,11 +91,12 @@ impl Use {
 impl WheelPart {
     ghost use Rattle.std.specs.Bool.{OnTrue};
     ghost use Rattle.std.specs.FinSet as set;
-    ghost use Rattle.std.specs.Prelude.{◌≡◌, ◌↔◌, ◌<◌, ◌≤◌, IfSome, IfNone, IsSome, IsTrue, ℕ, false, true, length, None};
+    ghost use Rattle.std.specs.Prelude.{◌≡◌, ◌↔◌, ◌<◌, ◌≤◌, IfSome, IfNone, IsSome, IsTrue, ℕ, false, true, length, max, None};
     ghost use Rattle.ert_timers.specs.Parts.{slot_at, last_timer};
     ghost use Rattle.ert_timers.specs.Changes.{MayBecomeFree, freed, picked, kept, dropped, let_go, given_back, reused, LostRow};
     ghost use Rattle.ert_timers.specs.Freeing.{IsHeld, IsInUse, IsLetGo};
     ghost use Rattle.ert_wheel.specs.Rows.{key_in};
+    ghost use Rattle.ert_wheel.specs.Standing.{ComesTo};
 
     /// Takes a slot out that is held free, for a timer that is started at a time with a deadline, both in
     /// milliseconds after the start time; None exactly where none is.
@@ -173,6 +174,7 @@ impl WheelPart {
         requires low { slot < length self.old.slots }
         requires used { IsInUse self.old slot }
         ensures found { IsTrue result ↔ IsSome (key_in self.old.keys slot) }
+        ensures none { key_in self.old.keys slot ≡ None → self.new ≡ self.old }
         ensures left { self.new ≡ dropped self.old slot }
         ensures lost { OnTrue result (LostRow self.new slot) }
     {
@@ -232,7 +234,8 @@ impl WheelPart {
         requires timer { IsTimer next.deadline next.generation }
         requires word { word ≡ words.timer_word Armed next.deadline next.generation }
         requires few { self.old.arms < 9007199254740992 }
-        ensures kept { self.new ≡ kept self.old slot start.now next }
+        ensures kept { self.new ≡ kept self.old slot start.now next self.new.stands }
+        ensures stands { ComesTo self.old.stands self.new.stands self.old.passed slot (max next.deadline self.old.passed) }
         ensures timer { result ≡ last_timer self.new.number self.new.slots slot }
     {
         let last = self.wheel.value(slot);
@@ -297,6 +300,7 @@ pub(super) fn join(wheel: &mut Wheel<Stored>, slot: u32, process: u32, stays: bo
     ensures keys { wheel.new.keys ≡ wheel.old.keys }
     ensures values { wheel.new.values ≡ wheel.old.values }
     ensures passed { wheel.new.passed ≡ wheel.old.passed }
+    ensures stands { wheel.new.stands ≡ wheel.old.stands }
     ensures slots { wheel.new.owners.slots ≡ wheel.old.owners.slots }
     ensures homes { wheel.new.owners.homes ≡ wheel.old.owners.homes }
     ensures written { wheel.new.owners.written ≡ wheel.old.owners.written }
@@ -319,6 +323,7 @@ pub(super) fn join_seldom(wheel: &mut Wheel<Stored>, slot: u32, process: u32, st
     ensures keys { wheel.new.keys ≡ wheel.old.keys }
     ensures values { wheel.new.values ≡ wheel.old.values }
     ensures passed { wheel.new.passed ≡ wheel.old.passed }
+    ensures stands { wheel.new.stands ≡ wheel.old.stands }
     ensures slots { wheel.new.owners.slots ≡ wheel.old.owners.slots }
     ensures homes { wheel.new.owners.homes ≡ wheel.old.owners.homes }
     ensures written { wheel.new.owners.written ≡ wheel.old.owners.written }
@@ -341,6 +346,7 @@ fn join_anew(wheel: &mut Wheel<Stored>, slot: u32, process: u32)
     ensures keys { wheel.new.keys ≡ wheel.old.keys }
     ensures values { wheel.new.values ≡ wheel.old.values }
     ensures passed { wheel.new.passed ≡ wheel.old.passed }
+    ensures stands { wheel.new.stands ≡ wheel.old.stands }
     ensures slots { wheel.new.owners.slots ≡ wheel.old.owners.slots }
     ensures homes { wheel.new.owners.homes ≡ wheel.old.owners.homes }
     ensures written { wheel.new.owners.written ≡ wheel.old.owners.written }
@@ -357,6 +363,7 @@ pub(super) fn part_from(wheel: &mut Wheel<Stored>, slot: u32)
     ensures keys { wheel.new.keys ≡ wheel.old.keys }
     ensures stored { (n : ℕ) → all_slots wheel.new.values n ≡ all_slots wheel.old.values n }
     ensures passed { wheel.new.passed ≡ wheel.old.passed }
+    ensures stands { wheel.new.stands ≡ wheel.old.stands }
     ensures slots { wheel.new.owners.slots ≡ wheel.old.owners.slots }
     ensures homes { wheel.new.owners.homes ≡ wheel.old.owners.homes }
     ensures written { wheel.new.owners.written ≡ wheel.old.owners.written }
@@ -376,6 +383,7 @@ fn take_out(wheel: &mut Wheel<Stored>, slot: u32)
     ensures keys { wheel.new.keys ≡ wheel.old.keys }
     ensures values { wheel.new.values ≡ wheel.old.values }
     ensures passed { wheel.new.passed ≡ wheel.old.passed }
+    ensures stands { wheel.new.stands ≡ wheel.old.stands }
     ensures slots { wheel.new.owners.slots ≡ wheel.old.owners.slots }
     ensures homes { wheel.new.owners.homes ≡ wheel.old.owners.homes }
     ensures written { wheel.new.owners.written ≡ wheel.old.owners.written }

@@ -15,6 +15,7 @@ impl WheelPart {
     ghost use Rattle.ert_timers.specs.Trying.{come_to};
     ghost use Rattle.ert_wheel.specs.NextDue.{IsNextDue, TellsNext};
     ghost use Rattle.ert_wheel.specs.FirstDue.{IsFirstTold};
+    ghost use Rattle.ert_wheel.specs.Standing.{StayOrFall};
 
     /// The first row that is due at `to`, by deadline and then by start, where so many rows at most may move in the wheel; they are
     /// counted down. The time of the wheel goes on with it, and past `to` where no row is due. `scratch` is the
@@ -27,9 +28,10 @@ impl WheelPart {
     ) -> FirstDue
         requires to { to ≤ 8796093022207 }
         requires room { length self.old.keys ≤ vec_capacity scratch.old }
-        ensures part { self.new ≡ come_to self.old self.new.passed }
+        ensures part { self.new ≡ come_to self.old self.new.passed self.new.stands }
         ensures time { self.old.passed ≤ self.new.passed }
-        ensures first { IsFirstTold self.old.keys self.new.passed to result }
+        ensures first { IsFirstTold self.old.keys self.new.stands self.new.passed to result }
+        ensures stands { StayOrFall self.old.keys self.new.passed self.old.stands self.new.stands }
         ensures capacity { vec_capacity scratch.new ≡ vec_capacity scratch.old }
     {
         self.wheel.first_due(to, moves, scratch)
@@ -47,7 +49,7 @@ impl WheelPart {
     #[inline]
     pub(crate) fn kept_due(&self) -> Option<(u64, u32)>
         ensures held { IfSome result (λ kept. IsNextHeld self.now (Some kept.0)) }
-        ensures tells { IfSome result (λ kept. TellsNext self.now.keys self.now.passed kept.0 kept.1) }
+        ensures tells { IfSome result (λ kept. TellsNext self.now.keys self.now.stands self.now.passed kept.0 kept.1) }
     {
         self.wheel.kept_due()
     }
@@ -55,8 +57,8 @@ impl WheelPart {
     /// The slot of a row that tells when the next one is due. None only where the time is before the first that wasn't passed.
     #[inline]
     pub(crate) fn teller(&self, time: u64) -> Option<u32>
-        requires { IsNextDue self.now.keys self.now.passed time }
-        ensures tells { IfSome result (TellsNext self.now.keys self.now.passed time) }
+        requires { IsNextDue self.now.keys self.now.stands self.now.passed time }
+        ensures tells { IfSome result (TellsNext self.now.keys self.now.stands self.now.passed time) }
         ensures late { IfNone result (time < self.now.passed) }
     {
         self.wheel.teller(time)

@@ -6,11 +6,12 @@ use ert_defs::{Start, TimerRef};
 use ert_wheel::Row;
 
 impl WheelPart {
-    ghost use Rattle.std.specs.Prelude.{◌≡◌, ◌↔◌, ◌<◌, ◌≤◌, ◌-◌, IsTrue, length, true, false};
+    ghost use Rattle.std.specs.Prelude.{◌≡◌, ◌↔◌, ◌<◌, ◌≤◌, ◌-◌, IsTrue, length, max, true, false};
     ghost use Rattle.ert_timers.specs.Changes.{kept};
     ghost use Rattle.ert_effects.specs.RestartCalls.{NeedsSlot};
     ghost use Rattle.ert_timers.specs.Parts.{last_timer, slot_at};
     ghost use Rattle.ert_timers.specs.Restarting.{CanRenew, MayStay};
+    ghost use Rattle.ert_wheel.specs.Standing.{ComesOrStays};
     ghost use Rattle.ert_table.specs.Ranges.{IsTimer};
     ghost use Rattle.ert_defs.specs.Words as words;
     ghost use Rattle.ert_defs.specs.declared.timer.Status.TheVariants.{Armed};
@@ -23,7 +24,8 @@ impl WheelPart {
         requires dest { start.now.dest < self.old.processes }
         requires timer { IsTimer next.deadline next.generation }
         requires word { word ≡ words.timer_word Armed next.deadline next.generation }
-        ensures kept { self.new ≡ kept self.old slot start.now next }
+        ensures kept { self.new ≡ kept self.old slot start.now next self.new.stands }
+        ensures stands { ComesOrStays self.old.keys self.old.stands self.new.stands self.old.passed slot (max next.deadline self.old.passed) }
         ensures timer { result ≡ last_timer self.new.number self.new.slots slot }
     {
         let last = self.wheel.value(slot);

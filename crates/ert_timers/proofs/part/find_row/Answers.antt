@@ -14,6 +14,7 @@ loop-slot-init c = record {
   slots_stay = refl;
   homes_stay = refl;
   passed_stays = refl;
+  stands_stay = refl;
   written_stays = refl;
   thins = λ places are. (places, thinned_none c.args.wheel.now.owners c.args.wheel.now.keys places are);
 }
@@ -37,6 +38,7 @@ loop-slot-preserved c = record {
   slots_stay = c.part_from.ensures.slots ∙ c.loop-slot.invariant.slots_stay;
   homes_stay = c.part_from.ensures.homes ∙ c.loop-slot.invariant.homes_stay;
   passed_stays = c.part_from.ensures.passed ∙ c.loop-slot.invariant.passed_stays;
+  stands_stay = c.part_from.ensures.stands ∙ c.loop-slot.invariant.stands_stay;
   written_stays = c.part_from.ensures.written ∙ c.loop-slot.invariant.written_stays;
   thins = λ places are.
       let t = c.loop-slot.invariant.thins places are in

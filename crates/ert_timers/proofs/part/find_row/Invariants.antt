@@ -15,6 +15,7 @@ pub record Keeps (old new : Held Stored) : Type 0 where
   pub slots_stay : new.owners.slots ≡ old.owners.slots
   pub homes_stay : new.owners.homes ≡ old.owners.homes
   pub passed_stays : new.passed ≡ old.passed
+  pub stands_stay : new.stands ≡ old.stands
   pub written_stays : new.owners.written ≡ old.owners.written
   pub thins : (places : ℕ → Option Place) → AreChains old.owners places
       → (left : ℕ → Option Place) × Thinned new.owners new.keys places left

@@ -9,7 +9,7 @@ probe_row-requires-clause-low c =
     c.in-Some.ensures.tells
 
 pub probe_row-requires-clause-row : goal.probe_row-requires-clause-row
-probe_row-requires-clause-row c = told_has c.args.self.now.keys c.args.self.now.passed c.in-Some.time c.in-Some.slot c.in-Some.ensures.tells
+probe_row-requires-clause-row c = told_has c.args.self.now.keys c.args.self.now.stands c.args.self.now.passed c.in-Some.time c.in-Some.slot c.in-Some.ensures.tells
 
 pub returns-then-probe_row-clause-call : goal.returns-then-probe_row-clause-call
 returns-then-probe_row-clause-call c =

@@ -40,7 +40,7 @@ probe_row-requires-clause-low c =
 
 pub probe_row-requires-clause-row : goal.probe_row-requires-clause-row
 probe_row-requires-clause-row c =
-    told_has c.first_due.new.self.keys c.first_due.new.self.passed c.in-Some.time c.in-Some-teller.slot c.in-Some-teller.ensures.tells
+    told_has c.first_due.new.self.keys c.first_due.new.self.stands c.first_due.new.self.passed c.in-Some.time c.in-Some-teller.slot c.in-Some-teller.ensures.tells
 
 pub returns-then-probe_row-clause-call : goal.returns-then-probe_row-clause-call
 returns-then-probe_row-clause-call c =

@@ -10,7 +10,8 @@ use Rattle.ert_timers.proofs.Keeping.{on_if}
 use Rattle.ert_timers.specs.Free.{free_set}
 use Rattle.ert_timers.proofs.part.WheelPart.drop_row.Goals as goal
 use Rattle.ert_timers.proofs.part.WheelPart.drop_row.Goals.{After-remove}
-use Rattle.ert_wheel.specs.Rows.{key_in}
+use Rattle.ert_timers.specs.declared.slot.Stored.{Stored}
+use Rattle.ert_wheel.specs.Rows.{Held, key_in}
 
 pub remove-requires : goal.remove-requires
 remove-requires c =
@@ -23,12 +24,14 @@ left : (c : After-remove) → (let q : Part = record (the_view c.self.inside) {
   slots = all_slots c.remove.new.self.values c.remove.new.self.owners.slots;
   keys = c.remove.new.self.keys;
   passed = c.remove.new.self.passed;
+  stands = c.remove.new.self.stands;
 } in q) ≡ dropped (the_view c.self.inside) c.args.slot
 left c = λ i. (let q : Part = record (the_view c.self.inside) {
   processes = (c.remove.ensures.owners i).homes;
   slots = all_slots (c.remove.ensures.values i) (c.remove.ensures.owners i).slots;
   keys = c.remove.ensures.left i;
   passed = c.remove.ensures.passed i;
+  stands = c.remove.ensures.stands i;
 } in q)
 
 pub invariant_of-self : goal.invariant_of-self
@@ -53,3 +56,15 @@ returns-clause-lost c =
     (on_if c.remove.result (LostRow (dropped (the_view p) c.args.slot) c.args.slot) (λ hit.
     let has = some_key (key_in p.wheel.keys c.args.slot) (c.remove.ensures.found.0 hit) in
     fit_lost (the_view p) p.wheel.owners (free_set p.free) c.args.slot has.0 c.self.invariant.fit refl has.1))
+
+pub returns-clause-none : goal.returns-clause-none
+returns-clause-none c = λ none.
+    let same = c.remove.ensures.none (ap (λ (q : Part). key_in q.keys c.args.slot) c.self.view_is ∙ none) in
+    ap (λ (h : Held Stored). let q : Part = record (the_view c.self.inside) {
+      processes = h.owners.homes;
+      slots = all_slots h.values h.owners.slots;
+      keys = h.keys;
+      passed = h.passed;
+      stands = h.stands;
+    } in q) same
+    ∙ c.self.view_is

@@ -9,6 +9,7 @@ use Rattle.ert_wheel.specs.Rows.{key_of, row_told, rows_told}
 use Rattle.ert_wheel.specs.declared.row.HeldRow.{HeldRow}
 use Rattle.ert_wheel.specs.declared.row.Row.{Row}
 use Rattle.ert_wheel.proofs.Looking.{key_low}
+use Rattle.ert_wheel.specs.Standing.{StayOrFall}
 
 none : HeldRow
 none = record { deadline = 0; slot = 0 }
@@ -101,9 +102,10 @@ returns-clause-call c =
     let told = c.args.due.now in
     let due = rows_told c.args.self.now.keys told in
     let all : c.loop-row.row-index ≡ length told = omega (arith, c.loop-row-test.false, c.loop-row.invariant.call) in
-    subst (λ (q : Part). ExpiresSome g v c.args.self.now q c.args.to due (length told) c.args.expired.now c.loop-row.expired u) (sym c.go_on.ensures)
-    (expires_gone_on g v c.args.self.now c.loop-row.self c.args.to due (length told) c.args.expired.now c.loop-row.expired u
+    subst (λ (q : Part). ExpiresSome g v c.args.self.now q c.args.to due (length told) c.args.expired.now c.loop-row.expired u) (sym c.go_on.ensures.part)
+    (expires_gone_on g v c.args.self.now c.loop-row.self c.args.to c.go_on.new.self.stands due (length told) c.args.expired.now c.loop-row.expired u
+    (subst (λ n. StayOrFall c.loop-row.self.keys n c.loop-row.self.stands c.go_on.new.self.stands) (ap (λ (q : Part). q.passed) c.go_on.ensures.part) c.go_on.ensures.stands)
     (subst (λ n. ExpiresSome g v c.args.self.now c.loop-row.self c.args.to due n c.args.expired.now c.loop-row.expired u) all c.loop-row.invariant.call))
 
 pub returns-clause-on : goal.returns-clause-on
-returns-clause-on c = omega (arith, ap (λ (q : Part). q.passed) c.go_on.ensures, c.requires.few)
+returns-clause-on c = omega (arith, ap (λ (q : Part). q.passed) c.go_on.ensures.part, c.requires.few)

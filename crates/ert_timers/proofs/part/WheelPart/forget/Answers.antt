@@ -3,7 +3,7 @@ use Rattle.std.proofs.lemmas.Bool.{false≢true}
 use Rattle.ert_defs.specs.States.{state}
 use Rattle.ert_table.specs.Desks.{view_of}
 use Rattle.ert_timers.specs.Parts.{Part, PartStands}
-use Rattle.ert_timers.proofs.Fit.{some_key, none_key, set_none}
+use Rattle.ert_timers.proofs.Fit.{some_key, none_key}
 use Rattle.ert_timers.proofs.Forgotten.{forgot}
 use Rattle.ert_timers.proofs.Freed.{reused_keeps}
 use Rattle.ert_timers.proofs.Passing.{loses_none, loses_row}
@@ -30,7 +30,7 @@ returns-else-drop_row-clause-stands c = λ g named.
     let none : key_in p.keys k ≡ None =
     none_key (key_in p.keys k) (λ is. false≢true (sym c.if-drop_row.false ∙ c.drop_row.ensures.found.1 is)) in
     subst (λ (q : Part). PartStands g (view_of c.args.pass.now).front q)
-    (sym (c.drop_row.ensures.left ∙ ap (λ keys. let q : Part = record p { keys = keys } in q) (set_none p.keys k none))) (c.requires.stands g named)
+    (sym (c.drop_row.ensures.none none)) (c.requires.stands g named)
 
 pub returns-then-drop_row-clause-loses : goal.returns-then-drop_row-clause-loses
 returns-then-drop_row-clause-loses c =
@@ -38,7 +38,7 @@ returns-then-drop_row-clause-loses c =
     let k = c.args.timer.slot in
     let has = some_key (key_in p.keys k) (c.drop_row.ensures.found.0 c.if-drop_row.true) in
     subst (LosesRows p) (sym (c.free_after.ensures ∙ ap (λ (q : Part). reused q k) c.drop_row.ensures.left))
-    (loses_row p (reused (dropped p k) k) k (key_low p.keys k has.0 has.1) refl refl refl refl (reused_keeps (dropped p k) (reused (dropped p k) k) k refl))
+    (loses_row p (reused (dropped p k) k) k (key_low p.keys k has.0 has.1) refl refl refl refl refl (reused_keeps (dropped p k) (reused (dropped p k) k) k refl))
 
 pub returns-else-drop_row-clause-loses : goal.returns-else-drop_row-clause-loses
 returns-else-drop_row-clause-loses c =
@@ -46,8 +46,7 @@ returns-else-drop_row-clause-loses c =
     let k = c.args.timer.slot in
     let none : key_in p.keys k ≡ None =
     none_key (key_in p.keys k) (λ is. false≢true (sym c.if-drop_row.false ∙ c.drop_row.ensures.found.1 is)) in
-    subst (LosesRows p)
-    (sym (c.drop_row.ensures.left ∙ ap (λ keys. let q : Part = record p { keys = keys } in q) (set_none p.keys k none))) (loses_none p)
+    subst (LosesRows p) (sym (c.drop_row.ensures.none none)) (loses_none p)
 
 pub drop_row-requires-clause-used : goal.drop_row-requires-clause-used
 drop_row-requires-clause-used c = c.requires.last.used

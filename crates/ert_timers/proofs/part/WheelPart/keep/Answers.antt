@@ -106,7 +106,8 @@ returns-clause-kept c =
       keys = (c.join.ensures.keys ∙ c.insert.ensures.keys) i;
       arms = c.self.inside.arms + 1;
       passed = (c.join.ensures.passed ∙ c.insert.ensures.passed) i;
-    } in q)) ∙ ap (λ (p : Part). kept p c.args.slot c.args.start.now c.args.next) c.self.view_is
+      stands = c.join.new.wheel.stands;
+    } in q)) ∙ ap (λ (p : Part). kept p c.args.slot c.args.start.now c.args.next c.join.new.wheel.stands) c.self.view_is
 
 pub returns-clause-timer : goal.returns-clause-timer
 returns-clause-timer c =

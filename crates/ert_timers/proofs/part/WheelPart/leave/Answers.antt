@@ -48,4 +48,5 @@ returns c =
       slots = (c.part_from.ensures.stored c.part_from.new.wheel.owners.slots ∙ ap (all_slots c.self.inside.wheel.values) c.part_from.ensures.slots) i;
       keys = c.part_from.ensures.keys i;
       passed = c.part_from.ensures.passed i;
+      stands = c.part_from.ensures.stands i;
     } in q)) ∙ c.self.view_is

@@ -39,12 +39,14 @@ same : (c : After-find_row) → (let q : Part = record (the_view c.self.inside) 
   slots = all_slots c.find_row.new.wheel.values c.find_row.new.wheel.owners.slots;
   keys = c.find_row.new.wheel.keys;
   passed = c.find_row.new.wheel.passed;
+  stands = c.find_row.new.wheel.stands;
 } in q) ≡ the_view c.self.inside
 same c = λ i. (let q : Part = record (the_view c.self.inside) {
   processes = c.find_row.ensures.homes i;
   slots = (c.find_row.ensures.stored c.find_row.new.wheel.owners.slots ∙ ap (all_slots c.self.inside.wheel.values) c.find_row.ensures.slots) i;
   keys = c.find_row.ensures.keys i;
   passed = c.find_row.ensures.passed i;
+  stands = c.find_row.ensures.stands i;
 } in q)
 
 pub returns-clause-part : goal.returns-clause-part

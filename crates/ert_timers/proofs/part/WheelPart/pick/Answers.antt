@@ -34,14 +34,14 @@ invariant_of-self-then-are_short c =
 
 pub returns-then-are_short-clause-picked : goal.returns-then-are_short-clause-picked
 returns-then-are_short-clause-picked c =
-    (seen_written (the_view c.self.inside) c.self.inside.wheel c.write.new.wheel (free_set c.pick.new.self).held c.write.new.wheel.owners.written c.write.ensures.more refl refl refl refl)
+    (seen_written (the_view c.self.inside) c.self.inside.wheel c.write.new.wheel (free_set c.pick.new.self).held c.write.new.wheel.owners.written c.write.ensures.more refl refl refl refl refl)
     ∙ (pick_taken (the_view c.self.inside) (free_set c.self.inside.free) (free_set c.pick.new.self) (Some c.in_ok-slot.slot) refl c.in_ok-slot.ensures.taken
     ∙ ap (λ (p : Part). picked p c.in_ok-slot.slot) c.self.view_is)
 
 pub returns-then-are_short-clause-usable : goal.returns-then-are_short-clause-usable
 returns-then-are_short-clause-usable c =
     subst (λ (q : Part). MayBecomeFree q c.in_ok-slot.slot)
-    (sym (seen_written (the_view c.self.inside) c.self.inside.wheel c.write.new.wheel (free_set c.pick.new.self).held c.write.new.wheel.owners.written c.write.ensures.more refl refl refl refl))
+    (sym (seen_written (the_view c.self.inside) c.self.inside.wheel c.write.new.wheel (free_set c.pick.new.self).held c.write.new.wheel.owners.written c.write.ensures.more refl refl refl refl refl))
     (pick_usable (the_view c.self.inside) (free_set c.self.inside.free) (free_set c.pick.new.self) c.self.inside.wheel.owners (Some c.in_ok-slot.slot) c.self.invariant.fit refl c.in_ok-slot.ensures.held
     c.in_ok-slot.ensures.taken)
 
@@ -56,14 +56,14 @@ invariant_of-self-then-is_long-long c =
 
 pub returns-then-is_long-long-clause-picked : goal.returns-then-is_long-long-clause-picked
 returns-then-is_long-long-clause-picked c =
-    (seen_written (the_view c.self.inside) c.self.inside.wheel c.write.new.wheel (free_set c.pick.new.self).held c.write.new.wheel.owners.written c.write.ensures.more refl refl refl refl)
+    (seen_written (the_view c.self.inside) c.self.inside.wheel c.write.new.wheel (free_set c.pick.new.self).held c.write.new.wheel.owners.written c.write.ensures.more refl refl refl refl refl)
     ∙ (pick_taken (the_view c.self.inside) (free_set c.self.inside.free) (free_set c.pick.new.self) (Some c.in_ok-slot.slot) refl c.in_ok-slot.ensures.taken
     ∙ ap (λ (p : Part). picked p c.in_ok-slot.slot) c.self.view_is)
 
 pub returns-then-is_long-long-clause-usable : goal.returns-then-is_long-long-clause-usable
 returns-then-is_long-long-clause-usable c =
     subst (λ (q : Part). MayBecomeFree q c.in_ok-slot.slot)
-    (sym (seen_written (the_view c.self.inside) c.self.inside.wheel c.write.new.wheel (free_set c.pick.new.self).held c.write.new.wheel.owners.written c.write.ensures.more refl refl refl refl))
+    (sym (seen_written (the_view c.self.inside) c.self.inside.wheel c.write.new.wheel (free_set c.pick.new.self).held c.write.new.wheel.owners.written c.write.ensures.more refl refl refl refl refl))
     (pick_usable (the_view c.self.inside) (free_set c.self.inside.free) (free_set c.pick.new.self) c.self.inside.wheel.owners (Some c.in_ok-slot.slot) c.self.invariant.fit refl c.in_ok-slot.ensures.held
     c.in_ok-slot.ensures.taken)
 
@@ -100,7 +100,7 @@ returns-clause-held c =
 
 pub returns-clause-picked : goal.returns-clause-picked
 returns-clause-picked c =
-    (seen_written (the_view c.self.inside) c.self.inside.wheel c.write-2.new.wheel (free_set c.exchange.new.free).held c.write-2.new.wheel.owners.written (written_twice c.self.inside.wheel c.write.new.wheel c.write-2.new.wheel c.write.new.wheel.owners.written c.write-2.new.wheel.owners.written c.write.ensures.more c.write-2.ensures.more) refl refl refl refl)
+    (seen_written (the_view c.self.inside) c.self.inside.wheel c.write-2.new.wheel (free_set c.exchange.new.free).held c.write-2.new.wheel.owners.written (written_twice c.self.inside.wheel c.write.new.wheel c.write-2.new.wheel c.write.new.wheel.owners.written c.write-2.new.wheel.owners.written c.write.ensures.more c.write-2.ensures.more) refl refl refl refl refl)
     ∙ (pick_taken (the_view c.self.inside) (free_set c.self.inside.free) (free_set c.exchange.new.free) (Some c.in_ok-other.other) refl
     (exchanged (free_set c.self.inside.free) (free_set c.pick.new.self) (free_set c.exchange.new.free) c.in_ok-slot.slot (Some c.in_ok-other.other) c.in_ok-slot.ensures.held
     c.in_ok-slot.ensures.taken c.in_ok-other.ensures.held c.in_ok-other.ensures.taken).taken
@@ -109,7 +109,7 @@ returns-clause-picked c =
 pub returns-clause-usable : goal.returns-clause-usable
 returns-clause-usable c =
     subst (λ (q : Part). MayBecomeFree q c.in_ok-other.other)
-    (sym (seen_written (the_view c.self.inside) c.self.inside.wheel c.write-2.new.wheel (free_set c.exchange.new.free).held c.write-2.new.wheel.owners.written (written_twice c.self.inside.wheel c.write.new.wheel c.write-2.new.wheel c.write.new.wheel.owners.written c.write-2.new.wheel.owners.written c.write.ensures.more c.write-2.ensures.more) refl refl refl refl))
+    (sym (seen_written (the_view c.self.inside) c.self.inside.wheel c.write-2.new.wheel (free_set c.exchange.new.free).held c.write-2.new.wheel.owners.written (written_twice c.self.inside.wheel c.write.new.wheel c.write-2.new.wheel c.write.new.wheel.owners.written c.write-2.new.wheel.owners.written c.write.ensures.more c.write-2.ensures.more) refl refl refl refl refl))
     (pick_usable (the_view c.self.inside) (free_set c.self.inside.free) (free_set c.exchange.new.free) c.self.inside.wheel.owners (Some c.in_ok-other.other) c.self.invariant.fit refl
     (exchanged (free_set c.self.inside.free) (free_set c.pick.new.self) (free_set c.exchange.new.free) c.in_ok-slot.slot (Some c.in_ok-other.other) c.in_ok-slot.ensures.held
     c.in_ok-slot.ensures.taken c.in_ok-other.ensures.held c.in_ok-other.ensures.taken).held

@@ -110,7 +110,8 @@ returns-clause-kept c =
       keys = (c.join_seldom.ensures.keys ∙ c.replace.ensures.keys) i;
       arms = c.self.inside.arms + 1;
       passed = (c.join_seldom.ensures.passed ∙ c.replace.ensures.passed) i;
-    } in q)) ∙ ap (λ (p : Part). kept p c.args.slot c.args.start.now c.args.next) c.self.view_is
+      stands = c.join_seldom.new.wheel.stands;
+    } in q)) ∙ ap (λ (p : Part). kept p c.args.slot c.args.start.now c.args.next c.join_seldom.new.wheel.stands) c.self.view_is
 
 pub returns-clause-timer : goal.returns-clause-timer
 returns-clause-timer c =

@@ -17,11 +17,11 @@ go_on-requires c = none_left c.args.self.now c.look_down-to.result c.if-is_idle.
 pub returns-then-is_idle-clause-call : goal.returns-then-is_idle-clause-call
 returns-then-is_idle-clause-call c =
     has_idled (settings_of c.args.desk.now) (view_of c.args.pass.now) c.args.self.now c.go_on.new.self c.number.result c.look_down-to.result
-    c.args.expired.now (view_of c.look_down-to.new.pass) c.number.ensures c.go_on.ensures c.look_down-to.ensures.looks c.if-is_idle.ensures
+    c.args.expired.now (view_of c.look_down-to.new.pass) c.number.ensures c.go_on.ensures.part c.go_on.ensures.stands c.look_down-to.ensures.looks c.if-is_idle.ensures
     c.requires.stands c.requires.holds
 
 pub returns-then-is_idle-clause-on : goal.returns-then-is_idle-clause-on
-returns-then-is_idle-clause-on c = omega (arith, ap (λ (q : Part). q.passed) c.go_on.ensures, c.look_down-to.ensures.few)
+returns-then-is_idle-clause-on c = omega (arith, ap (λ (q : Part). q.passed) c.go_on.ensures.part, c.look_down-to.ensures.few)
 
 pub expire_all-requires-clause-holds : goal.expire_all-requires-clause-holds
 expire_all-requires-clause-holds c =

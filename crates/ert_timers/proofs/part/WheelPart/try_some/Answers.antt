@@ -37,14 +37,14 @@ returns-then-left-eq0-clause-call c =
       count = c.args.most - c.loop-row.left;
       tried = omega (arith, c.if-left-eq0.true);
       done = tried_come_to g v c.args.self.now c.loop-row.self c.first_row_due.new.self c.args.to (c.args.most - c.loop-row.left) c.args.expired.now c.loop-row.expired u
-          c.first_row_due.ensures.part c.first_row_due.ensures.time c.loop-row.invariant.call;
+          c.first_row_due.ensures.part c.first_row_due.ensures.time c.first_row_due.ensures.stands c.loop-row.invariant.call;
       looked = looked_come_to g u.front c.loop-row.self c.first_row_due.new.self c.args.to c.first_row_due.new.self.passed c.first_row_due.ensures.part c.loop-row.invariant.looked;
     }
 
 pub returns-then-left-eq0-clause-left : goal.returns-then-left-eq0-clause-left
 returns-then-left-eq0-clause-left c =
     subst (λ (p : Part). HasDue p c.args.to) (sym c.first_row_due.ensures.part)
-    (has_due (come_to c.loop-row.self c.first_row_due.new.self.passed) c.args.to (row_told c.loop-row.self.keys c.in-Row.row) c.in-Row.ensures.first)
+    (has_due (come_to c.loop-row.self c.first_row_due.new.self.passed c.first_row_due.new.self.stands) c.args.to (row_told c.loop-row.self.keys c.in-Row.row) c.in-Row.ensures.first)
 
 pub expire-requires-clause-stands : goal.expire-requires-clause-stands
 expire-requires-clause-stands c =
@@ -66,7 +66,7 @@ loop-row-preserved c =
     let u = view_of c.loop-row.pass in
     let w = view_of c.expire.new.pass in
     let q = c.first_row_due.new.self in
-    let part : q ≡ come_to c.loop-row.self q.passed = c.first_row_due.ensures.part in
+    let part : q ≡ come_to c.loop-row.self q.passed q.stands = c.first_row_due.ensures.part in
     let row = row_told q.keys c.in-Row.row in
     let first : IsFirstRowDue q.keys c.args.to row =
     subst (λ (p : Part). IsFirstRowDue p.keys c.args.to (row_told p.keys c.in-Row.row)) (sym part) c.in-Row.ensures.first in
@@ -81,7 +81,7 @@ loop-row-preserved c =
       call = subst (λ n. TriesRows g v c.args.self.now c.expire.new.self c.args.to n c.args.expired.now c.expire.new.expired w) count
           (tries_more g v c.args.self.now q c.expire.new.self c.args.to (c.args.most - c.loop-row.left) row c.args.expired.now c.loop-row.expired c.expire.new.expired u w
           (tried_come_to g v c.args.self.now c.loop-row.self q c.args.to (c.args.most - c.loop-row.left) c.args.expired.now c.loop-row.expired u
-          part c.first_row_due.ensures.time c.loop-row.invariant.call)
+          part c.first_row_due.ensures.time c.first_row_due.ensures.stands c.loop-row.invariant.call)
           looked.stands first.held first.due holds.wheel one);
       looked = record {
         stands = one.stands;
@@ -115,7 +115,7 @@ returns-in-Nothing-clause-call c =
       count = c.args.most - c.loop-row.left;
       tried = omega arith;
       done = tried_come_to g v c.args.self.now c.loop-row.self c.first_row_due.new.self c.args.to (c.args.most - c.loop-row.left) c.args.expired.now c.loop-row.expired u
-          c.first_row_due.ensures.part c.first_row_due.ensures.time c.loop-row.invariant.call;
+          c.first_row_due.ensures.part c.first_row_due.ensures.time c.first_row_due.ensures.stands c.loop-row.invariant.call;
       looked = looked_come_to g u.front c.loop-row.self c.first_row_due.new.self c.args.to c.first_row_due.new.self.passed c.first_row_due.ensures.part c.loop-row.invariant.looked;
     }
 
@@ -128,6 +128,6 @@ returns-in-Moving-clause-call c =
       count = c.args.most - c.loop-row.left;
       tried = omega arith;
       done = tried_come_to g v c.args.self.now c.loop-row.self c.first_row_due.new.self c.args.to (c.args.most - c.loop-row.left) c.args.expired.now c.loop-row.expired u
-          c.first_row_due.ensures.part c.first_row_due.ensures.time c.loop-row.invariant.call;
+          c.first_row_due.ensures.part c.first_row_due.ensures.time c.first_row_due.ensures.stands c.loop-row.invariant.call;
       looked = looked_come_to g u.front c.loop-row.self c.first_row_due.new.self c.args.to c.first_row_due.new.self.passed c.first_row_due.ensures.part c.loop-row.invariant.looked;
     }

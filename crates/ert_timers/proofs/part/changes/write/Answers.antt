@@ -8,4 +8,4 @@ pub returns-else-slot-written-clause-written : goal.returns-else-slot-written-cl
 returns-else-slot-written-clause-written c = omega (arith, c.if-slot-written.false, c.written.ensures.written)
 
 pub returns-else-slot-written-clause-more : goal.returns-else-slot-written-clause-more
-returns-else-slot-written-clause-more c = record { more = omega arith; keys = refl; owners = refl; slots = λ n. refl; joined = λ joined. joined; passed = refl }
+returns-else-slot-written-clause-more c = record { more = omega arith; keys = refl; owners = refl; slots = λ n. refl; joined = λ joined. joined; passed = refl; stands = refl }

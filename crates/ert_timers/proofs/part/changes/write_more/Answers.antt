@@ -35,4 +35,5 @@ returns-clause-more c =
           (sym (c.write_up_to.ensures.values ∙ ap (λ u. old.values ++ replicate (c.min-count.result - old.owners.written) u) c.unused.ensures)) (sym c.write_up_to.ensures.owners)
           (joined_more old.values (c.min-count.result - old.owners.written) old.owners c.min-count.result joined);
       passed = c.write_up_to.ensures.passed;
+      stands = c.write_up_to.ensures.stands;
     }

@@ -1,10 +1,14 @@
-use Rattle.std.proofs.Common.{◌≡◌, None, set, subst, sym, refl, ◌∙◌}
+use Rattle.std.proofs.Common.{◌≡◌, Option, Some, None, set, subst, sym, refl, ◌∙◌}
 use Rattle.std.proofs.lemmas.Bool.{true≢false}
 use Rattle.ert_wheel.proofs.Fallen.{stays_nowhere, take_leaves}
 use Rattle.ert_wheel.proofs.Writes.{sees, low_in, alike_after, is_held, is_kept, found_none, found_some, looks_alone, looks_apart, may_take, count_holds, removed, vacant_view}
 use Rattle.ert_wheel.proofs.wheel.Wheel.remove.Goals as goal
 use Rattle.ert_wheel.specs.Rows.{Held}
 use Rattle.ert_wheel.specs.Standing.{homes_of}
+use Rattle.ert_wheel.specs.declared.row.Key.{Key}
+
+no_some : {key : Key} {o : Option Key} → o ≡ None → o ≡ Some key → ⊥
+no_some none some = let clash : None ≡ Some _ = sym none ∙ some in cc
 
 pub is_alone-requires : goal.is_alone-requires
 is_alone-requires g c = (low_in c.args.slot c.self.invariant c.self.view_is c.requires).low_bucket
@@ -55,3 +59,9 @@ returns-clause-stands g c =
     subst (λ (h : Held _). homes_of c.take.new.self ≡ set h.stands c.args.slot None) c.self.view_is
     (take_leaves (sees c.self.invariant.rows c.self.view_is) (low_in c.args.slot c.self.invariant c.self.view_is c.requires).low_key c.take.ensures.slots
     c.take.ensures.chains)
+
+pub returns-clause-none : goal.returns-clause-none
+returns-clause-none g c = λ none.
+    let low = low_in c.args.slot c.self.invariant c.self.view_is c.requires in
+    let has = looks_apart (sees c.self.invariant.rows c.self.view_is) low.low_key low.low_record (λ e. true≢false (sym (c.is_alone.ensures.1 e) ∙ c.if-is_alone.false)) in
+    absurd (no_some none has)
