@@ -1,6 +1,7 @@
 pub mod Holders
 pub mod OneStep
 pub mod Splits
+pub mod Dividing
 pub mod Joins
 pub mod WordPlaces
 pub mod FirstHolds

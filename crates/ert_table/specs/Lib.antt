@@ -12,5 +12,6 @@ pub mod Places
 pub mod Renewals
 pub mod Rule
 pub mod Settlings
+pub mod Shares
 pub mod Takes
 pub mod Views

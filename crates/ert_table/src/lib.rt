@@ -33,7 +33,7 @@
 //! actor's own part of the state was at the front, it still is at the next step, however many entries of
 //! others stand between. That is why a step can be prepared from the front and be legal when it is made.
 //!
-//! A pass divides (`Pass::split`) and two become one (`Pass::join`). The joined one knows the longer of
+//! A pass divides (`Pass::split`, `split_share`) and two become one (`Pass::join`). The joined one knows the longer of
 //! the two fronts, which the other begins. A `Note` is a pass without actors: taken of one pass (`Pass::note`) and
 //! given to the thread of another, it tells that one all that the first knew (`Pass::learn`).
 //!
@@ -93,6 +93,7 @@ mod plays;
 mod process_steps;
 mod renew_steps;
 mod seeing;
+mod share;
 mod timer_steps;
 mod view;
 
@@ -102,4 +103,5 @@ pub use laws::{calls_take_place, steps_stand_in_order};
 pub use notes::Note;
 pub use places::SlotPlace;
 pub use renew_steps::ArmedWord;
+pub use share::{Share, Span};
 pub use view::{Met, View};
