@@ -2,6 +2,7 @@ pub mod Armed
 pub mod Holders
 pub mod OneStep
 pub mod Splits
+pub mod Dividing
 pub mod Joins
 pub mod WordPlaces
 pub mod FirstHolds

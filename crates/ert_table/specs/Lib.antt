@@ -15,6 +15,7 @@ pub mod Ranges
 pub mod Renewals
 pub mod Rule
 pub mod Settlings
+pub mod Shares
 pub mod Takes
 pub mod Views
 pub mod WordLaws

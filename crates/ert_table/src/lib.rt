@@ -33,7 +33,7 @@
 //! actor's own part of the state was at the front, it still is at the next step, however many entries of
 //! others stand between. That is why a step can be prepared from the front and be legal when it is made.
 //!
-//! A pass divides (`Pass::split`) and two become one (`Pass::join`). The joined one knows the longer of
+//! A pass divides (`Pass::split`, `split_share`) and two become one (`Pass::join`). The joined one knows the longer of
 //! the two fronts, which the other begins. A `Note` is a pass without actors: taken of one pass (`Pass::note`) and
 //! given to the thread of another, it tells that one all that the first knew (`Pass::learn`).
 //!
@@ -156,6 +156,7 @@ mod process_calls;
 mod process_steps;
 mod renew_steps;
 mod seeing;
+mod share;
 mod timer_calls;
 mod timer_steps;
 mod timer_words;
@@ -170,6 +171,7 @@ pub use laws::{calls_take_place, steps_stand_in_order};
 pub use notes::Note;
 pub use places::SlotPlace;
 pub use renew_steps::ArmedWord;
+pub use share::{Share, Span};
 pub use timer_words::{armed_word, timer_of, timer_word, word_deadline, word_generation};
 pub use view::{Met, View};
 pub use word_laws::{offsets_have_words, timers_have_words, times_have_words};

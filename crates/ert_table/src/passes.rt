@@ -1,13 +1,15 @@
 //! Passes that are divided and put together.
-ghost use Rattle.std.specs.Prelude.{◌≡◌, ◌++◌, true, [], ◌∷◌};
+ghost use Rattle.std.specs.Prelude.{◌≡◌, ◌++◌, true, not, filter, [], ◌∷◌};
 ghost use Rattle.ert_defs.specs.Legal.{Legal};
 ghost use Rattle.ert_table.specs.Desks.{settings_of, view_of, front_of, actors_of, Belongs};
 ghost use Rattle.ert_table.specs.Held.{is_held, actors_but};
+ghost use Rattle.ert_table.specs.Shares.{is_of_share};
 ghost use Rattle.ert_table.specs.Views.{HasMet, Joined, both, holding, longer, meeting};
 
 use crate::desk::{Desk, Pass};
 use crate::places::TIME;
-use crate::plays::{Chosen, Cuts, Empties, Glues, Learns, Named};
+use crate::plays::{Chosen, Cuts, Divides, Empties, Glues, Learns, Named, Picked};
+use crate::share::Share;
 use ert_defs::Actor;
 use std::marker::Brand;
 
@@ -37,6 +39,33 @@ impl Pass {
     {
         Pass {
             seat: desk.table.shared.split_seat::<Cuts<C>>(&mut self.seat),
+        }
+    }
+
+    /// Moves the actors of a share that it holds into a new pass, which knows as much: one step, however many they are.
+    pub fn split_share(&mut self, desk: &Desk, share: &Share) -> Pass
+        requires { Belongs desk.now self.old }
+        ensures belongs { Belongs desk.now self.new }
+        ensures new_belongs { Belongs desk.now result }
+        ensures kept { actors_of self.new ≡ filter (λ a. not (is_of_share (settings_of desk.now) share.now a)) (actors_of self.old) }
+        ensures given { actors_of result ≡ filter (is_of_share (settings_of desk.now) share.now) (actors_of self.old) }
+        ensures front { front_of self.new ≡ front_of self.old }
+        ensures new_front { front_of result ≡ front_of self.old }
+    {
+        self.split_share_as::<Brand>(desk, share)
+    }
+
+    fn split_share_as<C: Picked>(&mut self, desk: &Desk, share: &Share) -> Pass
+        requires pick { C.mine ≡ is_of_share (settings_of desk.now) share.now }
+        requires belongs { Belongs desk.now self.old }
+        ensures belongs { Belongs desk.now self.new }
+        ensures new_belongs { Belongs desk.now result }
+        ensures kept { view_of self.new ≡ holding (view_of self.old) (filter (λ a. not (C.mine a)) (actors_of self.old)) }
+        ensures given { view_of result ≡ holding (view_of self.old) (filter C.mine (actors_of self.old)) }
+    {
+        let _share = share;
+        Pass {
+            seat: desk.table.shared.split_seat::<Divides<C>>(&mut self.seat),
         }
     }
 

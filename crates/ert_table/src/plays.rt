@@ -1,6 +1,6 @@
 //! What a step on the table tells a pass, for entries, actors and settings that a call picks. They stand in
 //! proofs alone.
-ghost use Rattle.std.specs.Prelude.{ℕ, List, [], ◌∷◌};
+ghost use Rattle.std.specs.Prelude.{ℕ, Bool, false, not, filter, List, [], ◌∷◌};
 ghost use Rattle.ert_defs.specs.declared.entry.Actor.{Actor};
 ghost use Rattle.ert_defs.specs.declared.entry.Actor.TheVariants.{Keeper};
 ghost use Rattle.ert_defs.specs.declared.entry.Entry.{Entry};
@@ -121,6 +121,26 @@ impl<C: Chosen> Split<View> for Cuts<C> {
     ghost left = { λ v. holding v (actors_but v.actors C.actor) };
 
     ghost right = { λ v. holding v (C.actor ∷ []) };
+}
+
+/// Some actors, by a test.
+pub(crate) trait Picked {
+    ghost mine: { Actor → Bool };
+}
+
+impl Picked for Brand {
+    ghost mine = { λ a. false };
+}
+
+/// Some actors go to a new pass.
+pub(crate) struct Divides<C> {
+    picked: PhantomData<C>,
+}
+
+impl<C: Picked> Split<View> for Divides<C> {
+    ghost left = { λ v. holding v (filter (λ a. not (C.mine a)) v.actors) };
+
+    ghost right = { λ v. holding v (filter C.mine v.actors) };
 }
 
 /// All actors go to a new pass.

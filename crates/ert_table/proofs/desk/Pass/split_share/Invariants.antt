@@ -1,0 +1,6 @@
+use Rattle.ert_table.specs.Desks.{settings_of}
+use Rattle.ert_table.specs.Shares.{is_of_share}
+use Rattle.ert_table.proofs.desk.Pass.split_share.Given as goal
+
+abbrev pub ghosts-split_share_as : goal.ghosts-split_share_as
+ghosts-split_share_as a = record { mine = is_of_share (settings_of a.desk.now) a.share.now }
