@@ -25,7 +25,7 @@ use Rattle.ert_wheel.specs.declared.row.Row.{Row}
 use Rattle.ert_wheel.proofs.Looking.{key_low}
 use Rattle.ert_wheel.proofs.Parts.{with_place_here, with_place_there}
 use Rattle.ert_wheel.proofs.Views.{counts_more}
-use Rattle.ert_words.specs.Free.{FreeSet}
+use Rattle.ert_timers.specs.Free.{FreeSet}
 use Rattle.ert_defs.specs.declared.settings.TheConstants.{MOST_SLOTS}
 
 pub on_true : (b : Bool) (P : Type 0) → b ≡ true → OnTrue b P → P

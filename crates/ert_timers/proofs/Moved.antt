@@ -2,7 +2,7 @@
 
 use Rattle.std.proofs.Common.{◌≡◌, ◌≢◌, ⊎_elim, ℕ, zero, suc, ◌<◌, ◌≤◌, Bool, true, false, cond, List, [], ◌∷◌, ◌++◌, length, Option, Some, None, Result, Ok, Err, inl, inr, refl, sym, ap, subst, ◌∙◌, arith, get_or-set_other, append-nil}
 use Rattle.std.specs.FinSet as sets
-use Rattle.ert_calls.proofs.Looks.{look_stepped}
+use Rattle.ert_table.proofs.Looks.{look_stepped}
 use Rattle.ert_defs.proofs.Slots.{ordered}
 use Rattle.ert_defs.specs.Entries.{cancel_entry, look_entry, peek_entry}
 use Rattle.ert_defs.specs.Legal.{Legal, names_timer}
@@ -49,7 +49,7 @@ use Rattle.ert_timers.specs.Starting.{TakesSlot}
 use Rattle.ert_timers.specs.declared.looking.Ahead.{Ahead}
 use Rattle.ert_timers.specs.declared.part.Use.{Use}
 use Rattle.ert_wheel.specs.Rows.{key_in}
-use Rattle.ert_words.specs.Ranges.{word_deadline}
+use Rattle.ert_table.specs.Ranges.{word_deadline}
 
 -- what a start was told by the look just before
 pub has_looked : (g : Settings) (v : View) (by : ℕ) (start : Start) (ahead : Option Ahead) (a : Ahead) (u : View) (w : ℕ) → ahead ≡ Some a

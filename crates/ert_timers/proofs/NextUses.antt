@@ -22,7 +22,7 @@ use Rattle.ert_timers.specs.Parts.{Part, slot_at, last_timer, unused}
 use Rattle.ert_timers.specs.Starting.{IsUseFor}
 use Rattle.ert_timers.specs.Slots.{Slot}
 use Rattle.ert_timers.specs.declared.part.Use.{Use}
-use Rattle.ert_words.specs.Ranges.{IsTimer}
+use Rattle.ert_table.specs.Ranges.{IsTimer}
 
 -- what the model takes of the next use of a slot
 abbrev pub use_of : (g : Settings) (s : State) (by w k : ℕ) (start : Start) (coming : Use) → IsUseFor g s by w k start coming → UseOf

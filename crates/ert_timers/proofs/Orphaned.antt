@@ -11,7 +11,7 @@ use Rattle.ert_defs.specs.declared.timer.Status.TheVariants.{Armed, Expired}
 use Rattle.ert_defs.specs.declared.timer.TimerRef.{TimerRef}
 use Rattle.ert_effects.specs.TimerCalls.{Closes}
 use Rattle.ert_effects.specs.WheelCalls.{orphans_by, IsSettled}
-use Rattle.ert_calls.proofs.Looks.{can_step}
+use Rattle.ert_table.proofs.Looks.{can_step}
 use Rattle.ert_table.specs.Held.{is_held}
 use Rattle.ert_table.specs.Settlings.{Settles, hit_entry}
 use Rattle.ert_table.specs.Takes.{Appends, MayStep}

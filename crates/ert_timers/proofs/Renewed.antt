@@ -4,7 +4,7 @@ use Rattle.std.proofs.Common.{◌≡◌, ◌≢◌, ℕ, suc, ◌<◌, ◌≤◌
 use Rattle.std.specs.FinSet as sets
 use Rattle.std.specs.List.{slice_get}
 use Rattle.std.specs.Option.{IsSome}
-use Rattle.ert_calls.proofs.Looks.{look_stepped}
+use Rattle.ert_table.proofs.Looks.{look_stepped}
 use Rattle.ert_defs.proofs.Slots.{ordered}
 use Rattle.ert_defs.specs.Entries.{arm_entry, cancel_entry, mark_entry, peek_entry}
 use Rattle.ert_defs.specs.Legal.{IsSlot}
@@ -60,7 +60,7 @@ use Rattle.ert_timers.specs.declared.looking.Ahead.{Ahead}
 use Rattle.ert_timers.specs.declared.part.Use.{Use}
 use Rattle.ert_wheel.specs.Rows.{key_in}
 use Rattle.ert_wheel.specs.declared.row.Key.{Key}
-use Rattle.ert_words.specs.Ranges.{word_deadline}
+use Rattle.ert_table.specs.Ranges.{word_deadline}
 
 -- a peek, by a caller
 pub peek_calm : (g : Settings) (v : View) (by : ℕ) (timer : TimerRef) (found : Option ℕ) (u : View) (p : Part) → PartStands g v.front p

@@ -12,7 +12,7 @@ use Rattle.ert_defs.specs.declared.entry.Actor.TheVariants.{Caller}
 use Rattle.ert_defs.specs.declared.entry.Entry.{Entry}
 use Rattle.ert_defs.specs.declared.settings.Settings.{Settings}
 use Rattle.ert_defs.specs.declared.timer.Status.{Status}
-use Rattle.ert_calls.proofs.Looks.{look_stepped}
+use Rattle.ert_table.proofs.Looks.{look_stepped}
 use Rattle.ert_effects.proofs.Told.{probes-append}
 use Rattle.ert_effects.specs.TimerCalls.{AreProbes, IsInRound, Round}
 use Rattle.ert_table.specs.Takes.{Appends, TakesPlace}

@@ -1,7 +1,7 @@
 -- An advance that tries so many timers at most.
 
 use Rattle.std.proofs.Common.{◌≡◌, ℕ, ◌≤◌, true, false, ◌||◌, nat_eq, length, List, [], ◌∷◌, ◌++◌, refl, sym, ap, subst, ◌∙◌, arith, append-nil}
-use Rattle.ert_calls.proofs.Looks.{look_stepped}
+use Rattle.ert_table.proofs.Looks.{look_stepped}
 use Rattle.ert_defs.specs.Entries.{look_entry, advanced_entry}
 use Rattle.ert_defs.specs.Milliseconds.{down}
 use Rattle.ert_defs.specs.States.{state}

@@ -13,7 +13,7 @@ use Rattle.ert_defs.specs.declared.entry.Entry.{Entry}
 use Rattle.ert_defs.specs.declared.memory.NoMemory.{NoMemory}
 use Rattle.ert_defs.specs.declared.settings.Settings.{Settings}
 use Rattle.ert_effects.specs.WheelCalls.{expiry_entries, AllDue}
-use Rattle.ert_calls.proofs.Looks.{look_stepped}
+use Rattle.ert_table.proofs.Looks.{look_stepped}
 use Rattle.ert_table.specs.Calls.{IsMade}
 use Rattle.ert_table.specs.Held.{is_held}
 use Rattle.ert_table.specs.Takes.{Appends, MayStep}

@@ -4,7 +4,7 @@ use Rattle.std.proofs.Common.{◌≡◌, ℕ, ◌+◌, ◌≤◌, ℤ, pos, true
 use Rattle.std.proofs.lemmas.List.{map-append}
 use Rattle.std.specs.FinSet as sets
 use Rattle.std.specs.Option.{is_some}
-use Rattle.ert_calls.proofs.Looks.{look_stepped}
+use Rattle.ert_table.proofs.Looks.{look_stepped}
 use Rattle.ert_defs.specs.Legal.{Legal}
 use Rattle.ert_defs.specs.Milliseconds.{down}
 use Rattle.ert_defs.specs.States.{look_after, state}

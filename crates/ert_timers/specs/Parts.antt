@@ -28,7 +28,7 @@ use Rattle.ert_wheel.specs.Links.{next_at}
 use Rattle.ert_wheel.specs.Rings.{Rings, Place, AreChains, StandsIn}
 use Rattle.ert_wheel.specs.Rows.{Held, key_in}
 use Rattle.ert_wheel.specs.declared.row.Key.{Key}
-use Rattle.ert_words.specs.Free.{FreeSet}
+use Rattle.ert_timers.specs.Free.{FreeSet}
 use Rattle.ert_defs.specs.declared.settings.TheConstants.{MOST_SLOTS, MOST_PROCESSES}
 
 -- the part of one scheduler's timers: its number, the number of processes, by slot what is kept of the last

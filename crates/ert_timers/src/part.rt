@@ -6,10 +6,10 @@ ghost use Rattle.ert_wheel.specs.Rows.{row_told};
 
 use self::changes::part_from;
 use crate::expired_list::ExpiredList;
+use crate::free_slots::FreeSlots;
 use crate::slot::Stored;
 use ert_defs::{NoMemory, Settings, TimerRef, TimerRow};
 use ert_wheel::{HeldRow, Wheel};
-use ert_words::FreeSlots;
 use std::alloc::Global;
 use std::marker::Model;
 use std::mem;
@@ -70,7 +70,7 @@ pub struct Tally {
 
 impl Model for WheelPart {
     ghost use Rattle.ert_timers.specs.Parts.{Part, part_code, all_slots, AreStoredFit};
-    ghost use Rattle.ert_words.specs.Free.{free_set};
+    ghost use Rattle.ert_timers.specs.Free.{free_set};
 
     ghost Value = { Part };
 

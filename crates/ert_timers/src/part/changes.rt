@@ -9,14 +9,14 @@ ghost use Rattle.ert_timers.specs.Owners.{MayJoin, Joins};
 ghost use Rattle.ert_timers.specs.Parts.{AreJoined, IsWritten, all_slots};
 ghost use Rattle.ert_timers.specs.Slots.{stored_slot, stored_key};
 ghost use Rattle.ert_wheel.specs.Rings.{Place, AreChains, MayTake, GivesUpPlace};
-ghost use Rattle.ert_words.specs.Free.{free_set, with_short, with_long, TakesLong, TakesNextSlot};
-ghost use Rattle.ert_words.specs.Ranges.{IsTimer};
+ghost use Rattle.ert_timers.specs.Free.{free_set, with_short, with_long, TakesLong, TakesNextSlot};
+ghost use Rattle.ert_table.specs.Ranges.{IsTimer};
 
 use super::{Use, WheelPart, are_short, is_long};
+use crate::free_slots::FreeSlots;
 use crate::slot::Stored;
 use ert_defs::{FIRST_LATER_GENERATION, Start, TimerRef, USES_OF_ROUND, use_of};
 use ert_wheel::{Row, Wheel};
-use ert_words::FreeSlots;
 
 /// How many slots are written at once, at the first use of the first of them: 3 KiB.
 const WRITTEN_AT_ONCE: u32 = 64;

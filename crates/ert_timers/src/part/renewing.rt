@@ -12,7 +12,7 @@ impl WheelPart {
     ghost use Rattle.ert_timers.specs.Parts.{last_timer, slot_at};
     ghost use Rattle.ert_timers.specs.Restarting.{CanRenew, MayStay};
     ghost use Rattle.ert_wheel.specs.Standing.{ComesOrStays};
-    ghost use Rattle.ert_words.specs.Ranges.{IsTimer};
+    ghost use Rattle.ert_table.specs.Ranges.{IsTimer};
     ghost use Rattle.ert_defs.specs.Words as words;
     ghost use Rattle.ert_defs.specs.declared.timer.Status.TheVariants.{Armed};
 

@@ -7,7 +7,7 @@ use Rattle.ert_timers.specs.Parts.{Part, all_slots}
 use Rattle.ert_timers.specs.contracts.part.WheelPart.{the_view}
 use Rattle.ert_timers.proofs.Fit.{some_key, fit_removed, fit_lost, fit_same, written_used}
 use Rattle.ert_timers.proofs.Keeping.{on_if}
-use Rattle.ert_words.specs.Free.{free_set}
+use Rattle.ert_timers.specs.Free.{free_set}
 use Rattle.ert_timers.proofs.part.WheelPart.drop_row.Goals as goal
 use Rattle.ert_timers.proofs.part.WheelPart.drop_row.Goals.{After-remove}
 use Rattle.ert_timers.specs.declared.slot.Stored.{Stored}

@@ -9,7 +9,7 @@ use Rattle.ert_timers.specs.Slots.{Slot, stored_slot}
 use Rattle.ert_timers.proofs.AllSlots.{read_at}
 use Rattle.ert_timers.proofs.Fit.{fit_same, may_leave, written_away}
 use Rattle.ert_timers.proofs.Keeping.{orders_if, fit_kept, slots_kept, named_kept}
-use Rattle.ert_words.specs.Free.{free_set}
+use Rattle.ert_timers.specs.Free.{free_set}
 use Rattle.ert_timers.proofs.part.WheelPart.keep.Goals as goal
 use Rattle.ert_timers.proofs.part.WheelPart.keep.Goals.{After-join}
 use Rattle.ert_wheel.specs.Rings.{Rings, AreChains, MayTake}

@@ -5,7 +5,7 @@ use Rattle.ert_timers.specs.contracts.part.WheelPart.{the_view}
 use Rattle.ert_timers.proofs.Fit.{fit_owned, fit_same, may_leave, written_away}
 use Rattle.ert_timers.proofs.Keeping.{owned_thinned}
 use Rattle.ert_timers.proofs.Owners.{thinned_more, thinned_none}
-use Rattle.ert_words.specs.Free.{free_set}
+use Rattle.ert_timers.specs.Free.{free_set}
 use Rattle.ert_timers.proofs.part.WheelPart.leave.Goals as goal
 use Rattle.ert_wheel.specs.Rings.{with_place}
 use Rattle.ert_wheel.specs.Rows.{key_in}

@@ -5,7 +5,7 @@ use Rattle.ert_timers.specs.contracts.part.WheelPart.{the_view}
 use Rattle.ert_timers.proofs.Fit.{fit_owned, fit_same}
 use Rattle.ert_timers.proofs.Keeping.{next_found, owned_thinned}
 use Rattle.ert_wheel.specs.Rows.{row_told}
-use Rattle.ert_words.specs.Free.{free_set}
+use Rattle.ert_timers.specs.Free.{free_set}
 use Rattle.ert_timers.proofs.part.WheelPart.newest_of.Goals as goal
 use Rattle.ert_timers.proofs.part.WheelPart.newest_of.Goals.{After-find_row}
 

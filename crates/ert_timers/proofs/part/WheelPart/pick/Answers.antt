@@ -7,7 +7,7 @@ use Rattle.ert_timers.proofs.Fit.{exchanged, taken_out}
 use Rattle.ert_timers.proofs.Keeping.{fit_written, pick_none, pick_taken, pick_usable, seen_written, written_twice}
 use Rattle.ert_timers.proofs.part.WheelPart.pick.Goals as goal
 use Rattle.ert_wheel.specs.Rings.{Rings}
-use Rattle.ert_words.specs.Free.{FreeSet, free_set}
+use Rattle.ert_timers.specs.Free.{FreeSet, free_set}
 
 pub returns-in_err-slot-clause-none : goal.returns-in_err-slot-clause-none
 returns-in_err-slot-clause-none c =

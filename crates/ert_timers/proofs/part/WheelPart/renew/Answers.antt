@@ -10,7 +10,7 @@ use Rattle.ert_timers.proofs.AllSlots.{read_at}
 use Rattle.ert_timers.proofs.Fit.{fit_dropped, fit_same, may_leave, same_places, some_key, written_away}
 use Rattle.ert_timers.proofs.Keeping.{orders_if, fit_kept, slots_kept, named_kept}
 use Rattle.ert_timers.proofs.Anew.{free_again, set_twice}
-use Rattle.ert_words.specs.Free.{free_set}
+use Rattle.ert_timers.specs.Free.{free_set}
 use Rattle.ert_timers.proofs.part.WheelPart.renew.Goals as goal
 use Rattle.ert_timers.proofs.part.WheelPart.renew.Goals.{After-join_seldom}
 use Rattle.ert_wheel.specs.Rings.{Rings, AreChains, MayTake, StandsIn}
