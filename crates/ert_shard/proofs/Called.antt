@@ -28,6 +28,7 @@ use Rattle.ert_mail.specs.Turns.{TurnRow}
 use Rattle.ert_world.specs.Stepping.{turns_same}
 use Rattle.ert_world.proofs.Returned.{at_place}
 use Rattle.ert_world.specs.Worlds.{ListAll, TurnsGrow}
+use Rattle.ert_wheel.proofs.StandsOn.{stay_all, stay_then}
 
 -- the parts of a shard after a call: they fit, and what callers see of it goes on by the call
 pub record Does (before : Owned) (d : Desk) (q : Pass) (s : Share) (new : ShardParts) (call : Owned → Way → Growth) : Type 0 where
@@ -49,7 +50,7 @@ did_at {before} {d} {e} {q} {s} {new} {call} same done = subst (λ x. Did before
 
 -- no row comes to a wheel that stays
 pub same_rows : (p : Part) → LosesRows p p
-same_rows p = record { number = refl; slots = refl; left = λ k key is. is; time = le_refl p.passed; frees = λ k was. was }
+same_rows p = record { number = refl; slots = refl; left = λ k key is. is; time = le_refl p.passed; frees = λ k was. was; stands = stay_all p.keys p.passed p.stands }
 
 -- a call went on so, and the wheel lost rows
 pub lost : (before o : Owned) (call : Way → Growth) (old new : Part) → before.wheel ≡ old → ShardGoes before call o → LosesRows old new
@@ -141,6 +142,7 @@ rows_then p q r one other = record {
   left = λ k key is. one.left k key (other.left k key is);
   time = le_trans one.time other.time;
   frees = λ k was. other.frees k (one.frees k was);
+  stands = stay_then other.time other.left one.stands other.stands;
 }
 
 -- a call of the shard's caller alone

@@ -19,7 +19,7 @@ use Rattle.ert_world.specs.Worlds.{KeepsRows}
 
 -- rows stay through steps through each of which they do
 pub keeps_then : (p q r : Part) → KeepsRows p q → KeepsRows q r → KeepsRows p r
-keeps_then p q r one other = record { keys = other.keys ∙ one.keys; time = other.time ∙ one.time }
+keeps_then p q r one other = record { keys = other.keys ∙ one.keys; time = other.time ∙ one.time; stands = other.stands ∙ one.stands }
 
 -- the advance has left something
 pub more_left : (o : Owned) (to : ℕ) (left : Left) → is_more left ≡ true → IsLeft o.wheel to left → IsMoreLeft o to true

@@ -30,7 +30,7 @@ use Rattle.ert_world.specs.Worlds.{Seen, Goes, By, HasForgotten, LoseRows}
 
 -- a part that isn't there
 abbrev pub no_part : Part
-no_part = record { number = 0; processes = 0; slots = []; keys = []; free = set.empty; arms = 0; expires = 0; orphans = 0; passed = 0; next_look = 0 }
+no_part = record { number = 0; processes = 0; slots = []; keys = []; free = set.empty; arms = 0; expires = 0; orphans = 0; passed = 0; next_look = 0; stands = [] }
 
 -- how many rows a wheel of a world holds
 abbrev pub rows_at : Seen → ℕ → ℕ

@@ -35,17 +35,18 @@ left_kept p q to Due kept due = record {
   due = due.due;
 }
 left_kept p q to Moving kept behind =
-    subst (λ keys. HasMore keys q.passed to) (sym kept.keys) (subst (λ n. HasMore p.keys n to) (sym kept.time) behind)
+    subst (λ keys. HasMore keys q.stands q.passed to) (sym kept.keys)
+    (subst (λ stands. HasMore p.keys stands q.passed to) (sym kept.stands) (subst (λ n. HasMore p.keys p.stands n to) (sym kept.time) behind))
 
 pub left_at : (a b : Seen) (i to : ℕ) (left : Left) → KeepRows a b → IsLeftAt a i to left → IsLeftAt b i to left
 left_at a b i to left kept told d = left_kept _ _ to left (kept i d) (told d)
 
 -- rows stay through steps through each of which they do
 pub keeps_same : (a b : Seen) → b.wheels ≡ a.wheels → KeepRows a b
-keeps_same a b same i d = subst (λ wheels. KeepRows a (record b { wheels = wheels })) (sym same) (λ j x. record { keys = refl; time = refl }) i d
+keeps_same a b same i d = subst (λ wheels. KeepRows a (record b { wheels = wheels })) (sym same) (λ j x. record { keys = refl; time = refl; stands = refl }) i d
 
 pub keep_then : (a b c : Seen) → KeepRows a b → KeepRows b c → KeepRows a c
-keep_then a b c one other i d = record { keys = (other i d).keys ∙ (one i d).keys; time = (other i d).time ∙ (one i d).time }
+keep_then a b c one other i d = record { keys = (other i d).keys ∙ (one i d).keys; time = (other i d).time ∙ (one i d).time; stands = (other i d).stands ∙ (one i d).stands }
 
 -- the advance has left something
 pub more_left : (w : Seen) (i to : ℕ) (left : Left) → is_more left ≡ true → IsLeftAt w i to left → IsMoreAt w i to true

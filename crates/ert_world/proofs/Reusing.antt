@@ -19,11 +19,12 @@ use Rattle.ert_world.specs.Worlds.{Seen, seen, AreSound, KeepsRows}
 use Rattle.ert_world.specs.declared.world.World.TheInside.{Inside}
 use Rattle.ert_timers.proofs.Freed.{reused_keeps}
 use Rattle.ert_world.proofs.CancelCalls.{put_back}
+use Rattle.ert_wheel.proofs.StandsOn.{stay_all}
 
 -- where a slot is held free again no row has come
 pub loses_reused : (p q : Part) (k : ℕ) → q ≡ reused p k → LosesRows p q
 loses_reused p q k is =
-    subst (LosesRows p) (sym is) (record { number = refl; slots = refl; left = λ j key held. held; time = omega arith; frees = reused_keeps p (reused p k) k refl })
+    subst (LosesRows p) (sym is) (record { number = refl; slots = refl; left = λ j key held. held; time = omega arith; frees = reused_keeps p (reused p k) k refl; stands = stay_all _ _ _ })
 
 -- so a tidy part stays so where rows go
 loses_tidy : (s : State) (p q : Part) → LosesRows p q → IsTidy s p → IsTidy s q
@@ -61,7 +62,7 @@ freed before b d i old new has low lent named stands loses =
 
 -- and its rows stay
 pub keeps_reused : (p q : Part) (k : ℕ) → q ≡ reused p k → KeepsRows p q
-keeps_reused p q k is = subst (KeepsRows p) (sym is) (record { keys = refl; time = refl })
+keeps_reused p q k is = subst (KeepsRows p) (sym is) (record { keys = refl; time = refl; stands = refl })
 
 pub kept_reused : (before : Seen) (b : Inside) (d : Desk) (i : ℕ) (old new : Part) → Has before b d → i < before.settings.schedulers
     → old ≡ slice_index_or b.wheels.items i old → KeepsRows old new
@@ -72,4 +73,4 @@ kept_reused before b d i old new has low lent kept j x =
     subst (λ (w : Seen). KeepsRows (slice_index_or w.wheels j x) (slice_index_or (slice_set ws i new) j x)) has.is
     (at_place (λ (y : Part). KeepsRows (slice_index_or ws j x) y) ws i j new x (rw has.fit.stand.wheels.counted (schedulers_at has i low))
     (λ one. subst (λ n. KeepsRows (slice_index_or ws n x) new) (sym one) here)
-    (λ other. record { keys = refl; time = refl }))
+    (λ other. record { keys = refl; time = refl; stands = refl }))

@@ -15,6 +15,7 @@ use Rattle.ert_wheel.specs.declared.row.Key.{Key}
 use Rattle.ert_mail.specs.Turns.{TurnRow}
 use Rattle.ert_world.specs.Ways.{is_unseated}
 use Rattle.ert_world.specs.Worlds.{Seen, ForgetsCancelled, HasForgottenAll, HasPassedAt, LoseRows, TurnsGrow}
+use Rattle.ert_wheel.proofs.StandsOn.{stay_all, stay_then}
 
 -- the desk, its settings, the clock and the seats stay, who waits for a turn keeps its place, no row of a timer comes, each slot
 -- that a wheel held free is so still, and the wheels forget what the world cancelled
@@ -84,6 +85,7 @@ stay a b c one other = record {
     left = λ k key is. first.left k key (second.left k key is);
     time = le_trans first.time second.time;
     frees = λ k was. second.frees k (first.frees k was);
+    stands = stay_then second.time second.left first.stands second.stands;
   });
   forgotten = forgets_then a b c one.forgotten other.forgotten one.next other.rows;
 }
@@ -95,7 +97,7 @@ same a = record {
   next = refl;
   clock = refl;
   turns = turns_same a.turns;
-  rows = λ i d. record { number = refl; slots = refl; left = λ k key is. is; time = le_refl (slice_index_or a.wheels i d).passed; frees = λ k was. was };
+  rows = λ i d. record { number = refl; slots = refl; left = λ k key is. is; time = le_refl (slice_index_or a.wheels i d).passed; frees = λ k was. was; stands = stay_all _ _ _ };
   forgotten = record { piece = []; grown = sym (append-nil a.history); forgotten = tt };
 }
 

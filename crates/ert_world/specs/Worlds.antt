@@ -131,10 +131,11 @@ pub record ForgetsCancelled (old new : Seen) : Type 0 where
 abbrev pub LoseRows : Seen → Seen → Type 0
 LoseRows old new = (i : ℕ) (d : Part) → LosesRows (slice_index_or old.wheels i d) (slice_index_or new.wheels i d)
 
--- the rows of a wheel stay, and so does its time
+-- the rows of a wheel stay, and so do its time and where they stand
 pub record KeepsRows (p q : Part) : Type 0 where
   pub keys : q.keys ≡ p.keys
   pub time : q.passed ≡ p.passed
+  pub stands : q.stands ≡ p.stands
 
 -- those of each wheel of a world
 abbrev pub KeepRows : Seen → Seen → Type 0

@@ -17,9 +17,10 @@ nothing = record {
   orphans = 0;
   passed = 0;
   next_look = 0;
+  stands = [];
 }
 
 pub returns : goal.returns
 returns c = λ w i to time passed told.
     let p : Part = slice_index_or w.wheels i nothing in
-    later_answers p.keys p.passed time to (told nothing) (passed nothing).left (passed nothing).on
+    later_answers p.keys p.stands p.passed time to (told nothing) (passed nothing).left (passed nothing).on
