@@ -5,10 +5,10 @@ use Rattle.std.specs.Fmt.{decimal}
 use Rattle.ert_defs.specs.declared.settings.SettingsFault.{SettingsFault}
 use Rattle.ert_defs.specs.declared.settings.SettingsFault.TheVariants.{Start, First, Count}
 use Rattle.ert_judge.specs.Texts.{◌⋅◌}
-use Rattle.ert_spelling.specs.Faults.{word_in, line_fault, IsUnfit}
-use Rattle.ert_spelling.specs.Spelling.{MisspelledAt}
-use Rattle.ert_spelling.specs.declared.wanted.Wanted.{Wanted}
-use Rattle.ert_spelling.specs.declared.wanted.Wanted.TheVariants.{SettingsWord, Mode, Truth, Integer, Small, Natural, Act, State, Found, Kind, When, Actor, Partner, Event, RequestKind, Picked, Taken, Left, End}
+use Rattle.ert_audit.specs.Faults.{word_in, line_fault, IsUnfit}
+use Rattle.ert_audit.specs.Spelling.{MisspelledAt}
+use Rattle.ert_audit.specs.declared.spelling.wanted.Wanted.{Wanted}
+use Rattle.ert_audit.specs.declared.spelling.wanted.Wanted.TheVariants.{SettingsWord, Mode, Truth, Integer, Small, Natural, Act, State, Found, Kind, When, Actor, Partner, Event, RequestKind, Picked, Taken, Left, End}
 use Rattle.ert_audit.specs.Messages.{line_after, line_end, lines_on, shortened, line_front}
 use Rattle.ert_audit.specs.declared.refusing.Refusal.{Refusal}
 use Rattle.ert_audit.specs.declared.refusing.Refusal.TheVariants.{At, Unfit, NoNewline, Misspelled}

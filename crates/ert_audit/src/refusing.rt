@@ -4,11 +4,11 @@ ghost use Rattle.std.specs.Prelude.{◌≡◌, ◌++◌, ◌-◌, ◌≤◌, ◌
 ghost use Rattle.ert_audit.specs.Messages.{line_after, line_front, shortened};
 ghost use Rattle.ert_audit.specs.Refusals.{IsRefusal, LiesIn, wanted_text, unfit_text, word_front, refusal_message};
 ghost use Rattle.ert_judge.specs.Texts.{◌⋅◌};
-ghost use Rattle.ert_spelling.specs.Faults.{word_in};
+ghost use Rattle.ert_audit.specs.Faults.{word_in};
 
 use crate::lines::{has_end, line_after, write_shown};
 use ert_defs::SettingsFault;
-use ert_spelling::{Fault, Wanted, fault_in, first_word, unfit};
+use crate::spelling::{Fault, Wanted, fault_in, first_word, unfit};
 use std::alloc::AllocError;
 use std::fmt::Write;
 

@@ -5,7 +5,7 @@ ghost use Rattle.ert_audit.specs.declared.verdict.Verdict as verdicts;
 
 use ert_defs::NoMemory;
 use ert_judge::{Reason, first_stop};
-use ert_spelling::{SpellingErr, one_spelling, read_history};
+use crate::spelling::{SpellingErr, one_spelling, read_history};
 use std::alloc::{AllocError, Global};
 use std::fmt::Write;
 

@@ -8,7 +8,7 @@ ghost use Rattle.ert_judge.specs.Breaks.{TickBreaks, ShiftBreaks, LookBreaks, Of
 use crate::reasons::Reason;
 use ert_clock::is_offset;
 use ert_defs::{Act, OffsetState, Reading, Settings};
-use ert_state::{Clock, may_act};
+use crate::state::{Clock, may_act};
 
 /// Why a tick can't be made.
 pub fn of_tick(

@@ -20,7 +20,7 @@ use crate::racing::race;
 use crate::running::run;
 use crate::stressing::stress;
 use ert_io::{OsClock, Sink, Source, write_all};
-use ert_race::Gate;
+use crate::races::Gate;
 use std::sync::Wait;
 use std::thread::Threads;
 
