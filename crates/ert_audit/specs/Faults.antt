@@ -11,7 +11,7 @@ use Rattle.ert_audit.specs.Events.{event_rows, read_settings}
 use Rattle.ert_audit.specs.Parts.{Word}
 use Rattle.ert_audit.specs.Readers.{optional, meant_by, keyword, whole}
 use Rattle.ert_audit.specs.Reading.{read_small, read_natural, read_integer, read_bool, read_mode, read_state, read_act, read_status, read_kind, read_request_kind, read_actor, read_with, read_left, when_rows, mail_rows}
-use Rattle.ert_audit.specs.declared.spelling.wanted.Fault.{Fault}
+use Rattle.ert_audit.specs.declared.spelling.wanted.WordFault.{WordFault}
 use Rattle.ert_audit.specs.declared.spelling.wanted.Wanted.{Wanted}
 use Rattle.ert_audit.specs.declared.spelling.wanted.Wanted.TheVariants.{SettingsWord, Mode, Truth, Integer, Small, Natural, Act, State, Found, Kind, When, Actor, Partner, Event, RequestKind, Picked, Taken, Left, End}
 
@@ -121,7 +121,7 @@ turns_after _ word more = more
 -- where words stop being spelled, of which the first begins after so many bytes: at the first that isn't read by
 -- whose turn it is; right behind the last where one more was to follow; and where some are left over, right behind
 -- the last that was to stand there
-unfoldable pub fault_from : List Wanted → List Word → ℕ → Option Fault
+unfoldable pub fault_from : List Wanted → List Word → ℕ → Option WordFault
 fault_from [] [] at = None
 fault_from [] (word ∷ words) at = Some (record { before = at - 1; wanted = End })
 fault_from (wanted ∷ more) [] at = Some (record { before = at - 1; wanted = wanted })
@@ -135,7 +135,7 @@ first_turns true = settings_turns
 first_turns false = entry_turns
 
 -- where the first line of a history or another stops being spelled
-abbrev pub line_fault : Bool → List ℕ → Option Fault
+abbrev pub line_fault : Bool → List ℕ → Option WordFault
 line_fault is_first line = fault_from (first_turns is_first) (words_in line) 0
 
 -- a line has settings that no service can be opened with

@@ -28,4 +28,4 @@ mod words;
 pub use faults::{fault_in, first_word, unfit};
 pub use history::{History, SpellingErr, read_history};
 pub use laws::one_spelling;
-pub use wanted::{Fault, Wanted};
+pub use wanted::{WordFault, Wanted};

@@ -1,8 +1,8 @@
 ghost use Rattle.std.specs.Prelude.{◌≡◌};
 
+use crate::state::{Clock, Exits, Inboxes, Looks, Mailboxes, Schedulers, Timers};
 use ert_defs::milliseconds::{deadline_of, down, left};
 use ert_defs::{Actor, Entry, Event, NoMemory, Settings, Status, TimerRef};
-use crate::state::{Clock, Exits, Inboxes, Looks, Mailboxes, Schedulers, Timers};
 use std::alloc::Global;
 
 /// The state after the entries so far.

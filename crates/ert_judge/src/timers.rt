@@ -14,9 +14,9 @@ ghost use Rattle.ert_judge.specs.Wheels.{timers_at, timer_in, IsFirstDue};
 
 use crate::judge::Judge;
 use crate::reasons::Reason;
+use crate::state::{Timer, Uses};
 use ert_defs::milliseconds::{deadline_of, down, passed};
 use ert_defs::{Actor, Start, Status, TimerRef, use_of};
-use crate::state::{Timer, Uses};
 
 /// How many timers a wheel may have had (profile).
 const TIMERS_OF_WHEEL: usize = 1 << 53;

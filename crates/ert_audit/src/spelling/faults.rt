@@ -14,12 +14,12 @@ use crate::spelling::numbers::{integer, natural, small};
 use crate::spelling::settings::{act, mode, settings_of, state};
 use crate::spelling::timers::{found, kind, left};
 use crate::spelling::turns::{event_turns, first_turns, mail_turns, turns_after};
-use crate::spelling::wanted::{Fault, Wanted};
+use crate::spelling::wanted::{WordFault, Wanted};
 use crate::spelling::words::truth;
 use ert_defs::SettingsFault;
 
 /// Where the line of settings, or of an entry, stops being spelled; None where it is spelled to its end.
-pub fn fault_in(line: &[u8], is_first: bool) -> Option<Fault>
+pub fn fault_in(line: &[u8], is_first: bool) -> Option<WordFault>
     ensures fault { result ≡ line_fault is_first line.now }
     ensures within { IfSome result (λ fault. fault.before ≤ length line.now) }
 {
@@ -27,14 +27,14 @@ pub fn fault_in(line: &[u8], is_first: bool) -> Option<Fault>
     let mut at = 0;
     while let [wanted, more @ ..] = turns {
         if at > line.len() {
-            return Some(Fault {
+            return Some(WordFault {
                 before: line.len(),
                 wanted: *wanted,
             });
         }
         let word = first_word(line, at);
         if !is_read(*wanted, word) {
-            return Some(Fault {
+            return Some(WordFault {
                 before: at,
                 wanted: *wanted,
             });
@@ -45,7 +45,7 @@ pub fn fault_in(line: &[u8], is_first: bool) -> Option<Fault>
     if at > line.len() {
         return None;
     }
-    Some(Fault {
+    Some(WordFault {
         before: at.saturating_sub(1),
         wanted: Wanted::End,
     })

@@ -43,7 +43,7 @@ pub enum Wanted {
 
 /// Where a line stops being spelled, and what could stand there.
 #[derive(Clone, Copy)]
-pub struct Fault {
+pub struct WordFault {
     /// So many bytes of the line stand before.
     pub before: usize,
     pub wanted: Wanted,
