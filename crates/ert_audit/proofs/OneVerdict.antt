@@ -10,7 +10,7 @@ use Rattle.ert_defs.specs.declared.settings.Settings.{Settings}
 use Rattle.ert_defs.proofs.Runs.{legal_first}
 use Rattle.ert_defs.specs.States.{opening}
 use Rattle.ert_judge.specs.Verdicts.{IsFirstIllegal}
-use Rattle.ert_spelling.specs.Spelling.{Spells, MisspelledAt}
+use Rattle.ert_audit.specs.Spelling.{Spells, MisspelledAt}
 use Rattle.ert_audit.specs.Verdicts.{IsHistory, IsLegalText, IsIllegalText, HasVerdict}
 use Rattle.ert_audit.specs.declared.verdict.Verdict.{Verdict}
 use Rattle.ert_audit.specs.declared.verdict.Verdict.TheVariants as verdicts

@@ -10,9 +10,9 @@ use Rattle.ert_defs.specs.declared.settings.Settings.{Settings}
 use Rattle.ert_judge.specs.Verdicts.{StopsAtIllegal}
 use Rattle.ert_judge.specs.declared.stops.Stop.{Stop}
 use Rattle.ert_audit.specs.Findings.{IsIllegalBy}
-use Rattle.ert_spelling.specs.Spelling.{Spells}
-use Rattle.ert_spelling.specs.declared.history.History.{History}
-use Rattle.ert_spelling.specs.declared.history.SpellingErr.{SpellingErr}
+use Rattle.ert_audit.specs.Spelling.{Spells}
+use Rattle.ert_audit.specs.declared.spelling.history.History.{History}
+use Rattle.ert_audit.specs.declared.spelling.history.SpellingErr.{SpellingErr}
 use Rattle.ert_audit.specs.Verdicts.{IsHistory, IsLegalText}
 
 -- the answer of a judge

@@ -6,7 +6,7 @@ use Rattle.ert_defs.specs.declared.entry.Entry.{Entry}
 use Rattle.ert_judge.specs.Reasons.{IsFirstReason}
 use Rattle.ert_judge.specs.Verdicts.{IsFirstIllegal}
 use Rattle.ert_judge.specs.declared.reasons.Reason.{Reason}
-use Rattle.ert_spelling.specs.Spelling.{MisspelledAt}
+use Rattle.ert_audit.specs.Spelling.{MisspelledAt}
 use Rattle.ert_audit.specs.Verdicts.{IsHistory, IsLegalText}
 use Rattle.ert_audit.specs.declared.verdict.Finding.{Finding}
 use Rattle.ert_audit.specs.declared.verdict.Finding.TheVariants.{Legal, Illegal, Refused}

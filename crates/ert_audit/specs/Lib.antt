@@ -1,6 +1,15 @@
 pub mod Audits
+pub mod Cuts
+pub mod Entries
+pub mod Events
 pub mod Explained
+pub mod Faults
 pub mod Findings
+pub mod Fits
 pub mod Messages
+pub mod Parts
+pub mod Readers
+pub mod Reading
 pub mod Refusals
+pub mod Spelling
 pub mod Verdicts

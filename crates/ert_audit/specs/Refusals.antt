@@ -5,17 +5,17 @@ use Rattle.std.specs.Fmt.{decimal}
 use Rattle.ert_defs.specs.declared.settings.SettingsFault.{SettingsFault}
 use Rattle.ert_defs.specs.declared.settings.SettingsFault.TheVariants.{Start, First, Count}
 use Rattle.ert_judge.specs.Texts.{◌⋅◌}
-use Rattle.ert_spelling.specs.Faults.{word_in, line_fault, IsUnfit}
-use Rattle.ert_spelling.specs.Spelling.{MisspelledAt}
-use Rattle.ert_spelling.specs.declared.wanted.Wanted.{Wanted}
-use Rattle.ert_spelling.specs.declared.wanted.Wanted.TheVariants.{SettingsWord, Mode, Truth, Integer, Small, Natural, Act, State, Found, Kind, When, Actor, Partner, Event, RequestKind, Picked, Taken, Left, End}
+use Rattle.ert_audit.specs.Faults.{word_in, line_fault, IsUnfit}
+use Rattle.ert_audit.specs.Spelling.{MisspelledAt}
+use Rattle.ert_audit.specs.declared.spelling.wanted.Wanted.{Wanted}
+use Rattle.ert_audit.specs.declared.spelling.wanted.Wanted.TheVariants.{SettingsWord, Mode, Truth, Integer, Small, Natural, Act, State, Found, Kind, When, Actor, Partner, Event, RequestKind, Picked, Taken, Left, End}
 use Rattle.ert_audit.specs.Messages.{line_after, line_end, lines_on, shortened, line_front}
-use Rattle.ert_audit.specs.declared.refusing.Refusal.{Refusal}
-use Rattle.ert_audit.specs.declared.refusing.Refusal.TheVariants.{At, Unfit, NoNewline, Misspelled}
+use Rattle.ert_audit.specs.declared.refusing.LineRefusal.{LineRefusal}
+use Rattle.ert_audit.specs.declared.refusing.LineRefusal.TheVariants.{At, Unfit, NoNewline, Misspelled}
 
 -- why a line is misspelled, the first of these that holds: it stops being spelled at a word; no newline ends it; no
 -- service can be opened with its settings
-abbrev pub IsRefusal : List ℕ → ℕ → Refusal → Type 0
+abbrev pub IsRefusal : List ℕ → ℕ → LineRefusal → Type 0
 IsRefusal text line (At fault) = line_fault (line == 1) (line_after text (line - 1)) ≡ Some fault
 IsRefusal text line NoNewline =
     (line_fault (line == 1) (line_after text (line - 1)) ≡ None) × (line_end (lines_on (line - 1) text) ≡ None)
@@ -27,7 +27,7 @@ IsRefusal text line Misspelled =
     × ((fault : SettingsFault) → IsUnfit (line_after text (line - 1)) fault → ⊥)
 
 -- a fault lies in the bytes
-abbrev pub LiesIn : List ℕ → Refusal → Type 0
+abbrev pub LiesIn : List ℕ → LineRefusal → Type 0
 LiesIn bytes (At fault) = fault.before ≤ length bytes
 LiesIn bytes _ = Unit {0}
 
@@ -64,7 +64,7 @@ abbrev pub word_front : ℕ → ℕ → List ℕ
 word_front line before = codes "history:" ⋅ decimal line ⋅ codes ":" ⋅ decimal (before + 1) ⋅ codes ": \""
 
 -- the message on a misspelled line
-abbrev pub refusal_message : List ℕ → ℕ → Refusal → List ℕ
+abbrev pub refusal_message : List ℕ → ℕ → LineRefusal → List ℕ
 refusal_message bytes line (At fault) =
     word_front line fault.before
     ⋅ shortened (word_in (drop fault.before bytes)) ⋅ codes "\": expected " ⋅ wanted_text fault.wanted ⋅ codes "\n"
@@ -76,6 +76,6 @@ refusal_message bytes line Misspelled = line_front line ⋅ codes "the line is m
 pub record IsRefusalMessage (text message : List ℕ) : Type 0 where
   pub line : ℕ
   pub misspelled : MisspelledAt text line
-  pub refusal : Refusal
+  pub refusal : LineRefusal
   pub why : IsRefusal text line refusal
   pub is : message ≡ refusal_message (line_after text (line - 1)) line refusal

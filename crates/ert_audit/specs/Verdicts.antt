@@ -7,7 +7,7 @@ use Rattle.ert_defs.specs.Settings.{IsChecked}
 use Rattle.ert_defs.specs.declared.entry.Entry.{Entry}
 use Rattle.ert_defs.specs.declared.settings.Settings.{Settings}
 use Rattle.ert_judge.specs.Verdicts.{IsFirstIllegal}
-use Rattle.ert_spelling.specs.Spelling.{Spells, MisspelledAt}
+use Rattle.ert_audit.specs.Spelling.{Spells, MisspelledAt}
 use Rattle.ert_audit.specs.declared.verdict.Verdict.{Verdict}
 use Rattle.ert_audit.specs.declared.verdict.Verdict.TheVariants as verdicts
 

@@ -8,7 +8,7 @@ ghost use Rattle.ert_audit.specs.Messages.{line_front, shortened, illegal_messag
 ghost use Rattle.ert_audit.specs.Refusals.{IsRefusalMessage};
 ghost use Rattle.ert_io.specs.Writing.{WritesFront};
 ghost use Rattle.ert_judge.specs.Texts.{◌⋅◌, reason_text};
-ghost use Rattle.ert_spelling.specs.Spelling.{MisspelledAt};
+ghost use Rattle.ert_audit.specs.Spelling.{MisspelledAt};
 
 use crate::auditing::Audited;
 use crate::lines::{line_after, write_shown};

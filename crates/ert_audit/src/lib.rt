@@ -2,10 +2,10 @@
 //! service that was written down, and tells whether it is legal.
 //!
 //! `audit` is the whole of that; its contract says what each status means, by the spelling of histories
-//! (`ert_spelling`) and the model of the service (`ert_defs`). `explain` tells why a history isn't legal, or why a text
+//! (`spelling`) and the model of the service (`ert_defs`). `explain` tells why a history isn't legal, or why a text
 //! spells none; its contract says that what is told is so. Without streams, `find_in` judges a text, `Finding::verdict`
-//! gives the verdict, `write_verdict` its line, and `message_on` the message. The crate stands on `ert_spelling`, which
-//! reads, on `ert_judge`, which finds the first entry that isn't legal and the condition that it breaks, and on `ert_io`;
+//! gives the verdict, `write_verdict` its line, and `message_on` the message. `spelling` reads. The crate stands on
+//! `ert_judge`, which finds the first entry that isn't legal and the condition that it breaks, and on `ert_io`;
 //! of the service itself it has only the clock's rules on plain numbers.
 //!
 //! The crate `ert_audit_cli` hands it the standard streams of the machine.
@@ -25,10 +25,12 @@ mod auditing;
 mod explaining;
 mod lines;
 mod refusing;
+mod spelling;
 mod status;
 mod verdict;
 
 pub use auditing::{Audited, audit};
 pub use explaining::{explain, message_on};
+pub use spelling::one_spelling;
 pub use status::AuditStatus;
 pub use verdict::{Finding, Verdict, find_in, one_verdict, write_verdict};

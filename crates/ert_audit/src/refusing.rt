@@ -4,19 +4,19 @@ ghost use Rattle.std.specs.Prelude.{◌≡◌, ◌++◌, ◌-◌, ◌≤◌, ◌
 ghost use Rattle.ert_audit.specs.Messages.{line_after, line_front, shortened};
 ghost use Rattle.ert_audit.specs.Refusals.{IsRefusal, LiesIn, wanted_text, unfit_text, word_front, refusal_message};
 ghost use Rattle.ert_judge.specs.Texts.{◌⋅◌};
-ghost use Rattle.ert_spelling.specs.Faults.{word_in};
+ghost use Rattle.ert_audit.specs.Faults.{word_in};
 
 use crate::lines::{has_end, line_after, write_shown};
+use crate::spelling::{Wanted, WordFault, fault_in, first_word, unfit};
 use ert_defs::SettingsFault;
-use ert_spelling::{Fault, Wanted, fault_in, first_word, unfit};
 use std::alloc::AllocError;
 use std::fmt::Write;
 
 /// Why a line is misspelled.
 #[derive(Clone, Copy)]
-pub enum Refusal {
+pub enum LineRefusal {
     /// A word isn't one that could stand there.
-    At(Fault),
+    At(WordFault),
     /// No service can be opened with the settings.
     Unfit(SettingsFault),
     /// No newline ends the line.
@@ -26,21 +26,21 @@ pub enum Refusal {
 }
 
 /// Why a line, by its number from 1, is misspelled.
-pub fn refusal_of(text: &[u8], number: usize) -> Refusal
+pub fn refusal_of(text: &[u8], number: usize) -> LineRefusal
     ensures why { IsRefusal text.now number result }
     ensures lies { LiesIn (line_after text.now (number - 1)) result }
 {
     let lines = number.saturating_sub(1);
     let line = line_after(text, lines);
     if let Some(fault) = fault_in(line, number == 1) {
-        return Refusal::At(fault);
+        return LineRefusal::At(fault);
     }
     if !has_end(text, lines) {
-        return Refusal::NoNewline;
+        return LineRefusal::NoNewline;
     }
     match unfit(line) {
-        Some(fault) => Refusal::Unfit(fault),
-        None => Refusal::Misspelled,
+        Some(fault) => LineRefusal::Unfit(fault),
+        None => LineRefusal::Misspelled,
     }
 }
 
@@ -49,16 +49,16 @@ pub fn write_refusal(
     page: &mut String,
     bytes: &[u8],
     line: usize,
-    refusal: Refusal,
+    refusal: LineRefusal,
 ) -> Result<(), AllocError>
     requires { LiesIn bytes.now refusal }
     ensures { OnOk result (string_bytes page.new ≡ string_bytes page.old ++ refusal_message bytes.now line refusal) }
 {
     match refusal {
-        Refusal::At(fault) => write_fault(page, bytes, line, fault),
-        Refusal::Unfit(fault) => write_text(page, line, unfit_text(fault)),
-        Refusal::NoNewline => write_text(page, line, "the line has no newline at its end"),
-        Refusal::Misspelled => write_text(page, line, "the line is misspelled"),
+        LineRefusal::At(fault) => write_fault(page, bytes, line, fault),
+        LineRefusal::Unfit(fault) => write_text(page, line, unfit_text(fault)),
+        LineRefusal::NoNewline => write_text(page, line, "the line has no newline at its end"),
+        LineRefusal::Misspelled => write_text(page, line, "the line is misspelled"),
     }
 }
 
@@ -70,9 +70,14 @@ fn write_text(page: &mut String, line: usize, text: &str) -> Result<(), AllocErr
 }
 
 /// Appends the message on a word that could not stand there.
-fn write_fault(page: &mut String, bytes: &[u8], line: usize, fault: Fault) -> Result<(), AllocError>
+fn write_fault(
+    page: &mut String,
+    bytes: &[u8],
+    line: usize,
+    fault: WordFault,
+) -> Result<(), AllocError>
     requires { fault.before ≤ length bytes.now }
-    ensures { OnOk result (string_bytes page.new ≡ string_bytes page.old ++ refusal_message bytes.now line (Refusal.At fault)) }
+    ensures { OnOk result (string_bytes page.new ≡ string_bytes page.old ++ refusal_message bytes.now line (LineRefusal.At fault)) }
 {
     write_place(page, line, fault.before)?;
     write_word(page, first_word(bytes, fault.before), fault.wanted)

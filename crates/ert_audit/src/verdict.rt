@@ -3,9 +3,9 @@ ghost use Rattle.ert_audit.specs.Findings.{IsFound};
 ghost use Rattle.ert_audit.specs.Verdicts.{HasVerdict, verdict_line};
 ghost use Rattle.ert_audit.specs.declared.verdict.Verdict as verdicts;
 
+use crate::spelling::{SpellingErr, one_spelling, read_history};
 use ert_defs::NoMemory;
 use ert_judge::{Reason, first_stop};
-use ert_spelling::{SpellingErr, one_spelling, read_history};
 use std::alloc::{AllocError, Global};
 use std::fmt::Write;
 

@@ -8,8 +8,7 @@
 
 use ert_explain::explain;
 use ert_io::{HostClock, StdSink, StdSource};
-use ert_program::{EndStatus, ertime};
-use ert_race::FreeGate;
+use ert_program::{EndStatus, FreeGate, ertime};
 use std::io::ErrorKind;
 use std::process::ExitCode;
 use std::rt::Env;

@@ -9,7 +9,7 @@ use std::alloc::Global;
 
 /// A step into an array or an object.
 #[derive(Clone, Copy)]
-enum Step<'a> {
+enum PathStep<'a> {
     /// To the value of the last member of this name.
     Member(&'a str),
     /// To the item of this index.
@@ -43,20 +43,20 @@ impl<'a> Locator<'a> {
 
     /// To the value of the last member of this name.
     pub(crate) fn member(self, name: &str) -> Locator<'a> {
-        self.step(Step::Member(name))
+        self.step(PathStep::Member(name))
     }
 
     /// To the item of this index.
     pub(crate) fn item(self, index: usize) -> Locator<'a> {
-        self.step(Step::Item(index))
+        self.step(PathStep::Item(index))
     }
 
     /// To the name of the first member that is no field of a scenario, or of a race.
     pub(crate) fn other_name(self, of_race: bool) -> Locator<'a> {
-        self.step(Step::OtherName(of_race))
+        self.step(PathStep::OtherName(of_race))
     }
 
-    fn step(self, step: Step<'_>) -> Locator<'a> {
+    fn step(self, step: PathStep<'_>) -> Locator<'a> {
         match step_from(self.alloc, self.bytes, self.piece.start, step) {
             Some(piece) => Locator { piece, ..self },
             None => self,
@@ -77,7 +77,7 @@ fn first_piece(bytes: &[u8]) -> Piece {
 }
 
 /// The first piece to which a step leads from the value that begins at an offset.
-fn step_from(alloc: Global, bytes: &[u8], start: usize, step: Step<'_>) -> Option<Piece> {
+fn step_from(alloc: Global, bytes: &[u8], start: usize, step: PathStep<'_>) -> Option<Piece> {
     let mut scanner = Scanner::new(bytes, start);
     let mut seeker = Seeker {
         step,
@@ -103,7 +103,7 @@ fn step_from(alloc: Global, bytes: &[u8], start: usize, step: Step<'_>) -> Optio
 /// Seeks the piece to which a step leads.
 #[derive(Drop)]
 struct Seeker<'a> {
-    step: Step<'a>,
+    step: PathStep<'a>,
     /// How many items were passed.
     count: usize,
     /// Whether the last name was that of the step.
@@ -115,15 +115,15 @@ impl Seeker<'_> {
     /// Looks at the next piece in the array or the object.
     fn look(&mut self, alloc: Global, bytes: &[u8], piece: Piece) {
         match (self.step, piece.kind) {
-            (Step::Member(name), PieceKind::Name) => {
+            (PathStep::Member(name), PieceKind::Name) => {
                 self.is_named = match text_of(alloc, bytes, piece) {
                     Some(text) => text.as_str() == name,
                     None => false,
                 };
             }
-            (Step::Member(_), _) if self.is_named => self.found = Some(piece),
-            (Step::Item(index), _) if self.count == index => self.found = Some(piece),
-            (Step::OtherName(of_race), PieceKind::Name) => {
+            (PathStep::Member(_), _) if self.is_named => self.found = Some(piece),
+            (PathStep::Item(index), _) if self.count == index => self.found = Some(piece),
+            (PathStep::OtherName(of_race), PieceKind::Name) => {
                 let is_known = match text_of(alloc, bytes, piece) {
                     Some(name) => is_known(name.as_str(), of_race),
                     None => false,
@@ -139,7 +139,7 @@ impl Seeker<'_> {
 
     /// Whether no later piece counts.
     fn is_over(&self) -> bool {
-        self.found.is_some() && !matches!(self.step, Step::Member(_))
+        self.found.is_some() && !matches!(self.step, PathStep::Member(_))
     }
 }
 

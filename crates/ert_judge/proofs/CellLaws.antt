@@ -15,7 +15,7 @@ use Rattle.ert_defs.specs.declared.entry.Event.{Event}
 use Rattle.ert_defs.specs.declared.entry.Event.TheVariants.{Look}
 use Rattle.ert_defs.specs.declared.mail.Request.{Request}
 use Rattle.ert_defs.specs.declared.settings.Settings.{Settings}
-use Rattle.ert_state.specs.Parts.{LastLooks, look_of, looks_after, inbox_at, inboxes_after, sched_at, scheds_after}
+use Rattle.ert_judge.specs.Parts.{LastLooks, look_of, looks_after, inbox_at, inboxes_after, sched_at, scheds_after}
 
 -- a cell of a list of which one cell was set
 pub cell_set : {X : Type 0} (xs : List X) (i j : ℕ) (v d : X) → i < length xs

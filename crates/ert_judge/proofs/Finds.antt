@@ -9,9 +9,9 @@ use Rattle.ert_defs.specs.declared.settings.Settings.{Settings}
 use Rattle.ert_defs.specs.declared.timer.Status.{Status}
 use Rattle.ert_defs.specs.declared.timer.Status.TheVariants.{Armed}
 use Rattle.ert_defs.specs.declared.timer.TimerRef.{TimerRef}
-use Rattle.ert_state.specs.Wheels.{timer_in, rows_of, status_among}
-use Rattle.ert_state.specs.declared.wheels.Timer.{Timer}
-use Rattle.ert_state.proofs.WheelLaws.{row_of_rows}
+use Rattle.ert_judge.specs.Wheels.{timer_in, rows_of, status_among}
+use Rattle.ert_judge.specs.declared.state.wheels.Timer.{Timer}
+use Rattle.ert_judge.proofs.WheelLaws.{row_of_rows}
 
 -- what is left of a timer, by what is found of it
 pub left_found : (g : Settings) (look : ℤ) (ts : List Timer) (r : TimerRef) (t : Option Timer) → t ≡ timer_in ts r

@@ -11,12 +11,12 @@ use Rattle.ert_defs.specs.Timers.{row_of}
 use Rattle.ert_defs.specs.declared.entry.Actor.{Actor}
 use Rattle.ert_defs.specs.declared.timer.Status.TheVariants.{Armed}
 use Rattle.ert_defs.specs.declared.timer.TimerRef.{TimerRef}
-use Rattle.ert_state.proofs.ArmedLaws.{settled_if, settled_each}
-use Rattle.ert_state.proofs.WheelLaws.{row_of_rows}
-use Rattle.ert_state.specs.Indexes.{IsFirstArmed}
-use Rattle.ert_state.specs.Parts.{looks_in, look_of, status_at}
-use Rattle.ert_state.specs.Wheels.{timers_at, timer_in, rows_of, is_settled, IsFirstDue, IsOwnOf}
-use Rattle.ert_state.specs.declared.wheels.Timer.{Timer}
+use Rattle.ert_judge.proofs.ArmedLaws.{settled_if, settled_each}
+use Rattle.ert_judge.proofs.WheelLaws.{row_of_rows}
+use Rattle.ert_judge.specs.Indexes.{IsFirstArmed}
+use Rattle.ert_judge.specs.Parts.{looks_in, look_of, status_at}
+use Rattle.ert_judge.specs.Wheels.{timers_at, timer_in, rows_of, is_settled, IsFirstDue, IsOwnOf}
+use Rattle.ert_judge.specs.declared.state.wheels.Timer.{Timer}
 use Rattle.ert_judge.proofs.EventsExclude.{settled_row}
 use Rattle.ert_judge.proofs.Knows.{shown_all}
 use Rattle.ert_judge.proofs.Seen.{never_next}

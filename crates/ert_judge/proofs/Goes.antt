@@ -16,12 +16,12 @@ use Rattle.ert_defs.specs.declared.settings.Settings.{Settings}
 use Rattle.ert_defs.specs.declared.timer.TimerRef.{TimerRef}
 use Rattle.ert_defs.proofs.Runs.{state-append, legal_more}
 use Rattle.ert_defs.proofs.Slots.{uses_after}
-use Rattle.ert_state.specs.Parts.{LastLooks, looks_in, look_of, rows_in, status_at, inbox_at, sched_at}
+use Rattle.ert_judge.specs.Parts.{LastLooks, looks_in, look_of, rows_in, status_at, inbox_at, sched_at}
 use Rattle.ert_judge.specs.Shown.{shown, ClockIs, ClockFollows, Follows, HasFollowed}
-use Rattle.ert_state.specs.Uses.{uses_in}
-use Rattle.ert_state.specs.Wheels.{timers_at, IsOwn}
+use Rattle.ert_judge.specs.Uses.{uses_in}
+use Rattle.ert_judge.specs.Wheels.{timers_at, IsOwn}
 use Rattle.ert_judge.specs.declared.judge.Judge.{Judge}
-use Rattle.ert_state.specs.declared.wheels.Timer.{Timer}
+use Rattle.ert_judge.specs.declared.state.wheels.Timer.{Timer}
 use Rattle.ert_judge.proofs.CellLaws.{inboxes_follow, length-inboxes_after, scheds_follow, length-scheds_after, looks_follow, length-callers_after, length-schedulers_after}
 use Rattle.ert_judge.proofs.Makers.{IsMade, IsPartner, made, looker, not_by_wheel, not_by_inbox, not_by_mail, not_with_sched}
 use Rattle.ert_judge.proofs.Stands.{same_states, by_other, with_other, clock_stands}

@@ -7,11 +7,11 @@ use Rattle.ert_defs.specs.Legal.{IsNext}
 use Rattle.ert_defs.specs.Milliseconds.{down}
 use Rattle.ert_defs.specs.declared.entry.Actor.{Actor}
 use Rattle.ert_defs.specs.declared.timer.TimerRef.{TimerRef}
-use Rattle.ert_state.specs.Parts.{looks_in, look_of, status_at}
+use Rattle.ert_judge.specs.Parts.{looks_in, look_of, status_at}
 use Rattle.ert_judge.specs.Shown.{shown, OwnTimers}
-use Rattle.ert_state.specs.Wheels.{timers_at, status_among, AreShown, IsFirstDue}
+use Rattle.ert_judge.specs.Wheels.{timers_at, status_among, AreShown, IsFirstDue}
 use Rattle.ert_judge.specs.declared.judge.Judge.{Judge}
-use Rattle.ert_state.proofs.WheelLaws.{own_shown}
+use Rattle.ert_judge.proofs.WheelLaws.{own_shown}
 use Rattle.ert_judge.proofs.WheelTests.{first_is_next}
 
 -- each timer of a wheel has its own status in the state

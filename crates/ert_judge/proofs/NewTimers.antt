@@ -19,10 +19,10 @@ use Rattle.ert_defs.specs.declared.entry.Event.TheVariants.{Arm}
 use Rattle.ert_defs.specs.declared.settings.Settings.{Settings}
 use Rattle.ert_defs.specs.declared.timer.Start.{Start}
 use Rattle.ert_defs.specs.declared.timer.TimerRef.{TimerRef}
-use Rattle.ert_state.specs.Parts.{looks_in, look_of}
-use Rattle.ert_state.specs.Uses.{uses_in, IsNewUse}
-use Rattle.ert_state.specs.Wheels.{timers_at, rows_of, status_among, IsOwnOf, IsOwn}
-use Rattle.ert_state.specs.declared.wheels.Timer.{Timer}
+use Rattle.ert_judge.specs.Parts.{looks_in, look_of}
+use Rattle.ert_judge.specs.Uses.{uses_in, IsNewUse}
+use Rattle.ert_judge.specs.Wheels.{timers_at, rows_of, status_among, IsOwnOf, IsOwn}
+use Rattle.ert_judge.specs.declared.state.wheels.Timer.{Timer}
 use Rattle.ert_judge.specs.Breaks.{ArmBreaks, UseBreaks, IsUse, last_status_of, looked_at}
 use Rattle.ert_judge.specs.Shown.{shown, last_status, HasFollowed}
 use Rattle.ert_judge.specs.declared.judge.Judge.{Judge}

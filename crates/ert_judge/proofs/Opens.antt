@@ -9,12 +9,12 @@ use Rattle.ert_defs.specs.States.{opening}
 use Rattle.ert_defs.specs.declared.entry.Actor.{Actor}
 use Rattle.ert_defs.specs.declared.entry.Actor.TheVariants.{Keeper, Wheel, Inbox, Sched, MailOf, Caller}
 use Rattle.ert_defs.specs.declared.settings.Settings.{Settings}
-use Rattle.ert_state.specs.Parts.{LastLooks, no_looks, look_of, inbox_at, sched_at}
+use Rattle.ert_judge.specs.Parts.{LastLooks, no_looks, look_of, inbox_at, sched_at}
 use Rattle.ert_judge.specs.Shown.{shown, IsOpening, HasFollowed}
-use Rattle.ert_state.specs.Uses.{uses_in}
-use Rattle.ert_state.specs.Wheels.{timers_at, rows_of, status_among, IsOwn}
+use Rattle.ert_judge.specs.Uses.{uses_in}
+use Rattle.ert_judge.specs.Wheels.{timers_at, rows_of, status_among, IsOwn}
 use Rattle.ert_judge.specs.declared.judge.Judge.{Judge}
-use Rattle.ert_state.specs.declared.wheels.Timer.{Timer}
+use Rattle.ert_judge.specs.declared.state.wheels.Timer.{Timer}
 use Rattle.ert_judge.proofs.Stands.{same_states}
 
 -- each cell is as at the opening

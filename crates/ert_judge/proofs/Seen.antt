@@ -26,9 +26,9 @@ use Rattle.ert_judge.specs.Ranges.{MayBeInRange}
 use Rattle.ert_judge.specs.Reasons.{IsFirstReason, BreaksRange}
 use Rattle.ert_judge.specs.Reasons.IsFirstReason.{out_of_range, breaks}
 use Rattle.ert_judge.specs.declared.reasons.Reason.{Reason}
-use Rattle.ert_state.specs.Parts.{looks_in, look_of}
-use Rattle.ert_state.specs.Wheels.{timers_at, IsFirstDue}
-use Rattle.ert_state.specs.declared.clock.Clock.{Clock as KeptClock}
+use Rattle.ert_judge.specs.Parts.{looks_in, look_of}
+use Rattle.ert_judge.specs.Wheels.{timers_at, IsFirstDue}
+use Rattle.ert_judge.specs.declared.state.clock.Clock.{Clock as KeptClock}
 
 -- what was found false isn't so
 pub refuted : (P : Type 0) (b : Bool) → IsTrue b ↔ P → b ≡ false → P → ⊥

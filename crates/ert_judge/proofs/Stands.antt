@@ -14,7 +14,7 @@ use Rattle.ert_defs.specs.declared.settings.Settings.{Settings}
 use Rattle.ert_defs.specs.declared.timer.TimerRef.{TimerRef}
 use Rattle.ert_clock.specs.Faces.{face_of}
 use Rattle.ert_judge.specs.Shown.{ClockIs, ClockFollows, face_moved, due_moved}
-use Rattle.ert_state.specs.declared.clock.Clock.{Clock as KeptClock}
+use Rattle.ert_judge.specs.declared.state.clock.Clock.{Clock as KeptClock}
 
 -- states of the same parts are one
 pub same_states : (s t : State) → s.clock ≡ t.clock → ((a : Actor) → s.looked a ≡ t.looked a)

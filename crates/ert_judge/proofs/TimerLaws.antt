@@ -19,14 +19,14 @@ use Rattle.ert_defs.specs.declared.timer.Start.{Start}
 use Rattle.ert_defs.specs.declared.timer.Status.{Status}
 use Rattle.ert_defs.specs.declared.timer.Status.TheVariants.{Armed, Expired, Delivered, Cancelled, Orphaned, Dropped}
 use Rattle.ert_defs.specs.declared.timer.TimerRef.{TimerRef}
-use Rattle.ert_state.specs.Parts.{rows_in, status_at, with_moved, armed_timer, with_armed, timers_after, ArmsNew}
+use Rattle.ert_judge.specs.Parts.{rows_in, status_at, with_moved, armed_timer, with_armed, timers_after, ArmsNew}
 use Rattle.ert_judge.specs.Shown.{deadline_by}
-use Rattle.ert_state.specs.Uses.{uses_of, none_kept, used_by, uses_in, IsNewUse}
-use Rattle.ert_state.specs.Wheels.{timers_at, timer_in, rows_of, status_among, moved, IsOwn}
-use Rattle.ert_state.specs.declared.wheels.Timer.{Timer}
+use Rattle.ert_judge.specs.Uses.{uses_of, none_kept, used_by, uses_in, IsNewUse}
+use Rattle.ert_judge.specs.Wheels.{timers_at, timer_in, rows_of, status_among, moved, IsOwn}
+use Rattle.ert_judge.specs.declared.state.wheels.Timer.{Timer}
 use Rattle.ert_judge.proofs.CellLaws.{cell_after}
-use Rattle.ert_state.proofs.UseLaws.{uses_push, uses_moved}
-use Rattle.ert_state.proofs.WheelLaws.{rows_moved, status_settled, status_handed, own_moved, status_armed, own_armed}
+use Rattle.ert_judge.proofs.UseLaws.{uses_push, uses_moved}
+use Rattle.ert_judge.proofs.WheelLaws.{rows_moved, status_settled, status_handed, own_moved, status_armed, own_armed}
 
 -- no timer of its slot has the generation of a timer, and its start has a deadline
 pub record IsNew (ws : List (List Timer)) (timer : TimerRef) (deadline : Option ℕ) : Type 0 where

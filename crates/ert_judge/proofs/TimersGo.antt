@@ -6,10 +6,10 @@ use Rattle.ert_defs.specs.Legal.{Can}
 use Rattle.ert_defs.specs.States.{State, state}
 use Rattle.ert_defs.specs.declared.entry.Entry.{Entry}
 use Rattle.ert_defs.specs.declared.settings.Settings.{Settings}
-use Rattle.ert_state.specs.Parts.{looks_in, look_of, timers_after}
+use Rattle.ert_judge.specs.Parts.{looks_in, look_of, timers_after}
 use Rattle.ert_judge.specs.Shown.{HasFollowed, Follows, deadline_by}
 use Rattle.ert_judge.specs.declared.judge.Judge.{Judge}
-use Rattle.ert_state.specs.declared.wheels.Timer.{Timer}
+use Rattle.ert_judge.specs.declared.state.wheels.Timer.{Timer}
 use Rattle.ert_judge.proofs.Goes.{TimersGo}
 use Rattle.ert_judge.proofs.NewTimers.{arms_next}
 use Rattle.ert_judge.proofs.TimerLaws.{ArmsNext, rows_follow, uses_follow, status_follows, own_follows, length_follows}

@@ -15,7 +15,7 @@ use Rattle.ert_judge.specs.Verdicts.{StopsAtIllegal}
 use Rattle.ert_judge.specs.declared.reasons.Reason.{Reason}
 use Rattle.ert_judge.proofs.EventsExclude.{excludes}
 use Rattle.ert_judge.specs.declared.judge.Judge.{Judge}
-use Rattle.ert_state.specs.Parts.{ArmsNew}
+use Rattle.ert_judge.specs.Parts.{ArmsNew}
 use Rattle.ert_judge.proofs.Goes.{stands_on}
 use Rattle.ert_judge.proofs.NewTimers.{arms_next}
 use Rattle.ert_judge.proofs.TimerLaws.{new_of_next}

@@ -18,8 +18,8 @@ use Rattle.ert_defs.specs.declared.settings.Settings.{Settings}
 use Rattle.ert_defs.specs.declared.timer.Status.{Status}
 use Rattle.ert_defs.specs.declared.timer.Status.TheVariants.{Armed, Expired, Delivered, Cancelled, Orphaned, Dropped}
 use Rattle.ert_defs.specs.declared.timer.TimerRef.{TimerRef}
-use Rattle.ert_state.specs.Wheels.{rows_of, is_settled, IsFirstDue, AreShown}
-use Rattle.ert_state.specs.declared.wheels.Timer.{Timer}
+use Rattle.ert_judge.specs.Wheels.{rows_of, is_settled, IsFirstDue, AreShown}
+use Rattle.ert_judge.specs.declared.state.wheels.Timer.{Timer}
 
 -- a timer's status by the test of the model
 one_settled : (b : Bool) (status : Status) (x : Option Status) → x ≡ Some status

@@ -1,6 +1,10 @@
 pub mod Breaks
+pub mod Indexes
+pub mod Parts
 pub mod Ranges
 pub mod Reasons
 pub mod Shown
 pub mod Texts
+pub mod Uses
 pub mod Verdicts
+pub mod Wheels

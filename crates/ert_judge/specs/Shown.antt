@@ -15,10 +15,10 @@ use Rattle.ert_defs.specs.declared.entry.Event.TheVariants.{Tick, Shift, Arm}
 use Rattle.ert_defs.specs.declared.settings.Settings.{Settings}
 use Rattle.ert_defs.specs.declared.timer.Status.{Status}
 use Rattle.ert_clock.specs.Faces.{face_of}
-use Rattle.ert_state.specs.Parts.{looks_in, no_looks, look_of, looks_after, rows_in, status_at, timers_after, exited_at, mail_at, mail_after_with, inbox_at, inboxes_after, sched_at, scheds_in, scheds_after}
-use Rattle.ert_state.specs.Uses.{uses_in}
-use Rattle.ert_state.specs.Wheels.{timers_at, IsOwn}
-use Rattle.ert_state.specs.declared.clock.Clock.{Clock as KeptClock}
+use Rattle.ert_judge.specs.Parts.{looks_in, no_looks, look_of, looks_after, rows_in, status_at, timers_after, exited_at, mail_at, mail_after_with, inbox_at, inboxes_after, sched_at, scheds_in, scheds_after}
+use Rattle.ert_judge.specs.Uses.{uses_in}
+use Rattle.ert_judge.specs.Wheels.{timers_at, IsOwn}
+use Rattle.ert_judge.specs.declared.state.clock.Clock.{Clock as KeptClock}
 use Rattle.ert_judge.specs.declared.judge.Judge.{Judge}
 
 -- the numbers of a judge's clock are those of a clock

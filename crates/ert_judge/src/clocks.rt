@@ -6,9 +6,9 @@ ghost use Rattle.ert_defs.specs.Legal.{CanTick};
 ghost use Rattle.ert_judge.specs.Breaks.{TickBreaks, ShiftBreaks, LookBreaks, OffBreaks, TellBreaks};
 
 use crate::reasons::Reason;
+use crate::state::{Clock, may_act};
 use ert_clock::is_offset;
 use ert_defs::{Act, OffsetState, Reading, Settings};
-use ert_state::{Clock, may_act};
 
 /// Why a tick can't be made.
 pub fn of_tick(

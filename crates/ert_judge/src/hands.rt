@@ -6,7 +6,7 @@ ghost use Rattle.ert_defs.specs.Legal.{IsFirst, CanAnswer};
 ghost use Rattle.ert_defs.specs.Mails.{first_of};
 ghost use Rattle.ert_judge.specs.Breaks.{DeliverBreaks, DropBreaks, PickBreaks, AnswerBreaks};
 ghost use Rattle.ert_judge.specs.Shown.{shown};
-ghost use Rattle.ert_state.specs.Parts.{sched_at, exited_at, inbox_at};
+ghost use Rattle.ert_judge.specs.Parts.{sched_at, exited_at, inbox_at};
 
 use crate::judge::Judge;
 use crate::reasons::Reason;

@@ -1,8 +1,8 @@
 ghost use Rattle.std.specs.Prelude.{◌≡◌};
 
+use crate::state::{Clock, Exits, Inboxes, Looks, Mailboxes, Schedulers, Timers};
 use ert_defs::milliseconds::{deadline_of, down, left};
 use ert_defs::{Actor, Entry, Event, NoMemory, Settings, Status, TimerRef};
-use ert_state::{Clock, Exits, Inboxes, Looks, Mailboxes, Schedulers, Timers};
 use std::alloc::Global;
 
 /// The state after the entries so far.
@@ -25,8 +25,8 @@ impl Judge {
     ghost use Rattle.ert_defs.specs.Milliseconds as milliseconds;
     ghost use Rattle.ert_defs.specs.Settings.{IsChecked};
     ghost use Rattle.ert_clock.specs.Faces.{face_of};
-    ghost use Rattle.ert_state.specs.Parts.{ArmsNew};
-    ghost use Rattle.ert_state.specs.Wheels.{timers_at, IsFirstDue};
+    ghost use Rattle.ert_judge.specs.Parts.{ArmsNew};
+    ghost use Rattle.ert_judge.specs.Wheels.{timers_at, IsFirstDue};
     ghost use Rattle.ert_judge.specs.Shown.{IsOpening, MayFollow, ClockFollows, deadline_by, Follows, last_look, last_status, shown};
 
     /// The state at the opening.

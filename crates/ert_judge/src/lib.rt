@@ -1,7 +1,7 @@
 //! Judges histories: which entry is the first that isn't legal, and why.
 //!
 //! The model of `ert_defs` says when an entry is legal in a state. A judge keeps that state by its parts
-//! (`ert_state`) and walks once over the entries (`first_stop`): it asks for a reason why the next entry can't follow;
+//! (`state`) and walks once over the entries (`first_stop`): it asks for a reason why the next entry can't follow;
 //! where there is none each part goes on by it, and else the place and the reason are given back.
 //!
 //! `reason` is the one decider: an entry is legal exactly where it tells none. It looks for the condition that the entry
@@ -9,18 +9,18 @@
 //! (`clocks`), of the timers (`timers`, `hands`) or of the mailboxes (`mails`). What a reason says stands in
 //! `specs/`, in the words of the model; `laws` says that a reason that holds excludes the entry, and `texts` writes
 //! it for a person.
-//! It stands on `ert_defs` and `ert_state`.
+//! It stands on `ert_defs`, and on `ert_clock` for the rules of the clock.
 //!
 //! **One entry, judged.** Take `examples/ertaudit/early_expiry.txt`, whose line 7 is `s0 w0 expire 0 0 1`: a timer with
 //! the deadline 6 expires, and its scheduler's last look was at 1 millisecond.
 //!
 //! 1. **The words.** `audit` (`crates/ert_audit/src/auditing.rt`) reads all bytes and hands them to `read_history`
-//!    (`crates/ert_spelling/src/history.rt`), which cuts off one line after the other. Each line is read word by word
+//!    (`crates/ert_audit/src/spelling/history.rt`), which cuts off one line after the other. Each line is read word by word
 //!    from the left (`entries.rt`): the actors `s0` and `w0`, the name `expire`, and the three numbers of the timer
 //!    (`events.rt`, `timers.rt`). What is read is spelled so, and what is spelled so is read; so no other entry has
 //!    this line.
 //! 2. **The range.** `first_stop` (`crates/ert_judge/src/stops.rt`) has walked over the five entries before, and its
-//!    judge stands for them: its parts (`crates/ert_state`) are the model's state after them. `out_of_range`
+//!    judge stands for them: its parts (`state.rt`) are the model's state after them. `out_of_range`
 //!    (`ranges.rt`) finds that the entry is by the scheduler of the timer's wheel and with that wheel, and that the slot
 //!    exists, and so no reason.
 //! 3. **What the event asks.** `of_expire` (`timers.rt`) finds the timer by its slot and generation: it is armed, with the
@@ -49,6 +49,7 @@ mod laws;
 mod mails;
 mod ranges;
 mod reasons;
+mod state;
 mod stops;
 mod texts;
 mod timers;

@@ -4,7 +4,7 @@ ghost use Rattle.std.specs.Prelude.{◌≡◌, ◌<◌, IfSome, IfNone, length};
 ghost use Rattle.ert_defs.specs.Legal.{stands_in};
 ghost use Rattle.ert_defs.specs.Mails.{first_of};
 ghost use Rattle.ert_judge.specs.Breaks.{TakeBreaks, UnwatchBreaks, WatchBreaks};
-ghost use Rattle.ert_state.specs.Parts.{mail_at};
+ghost use Rattle.ert_judge.specs.Parts.{mail_at};
 
 use crate::judge::Judge;
 use crate::reasons::Reason;

@@ -5,18 +5,18 @@ ghost use Rattle.ert_defs.specs.Clocks.{Clock};
 ghost use Rattle.ert_defs.specs.Milliseconds as milliseconds;
 ghost use Rattle.ert_judge.specs.Shown.{shown, last_look, last_status, OwnTimers};
 ghost use Rattle.ert_judge.specs.Breaks.{ArmBreaks, UseBreaks, ProbeBreaks, LeftBreaks, ExpireBreaks, OrphanBreaks, AdvancedBreaks, MarkBreaks, IsUse};
-ghost use Rattle.ert_state.specs.Parts.{status_at, rows_in, exited_at};
+ghost use Rattle.ert_judge.specs.Parts.{status_at, rows_in, exited_at};
 ghost use Rattle.ert_defs.specs.Legal.{CanArm, IsNext, HasDestExited, AllSettled, left_of};
 ghost use Rattle.ert_defs.specs.Timers.{turned, is_taken};
 ghost use Rattle.ert_defs.specs.Timers as timers;
-ghost use Rattle.ert_state.specs.Uses.{uses_of};
-ghost use Rattle.ert_state.specs.Wheels.{timers_at, timer_in, IsFirstDue};
+ghost use Rattle.ert_judge.specs.Uses.{uses_of};
+ghost use Rattle.ert_judge.specs.Wheels.{timers_at, timer_in, IsFirstDue};
 
 use crate::judge::Judge;
 use crate::reasons::Reason;
+use crate::state::{Timer, Uses};
 use ert_defs::milliseconds::{deadline_of, down, passed};
 use ert_defs::{Actor, Start, Status, TimerRef, use_of};
-use ert_state::{Timer, Uses};
 
 /// How many timers a wheel may have had (profile).
 const TIMERS_OF_WHEEL: usize = 1 << 53;

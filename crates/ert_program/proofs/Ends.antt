@@ -6,7 +6,7 @@ use Rattle.ert_io.specs.Faults.{Rose}
 use Rattle.ert_io.proofs.SeveralReads.{handed_none, handed_fewer}
 use Rattle.ert_io.specs.Known.{StreamTold, before, HandsUpTo, IsAtEnd}
 use Rattle.ert_io.specs.Reads.{Input, ReadsAll}
-use Rattle.ert_race.specs.Written.{Returned}
+use Rattle.ert_program.specs.Written.{Returned}
 use Rattle.ert_scenario.specs.Scenarios.{Plan, IsScenario, HasRefusal}
 use Rattle.ert_scenario.specs.declared.scenario.ScenarioErr.{ScenarioErr}
 use Rattle.ert_script.specs.declared.output.RunErr.{RunErr}

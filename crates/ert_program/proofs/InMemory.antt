@@ -5,11 +5,11 @@ use Rattle.std.specs.Prelude.{IsSomeAnd}
 use Rattle.ert_io.specs.Faults.{Rose}
 use Rattle.ert_io.specs.Reads.{Input}
 use Rattle.ert_io.specs.Told.{SinkTold}
-use Rattle.ert_plain.specs.Plain.{plain_text}
-use Rattle.ert_race.specs.Written.{Returned}
+use Rattle.ert_ops.specs.Plain.{plain_text}
+use Rattle.ert_program.specs.Written.{Returned}
 use Rattle.ert_scenario.specs.Acceptance.{IsRunnable}
 use Rattle.ert_scenario.specs.Scenarios.{Plan, IsScenario}
-use Rattle.ert_transcript.specs.Scripts.{IsTranscript}
+use Rattle.ert_ops.specs.Scripts.{IsTranscript}
 use Rattle.ert_program.proofs.Ends.{all_taken}
 use Rattle.ert_program.proofs.Transcripts.{run_writes}
 use Rattle.ert_program.specs.OnDesks.{HasRead}

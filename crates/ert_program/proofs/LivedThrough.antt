@@ -13,21 +13,21 @@ use Rattle.ert_io.proofs.SeveralReads.{handed_both, handed_none, handed_fewer}
 use Rattle.ert_io.specs.Known.{StreamTold, HandsOut, HandsUpTo}
 use Rattle.ert_ops.specs.declared.op.Op.{Op}
 use Rattle.ert_ops.specs.declared.op.Op.TheVariants as ops
-use Rattle.ert_race.specs.Written.{Returned}
+use Rattle.ert_program.specs.Written.{Returned}
 use Rattle.ert_laws.specs.KeptLaws.{KeepsLaws}
-use Rattle.ert_race.proofs.Written.{has_history}
+use Rattle.ert_program.proofs.Written.{has_history}
 use Rattle.ert_world.specs.Openings.{IsOpened}
 use Rattle.ert_world.specs.Worlds.{Seen}
 use Rattle.ert_script.proofs.Runs.{runs_none, runs_more}
 use Rattle.ert_script.specs.Scripts.{Does, Runs}
 use Rattle.ert_table.specs.Desks.{settings_of, KnowsAll}
-use Rattle.ert_transcript.specs.Calls.{Calls}
-use Rattle.ert_transcript.specs.Labels.{Labels}
-use Rattle.ert_transcript.specs.Texts.{end_line}
-use Rattle.ert_transcript.specs.declared.reply.Reply.{Reply}
-use Rattle.ert_transcript.specs.declared.reply.Reply.TheVariants as replies
+use Rattle.ert_ops.specs.Calls.{Calls}
+use Rattle.ert_ops.specs.Labels.{Labels}
+use Rattle.ert_ops.specs.Texts.{end_line}
+use Rattle.ert_ops.specs.declared.reply.Reply.{Reply}
+use Rattle.ert_ops.specs.declared.reply.Reply.TheVariants as replies
 use Rattle.ert_program.proofs.Transcripts.{stands_for}
-use Rattle.ert_race.proofs.Written.{script_of}
+use Rattle.ert_program.proofs.Written.{script_of}
 use Rattle.ert_program.specs.Endings.{without_desk}
 use Rattle.ert_program.specs.Lives.{AreValid, live_settings, live_ops, live_part, live_lines, refused_reading, IsLiveText, LiveDone, LiveRefused, LiveStopped, Watched, Lived, TellsTimes}
 use Rattle.ert_program.specs.Streams.{ClockStream}

@@ -11,14 +11,14 @@ use Rattle.ert_io.specs.Faults.{Rose}
 use Rattle.ert_io.specs.Told.{SinkTold, took, TakesFront}
 use Rattle.ert_laws.specs.Counts.{counts_of}
 use Rattle.ert_laws.specs.KeptLaws.{KeepsLaws}
-use Rattle.ert_race.proofs.Written.{has_history}
-use Rattle.ert_race.specs.Written.{Returned}
+use Rattle.ert_program.proofs.Written.{has_history}
+use Rattle.ert_program.specs.Written.{Returned}
 use Rattle.ert_scenario.specs.Scenarios.{Plan}
 use Rattle.ert_script.specs.Written.{RunsAll}
 use Rattle.ert_script.specs.declared.output.RunErr.{RunErr}
 use Rattle.ert_script.specs.declared.output.RunErr.TheVariants.{WriteFault as OutputFailed, NoMemory as OutOfMemory}
 use Rattle.ert_table.specs.Desks.{settings_of, KnowsAll}
-use Rattle.ert_transcript.specs.Labels.{Labels}
+use Rattle.ert_ops.specs.Labels.{Labels}
 use Rattle.ert_world.specs.Openings.{IsOpened}
 use Rattle.ert_world.specs.Worlds.{Seen}
 use Rattle.ert_program.proofs.Transcripts.{text_of, is_run, stands_for}

@@ -7,7 +7,7 @@ use Rattle.ert_io.specs.Told.{SinkTold, TakesFront}
 use Rattle.ert_defs.specs.declared.settings.Settings.{Settings}
 use Rattle.ert_ops.specs.Races.{Race}
 use Rattle.ert_ops.specs.declared.op.Op.{Op}
-use Rattle.ert_race.specs.Written.{Returned, MayWrite, RacesOn, StopsRace}
+use Rattle.ert_program.specs.Written.{Returned, MayWrite, RacesOn, StopsRace}
 use Rattle.ert_scenario.specs.Acceptance.{IsRaceable, plan_with}
 use Rattle.ert_scenario.specs.Scenarios.{Plan, IsScenario}
 use Rattle.ert_script.specs.declared.output.RunErr.{RunErr}

@@ -11,24 +11,23 @@ use Rattle.ert_defs.specs.Lines.{Face}
 use Rattle.ert_defs.specs.declared.entry.Entry.{Entry}
 use Rattle.ert_defs.specs.declared.settings.Settings.{Settings}
 use Rattle.ert_laws.specs.KeptLaws.{KeepsLaws}
-use Rattle.ert_ops.specs.Labels.{AreOps}
+use Rattle.ert_ops.specs.Labels.{AreOps, Labels}
 use Rattle.ert_ops.specs.declared.op.Op.{Op}
-use Rattle.ert_plain.proofs.Fronts.{first_lines}
-use Rattle.ert_plain.proofs.Runs.{one_text}
-use Rattle.ert_plain.specs.Laws.{IsFront}
-use Rattle.ert_plain.specs.Plain.{plain_text}
-use Rattle.ert_race.proofs.Written.{script_of, beginning_of, has_history}
-use Rattle.ert_race.specs.Written.{Returned}
+use Rattle.ert_ops.proofs.Fronts.{first_lines}
+use Rattle.ert_ops.proofs.Runs.{one_text}
+use Rattle.ert_ops.specs.Laws.{IsFront}
+use Rattle.ert_ops.specs.Plain.{plain_text}
+use Rattle.ert_program.proofs.Written.{script_of, beginning_of, has_history}
+use Rattle.ert_program.specs.Written.{Returned}
 use Rattle.ert_scenario.specs.Acceptance.{IsRunnable, plan_alone}
 use Rattle.ert_scenario.specs.Scenarios.{Plan, IsScenario}
 use Rattle.ert_script.specs.Scripts.{Runs}
 use Rattle.ert_script.specs.Written.{WritesRun, WritesSome, LinesFit}
 use Rattle.ert_script.specs.declared.output.RunErr.{RunErr}
 use Rattle.ert_table.specs.Desks.{settings_of, KnowsAll}
-use Rattle.ert_transcript.specs.Labels.{Labels}
-use Rattle.ert_transcript.specs.Scripts.{lines_of}
-use Rattle.ert_transcript.specs.Texts.{end_line}
-use Rattle.ert_transcript.specs.declared.reply.Reply.{Reply}
+use Rattle.ert_ops.specs.Scripts.{lines_of}
+use Rattle.ert_ops.specs.Texts.{end_line}
+use Rattle.ert_ops.specs.declared.reply.Reply.{Reply}
 use Rattle.ert_world.specs.Openings.{IsOpened}
 use Rattle.ert_world.specs.Worlds.{Seen, StandsFor}
 use Rattle.ert_program.proofs.Ends.{IsOfScenario}

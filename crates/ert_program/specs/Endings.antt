@@ -14,7 +14,7 @@ use Rattle.ert_program.specs.Streams.{Output}
 use Rattle.ert_program.specs.declared.ending.EndStatus.{EndStatus}
 use Rattle.ert_program.specs.declared.ending.Ended.{Ended}
 use Rattle.ert_program.specs.declared.ending.EndStatus.TheVariants.{Done, Usage, Refused, ReadFault, WriteFault, ClockFault, NoMemory, TooLong}
-use Rattle.ert_race.specs.Written.{Returned}
+use Rattle.ert_program.specs.Written.{Returned}
 use Rattle.ert_scenario.specs.Scenarios.{HasRefusal}
 
 -- the number of a status

@@ -16,15 +16,15 @@ use Rattle.ert_io.specs.Known.{StreamTold, HandsOut, HandsUpTo}
 use Rattle.ert_io.specs.Told.{took, TakesFront}
 use Rattle.ert_ops.specs.declared.op.Op.{Op}
 use Rattle.ert_ops.specs.declared.op.Op.TheVariants as ops
-use Rattle.ert_race.specs.Written.{Returned, HasHistory}
+use Rattle.ert_program.specs.Written.{Returned, HasHistory}
 use Rattle.ert_world.specs.Openings.{IsOpened}
 use Rattle.ert_world.specs.Worlds.{Seen, StandsFor}
 use Rattle.ert_script.specs.Scripts.{Does, Runs}
-use Rattle.ert_transcript.specs.Labels.{Labels}
-use Rattle.ert_transcript.specs.Scripts.{Script}
-use Rattle.ert_transcript.specs.Texts.{◌⋅◌, end_line}
-use Rattle.ert_transcript.specs.declared.reply.Reply.{Reply}
-use Rattle.ert_transcript.specs.declared.reply.Reply.TheVariants as replies
+use Rattle.ert_ops.specs.Labels.{Labels}
+use Rattle.ert_ops.specs.Scripts.{Script}
+use Rattle.ert_ops.specs.Texts.{◌⋅◌, end_line}
+use Rattle.ert_ops.specs.declared.reply.Reply.{Reply}
+use Rattle.ert_ops.specs.declared.reply.Reply.TheVariants as replies
 use Rattle.ert_program.specs.Streams.{ClockStream, Output}
 use Rattle.ert_program.specs.declared.ending.Ended.{Ended}
 use Rattle.ert_program.specs.declared.ending.EndStatus.TheVariants.{Done, Refused, WriteFault, ClockFault, NoMemory}

@@ -7,8 +7,8 @@ use Rattle.ert_io.specs.Reads.{Input}
 use Rattle.ert_io.specs.Told.{SinkTold}
 use Rattle.ert_ops.specs.Races.{Race}
 use Rattle.ert_ops.specs.declared.op.Op.{Op}
-use Rattle.ert_race.specs.Outcomes.{IsOutcome}
-use Rattle.ert_race.specs.Written.{Returned, MayWrite}
+use Rattle.ert_program.specs.Outcomes.{IsOutcome}
+use Rattle.ert_program.specs.Written.{Returned, MayWrite}
 use Rattle.ert_scenario.specs.Acceptance.{IsRaceable}
 use Rattle.ert_scenario.specs.Scenarios.{Plan}
 use Rattle.ert_program.specs.Inputs.{InputEnds}

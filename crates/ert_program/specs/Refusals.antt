@@ -1,7 +1,7 @@
 -- The lines that the program writes where it runs nothing.
 
 use Rattle.std.specs.Prelude.{ℕ, List, [], codes, decimal}
-use Rattle.ert_transcript.specs.Texts.{◌⋅◌}
+use Rattle.ert_ops.specs.Texts.{◌⋅◌}
 use Rattle.ert_scenario.specs.declared.scenario.ScenarioErr.{ScenarioErr}
 use Rattle.ert_scenario.specs.declared.scenario.ScenarioErr.TheVariants.{Json, Shape, Range, Limit, NoMemory}
 

@@ -7,11 +7,11 @@ use Rattle.ert_io.specs.Known.{HasRoomFor}
 use Rattle.ert_io.specs.Reads.{Input}
 use Rattle.ert_io.specs.Told.{SinkTold}
 use Rattle.ert_ops.specs.declared.op.Op.{Op}
-use Rattle.ert_plain.specs.Plain.{plain_text}
-use Rattle.ert_race.specs.Written.{Returned}
+use Rattle.ert_ops.specs.Plain.{plain_text}
+use Rattle.ert_program.specs.Written.{Returned}
 use Rattle.ert_scenario.specs.Acceptance.{IsRunnable}
 use Rattle.ert_scenario.specs.Scenarios.{Plan}
-use Rattle.ert_transcript.specs.Scripts.{IsTranscript}
+use Rattle.ert_ops.specs.Scripts.{IsTranscript}
 use Rattle.ert_program.specs.Inputs.{IsPossibleInput, InputEnds}
 use Rattle.ert_program.specs.OnDesks.{DidOn}
 use Rattle.ert_program.specs.RefusedInputs.{RefusalFits}

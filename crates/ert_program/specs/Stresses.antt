@@ -9,8 +9,8 @@ use Rattle.ert_io.specs.Told.{SinkTold, TakesFront}
 use Rattle.ert_laws.specs.Counts.{Counts, counts_of}
 use Rattle.ert_scenario.specs.Scenarios.{Plan}
 use Rattle.ert_world.specs.Worlds.{Seen, StandsFor}
-use Rattle.ert_transcript.specs.Counts.{settled_line}
-use Rattle.ert_transcript.specs.Texts.{◌⋅◌, end_line}
+use Rattle.ert_ops.specs.Counts.{settled_line}
+use Rattle.ert_ops.specs.Texts.{◌⋅◌, end_line}
 use Rattle.ert_program.specs.OnDesks.{RanOn}
 use Rattle.ert_program.specs.Runs.{RunOf}
 use Rattle.ert_program.specs.Streams.{Output}

@@ -2,7 +2,7 @@
 ghost use Rattle.std.specs.Prelude.{◌≡◌, ◌≤◌, ◌⊎◌, ◌++◌, ℕ, false, List, Some, length};
 ghost use Rattle.ert_io.specs.Memory.{sure_left, sure_taken, sure_room};
 ghost use Rattle.ert_scenario.specs.Scenarios.{Plan, IsScenario};
-ghost use Rattle.ert_transcript.specs.Scripts.{IsTranscript};
+ghost use Rattle.ert_ops.specs.Scripts.{IsTranscript};
 ghost use Rattle.ert_program.specs.Runs.{InputFits};
 
 use crate::ending::{EndStatus, Ended};

@@ -8,9 +8,9 @@
 //!
 //! `ertime` is the whole program; its contract says what each status means. Its commands stand in `running` and
 //! `racing`, which `reading` gives a scenario, and in `living` and `stressing`. What `run` writes is told by the function
-//! of `ert_plain`, what `race` writes by an outcome of `ert_race` (`specs/Runs`, `specs/Races`); what is refused is told
+//! of `ert_ops`, what `race` writes by an outcome (`races`, `specs/Runs`, `specs/Races`); what is refused is told
 //! apart (`specs/RefusedInputs`). It stands on `ert_scenario`, which reads,
-//! `ert_script`, which runs the ops on a world, `ert_race`, which lets threads run lists of them, `ert_io`, and
+//! `ert_script`, which runs the ops on a world, `ert_service`, on which threads run lists of them, `ert_io`, and
 //! `ert_table`, whose desk it returns. Where it refuses its input it returns the bytes and their refusal, which
 //! `ert_explain` explains.
 //!
@@ -40,7 +40,7 @@
 //!    the settings: a desk of atomic words (`crates/ert_table`), the pass that holds every actor, and every part: the
 //!    clock's (`crates/ert_table/src/keeper.rt`), and those of wheels, inboxes, mailboxes and schedulers. It hands the
 //!    world with the ops and the output to `run_ops` (`crates/ert_script/src/run.rt`), which does one op after the
-//!    other. What it has done so far is a script run (`crates/ert_transcript/specs/Scripts.antt`): a legal history, the
+//!    other. What it has done so far is a script run (`crates/ert_ops/specs/Scripts.antt`): a legal history, the
 //!    replies, and the labels that starts have bound.
 //! 5. **The clock.** `reply_op` (`reply.rt`) hands the op to `do_op` (`doing.rt`), which does the ops of a caller for
 //!    whoever makes its calls (`Doer`). Here that is a world: it calls `World::tick`, that `KeeperPart::tick`
@@ -101,6 +101,7 @@ mod laws;
 mod living;
 mod parser;
 mod program;
+mod races;
 mod racing;
 mod reading;
 mod refusal;
@@ -112,4 +113,8 @@ pub use generation::generate;
 pub use in_memory::run_in_memory;
 pub use laws::{first_draws, generated_scenarios_are_valid};
 pub use program::ertime;
+pub use races::{
+    FreeGate, Gate, LedgerGate, ListDone, RaceEnd, a_contest_has_an_outcome, lists_are_done_whole,
+    race_on, races_have_outcomes, run_race,
+};
 pub use running::run;

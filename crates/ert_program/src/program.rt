@@ -16,11 +16,11 @@ use crate::command::Command;
 use crate::command_line::command_of;
 use crate::ending::{EndStatus, Ended};
 use crate::living::live;
+use crate::races::Gate;
 use crate::racing::race;
 use crate::running::run;
 use crate::stressing::stress;
 use ert_io::{OsClock, Sink, Source, write_all};
-use ert_race::Gate;
 use std::sync::Wait;
 use std::thread::Threads;
 

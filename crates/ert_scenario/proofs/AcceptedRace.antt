@@ -20,7 +20,7 @@ use Rattle.ert_scenario.specs.Ranges.{is_op}
 use Rattle.ert_scenario.specs.Scenarios.{Plan, with_callers, is_over, planned_race, planned, judged, judged_all, verdict_of}
 use Rattle.ert_scenario.specs.Walked.{without_fault}
 use Rattle.ert_scenario.specs.Walks.{raws_of, caller_raws, race_raws, all_raws, first_range, ops_of}
-use Rattle.ert_scenario.specs.declared.doer.Doer.TheVariants.{Everyone, Keeper, Caller}
+use Rattle.ert_scenario.specs.declared.doer.ListDoer.TheVariants.{Everyone, Keeper, Caller}
 use Rattle.ert_scenario.specs.declared.fault.Fault.TheVariants.{Shape}
 use Rattle.ert_scenario.specs.declared.fields.Top.{Top}
 use Rattle.ert_scenario.specs.declared.format.Format.{Format}

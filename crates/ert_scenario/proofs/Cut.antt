@@ -12,8 +12,8 @@ use Rattle.ert_scenario.specs.Rows.{op_of}
 use Rattle.ert_scenario.specs.Scenarios.{Plan, with_callers, planned_race, planned}
 use Rattle.ert_scenario.specs.Walked.{without_fault}
 use Rattle.ert_scenario.specs.Walks.{raws_of, caller_raws, race_raws, all_raws, ops_of}
-use Rattle.ert_scenario.specs.declared.doer.Doer.{Doer}
-use Rattle.ert_scenario.specs.declared.doer.Doer.TheVariants.{Everyone, Keeper, Caller}
+use Rattle.ert_scenario.specs.declared.doer.ListDoer.{ListDoer}
+use Rattle.ert_scenario.specs.declared.doer.ListDoer.TheVariants.{Everyone, Keeper, Caller}
 use Rattle.ert_scenario.specs.declared.fields.Top.{Top}
 use Rattle.ert_scenario.specs.declared.format.Format.{Format}
 
@@ -37,15 +37,15 @@ splits (Ok op ∷ xs) ys (other ∷ ops) h =
     let first : xs ≡ without_fault (take (length xs) ops) = s.first in
     record { first = cc; front = cc; back = s.back }
 
-length-raws : (format : Format) (doer : Doer) (items : List Data) → length (raws_of format doer items) ≡ length items
+length-raws : (format : Format) (doer : ListDoer) (items : List Data) → length (raws_of format doer items) ≡ length items
 length-raws format doer items = length-map items (op_of format doer)
 
 -- of the raw ops of a list, and others after them
-record SplitsList (format : Format) (doer : Doer) (items : List Data) (ys : List (FoundOrFault Op)) (ops : List Op) : Type 0 where
+record SplitsList (format : Format) (doer : ListDoer) (items : List Data) (ys : List (FoundOrFault Op)) (ops : List Op) : Type 0 where
   pub front : take (length items) ops ≡ ops_of (raws_of format doer items)
   pub back : ys ≡ without_fault (drop (length items) ops)
 
-splits_list : (format : Format) (doer : Doer) (items : List Data) (ys : List (FoundOrFault Op)) (ops : List Op) → raws_of format doer items ++ ys ≡ without_fault ops
+splits_list : (format : Format) (doer : ListDoer) (items : List Data) (ys : List (FoundOrFault Op)) (ops : List Op) → raws_of format doer items ++ ys ≡ without_fault ops
     → SplitsList format doer items ys ops
 splits_list format doer items ys ops h =
     let s = splits (raws_of format doer items) ys ops h in

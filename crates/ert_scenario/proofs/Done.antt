@@ -12,8 +12,8 @@ use Rattle.ert_scenario.specs.Kinds.{FoundOrFault, ◌>>=◌, ◌▹◌, integer
 use Rattle.ert_scenario.specs.Rows.{OpRow, keeper_rows, shared_rows, convert_row, clock_rows, process_rows, start_args, timer_rows, request_args, rows_of_one, rows_of_two, rows_of_format, caller_groups, groups_of, row_in, or_next, op_named, op_of}
 use Rattle.ert_scenario.specs.Units.{time_unit}
 use Rattle.ert_scenario.specs.Walks.{raws_of, ops_of}
-use Rattle.ert_scenario.specs.declared.doer.Doer.{Doer}
-use Rattle.ert_scenario.specs.declared.doer.Doer.TheVariants.{Everyone, Keeper, Caller}
+use Rattle.ert_scenario.specs.declared.doer.ListDoer.{ListDoer}
+use Rattle.ert_scenario.specs.declared.doer.ListDoer.TheVariants.{Everyone, Keeper, Caller}
 use Rattle.ert_scenario.specs.declared.format.Format.{Format}
 use Rattle.ert_scenario.specs.declared.format.Format.TheVariants.{One, Two}
 use Rattle.ert_scenario.proofs.Founds.{follows}
@@ -129,7 +129,7 @@ callers_of_format Two = (
   ),
 )
 
-by_doer : (format : Format) (doer : Doer) (name : List ℕ) (args : List Data) (op : Op) → op_named name (groups_of doer format) args ≡ Ok op → IsDoneBy doer op
+by_doer : (format : Format) (doer : ListDoer) (name : List ℕ) (args : List Data) (op : Op) → op_named name (groups_of doer format) args ≡ Ok op → IsDoneBy doer op
 by_doer format Everyone name args op h = tt
 by_doer format Keeper name args op h = in_groups IsKeepersOp name (groups_of Keeper format) args op (keepers, (keepers_shared, tt)) h
 by_doer format Caller name args op h =
@@ -138,19 +138,19 @@ by_doer format Caller name args op h =
 
 -- ---- the ops of a list
 
-op_done : (format : Format) (doer : Doer) (d : Data) (op : Op) → op_of format doer d ≡ Ok op → IsDoneBy doer op
+op_done : (format : Format) (doer : ListDoer) (d : Data) (op : Op) → op_of format doer d ≡ Ok op → IsDoneBy doer op
 unfolding op_of
 op_done format doer d op h =
     let items = follows (listed (Some d)) _ op h in
     let name = follows (text (first_of items.read)) _ op items.then in
     by_doer format doer name.read (others_of items.read) op name.then
 
-one_more : (doer : Doer) (found : FoundOrFault Op) (rest : List (FoundOrFault Op)) → ((op : Op) → found ≡ Ok op → IsDoneBy doer op) → All (IsDoneBy doer) (ops_of rest)
+one_more : (doer : ListDoer) (found : FoundOrFault Op) (rest : List (FoundOrFault Op)) → ((op : Op) → found ≡ Ok op → IsDoneBy doer op) → All (IsDoneBy doer) (ops_of rest)
     → All (IsDoneBy doer) (ops_of (found ∷ rest))
 one_more doer (Ok op) rest here others = All-cons (IsDoneBy doer) op (ops_of rest) (here op refl) others
 one_more doer (Err fault) rest here others = others
 
-pub all_done : (format : Format) (doer : Doer) (items : List Data) → All (IsDoneBy doer) (ops_of (raws_of format doer items))
+pub all_done : (format : Format) (doer : ListDoer) (items : List Data) → All (IsDoneBy doer) (ops_of (raws_of format doer items))
 all_done format doer [] = All-nil (IsDoneBy doer)
 all_done format doer (d ∷ ds) = one_more doer (op_of format doer d) (raws_of format doer ds) (op_done format doer d) (all_done format doer ds)
 

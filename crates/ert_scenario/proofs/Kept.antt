@@ -15,7 +15,7 @@ use Rattle.ert_scenario.specs.Scenarios.{Plan, IsValue, IsScenario, with_callers
 use Rattle.ert_scenario.specs.Labels.{tested}
 use Rattle.ert_scenario.specs.Walked.{without_fault}
 use Rattle.ert_scenario.specs.Walks.{raws_of, all_raws, ops_of}
-use Rattle.ert_scenario.specs.declared.doer.Doer.TheVariants.{Everyone}
+use Rattle.ert_scenario.specs.declared.doer.ListDoer.TheVariants.{Everyone}
 use Rattle.ert_scenario.specs.declared.fault.Fault.TheVariants.{Shape}
 use Rattle.ert_scenario.specs.declared.fields.Top.{Top}
 use Rattle.ert_scenario.specs.declared.format.Format.{Format}

@@ -17,8 +17,8 @@ use Rattle.ert_scenario.specs.Lists.{RaceValues, OpValues}
 use Rattle.ert_scenario.specs.Scenarios.{planned_race}
 use Rattle.ert_ops.specs.Races.{Race}
 use Rattle.ert_scenario.specs.declared.fault.Fault.TheVariants as faults
-use Rattle.ert_scenario.specs.declared.doer.Doer.{Doer}
-use Rattle.ert_scenario.specs.declared.doer.Doer.TheVariants.{Everyone, Keeper, Caller}
+use Rattle.ert_scenario.specs.declared.doer.ListDoer.{ListDoer}
+use Rattle.ert_scenario.specs.declared.doer.ListDoer.TheVariants.{Everyone, Keeper, Caller}
 use Rattle.ert_scenario.specs.declared.format.Format.TheVariants.{One, Two}
 use Rattle.ert_scenario.proofs.Cut.{splits, callers_ops}
 use Rattle.ert_scenario.proofs.Listed.{list_of_items}
@@ -123,7 +123,7 @@ callers_kept op name args e f h =
     (next_kept op (row_in name timer_rows args) _ _
     (λ last. absurd (no_row op _ _ _ _ e f last))))) h
 
-other_kept : (doer : Doer) (op : Op) (name : List ℕ) (args : List Data) → bytes_eq name (codes "cancel_async") ≡ false → bytes_eq name (codes "read_async") ≡ false
+other_kept : (doer : ListDoer) (op : Op) (name : List ℕ) (args : List Data) → bytes_eq name (codes "cancel_async") ≡ false → bytes_eq name (codes "read_async") ≡ false
     → op_named name (groups_of doer One) args ≡ Ok op → op_named name (groups_of doer Two) args ≡ Ok op
 other_kept Everyone op name args e f h =
     next_kept op (row_in name keeper_rows args) _ _ (next_kept op (row_in name sched_rows args) _ _ (callers_kept op name args e f)) h
@@ -139,14 +139,14 @@ migrated_args asks args = cond asks (args ++ boolean true ∷ []) args
 abbrev asks : List ℕ → Bool
 asks name = bytes_eq name (codes "cancel_async") || bytes_eq name (codes "read_async")
 
-cancel_kept : (doer : Doer) (op : Op) (args : List Data) → op_named (codes "cancel_async") (groups_of doer One) args ≡ Ok op
+cancel_kept : (doer : ListDoer) (op : Op) (args : List Data) → op_named (codes "cancel_async") (groups_of doer One) args ≡ Ok op
     → op_named (codes "cancel_async") (groups_of doer Two) (migrated_args (asks (codes "cancel_async")) args) ≡ Ok op
 unfolding keeper_rows shared_rows sched_rows clock_rows process_rows timer_rows rows_of_one rows_of_two
 cancel_kept Everyone op args h = told CancelAsync op args h
 cancel_kept Keeper op args h = absurd (cc)
 cancel_kept Caller op args h = told CancelAsync op args h
 
-read_kept : (doer : Doer) (op : Op) (args : List Data) → op_named (codes "read_async") (groups_of doer One) args ≡ Ok op
+read_kept : (doer : ListDoer) (op : Op) (args : List Data) → op_named (codes "read_async") (groups_of doer One) args ≡ Ok op
     → op_named (codes "read_async") (groups_of doer Two) (migrated_args (asks (codes "read_async")) args) ≡ Ok op
 unfolding keeper_rows shared_rows sched_rows clock_rows process_rows timer_rows rows_of_one rows_of_two
 read_kept Everyone op args h = told ReadAsync op args h
@@ -154,10 +154,10 @@ read_kept Keeper op args h = absurd (cc)
 read_kept Caller op args h = told ReadAsync op args h
 
 -- the op of this name is kept
-IsKept : Doer → Op → List ℕ → List Data → Type 0
+IsKept : ListDoer → Op → List ℕ → List Data → Type 0
 IsKept doer op name args = op_named name (groups_of doer One) args ≡ Ok op → op_named name (groups_of doer Two) (migrated_args (asks name) args) ≡ Ok op
 
-name_kept : (doer : Doer) (op : Op) (name : List ℕ) (args : List Data) (cancel read : Bool) → bytes_eq name (codes "cancel_async") ≡ cancel
+name_kept : (doer : ListDoer) (op : Op) (name : List ℕ) (args : List Data) (cancel read : Bool) → bytes_eq name (codes "cancel_async") ≡ cancel
     → bytes_eq name (codes "read_async") ≡ read → IsKept doer op name args
 unfolding IsKept
 name_kept doer op name args true read e f =
@@ -168,24 +168,24 @@ name_kept doer op name args false false e f = λ h.
     let none : asks name ≡ false = rw (e, f) refl in
     subst (λ (b : Bool). op_named name (groups_of doer Two) (migrated_args b args) ≡ Ok op) (sym none) (other_kept doer op name args e f h)
 
-named_items : (doer : Doer) (op : Op) (info : Bool) (x : Data) (args : List Data) (name : List ℕ) → text (Some x) ≡ Ok name
+named_items : (doer : ListDoer) (op : Op) (info : Bool) (x : Data) (args : List Data) (name : List ℕ) → text (Some x) ≡ Ok name
     → op_named name (groups_of doer Two) (migrated_args info args) ≡ Ok op → op_from Two doer (cond info ((x ∷ args) ++ boolean true ∷ []) (x ∷ args)) ≡ Ok op
 named_items doer op true x args name is h = rw is h
 named_items doer op false x args name is h = rw is h
 
-items_found : (doer : Doer) (op : Op) (x : Data) (args : List Data) (found : FoundOrFault (List ℕ)) → text (Some x) ≡ found
+items_found : (doer : ListDoer) (op : Op) (x : Data) (args : List Data) (found : FoundOrFault (List ℕ)) → text (Some x) ≡ found
     → (found >>= (λ name. op_named name (groups_of doer One) args)) ≡ Ok op → op_from Two doer (cond (is_ask found) ((x ∷ args) ++ boolean true ∷ []) (x ∷ args)) ≡ Ok op
 unfolding IsKept
 items_found doer op x args (Ok name) is h = named_items doer op (asks name) x args name is (name_kept doer op name args _ _ refl refl h)
 items_found doer op x args (Err fault) is h = absurd (cc)
 
-items_kept : (doer : Doer) (op : Op) (items : List Data) → op_from One doer items ≡ Ok op → op_from Two doer (migrated_items items) ≡ Ok op
+items_kept : (doer : ListDoer) (op : Op) (items : List Data) → op_from One doer items ≡ Ok op → op_from Two doer (migrated_items items) ≡ Ok op
 unfolding text of_kind migrated_items
 items_kept doer op [] h = absurd (cc)
 items_kept doer op (x ∷ args) h = items_found doer op x args (text (Some x)) refl h
 
 -- an op of format 1, migrated, is the same op
-op_kept : (doer : Doer) (op : Op) (d : Data) → op_of One doer d ≡ Ok op → op_of Two doer (migrated_op d) ≡ Ok op
+op_kept : (doer : ListDoer) (op : Op) (d : Data) → op_of One doer d ≡ Ok op → op_of Two doer (migrated_op d) ≡ Ok op
 unfolding op_of migrated_op listed of_kind
 op_kept doer op null h = absurd (cc)
 op_kept doer op (boolean b) h = absurd (cc)
@@ -197,7 +197,7 @@ op_kept doer op (array ds) h =
     subst (λ (xs : List Data). op_from Two doer xs ≡ Ok op) (sym same) (items_kept doer op (list_of ds) h)
 
 -- where all ops of a list of format 1 are without a fault, the migrated ones are the same
-ops_kept : (doer : Doer) (ops : List Op) (items : List Data) → raws_of One doer items ≡ without_fault ops → raws_of Two doer (map migrated_op items) ≡ without_fault ops
+ops_kept : (doer : ListDoer) (ops : List Op) (items : List Data) → raws_of One doer items ≡ without_fault ops → raws_of Two doer (map migrated_op items) ≡ without_fault ops
 ops_kept doer [] [] h = refl
 ops_kept doer (op ∷ ops) [] h = absurd (cc)
 ops_kept doer [] (d ∷ ds) h = absurd (cc)
@@ -211,12 +211,12 @@ ops_kept doer (op ∷ ops) (d ∷ ds) h =
 -- ---- all lists
 
 -- the raw ops of a list and others, all without a fault
-record KeepsList (doer : Doer) (items : List Data) (ys : List (FoundOrFault Op)) : Type 0 where
+record KeepsList (doer : ListDoer) (items : List Data) (ys : List (FoundOrFault Op)) : Type 0 where
   pub same : raws_of Two doer (map migrated_op items) ≡ raws_of One doer items
   pub rest : List Op
   pub whole : ys ≡ without_fault rest
 
-list_kept : (doer : Doer) (items : List Data) (ys : List (FoundOrFault Op)) (ops : List Op) → raws_of One doer items ++ ys ≡ without_fault ops → KeepsList doer items ys
+list_kept : (doer : ListDoer) (items : List Data) (ys : List (FoundOrFault Op)) (ops : List Op) → raws_of One doer items ++ ys ≡ without_fault ops → KeepsList doer items ys
 list_kept doer items ys ops h =
     let s = splits (raws_of One doer items) ys ops h in
     record { same = ops_kept doer _ items s.first ∙ sym s.first; rest = _; whole = s.back }

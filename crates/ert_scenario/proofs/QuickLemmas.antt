@@ -18,7 +18,7 @@ use Rattle.ert_scenario.specs.Quick.{scalar_of, ReadsOp, ReadsOps}
 use Rattle.ert_scenario.specs.Rows.{op_from, op_of}
 use Rattle.ert_scenario.specs.Walked.{without_fault}
 use Rattle.ert_scenario.specs.Walks.{raws_of}
-use Rattle.ert_scenario.specs.declared.doer.Doer.TheVariants.{Everyone}
+use Rattle.ert_scenario.specs.declared.doer.ListDoer.TheVariants.{Everyone}
 use Rattle.ert_scenario.specs.declared.format.Format.{Format}
 use Rattle.ert_scenario.proofs.Listed.{list_of_items}
 

@@ -23,7 +23,7 @@ use Rattle.ert_scenario.specs.QuickMembers.{without_race, IsOpsField, HasSeenMem
 use Rattle.ert_scenario.specs.Scenarios.{Plan, is_over, with_callers, judged, verdict_of}
 use Rattle.ert_scenario.specs.Walked.{without_fault, IsOver}
 use Rattle.ert_scenario.specs.Walks.{raws_of, all_raws, first_shape, first_range, ops_of}
-use Rattle.ert_scenario.specs.declared.doer.Doer.TheVariants.{Everyone}
+use Rattle.ert_scenario.specs.declared.doer.ListDoer.TheVariants.{Everyone}
 use Rattle.ert_scenario.specs.declared.fields.Top.{Top}
 use Rattle.ert_scenario.specs.declared.format.Format.{Format}
 use Rattle.ert_scenario.specs.declared.quick.members.Seen.{Seen}

@@ -13,15 +13,15 @@ use Rattle.ert_scenario.specs.Rows.{op_of}
 use Rattle.ert_scenario.specs.Walked.{without_fault, WalkIsAt, IsOver}
 use Rattle.ert_scenario.specs.Walks.{raws_of, caller_raws, first_shape}
 use Rattle.ert_scenario.specs.declared.walk.Walk.{Walk}
-use Rattle.ert_scenario.specs.declared.doer.Doer.{Doer}
-use Rattle.ert_scenario.specs.declared.doer.Doer.TheVariants.{Caller}
+use Rattle.ert_scenario.specs.declared.doer.ListDoer.{ListDoer}
+use Rattle.ert_scenario.specs.declared.doer.ListDoer.TheVariants.{Caller}
 use Rattle.ert_scenario.specs.declared.format.Format.{Format}
 
 next_value : (items : List Value) (i : ℕ) (x : Value) → i < length items → x ≡ get_or items i x → drop i items ≡ x ∷ drop (i + 1) items
 next_value items i x low is = rw (add-one, drop-cons items i x low) (ap (λ v. v ∷ drop (suc i) items) (sym is))
 
 -- the next op of a list
-pub next_raw : (format : Format) (doer : Doer) (items : List Value) (i : ℕ) (x : Value) (found : FoundOrFault Op) (rest : List (FoundOrFault Op)) → i < length items → x ≡ get_or items i x
+pub next_raw : (format : Format) (doer : ListDoer) (items : List Value) (i : ℕ) (x : Value) (found : FoundOrFault Op) (rest : List (FoundOrFault Op)) → i < length items → x ≡ get_or items i x
     → found ≡ op_of format doer (view x)
     → raws_of format doer (map view (drop i items)) ++ rest ≡ found ∷ (raws_of format doer (map view (drop (i + 1) items)) ++ rest)
 next_raw format doer items i x found rest low is made =
@@ -29,7 +29,7 @@ next_raw format doer items i x found rest low is made =
     ∙ ap (λ (f : FoundOrFault Op). f ∷ (raws_of format doer (map view (drop (i + 1) items)) ++ rest)) (sym made)
 
 -- the end of a list
-pub last_raw : (format : Format) (doer : Doer) (items : List Value) (i : ℕ) (rest : List (FoundOrFault Op)) → length items ≤ i → raws_of format doer (map view (drop i items)) ++ rest ≡ rest
+pub last_raw : (format : Format) (doer : ListDoer) (items : List Value) (i : ℕ) (rest : List (FoundOrFault Op)) → length items ≤ i → raws_of format doer (map view (drop i items)) ++ rest ≡ rest
 last_raw format doer items i rest high = ap (λ (vs : List Value). raws_of format doer (map view vs) ++ rest) (drop_of_length-le items high)
 
 -- the next list of callers

@@ -20,7 +20,7 @@ use Rattle.ert_scenario.specs.Lists.{RaceValues, OpValues, race_lists, lists_fou
 use Rattle.ert_scenario.specs.Scenarios.{Plan, with_callers, planned_race, planned, verdict_of}
 use Rattle.ert_scenario.specs.Walked.{without_fault}
 use Rattle.ert_scenario.specs.Walks.{raws_of, all_raws, founds_of, first_range, ops_of}
-use Rattle.ert_scenario.specs.declared.doer.Doer.TheVariants.{Keeper, Caller}
+use Rattle.ert_scenario.specs.declared.doer.ListDoer.TheVariants.{Keeper, Caller}
 use Rattle.ert_scenario.specs.declared.fields.Top.{Top}
 use Rattle.ert_scenario.specs.declared.format.Format.{Format}
 use Rattle.ert_scenario.proofs.Accepted.{AreFew, accepts_all}

@@ -14,8 +14,8 @@ use Rattle.ert_scenario.specs.Kinds.{listed, listed_reading, non_negative}
 use Rattle.ert_scenario.specs.Ranges.{is_checked, is_op}
 use Rattle.ert_scenario.specs.Rows.{op_of}
 use Rattle.ert_scenario.specs.Scenarios.{IsValue, Plan}
-use Rattle.ert_scenario.specs.declared.doer.Doer.{Doer}
-use Rattle.ert_scenario.specs.declared.doer.Doer.TheVariants.{Everyone, Keeper, Caller}
+use Rattle.ert_scenario.specs.declared.doer.ListDoer.{ListDoer}
+use Rattle.ert_scenario.specs.declared.doer.ListDoer.TheVariants.{Everyone, Keeper, Caller}
 use Rattle.ert_scenario.specs.declared.format.Format.{Format}
 
 -- the fields of a value give these settings, for so many callers, and a service can be opened with them. It has no field
@@ -35,7 +35,7 @@ pub record HasSettings (race : Bool) (d : Data) (callers : ℕ) (g : Settings) :
   pub in_range : is_checked g ≡ true
 
 -- a value is an array of these ops, in the list of this doer
-pub record IsListOf (format : Format) (doer : Doer) (value : Option Data) (ops : List Op) : Type 0 where
+pub record IsListOf (format : Format) (doer : ListDoer) (value : Option Data) (ops : List Op) : Type 0 where
   pub values : List Data
   pub list : listed value ≡ Ok values
   pub reads : map (op_of format doer) values ≡ map Ok ops

@@ -4,8 +4,8 @@ use Rattle.std.specs.Prelude.{List, All}
 use Rattle.ert_ops.specs.Races.{IsCallersOp}
 use Rattle.ert_ops.specs.declared.op.Op.{Op}
 use Rattle.ert_ops.specs.declared.op.Op.TheVariants.{Tick, Check, Finalize, Notify}
-use Rattle.ert_scenario.specs.declared.doer.Doer.{Doer}
-use Rattle.ert_scenario.specs.declared.doer.Doer.TheVariants.{Everyone, Keeper, Caller}
+use Rattle.ert_scenario.specs.declared.doer.ListDoer.{ListDoer}
+use Rattle.ert_scenario.specs.declared.doer.ListDoer.TheVariants.{Everyone, Keeper, Caller}
 
 -- an op of the clock's thread: one that hands the clock a reading, or tells a process of the time offset
 abbrev pub IsKeepersOp : Op → Type 0
@@ -27,7 +27,7 @@ abbrev pub IsCallersAlone : Op → Type 0
 IsCallersAlone op = IsCallersOp op × GivesNoReading op
 
 -- an op that may stand in the list
-abbrev pub IsDoneBy : Doer → Op → Type 0
+abbrev pub IsDoneBy : ListDoer → Op → Type 0
 IsDoneBy Everyone op = Unit {0}
 IsDoneBy Keeper op = IsKeepersOp op
 IsDoneBy Caller op = IsCallersAlone op

@@ -16,7 +16,7 @@ use Rattle.ert_scenario.specs.Lists.{OpValues}
 use Rattle.ert_scenario.specs.Scenarios.{Plan, with_callers, judged, verdict_of}
 use Rattle.ert_scenario.specs.Walked.{without_fault}
 use Rattle.ert_scenario.specs.Walks.{raws_of, all_raws}
-use Rattle.ert_scenario.specs.declared.doer.Doer.TheVariants.{Everyone}
+use Rattle.ert_scenario.specs.declared.doer.ListDoer.TheVariants.{Everyone}
 use Rattle.ert_scenario.specs.declared.fields.Top.{Top}
 use Rattle.ert_scenario.specs.declared.format.Format.{Format}
 use Rattle.ert_scenario.specs.declared.quick.members.Seen.{Seen}

@@ -12,8 +12,8 @@ use Rattle.ert_ops.specs.declared.op.Op.TheVariants.{Tick, Check, Finalize, Noti
 use Rattle.ert_scenario.specs.Kinds.{FoundOrFault, ◌>>=◌, ◌▹◌, integer, word, unsigned_integer, boolean, called, one_word, two_words, reading_from, listed, text, end}
 use Rattle.ert_scenario.specs.Units.{time_unit}
 use Rattle.ert_scenario.specs.declared.fault.Fault.TheVariants.{Shape}
-use Rattle.ert_scenario.specs.declared.doer.Doer.{Doer}
-use Rattle.ert_scenario.specs.declared.doer.Doer.TheVariants.{Everyone, Keeper, Caller}
+use Rattle.ert_scenario.specs.declared.doer.ListDoer.{ListDoer}
+use Rattle.ert_scenario.specs.declared.doer.ListDoer.TheVariants.{Everyone, Keeper, Caller}
 use Rattle.ert_scenario.specs.declared.format.Format.{Format}
 use Rattle.ert_scenario.specs.declared.format.Format.TheVariants.{One, Two}
 use Rattle.ert_scenario.specs.declared.rows.timers.Origin.{Origin}
@@ -158,7 +158,7 @@ abbrev pub caller_groups : Format → List (List OpRow)
 caller_groups format = shared_rows ∷ clock_rows ∷ process_rows ∷ timer_rows ∷ rows_of_format format ∷ []
 
 -- the groups whose ops may stand in a list
-abbrev pub groups_of : Doer → Format → List (List OpRow)
+abbrev pub groups_of : ListDoer → Format → List (List OpRow)
 groups_of Everyone format = keeper_rows ∷ sched_rows ∷ caller_groups format
 groups_of Keeper format = keeper_rows ∷ shared_rows ∷ []
 groups_of Caller format = caller_groups format
@@ -179,9 +179,9 @@ op_named name [] args = Err Shape
 op_named name (rows ∷ groups) args = or_next (row_in name rows args) (op_named name groups args)
 
 -- the op that items are
-abbrev pub op_from : Format → Doer → List Data → FoundOrFault Op
+abbrev pub op_from : Format → ListDoer → List Data → FoundOrFault Op
 op_from format doer items = text (first_of items) >>= (λ name. op_named name (groups_of doer format) (others_of items))
 
 -- the op that a value is, before the ranges of its numbers are tested
-unfoldable pub op_of : Format → Doer → Data → FoundOrFault Op
+unfoldable pub op_of : Format → ListDoer → Data → FoundOrFault Op
 op_of format doer d = listed (Some d) >>= op_from format doer

@@ -8,13 +8,13 @@ use Rattle.ert_scenario.specs.Labels.{tested}
 use Rattle.ert_scenario.specs.Lists.{RaceValues, OpValues}
 use Rattle.ert_scenario.specs.Rows.{op_of}
 use Rattle.ert_scenario.specs.declared.fault.Fault.TheVariants.{Shape, Range}
-use Rattle.ert_scenario.specs.declared.doer.Doer.{Doer}
-use Rattle.ert_scenario.specs.declared.doer.Doer.TheVariants.{Everyone, Keeper, Caller}
+use Rattle.ert_scenario.specs.declared.doer.ListDoer.{ListDoer}
+use Rattle.ert_scenario.specs.declared.doer.ListDoer.TheVariants.{Everyone, Keeper, Caller}
 use Rattle.ert_scenario.specs.declared.fields.Top.{Top}
 use Rattle.ert_scenario.specs.declared.format.Format.{Format}
 
 -- what each of the values is as an op of the format, in the list of this doer
-abbrev pub raws_of : Format → Doer → List Data → List (FoundOrFault Op)
+abbrev pub raws_of : Format → ListDoer → List Data → List (FoundOrFault Op)
 raws_of format doer items = map (op_of format doer) items
 
 -- the same of callers' lists, one list after the other

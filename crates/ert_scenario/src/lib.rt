@@ -44,7 +44,7 @@
 //! - **The fields of a race are in one object**, and who calls `read_scenario` says whether it wants a race.
 //! - **The settings of a scenario are tested for one caller**, so too many lists are a limit.
 //! - **The walk over the ops of all lists keeps one list of ops**; the lists of the race are cut out of it at the end.
-//! - **What may stand in which list is a choice of groups of rows** (`Doer`, `groups_of`): a `tick` in a caller's list
+//! - **What may stand in which list is a choice of groups of rows** (`ListDoer`, `groups_of`): a `tick` in a caller's list
 //!   is unknown there.
 //! - **Two ways of reading a scenario.** Reading by way of a JSON value is slow, but its grammar is what the statement
 //!   on bytes rests on. The quick way reads tokens by the crate `json`; its contract is only what it gives, so it may

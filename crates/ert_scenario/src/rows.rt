@@ -11,7 +11,7 @@ mod processes;
 mod scheds;
 mod timers;
 
-use crate::doer::Doer;
+use crate::doer::ListDoer;
 use crate::fault::Fault;
 use crate::format::Format;
 use crate::kinds::{end, listed, next, text};
@@ -20,14 +20,14 @@ use serde_json::Value;
 
 /// The op that a value is in the list of a doer, before the ranges of its numbers are tested.
 #[tactic(auto, unfolding(crate::specs::Rows::op_of))]
-pub(crate) fn op_of(format: Format, doer: Doer, value: &Value) -> Result<Op, Fault>
+pub(crate) fn op_of(format: Format, doer: ListDoer, value: &Value) -> Result<Op, Fault>
     ensures { result ≡ op_of format doer (view value.now) }
 {
     op_from(format, doer, listed(Some(value))?)
 }
 
 /// The op that items are.
-pub(crate) fn op_from(format: Format, doer: Doer, items: &[Value]) -> Result<Op, Fault>
+pub(crate) fn op_from(format: Format, doer: ListDoer, items: &[Value]) -> Result<Op, Fault>
     ensures { result ≡ op_from format doer (map view items.now) }
 {
     let (name, args) = next(items);
@@ -35,19 +35,19 @@ pub(crate) fn op_from(format: Format, doer: Doer, items: &[Value]) -> Result<Op,
 }
 
 /// The op of this name in the list of a doer.
-fn named(format: Format, doer: Doer, name: &str, args: &[Value]) -> Result<Op, Fault>
+fn named(format: Format, doer: ListDoer, name: &str, args: &[Value]) -> Result<Op, Fault>
     ensures { result ≡ op_named name.now (groups_of doer format) (map view args.now) }
 {
     match doer {
-        Doer::Everyone => anyones_op(format, name, args),
-        Doer::Keeper => keepers_op(name, args),
-        Doer::Caller => callers_op(format, name, args),
+        ListDoer::Everyone => anyones_op(format, name, args),
+        ListDoer::Keeper => keepers_op(name, args),
+        ListDoer::Caller => callers_op(format, name, args),
     }
 }
 
 /// The op of this name, whoever does it.
 fn anyones_op(format: Format, name: &str, args: &[Value]) -> Result<Op, Fault>
-    ensures { result ≡ op_named name.now (groups_of Doer.Everyone format) (map view args.now) }
+    ensures { result ≡ op_named name.now (groups_of ListDoer.Everyone format) (map view args.now) }
 {
     if let Some(found) = keeper::op(name, args) {
         return found;
@@ -60,7 +60,7 @@ fn anyones_op(format: Format, name: &str, args: &[Value]) -> Result<Op, Fault>
 
 /// The op of this name, where the clock's thread may do it.
 fn keepers_op(name: &str, args: &[Value]) -> Result<Op, Fault>
-    ensures { result ≡ op_named name.now (groups_of Doer.Keeper Format.Two) (map view args.now) }
+    ensures { result ≡ op_named name.now (groups_of ListDoer.Keeper Format.Two) (map view args.now) }
 {
     if let Some(found) = keeper::op(name, args) {
         return found;

@@ -6,7 +6,7 @@ ghost use Rattle.ert_scenario.specs.Lists.{lists_seen, race_seen};
 ghost use Rattle.ert_scenario.specs.Walked.{WalkIsAt, IsOver, IsShapeAt};
 ghost use Rattle.ert_scenario.specs.Walks.{raws_of, caller_raws, race_raws, all_raws, first_shape};
 
-use crate::doer::Doer;
+use crate::doer::ListDoer;
 use crate::format::Format;
 use crate::kinds::items_in;
 use crate::limits::MOST_OPS;
@@ -23,7 +23,7 @@ pub(crate) fn scan(alloc: Global, format: Format, lists: &Lists) -> Result<Walk,
     ensures err { IfErr result (λ e. IsShapeAt e (first_shape 1 (all_raws format (lists_seen lists.now)))) }
 {
     let mut walk = Walk::new(alloc, lists.ops.len().min(MOST_OPS as usize))?;
-    scan_list(&mut walk, format, Doer::Everyone, lists.ops)?;
+    scan_list(&mut walk, format, ListDoer::Everyone, lists.ops)?;
     scan_others(&mut walk, format, lists)?;
     Ok(walk)
 }
@@ -48,9 +48,9 @@ fn scan_race(walk: &mut Walk, format: Format, race: &RaceItems) -> Result<(), Sc
     ensures stops { IfErr result (λ e. (all : List (FoundOrFault AnOp))
         → WalkIsAt walk.old (race_raws format (Some (race_seen race.now))) all → IsShapeAt e (first_shape 1 all)) }
 {
-    scan_list(walk, format, Doer::Keeper, race.keeper)?;
+    scan_list(walk, format, ListDoer::Keeper, race.keeper)?;
     for list in race.callers {
-        scan_list(walk, format, Doer::Caller, items_in(list))?;
+        scan_list(walk, format, ListDoer::Caller, items_in(list))?;
     }
     Ok(())
 }
@@ -59,7 +59,7 @@ fn scan_race(walk: &mut Walk, format: Format, race: &RaceItems) -> Result<(), Sc
 fn scan_list(
     walk: &mut Walk,
     format: Format,
-    doer: Doer,
+    doer: ListDoer,
     items: &[Value],
 ) -> Result<(), ScenarioErr>
     ensures goes_on { OnOk result ((rest all : List (FoundOrFault AnOp))

@@ -8,9 +8,9 @@ use Rattle.ert_ops.specs.declared.op.Op.{Op}
 use Rattle.ert_script.proofs.Answered.{unbound}
 use Rattle.ert_script.specs.Doing.{IsAnswered, IsTimerOf, HasStarted}
 use Rattle.ert_script.specs.Scripts.{StaysAlone, DoesWith, Fails}
-use Rattle.ert_transcript.specs.Labels.{Labels}
-use Rattle.ert_transcript.specs.Scripts.{labels_after}
-use Rattle.ert_transcript.specs.declared.reply.Reply.{Reply}
+use Rattle.ert_ops.specs.Labels.{Labels}
+use Rattle.ert_ops.specs.Scripts.{labels_after}
+use Rattle.ert_ops.specs.declared.reply.Reply.{Reply}
 use Rattle.ert_world.specs.Worlds.{Seen, Goes}
 
 pub grows_alone : (old new : Seen) (call : Way → Growth) → Goes old call new → old.next ≡ 1 → Grows (call (alone old.settings)) old.history new.history

@@ -28,10 +28,10 @@ use Rattle.ert_ops.specs.declared.op.Op.TheVariants as ops
 use Rattle.ert_effects.proofs.Growing.{grows_as}
 use Rattle.ert_script.specs.Doing.{IsAnswered, HasStarted, CannotAsk, BreaksOff}
 use Rattle.ert_script.specs.Replies.{tick_told, check_told, finalize_told, settings_told, start_told, take_told}
-use Rattle.ert_transcript.specs.Calls.{reading_of, start_for_op, request_for_op, AsksFor, Calls, Converts}
-use Rattle.ert_transcript.specs.Labels.{Labels, ref_of}
-use Rattle.ert_transcript.specs.declared.reply.Reply.{Reply}
-use Rattle.ert_transcript.specs.declared.reply.Reply.TheVariants as replies
+use Rattle.ert_ops.specs.Calls.{reading_of, start_for_op, request_for_op, AsksFor, Calls, Converts}
+use Rattle.ert_ops.specs.Labels.{Labels, ref_of}
+use Rattle.ert_ops.specs.declared.reply.Reply.{Reply}
+use Rattle.ert_ops.specs.declared.reply.Reply.TheVariants as replies
 
 module _ (g : Settings) (way : Way) (n : ℕ) (timer : TimerRef) (f h : List Entry) where
   -- a reply whose calls don't depend on labels

@@ -8,7 +8,7 @@ use Rattle.ert_defs.specs.Timers.{same_timer, timer_at}
 use Rattle.ert_defs.specs.declared.timer.TimerRef.{TimerRef}
 use Rattle.ert_script.specs.LabelMaps.{AreFound, first_ref, first_label}
 use Rattle.ert_script.specs.Keys.{key_of_timer, key_cmp}
-use Rattle.ert_transcript.specs.Labels.{Labels, bind, ref_of, label_in, label_of}
+use Rattle.ert_ops.specs.Labels.{Labels, bind, ref_of, label_in, label_of}
 
 -- the first of a list, or what stands for none
 first_or : {T : Type 0} (b : Bool) (x y d : T) (o : Option T) → y ≡ unwrap_or o d → cond b x y ≡ unwrap_or (cond b (Some x) o) d

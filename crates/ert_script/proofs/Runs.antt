@@ -18,11 +18,11 @@ use Rattle.ert_ops.specs.declared.op.Op.{Op}
 use Rattle.ert_world.specs.Worlds.{Seen, StandsFor}
 use Rattle.ert_script.specs.Scripts.{DoesWith, Fails, Runs}
 use Rattle.ert_script.specs.Written.{RunsAll, RunsSome, StopsAt, WritesRun, WritesSome, LinesFit}
-use Rattle.ert_transcript.specs.Calls.{Calls}
-use Rattle.ert_transcript.specs.Labels.{Labels, label_of}
-use Rattle.ert_transcript.specs.Lines.{line_of}
-use Rattle.ert_transcript.specs.Scripts.{Script, labels_after, lines_of}
-use Rattle.ert_transcript.specs.declared.reply.Reply.{Reply}
+use Rattle.ert_ops.specs.Calls.{Calls}
+use Rattle.ert_ops.specs.Labels.{Labels, label_of}
+use Rattle.ert_ops.specs.Lines.{line_of}
+use Rattle.ert_ops.specs.Scripts.{Script, labels_after, lines_of}
+use Rattle.ert_ops.specs.declared.reply.Reply.{Reply}
 
 -- a script run and one more op
 pub script_more : (g : Settings) (way : Way) (n : ℕ) (ls : Labels) (list : List Op) (rs : List Reply) (after : Labels) (h m piece : List Entry) (op : Op) (r : Reply)

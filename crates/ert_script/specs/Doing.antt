@@ -18,10 +18,10 @@ use Rattle.ert_effects.specs.Ways.{Growth, Grows, Way}
 use Rattle.ert_effects.specs.declared.answers.MonitorErr.TheVariants.{NoMemory as OutOfMemory}
 use Rattle.ert_ops.specs.declared.op.Op.{Op}
 use Rattle.ert_ops.specs.declared.op.Op.TheVariants as ops
-use Rattle.ert_transcript.specs.Calls.{Calls, start_for_op, request_for_op}
-use Rattle.ert_transcript.specs.Labels.{Labels, ref_of}
-use Rattle.ert_transcript.specs.declared.reply.Reply.{Reply}
-use Rattle.ert_transcript.specs.declared.reply.Reply.TheVariants as replies
+use Rattle.ert_ops.specs.Calls.{Calls, start_for_op, request_for_op}
+use Rattle.ert_ops.specs.Labels.{Labels, ref_of}
+use Rattle.ert_ops.specs.declared.reply.Reply.{Reply}
+use Rattle.ert_ops.specs.declared.reply.Reply.TheVariants as replies
 
 -- an op of a caller is on the clock
 abbrev pub IsClockOp : Op → Type 0

@@ -4,7 +4,7 @@ use Rattle.std.specs.Prelude.{◌≡◌, ℕ, cond, nat_eq, [], ◌∷◌, Optio
 use Rattle.ert_script.specs.Keys.{key_of_timer}
 use Rattle.ert_defs.specs.Timers.{same_timer}
 use Rattle.ert_defs.specs.declared.timer.TimerRef.{TimerRef}
-use Rattle.ert_transcript.specs.Labels.{Labels}
+use Rattle.ert_ops.specs.Labels.{Labels}
 
 -- the reference of the first pair with a label
 abbrev pub first_ref : Labels → ℕ → Option TimerRef

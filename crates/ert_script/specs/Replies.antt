@@ -14,8 +14,8 @@ use Rattle.ert_effects.specs.declared.answers.StartErr.{StartErr}
 use Rattle.ert_effects.specs.declared.answers.StartErr.TheVariants.{BadArg}
 use Rattle.ert_effects.specs.declared.answers.Taken.{Taken}
 use Rattle.ert_effects.specs.declared.answers.Taken.TheVariants.{Mail as Taking, Empty, Exited}
-use Rattle.ert_transcript.specs.declared.reply.Reply.{Reply}
-use Rattle.ert_transcript.specs.declared.reply.Reply.TheVariants.{Tick, TickWide, Check, CheckWide, Finalize, FinalizeWide, Info, StartOk, StartBadArg, StartFull, SendAfterOk, SendAfterBadArg, SendAfterFull, Received, ReceivedEmpty, ReceivedExited}
+use Rattle.ert_ops.specs.declared.reply.Reply.{Reply}
+use Rattle.ert_ops.specs.declared.reply.Reply.TheVariants.{Tick, TickWide, Check, CheckWide, Finalize, FinalizeWide, Info, StartOk, StartBadArg, StartFull, SendAfterOk, SendAfterBadArg, SendAfterFull, Received, ReceivedEmpty, ReceivedExited}
 
 -- of a tick of a valid reading
 abbrev pub tick_told : Result Moved ClockErr → Reply

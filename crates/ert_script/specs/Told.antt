@@ -1,7 +1,7 @@
 -- Which replies tell what.
 
-use Rattle.ert_transcript.specs.declared.reply.Reply.{Reply}
-use Rattle.ert_transcript.specs.declared.reply.Reply.TheVariants.{Tick, TickWide, Check, CheckWide, Finalize, FinalizeWide, Time, System, Offset, Info, Convert, ConvertTooWide, StartOk, StartBadArg, StartFull, SendAfterOk, SendAfterBadArg, SendAfterFull, CancelQuiet, CancelAsync, ReadAsync, Serve, ReceivedEmpty, ReceivedExited, Exit, MonitorFull}
+use Rattle.ert_ops.specs.declared.reply.Reply.{Reply}
+use Rattle.ert_ops.specs.declared.reply.Reply.TheVariants.{Tick, TickWide, Check, CheckWide, Finalize, FinalizeWide, Time, System, Offset, Info, Convert, ConvertTooWide, StartOk, StartBadArg, StartFull, SendAfterOk, SendAfterBadArg, SendAfterFull, CancelQuiet, CancelAsync, ReadAsync, Serve, ReceivedEmpty, ReceivedExited, Exit, MonitorFull}
 
 -- a reply tells times or the offset
 abbrev pub IsClockReply : Reply → Type 0

@@ -8,9 +8,9 @@ use Rattle.ert_script.specs.declared.output.RunErr.TheVariants.{WriteFault}
 use Rattle.ert_ops.specs.declared.op.Op.{Op}
 use Rattle.ert_world.specs.Worlds.{Seen, StandsFor}
 use Rattle.ert_script.specs.Scripts.{Runs, Fails}
-use Rattle.ert_transcript.specs.Labels.{Labels}
-use Rattle.ert_transcript.specs.Scripts.{lines_of}
-use Rattle.ert_transcript.specs.declared.reply.Reply.{Reply}
+use Rattle.ert_ops.specs.Labels.{Labels}
+use Rattle.ert_ops.specs.Scripts.{lines_of}
+use Rattle.ert_ops.specs.declared.reply.Reply.{Reply}
 
 -- the world did a list of ops, from labels to labels, and came to a service that stands for its history
 pub record RunsAll (old : Seen) (ls : Labels) (ops : List Op) (new : Seen) (after : Labels) : Type 0 where

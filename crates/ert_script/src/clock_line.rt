@@ -3,12 +3,12 @@ ghost use Rattle.std.specs.Prelude.{◌≡◌, ℕ, ◌++◌, codes, OnOk, strin
 ghost use Rattle.std.specs.Fmt.{signed_decimal};
 ghost use Rattle.ert_defs.specs.declared.timer.TimerRef.{TimerRef};
 ghost use Rattle.ert_script.specs.Told.{IsClockReply};
-ghost use Rattle.ert_transcript.specs.Lines.{line_of};
-ghost use Rattle.ert_transcript.specs.Texts.{◌⋅◌, moved_text, state_text, info_front, info_middle, info_back, offset_text};
+ghost use Rattle.ert_ops.specs.Lines.{line_of};
+ghost use Rattle.ert_ops.specs.Texts.{◌⋅◌, moved_text, state_text, info_front, info_middle, info_back, offset_text};
 
 use crate::words::{bool_word, mode_word, state_word};
 use ert_defs::{Mode, OffsetState};
-use ert_transcript::Reply;
+use ert_ops::Reply;
 use std::alloc::AllocError;
 use std::fmt::Write;
 
@@ -109,7 +109,7 @@ fn write_info(
     write_info_behind(page, correction, offset, state)
 }
 
-#[tactic(auto, unfolding(ert_transcript::specs::Texts::info_front))]
+#[tactic(auto, unfolding(ert_ops::specs::Texts::info_front))]
 fn write_info_front(page: &mut String, start: i64, end: i64, mode: Mode) -> Result<(), AllocError>
     ensures { OnOk result (string_bytes page.new ≡ string_bytes page.old ++ info_front start end mode) }
 {
@@ -134,14 +134,14 @@ fn write_info_behind(
     write_info_back(page, offset, state)
 }
 
-#[tactic(auto, unfolding(ert_transcript::specs::Texts::info_middle))]
+#[tactic(auto, unfolding(ert_ops::specs::Texts::info_middle))]
 fn write_info_middle(page: &mut String, correction: bool) -> Result<(), AllocError>
     ensures { OnOk result (string_bytes page.new ≡ string_bytes page.old ++ info_middle correction) }
 {
     write!(page, " correction {}", bool_word(correction))
 }
 
-#[tactic(auto, unfolding(ert_transcript::specs::Texts::info_back))]
+#[tactic(auto, unfolding(ert_ops::specs::Texts::info_back))]
 fn write_info_back(page: &mut String, offset: i64, state: OffsetState) -> Result<(), AllocError>
     ensures { OnOk result (string_bytes page.new ≡ string_bytes page.old ++ info_back offset state) }
 {

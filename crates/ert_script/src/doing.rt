@@ -8,8 +8,7 @@ use crate::doer::Doer;
 use crate::replies::{checked, convert_time, finalized, settings_told, start_told, taken, ticked};
 use ert_defs::{Kind, NoMemory, Reading, Request, RequestKind, Start, TimerRef};
 use ert_effects::MonitorErr;
-use ert_ops::Op;
-use ert_transcript::Reply;
+use ert_ops::{Op, Reply};
 
 /// Does an op of a caller. `timer` is the timer that the op cancels, reads or asks for; another op makes no use of
 /// it.

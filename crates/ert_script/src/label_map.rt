@@ -4,8 +4,7 @@ ghost use Rattle.ert_script.specs.Keys.{key_of_timer};
 
 use crate::first::put_first;
 use ert_defs::{NoMemory, TimerRef};
-use ert_ops::Op;
-use ert_transcript::Reply;
+use ert_ops::{Op, Reply};
 use std::alloc::Global;
 use std::collections::BTreeMap;
 use std::marker::Model;
@@ -26,7 +25,7 @@ impl Model for LabelMap {
     ghost use Rattle.std.specs.Ordering.{nat_cmp};
     ghost use Rattle.ert_script.specs.Keys.{key_cmp};
     ghost use Rattle.ert_script.specs.LabelMaps.{AreFound};
-    ghost use Rattle.ert_transcript.specs.Labels.{Labels};
+    ghost use Rattle.ert_ops.specs.Labels.{Labels};
 
     ghost Value = { Labels };
 
@@ -46,8 +45,8 @@ impl LabelMap {
     ghost use Rattle.std.specs.Prelude.{◌≡◌, ◌++◌, [], OnOk, OnErr};
     ghost use Rattle.ert_script.specs.LabelMaps.{first_ref};
     ghost use Rattle.ert_script.specs.Doing.{IsTimerOf, HasStarted};
-    ghost use Rattle.ert_transcript.specs.Labels.{bind, ref_of, label_of};
-    ghost use Rattle.ert_transcript.specs.Scripts.{labels_after};
+    ghost use Rattle.ert_ops.specs.Labels.{bind, ref_of, label_of};
+    ghost use Rattle.ert_ops.specs.Scripts.{labels_after};
 
     /// No label.
     pub fn new(alloc: Global) -> LabelMap

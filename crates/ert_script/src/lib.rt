@@ -1,6 +1,6 @@
 //! Runs a list of ops on a world, and writes the text of their replies.
 //!
-//! It stands on `ert_world`, whose calls it makes, on `ert_transcript`, whose definitions say which history
+//! It stands on `ert_world`, whose calls it makes, on `ert_ops`, whose definitions say which history
 //! an op allows with its reply and what its line is, and on `ert_io` for the output. `do_op` does one op,
 //! over whoever makes the calls (`Doer`): here a world, and in a race a caller of a service. `reply_op` does one on a
 //! world, and binds the label of a start once its timer was started. `run_ops` does a list of them and writes one

@@ -2,15 +2,15 @@ ghost use Rattle.std.specs.Prelude.{◌≡◌, ℕ, ◌++◌, codes, OnOk, strin
 ghost use Rattle.std.specs.Fmt.{decimal};
 ghost use Rattle.ert_defs.specs.declared.timer.TimerRef.{TimerRef};
 ghost use Rattle.ert_script.specs.Told.{IsFixedReply};
-ghost use Rattle.ert_transcript.specs.Labels.{label_of};
-ghost use Rattle.ert_transcript.specs.Lines.{line_of};
-ghost use Rattle.ert_transcript.specs.Texts.{◌⋅◌, bool_text, end_line};
+ghost use Rattle.ert_ops.specs.Labels.{label_of};
+ghost use Rattle.ert_ops.specs.Lines.{line_of};
+ghost use Rattle.ert_ops.specs.Texts.{◌⋅◌, bool_text, end_line};
 
 use crate::clock_line::write_clock;
 use crate::label_map::LabelMap;
 use crate::mail_line::{write_left, write_mail, write_turn};
 use crate::words::bool_word;
-use ert_transcript::Reply;
+use ert_ops::Reply;
 use std::alloc::AllocError;
 use std::fmt::Write;
 

@@ -3,13 +3,13 @@ ghost use Rattle.ert_io.specs.Faults.{Rose};
 ghost use Rattle.ert_io.specs.Known.{HasRoomFor};
 ghost use Rattle.ert_io.specs.Told.{sink_told, took, TakesFront};
 ghost use Rattle.ert_script.specs.Pages.{WritesWaiting};
-ghost use Rattle.ert_transcript.specs.Labels.{label_of};
-ghost use Rattle.ert_transcript.specs.Lines.{line_of};
+ghost use Rattle.ert_ops.specs.Labels.{label_of};
+ghost use Rattle.ert_ops.specs.Lines.{line_of};
 
 use crate::label_map::LabelMap;
 use crate::line::write_line;
 use ert_io::{Sink, write_all};
-use ert_transcript::Reply;
+use ert_ops::Reply;
 
 /// Why the output stopped.
 #[derive(Clone, Copy, Debug, PartialEq, Eq)]

@@ -4,13 +4,12 @@ ghost use Rattle.ert_clock.specs.declared.clock.ClockErr.TheVariants.{BadReading
 ghost use Rattle.ert_defs.specs.Settings.{IsChecked};
 ghost use Rattle.ert_effects.specs.declared.answers.StartErr.TheVariants.{NoMemory as OutOfMemory};
 ghost use Rattle.ert_script.specs.Replies.{tick_told, check_told, finalize_told, settings_told, start_told, take_told};
-ghost use Rattle.ert_transcript.specs.Calls.{Converts};
+ghost use Rattle.ert_ops.specs.Calls.{Converts};
 
 use ert_clock::{ClockErr, Moved};
 use ert_defs::{Kind, OffsetState, Settings, TimerRef};
 use ert_effects::{StartErr, Taken};
-use ert_ops::{TooWide, Unit, convert};
-use ert_transcript::Reply;
+use ert_ops::{Reply, TooWide, Unit, convert};
 
 /// The reply of a tick. The reading was valid.
 pub fn ticked(moved: Result<Moved, ClockErr>) -> Reply

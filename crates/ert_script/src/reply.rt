@@ -10,8 +10,7 @@ use crate::label_map::LabelMap;
 use crate::replies::ticked;
 use crate::sched_ops::{advance, deliver, serve, turn};
 use ert_defs::{NoMemory, Reading};
-use ert_ops::Op;
-use ert_transcript::Reply;
+use ert_ops::{Op, Reply};
 use ert_world::World;
 
 /// Does one op: as the scheduler that it names, or else as caller 0. A start binds its label once its timer was

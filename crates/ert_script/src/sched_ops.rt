@@ -2,10 +2,10 @@
 ghost use Rattle.std.specs.Prelude.{◌≡◌, ◌<◌, IfOk, OnErr};
 ghost use Rattle.ert_ops.specs.declared.op.Op.{Op};
 ghost use Rattle.ert_script.specs.Scripts.{DoesWith, Fails};
-ghost use Rattle.ert_transcript.specs.Labels.{Labels};
+ghost use Rattle.ert_ops.specs.Labels.{Labels};
 
 use ert_defs::NoMemory;
-use ert_transcript::Reply;
+use ert_ops::Reply;
 use ert_world::World;
 
 /// A scheduler answers one request.

@@ -1,7 +1,7 @@
 ghost use Rattle.std.specs.Prelude.{◌≡◌, ◌++◌, codes, decimal, OnOk, string_bytes};
 ghost use Rattle.ert_world.specs.Counted.{numbers_of};
-ghost use Rattle.ert_transcript.specs.Counts.{settled_line};
-ghost use Rattle.ert_transcript.specs.Texts.{◌⋅◌};
+ghost use Rattle.ert_ops.specs.Counts.{settled_line};
+ghost use Rattle.ert_ops.specs.Texts.{◌⋅◌};
 
 use ert_world::Counts;
 use std::alloc::AllocError;

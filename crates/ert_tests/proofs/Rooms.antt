@@ -5,7 +5,7 @@ use Rattle.ert_defs.specs.declared.settings.Settings.{Settings}
 use Rattle.ert_io.specs.Reads.{Input}
 use Rattle.ert_io.specs.Told.{SinkTold, sink_told}
 use Rattle.ert_ops.specs.declared.op.Op.{Op}
-use Rattle.ert_plain.specs.Plain.{plain_text}
+use Rattle.ert_ops.specs.Plain.{plain_text}
 use Rattle.ert_program.proofs.Ends.{NeverBoth, all_taken}
 use Rattle.ert_program.proofs.InMemory.{OneScenario}
 use Rattle.ert_program.specs.Inputs.{WritesAll}

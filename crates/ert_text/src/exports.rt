@@ -2,13 +2,13 @@
 ghost use Rattle.std.specs.Prelude.{◌≡◌, ◌⊎◌, ◌↔◌, ◌<◌, ◌≤◌, false, length};
 ghost use Rattle.ert_audit.specs.Verdicts.{HasVerdict};
 ghost use Rattle.ert_audit.specs.declared.verdict.Verdict as verdicts;
-ghost use Rattle.ert_commands.specs.Answers.{text_code, text_status};
+ghost use Rattle.ert_text.specs.Answers.{text_code, text_status};
 ghost use Rattle.ert_scenario.specs.Scenarios.{Plan, IsScenario, HasRefusal};
 ghost use Rattle.ert_scenario.specs.declared.scenario.ScenarioErr.{ScenarioErr as Why};
 ghost use Rattle.ert_text.specs.Texts.{TellsBoth, TellsRun, TellsRefusal, TellsJudged, TellsNothing};
 
 use crate::copying::copy_over;
-use ert_commands::{Answer, judge_text, run_text};
+use crate::{Answer, judge_text, run_text};
 use std::alloc::Global;
 
 /// How many bytes each text of an answer has, whether it fitted its buffer or not.

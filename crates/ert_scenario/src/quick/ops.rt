@@ -4,7 +4,7 @@ ghost use Rattle.std.specs.Prelude.{◌<◌, length, IsTrue, IfOk, IfSome};
 ghost use Rattle.ert_scenario.specs.Quick.{ReadsOp, ReadsOps};
 
 use super::tokens::{read_items, takes_begin_array};
-use crate::doer::Doer;
+use crate::doer::ListDoer;
 use crate::format::Format;
 use crate::rows::op_from;
 use ert_ops::Op;
@@ -50,7 +50,7 @@ fn read_op(
     if !takes_begin_array(reader) || !read_items(alloc, reader, args)? {
         return Ok(None);
     }
-    match op_from(format, Doer::Everyone, args) {
+    match op_from(format, ListDoer::Everyone, args) {
         Ok(op) => Ok(Some(op)),
         Err(_) => Ok(None),
     }

@@ -8,8 +8,7 @@ mod in_memory;
 
 use ert_defs::Reading;
 use ert_io::{MemClock, MemSink, MemSource};
-use ert_program::{EndStatus, Ended, ertime};
-use ert_race::{FreeGate, Gate};
+use ert_program::{EndStatus, Ended, FreeGate, Gate, ertime};
 use std::alloc::{AllocError, Global};
 use std::sync::Wait;
 use std::test::Fail;

@@ -1,7 +1,7 @@
 use Rattle.std.proofs.Common.{arith, ap, sym, subst, ◌≡◌, ◌∙◌, ℕ, length}
 use Rattle.std.specs.Prelude.{vec_len}
 use Rattle.ert_judge.specs.Verdicts.{StopsAtIllegal}
-use Rattle.ert_spelling.specs.Spelling.{MisspelledAt}
+use Rattle.ert_audit.specs.Spelling.{MisspelledAt}
 use Rattle.ert_audit.proofs.Texts.{legal_text, illegal_text, no_history}
 use Rattle.ert_audit.proofs.verdict.find_in.Goals as goal
 

@@ -1,7 +1,7 @@
 use Rattle.std.proofs.Common.{rules, ◌∙◌, sym, ap, FitsSigned, w64, to_z-of_z}
 use Rattle.ert_defs.specs.Lines.{Face}
 use Rattle.ert_judge.proofs.Seen.{tick_seen, shift_seen, look_seen, off_seen, watch_seen, tell_seen, tick_met, none_map}
-use Rattle.ert_state.specs.Parts.{mail_at}
+use Rattle.ert_judge.specs.Parts.{mail_at}
 use Rattle.ert_judge.proofs.finding.broken.Goals as goal
 
 pub returns-in-Tick : goal.returns-in-Tick

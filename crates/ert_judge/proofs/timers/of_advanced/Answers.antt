@@ -1,7 +1,7 @@
 use Rattle.std.proofs.Common.{rules, ◌≡◌, ◌∙◌, pos, FitsSigned, w64, to_z-of_z}
 use Rattle.std.specs.Int.{w128}
 use Rattle.ert_defs.specs.Milliseconds.{down}
-use Rattle.ert_state.specs.Parts.{looks_in, look_of}
+use Rattle.ert_judge.specs.Parts.{looks_in, look_of}
 use Rattle.ert_judge.proofs.FirstArmed.{first_seen, none_seen, later_seen}
 use Rattle.ert_judge.proofs.timers.of_advanced.Goals as goal
 

@@ -1,5 +1,5 @@
 use Rattle.std.proofs.Common.{sym}
-use Rattle.ert_state.specs.Uses.{uses_of}
+use Rattle.ert_judge.specs.Uses.{uses_of}
 use Rattle.ert_judge.proofs.NextUses.{past_limit, same_use, another}
 use Rattle.ert_judge.proofs.timers.of_wanted.Goals as goal
 

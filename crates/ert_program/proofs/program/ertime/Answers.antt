@@ -1,7 +1,7 @@
 use Rattle.std.proofs.Common.{rules, ◌≡◌, ℕ, true, false, Some, ap, subst, sym, ◌∙◌, map, string_bytes}
 use Rattle.ert_program.specs.declared.command.Command.TheVariants.{Live, Stress}
 use Rattle.ert_program.proofs.Ends.{memory_ends, memory_refusal}
-use Rattle.ert_race.specs.Written.{MayWrite}
+use Rattle.ert_program.specs.Written.{MayWrite}
 use Rattle.ert_program.proofs.Made.{stress_ends}
 use Rattle.ert_program.proofs.Ranges.{of_command, found_is, same_live, same_stress}
 use Rattle.ert_program.specs.Endings.{command_asked}

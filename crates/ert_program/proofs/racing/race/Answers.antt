@@ -1,8 +1,8 @@
 use Rattle.std.proofs.Common.{true, subst, sym}
-use Rattle.ert_race.proofs.Listed.{wanted_of}
+use Rattle.ert_program.proofs.Listed.{wanted_of}
 use Rattle.ert_io.specs.Reads.{Input, input_of}
 use Rattle.ert_scenario.specs.Scenarios.{plan_of}
-use Rattle.ert_race.specs.Written.{MayWrite}
+use Rattle.ert_program.specs.Written.{MayWrite}
 use Rattle.ert_program.specs.Races.{IsReport, RaceWrites, RaceEnds}
 use Rattle.ert_program.specs.RefusedInputs.{RefusalEnds}
 use Rattle.ert_program.specs.Streams.{Output, output_of}

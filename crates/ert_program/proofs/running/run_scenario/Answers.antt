@@ -5,7 +5,7 @@ use Rattle.ert_io.specs.Told.{sink_told}
 use Rattle.ert_scenario.specs.Scenarios.{plan_of}
 use Rattle.ert_ops.specs.declared.op.Op.{Op}
 use Rattle.ert_script.specs.Written.{WritesRun, WritesSome, LinesFit}
-use Rattle.ert_transcript.specs.Texts.{end_line}
+use Rattle.ert_ops.specs.Texts.{end_line}
 use Rattle.ert_program.proofs.Transcripts.{ends, breaks_last, breaks, lines_fit, end_fits}
 use Rattle.ert_program.proofs.running.run_scenario.Goals as goal
 

@@ -1,7 +1,7 @@
 use Rattle.std.proofs.Common.{rules, ◌≡◌, ◌++◌, string_bytes, subst, FitsSigned, w64, to_z-of_z}
 use Rattle.ert_laws.specs.Counts.{Counts}
 use Rattle.ert_script.proofs.Texts.{ok_map, joined}
-use Rattle.ert_transcript.specs.Counts.{settled_line}
+use Rattle.ert_ops.specs.Counts.{settled_line}
 use Rattle.ert_program.specs.Stresses.{summary_of}
 use Rattle.ert_program.proofs.stressing.write_summary.Goals as goal
 

@@ -1,4 +1,4 @@
-use Rattle.ert_transcript.specs.Texts.{info_middle}
+use Rattle.ert_ops.specs.Texts.{info_middle}
 use Rattle.ert_script.proofs.clock_line.write_info_middle.Goals as goal
 
 pub returns : goal.returns

@@ -4,8 +4,7 @@
 //! In all of them there is one scheduler. So worker 0 does the keeper list, worker 1 makes the turns, and worker
 //! 2 and the workers after it do the lists of the callers from 1 on.
 use super::{EITHER_CANCELS, Given, NO_FAULT, RACE, TWO_CANCELS, end_of};
-use ert_program::EndStatus;
-use ert_race::LedgerGate;
+use ert_program::{EndStatus, LedgerGate};
 use std::alloc::AllocError;
 use std::process::Abort;
 use std::sync::Wait;

@@ -3,7 +3,7 @@ use Rattle.json.specs.Token.{begin_array}
 use Rattle.serde_json.specs.View.{view}
 use Rattle.ert_scenario.specs.Quick.{ReadsOp}
 use Rattle.ert_scenario.specs.Rows.{op_from}
-use Rattle.ert_scenario.specs.declared.doer.Doer.TheVariants.{Everyone}
+use Rattle.ert_scenario.specs.declared.doer.ListDoer.TheVariants.{Everyone}
 use Rattle.ert_scenario.proofs.QuickLemmas.{op_read}
 use Rattle.ert_scenario.proofs.quick.ops.read_op.Goals as goal
 

@@ -1,5 +1,0 @@
-use Rattle.ert_plain.proofs.Fronts.{first_lines}
-use Rattle.ert_plain.proofs.laws.first_lines.Goals as goal
-
-pub returns : goal.returns
-returns c = first_lines

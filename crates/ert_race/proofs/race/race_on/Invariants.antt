@@ -1,5 +1,0 @@
-use Rattle.std.specs.Arc.{arc_value}
-use Rattle.ert_race.proofs.race.race_on.Given as goal
-
-abbrev pub ghosts-run_at_once : goal.ghosts-run_at_once
-ghosts-run_at_once g a = record { table = (arc_value a.parts.desk).table.shared.table_id; settings = (arc_value a.parts.desk).settings }

@@ -1,7 +1,0 @@
-use Rattle.std.proofs.Common.{◌≡◌, take}
-use Rattle.ert_race.specs.Reports.{all_labels}
-use Rattle.ert_race.specs.Lists.{dids_of}
-use Rattle.ert_race.proofs.report.name_all.Given as goal
-
-abbrev pub invariant-loop-list : goal.invariant-loop-list
-invariant-loop-list l = l.labels ≡ all_labels l.fn.labels (dids_of (take l.list-index l.lists))

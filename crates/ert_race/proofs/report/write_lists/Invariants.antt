@@ -1,7 +1,0 @@
-use Rattle.std.proofs.Common.{◌≡◌, ◌++◌, string_bytes, take}
-use Rattle.ert_race.specs.Reports.{lists_text}
-use Rattle.ert_race.specs.Lists.{dids_of}
-use Rattle.ert_race.proofs.report.write_lists.Given as goal
-
-abbrev pub invariant-loop-number : goal.invariant-loop-number
-invariant-loop-number l = string_bytes l.page ≡ string_bytes l.fn.page ++ lists_text l.labels 0 (dids_of (take l.number l.lists))

@@ -1,5 +1,0 @@
-use Rattle.ert_race.proofs.Rounds.{IsRoundSoFar}
-use Rattle.ert_race.proofs.round.last_round.Given as goal
-
-abbrev pub invariant-loop-sched : goal.invariant-loop-sched
-invariant-loop-sched l = IsRoundSoFar l.fn.world l.sched l.world

@@ -1,9 +1,0 @@
-pub mod Cuts
-pub mod Entries
-pub mod Events
-pub mod Faults
-pub mod Fits
-pub mod Parts
-pub mod Readers
-pub mod Reading
-pub mod Spelling

@@ -1,4 +1,0 @@
-pub mod Indexes
-pub mod Parts
-pub mod Uses
-pub mod Wheels
