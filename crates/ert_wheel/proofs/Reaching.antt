@@ -10,7 +10,7 @@ use Rattle.ert_wheel.proofs.Looking.{key_low}
 use Rattle.ert_wheel.proofs.Standing.{end_after}
 use Rattle.ert_wheel.proofs.Times.{lowest}
 use Rattle.ert_wheel.proofs.Views.{place_is}
-use Rattle.ert_wheel.specs.FirstDue.{NoRowDue, IsFirstRowDue, IsFirstAt, IsFirstTold, IsPast, IsReached, MayBeDue, NoneDueIn, IsOldestDue, SomeRowDue}
+use Rattle.ert_wheel.specs.FirstDue.{NoRowDue, IsFirstRowDue, IsFirstDueAt, IsFirstTold, IsPast, IsReached, MayBeDue, NoneDueIn, IsOldestDue, SomeRowDue}
 use Rattle.ert_wheel.specs.Levels.{bucket_of_window}
 use Rattle.ert_wheel.specs.NextDue.{NoneBefore}
 use Rattle.ert_wheel.specs.Rings.{Rings, Place, AreChains, StandsIn, Finds}
@@ -103,7 +103,7 @@ none_at_stop keys stands passed to stop r by none = absurd (not_past keys stands
 
 -- what is told of the time that time has come to is told of the time up to which it may come
 pub told_at_stop : (keys : List (Option Key)) (stands : List (Option ℕ)) (passed to stop : ℕ) (told : FirstDue) → IsReached keys stands passed to stop
-    → stop ≤ to → IsFirstAt keys passed stop told → IsFirstTold keys stands passed to told
+    → stop ≤ to → IsFirstDueAt keys passed stop told → IsFirstTold keys stands passed to told
 told_at_stop keys stands passed to stop (First row) r by f = first_at_stop keys to stop row by f
 told_at_stop keys stands passed to stop Nothing r by none = none_at_stop keys stands passed to stop r by none
 told_at_stop keys stands passed to stop Moving r by f =

@@ -6,7 +6,7 @@ use Rattle.std.proofs.lemmas.Bool.Decides.{leb_tells}
 use Rattle.ert_wheel.proofs.Collect.{passing_same}
 use Rattle.ert_wheel.proofs.Least.{at_place}
 use Rattle.ert_wheel.proofs.Looking.{key_low}
-use Rattle.ert_wheel.proofs.Standing.{StandsAt, end_of, stands_at, window_before_end}
+use Rattle.ert_wheel.proofs.Standing.{StandsForTime, end_of, stands_at, window_before_end}
 use Rattle.ert_wheel.proofs.Times.{later}
 use Rattle.ert_wheel.specs.Levels.{bucket_of_window}
 use Rattle.ert_wheel.specs.Marks.{FirstWindow}
@@ -68,7 +68,7 @@ met_skip due k l v w found up none =
     ])
 
 -- a window more: its bucket's keys are those of the level in it
-met_more : (due : Bool) (k l v w h b : ℕ) → (h ≡ b → StandsAt l k v w) → (l ≡ k → v ≡ w → h ≡ b)
+met_more : (due : Bool) (k l v w h b : ℕ) → (h ≡ b → StandsForTime l k v w) → (l ≡ k → v ≡ w → h ≡ b)
     → cond (due && (nat_lt k l || (nat_eq k l && nat_lt v w))) 1 0 + cond (due && nat_eq h b) 1 0
     ≡ cond (due && (nat_lt k l || (nat_eq k l && nat_lt v (w + 1)))) 1 0
 met_more false k l v w h b is there = refl
@@ -173,7 +173,7 @@ module _ {next level to : ℕ} {keys : List (Option Key)} {chains : Rings} {leve
   module _ (window : ℕ) (rows : List HeldRow) (from : next / 512 ^ level ≤ window) (low : window < end_of level next)
       (seen : IsSeen next keys levels stand.time level window to rows) where
     here : (key : Key) (j : ℕ) → key_in keys j ≡ Some key → home_on next levels stand.time key ≡ bucket_of_window level window
-        → StandsAt (levels key) level (time_of next stand.time key / 512 ^ level) window
+        → StandsForTime (levels key) level (time_of next stand.time key / 512 ^ level) window
     here key j has at = stands_at next (levels key) level (time_of next stand.time key) window (omega arith) (stand.levelled.fit j key has) from low at
 
     one_more : (j : ℕ)

@@ -5,15 +5,12 @@ use Rattle.std.proofs.lemmas.Bool.{cases_eq, cases_lt}
 use Rattle.ert_wheel.proofs.Times.{later}
 use Rattle.ert_wheel.specs.Levels.{bucket_on}
 use Rattle.ert_wheel.specs.Rows.{Held, key_in}
-use Rattle.ert_wheel.specs.Standing.{bucket_in, StandsDue, ComesTo, ComesOrStays, StayOrFall}
+use Rattle.ert_wheel.specs.Standing.{bucket_in, StandsDue, ComesTo, StayOrFall}
 use Rattle.ert_wheel.specs.declared.row.Key.{Key}
 
 -- at first each stays
 pub stay_all : (keys : List (Option Key)) (passed : ℕ) (stands : List (Option ℕ)) → StayOrFall keys passed stands stands
 stay_all keys passed stands = record { each = λ slot key has. inl refl }
-
-pub stay_same : (keys : List (Option Key)) (passed : ℕ) (old new : List (Option ℕ)) → new ≡ old → StayOrFall keys passed old new
-stay_same keys passed old new same = record { each = λ slot key has. inl (ap (λ (s : List (Option ℕ)). bucket_in s slot) same) }
 
 -- what stays in a bucket of its deadline is there later too
 stands_still : {old new : List (Option ℕ)} {passed passed' slot deadline : ℕ} → passed ≤ passed' → bucket_in new slot ≡ bucket_in old slot
@@ -89,12 +86,6 @@ comes_falls {keys} {passed} {slot} {key} {old} {new} low has c = record {
             inl (ap (λ (s : List (Option ℕ)). bucket_in s j) c.is ∙ get_or-set_other old slot j (Some (bucket_on c.level (max key.deadline passed))) None ne)
       ];
 }
-
--- where a row may stay too
-pub comes_or_stays : {was keys : List (Option Key)} {passed slot : ℕ} {key : Key} {old new : List (Option ℕ)} → slot < length old → key_in keys slot ≡ Some key
-    → ComesOrStays was old new passed slot (max key.deadline passed) → StayOrFall keys passed old new
-comes_or_stays {was} {keys} {passed} {slot} {key} {old} {new} low has c =
-    elim c [ inl stays ↦ stay_same keys passed old new stays.same | inr comes ↦ comes_falls low has comes ]
 
 -- Rows were taken out, and those that are left stand where they stood.
 abbrev pub HaveStood : {T : Type 0} → Held T → Held T → Type 0

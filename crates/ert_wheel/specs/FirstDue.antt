@@ -58,10 +58,10 @@ IsFirstTold keys stands passed to Nothing = IsPast keys passed to
 IsFirstTold keys stands passed to Moving = HasMore keys stands passed to
 
 -- and of the first row that is due at a time before which none is, where time has come to that
-abbrev pub IsFirstAt : List (Option Key) → ℕ → ℕ → FirstDue → Type 0
-IsFirstAt keys passed time (First row) = IsFirstRowDue keys time (row_told keys row)
-IsFirstAt keys passed time Nothing = time ≤ passed → NoRowDue keys time
-IsFirstAt keys passed time Moving = ⊤
+abbrev pub IsFirstDueAt : List (Option Key) → ℕ → ℕ → FirstDue → Type 0
+IsFirstDueAt keys passed time (First row) = IsFirstRowDue keys time (row_told keys row)
+IsFirstDueAt keys passed time Nothing = time ≤ passed → NoRowDue keys time
+IsFirstDueAt keys passed time Moving = ⊤
 
 -- where time may come to next: no row is due before that, and it is when the next one is, or just past the time
 pub record IsNextStop (keys : List (Option Key)) (stands : List (Option ℕ)) (passed to stop : ℕ) : Type 0 where

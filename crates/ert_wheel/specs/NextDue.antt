@@ -3,7 +3,7 @@
 use Rattle.std.specs.Prelude.{◌≡◌, ◌≢◌, ℕ, ◌+◌, ◌*◌, ◌/◌, ◌<◌, ◌≤◌, ◌^◌, ◌⊎◌, List, Option, Some, None, length, max}
 use Rattle.ert_wheel.specs.Rings.{Rings, Place, AreChains}
 use Rattle.ert_wheel.specs.Rows.{key_in}
-use Rattle.ert_wheel.specs.Standing.{homes_of, StandsAt, StandsInWindow}
+use Rattle.ert_wheel.specs.Standing.{homes_of, StandsForTime, StandsInWindow}
 use Rattle.ert_wheel.specs.Walks.{StandOnLevels}
 use Rattle.ert_wheel.specs.Wheels.{places}
 use Rattle.ert_wheel.specs.declared.row.Key.{Key}
@@ -94,7 +94,7 @@ LawOfLaterDue = (keys : List (Option Key)) (stands : List (Option ℕ)) (passed 
 
 -- no row stands too early: each stands in the bucket of its deadline, and a late one in that of the first time that wasn't passed
 abbrev pub NoneTooEarly : List (Option Key) → List (Option ℕ) → ℕ → Type 0
-NoneTooEarly keys stands passed = (slot : ℕ) (key : Key) → key_in keys slot ≡ Some key → StandsAt stands passed slot (max key.deadline passed)
+NoneTooEarly keys stands passed = (slot : ℕ) (key : Key) → key_in keys slot ≡ Some key → StandsForTime stands passed slot (max key.deadline passed)
 
 -- some row is due in a window of a level above the lowest that begins at a time
 pub record IsDueWithin (keys : List (Option Key)) (time : ℕ) : Type 0 where

@@ -32,7 +32,7 @@ pub record StandsInWindow (stands : List (Option ℕ)) (passed level window slot
   pub at : bucket_in stands slot ≡ Some (bucket_of_window level window)
 
 -- the row of a slot stands in the bucket of a time on some level that shows the time
-pub record StandsAt (stands : List (Option ℕ)) (passed slot time : ℕ) : Type 0 where
+pub record StandsForTime (stands : List (Option ℕ)) (passed slot time : ℕ) : Type 0 where
   pub level : ℕ
   pub highest : level ≤ 4
   pub in_window : StandsInWindow stands passed level (time / 512 ^ level) slot

@@ -13,7 +13,7 @@ use crate::windows::{begin_of, bucket_of_window, window_on};
 impl<T: Keyed> Wheel<T> {
     ghost use Rattle.std.specs.Bool.{OnTrue};
     ghost use Rattle.std.specs.Prelude.{◌≡◌, ◌+◌, ◌-◌, ◌<◌, ◌≤◌, ℕ, IfSome, MatchBool, MatchOption, length, max, min, vec_capacity};
-    ghost use Rattle.ert_wheel.specs.FirstDue.{NoRowDue, HasToMove, IsFirstAt, IsFirstTold, IsNextStop, IsReached, MayBeDue, SomeRowDue};
+    ghost use Rattle.ert_wheel.specs.FirstDue.{NoRowDue, HasToMove, IsFirstDueAt, IsFirstTold, IsNextStop, IsReached, MayBeDue, SomeRowDue};
     ghost use Rattle.ert_wheel.specs.NextDue.{NoneBefore};
     ghost use Rattle.ert_wheel.specs.Rows.{key_in};
     ghost use Rattle.ert_wheel.specs.Standing.{StayOrFall};
@@ -185,7 +185,7 @@ impl<T: Keyed> Wheel<T> {
     #[inline]
     fn first_at(&mut self, time: u64, moves: &mut u32, scratch: &mut Vec<HeldRow>) -> FirstDue
         requires before { NoneBefore self.old.keys time }
-        ensures first { IsFirstAt self.old.keys self.old.passed time result }
+        ensures first { IsFirstDueAt self.old.keys self.old.passed time result }
         ensures same { self.new ≡ self.old }
         ensures fewer { moves.new ≤ moves.old }
         ensures capacity { vec_capacity scratch.new ≡ vec_capacity scratch.old }

@@ -2,7 +2,7 @@ use Rattle.std.proofs.Common.{◌≡◌, ℕ, List, Option, Some, ◌∙◌, ap,
 use Rattle.ert_wheel.proofs.Reaching.{told_at_stop}
 use Rattle.ert_wheel.proofs.Writes.{keys_of, passed_of}
 use Rattle.ert_wheel.proofs.wheel.Wheel.first_by.Goals as goal
-use Rattle.ert_wheel.specs.FirstDue.{IsFirstAt, IsReached}
+use Rattle.ert_wheel.specs.FirstDue.{IsFirstDueAt, IsReached}
 use Rattle.ert_wheel.specs.Rows.{Held, key_in}
 use Rattle.ert_wheel.specs.Wheels.{held_keys}
 use Rattle.ert_wheel.specs.declared.row.Key.{Key}
@@ -33,8 +33,8 @@ returns-clause-first g c =
     let r : IsReached c.args.self.now.keys c.first_at.new.self.stands c.first_at.new.self.passed c.args.to c.args.reached =
     subst (λ (h : Held _). IsReached c.args.self.now.keys h.stands h.passed c.args.to c.args.reached)
     (sym (c.first_at.ensures.same ∙ c.self.view_is)) c.requires.reached in
-    let told : IsFirstAt c.args.self.now.keys c.first_at.new.self.passed c.args.reached c.first_at.result =
-    subst (λ (keys : List (Option Key)). IsFirstAt keys c.first_at.new.self.passed c.args.reached c.first_at.result) (ap keys_of c.self.view_is)
-    (subst (λ (n : ℕ). IsFirstAt (held_keys c.self.inside.buckets c.self.inside.kept.keys) n c.args.reached c.first_at.result)
+    let told : IsFirstDueAt c.args.self.now.keys c.first_at.new.self.passed c.args.reached c.first_at.result =
+    subst (λ (keys : List (Option Key)). IsFirstDueAt keys c.first_at.new.self.passed c.args.reached c.first_at.result) (ap keys_of c.self.view_is)
+    (subst (λ (n : ℕ). IsFirstDueAt (held_keys c.self.inside.buckets c.self.inside.kept.keys) n c.args.reached c.first_at.result)
     (sym (ap passed_of c.first_at.ensures.same)) c.first_at.ensures.first) in
     told_at_stop c.args.self.now.keys c.first_at.new.self.stands c.first_at.new.self.passed c.args.to c.args.reached c.first_at.result r (omega (arith, c.if-reached-to.false)) told
