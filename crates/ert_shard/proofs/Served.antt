@@ -1,6 +1,7 @@
 -- Requests of a shard that are served, one after the other.
 
-use Rattle.std.proofs.Common.{◌≡◌, ℕ, zero, suc, ◌+◌, ◌<◌, true, List, [], ◌∷◌, ◌++◌, filter, Option, Some, None, Ok, Err, refl, sym, ap, subst, ◌∙◌, arith, append-nil, append_assoc}
+use Rattle.std.proofs.Common.{◌≡◌, ℕ, zero, suc, ◌+◌, ◌<◌, ◌≤◌, Bool, Result, cond, true, List, [], ◌∷◌, ◌++◌, filter, Option, Some, None, Ok, Err, refl, sym, ap, subst, ◌∙◌, arith, append-nil, append_assoc}
+use Rattle.std.proofs.lemmas.Bool.{lt-ltb}
 use Rattle.std.proofs.lemmas.List.Elements.{filter-append}
 use Rattle.std.specs.Option.{is_some}
 use Rattle.ert_defs.specs.Legal.{Legal}
@@ -18,8 +19,9 @@ use Rattle.ert_effects.specs.Ways.{Then, Many}
 use Rattle.ert_world.specs.Stepping.{turns_same, turns_then}
 use Rattle.ert_shard.proofs.Called.{same_rows, rows_then}
 use Rattle.ert_shard.proofs.Stepped.{since, steps_as, steps_then, steps_then_share}
-use Rattle.ert_shard.specs.Serving.{ShardHasForgottenAll, ShardForgetsCancelled, ShardServes, ShardServesAll}
+use Rattle.ert_shard.specs.Serving.{EndsServing, ShardHasForgottenAll, ShardForgetsCancelled, ShardServes, ShardServesAll}
 use Rattle.ert_shard.specs.Shards.{Share, is_of, as_share, Owned, shard_way, ShardHasForgotten, ShardSteps}
+use Rattle.ert_shard.specs.declared.requests.ServeErr.{ServeErr}
 use Rattle.ert_shard.specs.declared.requests.ServeErr.TheVariants.{NoMemory as NoMemoryToServe}
 use Rattle.ert_world.proofs.Forgotten.{answer_cancels}
 use Rattle.ert_world.proofs.Sparing.{CancelOnly}
@@ -98,6 +100,22 @@ pub served_most : (a b : Owned) (n : ℕ) → n ≡ 64 → ShardSteps a (λ way.
 served_most a b n all many =
     steps_as a b (λ way. ServesMany a.settings way a.share.number n) (λ way. ShardServesAll a.settings way a.share (Ok 64))
     (λ m made. (omega arith, subst (λ k. ServesMany a.settings (shard_way a) a.share.number k a.history m) all made)) many
+
+-- and where fewer were, there was no other, or one for a process of another shard
+pub served_to_end : (a b c : Owned) (n : ℕ) (answer : Result Bool ServeErr) → n < 64 → ShardSteps a (λ way. ServesMany a.settings way a.share.number n) b
+    → ShardSteps b (λ way. ShardServes b.settings way b.share answer) c
+    → ((m k : List Entry) → ShardServes a.settings (shard_way a) a.share answer m k → EndsServing a.settings (shard_way a) a.share m k)
+    → ShardSteps a (λ way. ShardServesAll a.settings way a.share (Ok n)) c
+served_to_end a b c n answer few one other ends =
+    steps_as a c (λ way. Then (ServesMany a.settings way a.share.number n) (λ h m. ShardServes a.settings way a.share answer h m))
+    (λ way. ShardServesAll a.settings way a.share (Ok n))
+    (λ m made. (
+      omega (arith, few),
+      subst (λ (less : Bool). cond less (Then (ServesMany a.settings (shard_way a) a.share.number n) (EndsServing a.settings (shard_way a) a.share) a.history m)
+      (ServesMany a.settings (shard_way a) a.share.number n a.history m)) (sym (lt-ltb n 64 few))
+      (record { before = made.before; after = made.after; joined = made.joined; one = made.one; other = ends _ _ made.other }),
+    ))
+    (steps_then_share a b c (λ g s way. ServesMany g way s.number n) (λ g s way. ShardServes g way s answer) one other)
 
 -- there was no memory for the next
 pub unserved : (a b c : Owned) (n : ℕ) (e : NoMemory) → n < 64 → ShardSteps a (λ way. ServesMany a.settings way a.share.number n) b

@@ -252,6 +252,54 @@ static void many_at_once(void) {
     }
 }
 
+/* Timers that were restarted to one deadline, in another order than that of their starts, are handed over in pieces in the order of the
+ * restarts. Between the pieces some are cancelled, and others are started that are due by then. */
+static void restarted_to_one_deadline(uint32_t step, uint32_t beside) {
+    enum { DEADLINE = 10100, SLOTS = MANY + MANY / 2 };
+    static ert_timer timers[SLOTS];
+    ert_world world = ERT_INIT;
+    ert_turned turned;
+    ert_turned_some some;
+    ert_mail mail;
+    uint64_t left, last = 0;
+    uint32_t calls = 0, done = 0, gone = 0, rank = 0, drawn = 1;
+    opened(&world, SLOTS);
+    for (uint32_t it = 0; it < MANY; it += 1) {
+        ert_start start = {.when = DEADLINE - 50, .dest = 0};
+        IS(ert_world_start(&world, 0, &start, &timers[it]), ERT_OK);
+    }
+    tick(&world, 100);
+    IS(ert_world_turn(&world, 0, &turned), ERT_OK);
+    for (uint32_t it = 0; it < MANY; it += 1) {
+        ert_start start = {.when = DEADLINE, .absolute = 1, .msg = rank, .dest = 0};
+        IS(ert_world_restart(&world, &timers[it * step % MANY], &start), ERT_OK);
+        rank += 1;
+    }
+    tick(&world, DEADLINE);
+    do {
+        IS(ert_world_turn_some(&world, 0, PIECE, &some), ERT_OK);
+        IS(some.put <= PIECE, 1);
+        for (uint32_t it = 0; it < some.put; it += 1) {
+            IS(ert_world_take(&world, 0, &mail), ERT_OK);
+            IS(mail.msg >= last, 1);
+            last = mail.msg + 1;
+        }
+        done += some.put;
+        calls += 1;
+        for (uint32_t it = 0; it < beside && rank < SLOTS; it += 1) {
+            ert_start start = {.when = DEADLINE, .absolute = 1, .msg = rank, .dest = 0};
+            IS(ert_world_start(&world, 0, &start, &timers[rank]), ERT_OK);
+            rank += 1;
+            drawn = drawn * 1664525 + 1013904223;
+            gone += ert_world_cancel(&world, &timers[(drawn >> 8) % MANY], &left) == ERT_OK;
+        }
+    } while (some.more != 0 && calls < 5 * SLOTS / PIECE);
+    IS(ert_world_turn(&world, 0, &turned), ERT_OK);
+    IS(some.more, 0);
+    IS(done + turned.put + gone, rank);
+    IS(ert_world_close(&world), ERT_OK);
+}
+
 /* Timers whose deadlines had passed when they were started, and others in windows of their own, come in order of deadline,
  * and those of one deadline in order of start. */
 static void late_ones_in_order(void) {
@@ -481,6 +529,9 @@ int main(void) {
     restarts();
     bounded_turns();
     many_at_once();
+    restarted_to_one_deadline(MANY - 1, 0);  /* from the last to the first */
+    restarted_to_one_deadline(40503, 0);     /* in no order */
+    restarted_to_one_deadline(40503, 30);
     late_ones_in_order();
     beside_a_seat();
     mail_is_found();

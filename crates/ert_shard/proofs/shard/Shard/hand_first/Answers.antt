@@ -196,7 +196,11 @@ returns-in_err-handed c =
     rw result (record {
       call = did.steps;
       expired = tt;
-      kept = record { keys = ap (λ (o : Owned). o.wheel.keys) c.self.view_is; time = ap (λ (o : Owned). o.wheel.passed) c.self.view_is };
+      kept = record {
+        keys = ap (λ (o : Owned). o.wheel.keys) c.self.view_is;
+        time = ap (λ (o : Owned). o.wheel.passed) c.self.view_is;
+        stands = ap (λ (o : Owned). o.wheel.stands) c.self.view_is;
+      };
     })
 
 pub returns-clause-kept : goal.returns-clause-kept
