@@ -13,7 +13,7 @@ use Rattle.ert_audit.specs.Events.{read_one_entry, read_settings}
 use Rattle.ert_audit.specs.Readers.{whole}
 use Rattle.ert_audit.specs.Spelling.{IsSettingsLine, BeginsWithSettings, IsEntryLine, BeginsWithEntry}
 use Rattle.ert_audit.proofs.EntryFormats.{entry, settings}
-use Rattle.ert_audit.proofs.Lines.{HasWords, free_line, front_line_of, line_read, line_none}
+use Rattle.ert_audit.proofs.LineFormats.{HasWords, free_line, front_line_of, line_read, line_none}
 
 pub entry_some : HasWords entry_words
 entry_some e = (_, _, refl)

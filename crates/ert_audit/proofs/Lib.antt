@@ -1,19 +1,19 @@
-pub mod ActorFormats
 mod Completes
+mod Messages
+mod OneVerdict
+mod Texts
+pub mod ActorFormats
 pub mod Digits
 pub mod EntryFormats
 pub mod FirstLines
 pub mod Formats
 pub mod Integers
 pub mod Left
-pub mod Lines
-mod Messages
+pub mod LineFormats
 pub mod OneSpelling
-mod OneVerdict
 pub mod PartFormats
 pub mod Splits
 pub mod Stops
 pub mod Tables
-mod Texts
 pub mod Unseen
 pub mod WordFormats

@@ -12,7 +12,7 @@ use Rattle.ert_audit.specs.Spelling.{line_of_words, entry_line, Spells, IsEntryL
 use Rattle.ert_audit.specs.Spelling.MisspelledAt.{in_settings, in_entries}
 use Rattle.ert_audit.proofs.EntryFormats.{entry, settings}
 use Rattle.ert_audit.proofs.FirstLines.{entry_some, settings_some}
-use Rattle.ert_audit.proofs.Lines.{front_line_of, line_some}
+use Rattle.ert_audit.proofs.LineFormats.{front_line_of, line_some}
 
 -- bytes that end, or go on with what is no line of an entry
 abbrev Stops : List ℕ → Type 0
