@@ -112,8 +112,8 @@ served_to_end a b c n answer few one other ends =
     (λ m made. (
       omega (arith, few),
       subst (λ (less : Bool). cond less (Then (ServesMany a.settings (shard_way a) a.share.number n) (EndsServing a.settings (shard_way a) a.share) a.history m)
-      (ServesMany a.settings (shard_way a) a.share.number n a.history m)) (sym (lt-ltb n 64 few))
-      (record { before = made.before; after = made.after; joined = made.joined; one = made.one; other = ends _ _ made.other }),
+          (ServesMany a.settings (shard_way a) a.share.number n a.history m)) (sym (lt-ltb n 64 few))
+          (record { before = made.before; after = made.after; joined = made.joined; one = made.one; other = ends _ _ made.other }),
     ))
     (steps_then_share a b c (λ g s way. ServesMany g way s.number n) (λ g s way. ShardServes g way s answer) one other)
 
