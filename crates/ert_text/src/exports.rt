@@ -7,8 +7,10 @@ ghost use Rattle.ert_scenario.specs.Scenarios.{Plan, IsScenario, HasRefusal};
 ghost use Rattle.ert_scenario.specs.declared.scenario.ScenarioErr.{ScenarioErr as Why};
 ghost use Rattle.ert_text.specs.Texts.{TellsBoth, TellsRun, TellsRefusal, TellsJudged, TellsNothing};
 
+use crate::answer::Answer;
 use crate::copying::copy_over;
-use crate::{Answer, judge_text, run_text};
+use crate::judging::judge_text;
+use crate::running::run_text;
 use std::alloc::Global;
 
 /// How many bytes each text of an answer has, whether it fitted its buffer or not.
