@@ -1,4 +1,5 @@
-#![doc = include_str!("../README.md")]
+#![cfg_attr(feature = "std", doc = include_str!("../README.md"))]
+#![cfg_attr(not(feature = "std"), doc = "Timers and clocks for event loops: begin with [`World`].")]
 #![no_std]
 
 extern crate alloc;
