@@ -26,7 +26,7 @@ fn a_burst(mut world: World<usize>) -> Result<(), Error> {
     }
     assert_eq!(world.advance(0)?.expired as usize, BURST);
     world.shrink_expired(0)?;
-    assert_eq!(world.expired(0)? as usize, BURST);
+    assert_eq!(world.expired(0)?, BURST as u64);
     assert_eq!(world.turn()?.put as usize, BURST);
     world.shrink_expired(0)?;
     assert_eq!(world.next_mail()?, Some(1));
