@@ -1,410 +1,277 @@
-//! A world that is divided among threads: a hub with the clock, and a shard for each thread.
+//! A world that is divided among threads, and handles of one for further threads.
+use alloc::boxed::Box;
+use alloc::sync::Arc;
+use core::cell::UnsafeCell;
+use core::fmt;
+use core::time::Duration;
 
-use std::ops::Range;
-use std::ptr;
+use ertime_sys as sys;
 
-use crate::{
-    done, done_or, ffi, mail, state, turned_some, Advanced, Delivered, Error, Mail, Moved,
-    OffsetState, Reading, RequestKind, Seat, Settings, Start, Timer, Turned,
-};
+use crate::calls::Handle;
+use crate::error::done;
+use crate::notes::{Note, Notes};
+use crate::{Error, Moved, Name, Offset, OffsetState, Reading, Settings, Time, World};
 
-/// The clock of a world that is divided among threads, and what was given to no shard. It is closed when it is dropped.
+/// The clock of a world that is divided among threads, and what was given to no part. It is closed when it is dropped.
 ///
-/// Time moves by [`Hub::tick`] alone, for all shards at once. One thread can have the hub; or it lies in a `Mutex`, and
+/// Time moves by [`Hub::tick`] alone, for all parts at once. One thread can have the hub; or it lies in a `Mutex`, and
 /// whoever wakes ticks if `try_lock` gets it.
-///
-/// The handle of C lies on the heap, so that a `Hub` can be moved.
-#[derive(Debug)]
 pub struct Hub {
-    handle: Box<ffi::ert_hub>,
+    handle: Box<UnsafeCell<sys::ert_hub>>,
+    notes: Arc<Notes>,
+    start: Time,
+    /// How many schedulers are left, and how many processes: parts get the last ones.
+    schedulers: u32,
+    processes: u32,
 }
 
-// What lies behind the handle is shared with shards alone, by atomic steps, and each method takes `&mut self`.
+// SAFETY: a handle may go from one thread to another. What lies behind it is shared with other handles by atomic steps alone.
 unsafe impl Send for Hub {}
 
 impl Hub {
-    /// Opens a world that is to be divided. Each of its schedulers can go to a shard.
+    /// Opens a world that is to be divided. Each of its schedulers can go to a part.
     ///
-    /// `BadCount` also if `settings.schedulers` and `settings.seats` are above 1,024 together, since each shard and each
-    /// seat has a caller of its own.
+    /// # Errors
+    ///
+    /// As of [`World::open`]; [`Error::BadCount`] also if the schedulers and the seats of the settings are above 1,024
+    /// together, since each part and each seat has a caller of its own.
     pub fn open(settings: &Settings) -> Result<Hub, Error> {
-        // One caller for each shard, and one for the hub.
+        // One caller for each part, and one for the hub.
         let callers = settings.schedulers.saturating_add(1);
-        let settings = settings.in_c(callers.saturating_add(settings.seats));
-        let mut hub = Hub {
-            handle: Box::new(ffi::ert_hub {
-                at_: ptr::null_mut(),
-                live_: false,
-            }),
-        };
-        done(unsafe { ffi::ert_hub_open(&mut *hub.handle, &settings) })?;
-        Ok(hub)
+        let given = settings.in_c(callers.saturating_add(settings.seats));
+        let handle = Box::new(UnsafeCell::new(sys::ert_hub::INIT));
+        // SAFETY: the handle is closed, and both pointers are of values that outlive the call.
+        done(unsafe { sys::ert_hub_open(handle.get(), &raw const given) })?;
+        let Settings { schedulers, processes, start, .. } = *settings;
+        Ok(Hub { handle, notes: Arc::new(Notes::new(schedulers)), start, schedulers, processes })
     }
 
-    /// Gives the last scheduler that is left, and so many of the last processes, to a shard for a thread.
-    pub fn shard(&mut self, processes: u32) -> Result<Shard, Error> {
-        let mut shard = Shard {
-            handle: Box::new(ffi::ert_shard {
-                at_: ptr::null_mut(),
-                live_: false,
-            }),
-        };
-        done(unsafe { ffi::ert_hub_shard(&mut *self.handle, &mut *shard.handle, processes) })?;
-        Ok(shard)
+    /// Gives the last scheduler that is left, and so many of the last processes, to a part for a thread: a world without a clock
+    /// of its own, for messages of whatever type.
+    ///
+    /// # Errors
+    ///
+    /// [`Error::NoShard`]: no scheduler is left. [`Error::Range`]: not so many processes are left. [`Error::NoMemory`].
+    pub fn shard<T>(&mut self, processes: u32) -> Result<World<T>, Error> {
+        let of = Box::new(UnsafeCell::new(sys::ert_shard::INIT));
+        // SAFETY: the hub's handle is open and this thread's, and the other one is closed.
+        done(unsafe { sys::ert_hub_shard(self.handle.get(), of.get(), processes) })?;
+        let (scheduler, to) = (self.schedulers - 1, self.processes);
+        self.schedulers = scheduler;
+        self.processes = to - processes;
+        let handle = Handle::Part { of, scheduler };
+        World::of(handle, Arc::clone(&self.notes), scheduler..scheduler + 1, self.processes..to, self.start)
     }
 
-    /// Opens the next of `settings.seats` seats: a thread that has it reads the time, and cancels and reads the timers of
-    /// all shards.
+    /// A seat for another thread. Its caller is not given out again, not even once it is dropped.
+    ///
+    /// # Errors
+    ///
+    /// [`Error::NoSeat`]: each seat of the settings was given out. [`Error::NoMemory`].
     pub fn seat(&mut self) -> Result<Seat, Error> {
-        let mut seat = Seat {
-            handle: Box::new(ffi::ert_seat {
-                at_: ptr::null_mut(),
-                live_: false,
-            }),
-        };
-        done(unsafe { ffi::ert_hub_seat(&mut *self.handle, &mut *seat.handle) })?;
-        Ok(seat)
+        // SAFETY: the hub's handle is open and this thread's, and that of the seat is closed.
+        Seat::open(&self.notes, |seat| done(unsafe { sys::ert_hub_seat(self.handle.get(), seat) }))
     }
 
-    /// Takes a reading of the clocks of the operating system: monotonic time moves on by it, for all shards.
-    pub fn tick(&mut self, reading: Reading, force: bool) -> Result<Moved, Error> {
-        let mut moved = ffi::ert_moved::default();
-        done(unsafe { ffi::ert_hub_tick(&mut *self.handle, &reading, force.into(), &mut moved) })?;
+    /// Takes a reading of the clocks of the operating system: monotonic time moves on by it, for all parts.
+    ///
+    /// # Errors
+    ///
+    /// [`Error::BadReading`] or [`Error::OffsetWide`]: the clock is as it was.
+    pub fn tick(&mut self, reading: Reading) -> Result<Moved, Error> {
+        self.tick_with(reading, false)
+    }
+
+    /// Takes a reading, as [`Hub::tick`], and makes a check of the two clocks whenever the last one was.
+    ///
+    /// # Errors
+    ///
+    /// As of [`Hub::tick`].
+    pub fn check(&mut self, reading: Reading) -> Result<Moved, Error> {
+        self.tick_with(reading, true)
+    }
+
+    fn tick_with(&mut self, reading: Reading, force: bool) -> Result<Moved, Error> {
+        let (reading, mut moved) = (reading.in_c(), sys::ert_moved::default());
+        let handle = self.handle.get();
+        // SAFETY: the handle is open and this thread's; the other pointers are of values that outlive the call.
+        done(unsafe { sys::ert_hub_tick(handle, &raw const reading, force.into(), &raw mut moved) })?;
         Ok(moved.into())
     }
 
     /// Finalizes the time offset, and returns the state before it.
+    ///
+    /// # Errors
+    ///
+    /// As of [`Hub::tick`].
     pub fn finalize(&mut self, reading: Reading) -> Result<(OffsetState, Moved), Error> {
-        let mut before = 0;
-        let mut moved = ffi::ert_moved::default();
-        done(unsafe {
-            ffi::ert_hub_finalize(&mut *self.handle, &reading, &mut before, &mut moved)
-        })?;
-        Ok((state(before), moved.into()))
+        let (reading, mut before, mut moved) = (reading.in_c(), 0, sys::ert_moved::default());
+        let handle = self.handle.get();
+        // SAFETY: as of a tick.
+        done(unsafe { sys::ert_hub_finalize(handle, &raw const reading, &raw mut before, &raw mut moved) })?;
+        Ok((before.into(), moved.into()))
     }
 
-    /// Monotonic time, in nanoseconds.
-    pub fn monotonic_time(&mut self) -> i64 {
+    /// Monotonic time: that of the last tick.
+    #[must_use]
+    pub fn now(&self) -> Time {
         let mut time = 0;
-        let _open = unsafe { ffi::ert_hub_monotonic_time(&mut *self.handle, &mut time) };
+        // SAFETY: as of a tick.
+        let _open = unsafe { sys::ert_hub_monotonic_time(self.handle.get(), &raw mut time) };
+        Time::from_nanos(time)
+    }
+
+    /// System time, in nanoseconds since 1970.
+    #[must_use]
+    pub fn system_time(&self) -> i64 {
+        let mut time = 0;
+        // SAFETY: as of a tick.
+        let _open = unsafe { sys::ert_hub_system_time(self.handle.get(), &raw mut time) };
         time
     }
 
-    /// System time, in nanoseconds.
-    pub fn system_time(&mut self) -> i64 {
-        let mut time = 0;
-        let _open = unsafe { ffi::ert_hub_system_time(&mut *self.handle, &mut time) };
-        time
+    /// The time offset: system time less monotonic time.
+    #[must_use]
+    pub fn time_offset(&self) -> Offset {
+        let mut offset = sys::ert_offset::default();
+        // SAFETY: as of a tick.
+        let _open = unsafe { sys::ert_hub_time_offset(self.handle.get(), &raw mut offset) };
+        offset.into()
     }
 
-    /// The time offset, in nanoseconds, with its state.
-    pub fn time_offset(&mut self) -> (i64, OffsetState) {
-        let mut offset = ffi::ert_offset::default();
-        let _open = unsafe { ffi::ert_hub_time_offset(&mut *self.handle, &mut offset) };
-        (offset.offset, state(offset.state))
+    /// Cancels a timer of whatever part by its name, and returns the time that was left; None if it is not armed. Its message
+    /// is dropped by the part that started it.
+    pub fn cancel_named(&mut self, name: &Name) -> Option<Duration> {
+        // SAFETY: as of a tick.
+        ended(&self.notes, name, |left| unsafe { sys::ert_hub_cancel(self.handle.get(), &raw const name.timer, left) })
     }
 
-    /// Cancels a timer of whatever shard, and returns the milliseconds that were left; None if it is not armed.
-    pub fn cancel(&mut self, timer: &Timer) -> Option<u64> {
-        let mut left = 0;
-        let status = unsafe { ffi::ert_hub_cancel(&mut *self.handle, timer, &mut left) };
-        (status == ffi::ERT_OK).then_some(left)
+    /// What is left of a timer of whatever part, by its name; None if it is not armed.
+    #[must_use]
+    pub fn left_named(&self, name: &Name) -> Option<Duration> {
+        // SAFETY: as of a tick.
+        left(&self.notes, name, |left| unsafe { sys::ert_hub_read(self.handle.get(), &raw const name.timer, left) })
     }
+}
 
-    /// The milliseconds that are left of a timer of whatever shard; None if it is not armed.
-    pub fn read(&mut self, timer: &Timer) -> Option<u64> {
-        let mut left = 0;
-        let status = unsafe { ffi::ert_hub_read(&mut *self.handle, timer, &mut left) };
-        (status == ffi::ERT_OK).then_some(left)
-    }
+/// What is left of a timer that a call reads or cancels, if it is of this world.
+fn left(notes: &Notes, name: &Name, call: impl FnOnce(*mut u64) -> i32) -> Option<Duration> {
+    let mut left = 0;
+    let is_so = name.world == notes.world && call(&raw mut left) == sys::ERT_OK;
+    is_so.then(|| Duration::from_millis(left))
+}
+
+/// The same of a call that has cancelled it: the owner of its message learns that.
+fn ended(notes: &Notes, name: &Name, call: impl FnOnce(*mut u64) -> i32) -> Option<Duration> {
+    let left = left(notes, name, call)?;
+    notes.add(name.timer.wheel, Note::Ended(*name));
+    Some(left)
 }
 
 impl Drop for Hub {
     fn drop(&mut self) {
-        let _status = unsafe { ffi::ert_hub_close(&mut *self.handle) };
+        // SAFETY: as of a tick.
+        let _open = unsafe { sys::ert_hub_close(self.handle.get()) };
     }
 }
 
-/// What a thread needs of a divided world: one scheduler with its wheel, and some processes. It is closed when it is
-/// dropped; its armed timers never expire then.
-///
-/// Its thread starts timers for its processes, makes its turns and takes its messages, beside all other threads and
-/// without a lock. It cancels and reads the timers of all shards.
-///
-/// The handle of C lies on the heap, so that a `Shard` can be moved.
-#[derive(Debug)]
-pub struct Shard {
-    handle: Box<ffi::ert_shard>,
+impl fmt::Debug for Hub {
+    fn fmt(&self, f: &mut fmt::Formatter<'_>) -> fmt::Result {
+        f.debug_struct("Hub").field("now", &self.now()).finish_non_exhaustive()
+    }
 }
 
-// What lies behind the handle is shared with the hub and other shards by atomic steps alone, and each method takes
-// `&mut self`.
-unsafe impl Send for Shard {}
-
-impl Shard {
-    /// The processes of the shard.
-    pub fn processes(&mut self) -> Range<u32> {
-        let (mut from, mut to) = (0, 0);
-        let _open = unsafe { ffi::ert_shard_processes(&mut *self.handle, &mut from, &mut to) };
-        from..to
-    }
-
-    /// Monotonic time, in nanoseconds: that of the last tick, whichever thread made it.
-    pub fn monotonic_time(&mut self) -> i64 {
-        let mut time = 0;
-        let _open = unsafe { ffi::ert_shard_monotonic_time(&mut *self.handle, &mut time) };
-        time
-    }
-
-    /// System time, in nanoseconds: monotonic time, and the time offset that was read after it.
-    pub fn system_time(&mut self) -> i64 {
-        let mut time = 0;
-        let _open = unsafe { ffi::ert_shard_system_time(&mut *self.handle, &mut time) };
-        time
-    }
-
-    /// The time offset, in nanoseconds, with its state.
-    pub fn time_offset(&mut self) -> (i64, OffsetState) {
-        let mut offset = ffi::ert_offset::default();
-        let _open = unsafe { ffi::ert_shard_time_offset(&mut *self.handle, &mut offset) };
-        (offset.offset, state(offset.state))
-    }
-
-    /// Starts a timer for a process of the shard. It counts from the last tick.
-    pub fn start(&mut self, start: &Start) -> Result<Timer, Error> {
-        let mut timer = Timer::default();
-        done(unsafe { ffi::ert_shard_start(&mut *self.handle, &start.start, &mut timer) })?;
-        Ok(timer)
-    }
-
-    /// Gives an armed timer of whatever shard a new deadline, with all that the start says, and returns its new name: it is
-    /// of this shard then. None if it is not armed.
+impl<T> World<T> {
+    /// A seat for another thread. Its caller is not given out again, not even once it is dropped.
     ///
-    /// After an error nothing has changed: the timer is armed as before.
-    pub fn restart(&mut self, timer: &Timer, start: &Start) -> Result<Option<Timer>, Error> {
-        let mut next = *timer;
-        let status = unsafe { ffi::ert_shard_restart(&mut *self.handle, &mut next, &start.start) };
-        Ok(done_or(status, ffi::ERT_NO_TIMER)?.then_some(next))
+    /// # Errors
+    ///
+    /// [`Error::NoSeat`]: each seat of the settings was given out, or the world is a part: ask the [`Hub`]. [`Error::NoMemory`].
+    pub fn seat(&mut self) -> Result<Seat, Error> {
+        Seat::open(&self.notes, |seat| self.handle.seat(seat))
+    }
+}
+
+/// Lets another thread read the time, and cancel and read timers by their names, while others use the world and its other seats,
+/// without a lock. It can outlive its world, and is closed when it is dropped.
+pub struct Seat {
+    handle: Box<UnsafeCell<sys::ert_seat>>,
+    notes: Arc<Notes>,
+}
+
+// SAFETY: a handle may go from one thread to another. What lies behind it is shared with other handles by atomic steps alone.
+unsafe impl Send for Seat {}
+
+impl Seat {
+    fn open(notes: &Arc<Notes>, call: impl FnOnce(*mut sys::ert_seat) -> Result<(), Error>) -> Result<Seat, Error> {
+        let handle = Box::new(UnsafeCell::new(sys::ert_seat::INIT));
+        call(handle.get())?;
+        Ok(Seat { handle, notes: Arc::clone(notes) })
     }
 
-    /// Cancels a timer of whatever shard, and returns the milliseconds that were left; None if it is not armed.
-    pub fn cancel(&mut self, timer: &Timer) -> Option<u64> {
-        let mut left = 0;
-        let status = unsafe { ffi::ert_shard_cancel(&mut *self.handle, timer, &mut left) };
-        (status == ffi::ERT_OK).then_some(left)
+    /// Monotonic time: that of the last tick, whichever thread made it.
+    #[must_use]
+    pub fn now(&self) -> Time {
+        let mut time = 0;
+        // SAFETY: the handle is open and this thread's; the other pointer is of a value that outlives the call.
+        let _open = unsafe { sys::ert_seat_monotonic_time(self.handle.get(), &raw mut time) };
+        Time::from_nanos(time)
     }
 
-    /// The milliseconds that are left of a timer of whatever shard; None if it is not armed.
-    pub fn read(&mut self, timer: &Timer) -> Option<u64> {
-        let mut left = 0;
-        let status = unsafe { ffi::ert_shard_read(&mut *self.handle, timer, &mut left) };
-        (status == ffi::ERT_OK).then_some(left)
+    /// System time, in nanoseconds since 1970: monotonic time, and the time offset that was read after it.
+    #[must_use]
+    pub fn system_time(&self) -> i64 {
+        let mut time = 0;
+        // SAFETY: as of `now`.
+        let _open = unsafe { sys::ert_seat_system_time(self.handle.get(), &raw mut time) };
+        time
     }
 
-    /// How many timers are on the wheel of the shard: those that are armed, and those that other threads cancelled and
-    /// that would not be due yet.
-    pub fn held(&mut self) -> u64 {
-        let mut held = 0;
-        let _open = unsafe { ffi::ert_shard_held(&mut *self.handle, &mut held) };
-        held
+    /// The time offset: system time less monotonic time.
+    #[must_use]
+    pub fn time_offset(&self) -> Offset {
+        let mut offset = sys::ert_offset::default();
+        // SAFETY: as of `now`.
+        let _open = unsafe { sys::ert_seat_time_offset(self.handle.get(), &raw mut offset) };
+        offset.into()
     }
 
-    /// How many expired timers of the shard wait to be delivered.
-    pub fn expired(&mut self) -> u64 {
-        let mut expired = 0;
-        let _open = unsafe { ffi::ert_shard_expired(&mut *self.handle, &mut expired) };
-        expired
+    /// Cancels a timer by its name, and returns the time that was left; None if it is not armed. Its message never comes, and is
+    /// dropped by its world, in the next call there. One small allocation, for the note that says so.
+    pub fn cancel_named(&mut self, name: &Name) -> Option<Duration> {
+        // SAFETY: as of `now`.
+        ended(&self.notes, name, |left| unsafe { sys::ert_seat_cancel(self.handle.get(), &raw const name.timer, left) })
     }
 
-    /// How many messages are in the mailbox of a process of the shard, also of one that has exited.
-    pub fn mail_count(&mut self, process: u32) -> Result<u64, Error> {
-        let mut count = 0;
-        done(unsafe { ffi::ert_shard_mail_count(&mut *self.handle, process, &mut count) })?;
-        Ok(count)
+    /// What is left of a timer, by its name; None if it is not armed.
+    #[must_use]
+    pub fn left_named(&self, name: &Name) -> Option<Duration> {
+        // SAFETY: as of `now`.
+        left(&self.notes, name, |left| unsafe { sys::ert_seat_read(self.handle.get(), &raw const name.timer, left) })
     }
 
-    /// Whether a process of whatever shard is alive.
-    pub fn is_alive(&mut self, process: u32) -> Result<bool, Error> {
+    /// Whether a process is alive.
+    ///
+    /// # Errors
+    ///
+    /// [`Error::Range`]: there is no such process.
+    pub fn is_alive(&self, process: u32) -> Result<bool, Error> {
         let mut alive = 0;
-        done(unsafe { ffi::ert_shard_is_alive(&mut *self.handle, process, &mut alive) })?;
+        // SAFETY: as of `now`.
+        done(unsafe { sys::ert_seat_is_alive(self.handle.get(), process, &raw mut alive) })?;
         Ok(alive != 0)
     }
-
-    /// Makes a process of the shard exit, and returns whether it was alive before.
-    pub fn exit(&mut self, process: u32) -> Result<bool, Error> {
-        let mut first = 0;
-        done(unsafe { ffi::ert_shard_exit(&mut *self.handle, process, &mut first) })?;
-        Ok(first != 0)
-    }
-
-    /// Takes the first message of a process of the shard; None if there is none.
-    pub fn take(&mut self, process: u32) -> Result<Option<Mail>, Error> {
-        let mut first = ffi::ert_mail::default();
-        let status = unsafe { ffi::ert_shard_take(&mut *self.handle, process, &mut first) };
-        Ok(done_or(status, ffi::ERT_EMPTY)?.then(|| mail(first)))
-    }
-
-    /// Takes the first messages of a process of the shard, `most` at most, and puts them last into a vector; false if the
-    /// mailbox was empty before there were so many.
-    pub fn take_some(
-        &mut self,
-        process: u32,
-        most: usize,
-        mails: &mut Vec<Mail>,
-    ) -> Result<bool, Error> {
-        let mut places = vec![ffi::ert_mail::default(); most];
-        let mut count = 0;
-        let status = unsafe {
-            ffi::ert_shard_take_some(
-                &mut *self.handle,
-                process,
-                places.as_mut_ptr(),
-                most,
-                &mut count,
-            )
-        };
-        mails.extend(places[..count].iter().map(|place| mail(*place)));
-        done_or(status, ffi::ERT_EMPTY)
-    }
-
-    /// A process of the shard that has messages and hasn't exited; None if there is none. Each process has its turn.
-    pub fn next_mail(&mut self) -> Result<Option<u32>, Error> {
-        let mut process = 0;
-        let status = unsafe { ffi::ert_shard_next_mail(&mut *self.handle, &mut process) };
-        Ok(done_or(status, ffi::ERT_EMPTY)?.then_some(process))
-    }
-
-    /// Makes room in the mailbox of a process of the shard for `count` messages more than it has: until as many were put
-    /// there, `deliver` and `serve` need no memory for it.
-    pub fn reserve_mail(&mut self, process: u32, count: usize) -> Result<(), Error> {
-        done(unsafe { ffi::ert_shard_reserve_mail(&mut *self.handle, process, count) })
-    }
-
-    /// Gives back the memory of the mailbox of a process of the shard that its messages don't need.
-    pub fn shrink_mail(&mut self, process: u32) -> Result<(), Error> {
-        done(unsafe { ffi::ert_shard_shrink_mail(&mut *self.handle, process) })
-    }
-
-    /// Asks the scheduler of the shard to cancel or to read a timer of whatever shard, in one of its next turns. The answer
-    /// comes to `reply_to`, a process of the shard, if it is Some; otherwise none is sent.
-    pub fn ask(
-        &mut self,
-        kind: RequestKind,
-        timer: &Timer,
-        reply_to: Option<u32>,
-    ) -> Result<(), Error> {
-        let request = ffi::ert_request {
-            kind: kind as u32,
-            timer: *timer,
-            reply_to: reply_to.unwrap_or(self.processes().start),
-            info: reply_to.is_some().into(),
-        };
-        done(unsafe { ffi::ert_shard_ask(&mut *self.handle, &request) })
-    }
-
-    /// Serves one request of the shard, and returns whether there was one.
-    pub fn serve(&mut self) -> Result<bool, Error> {
-        let mut served = 0;
-        done(unsafe { ffi::ert_shard_serve(&mut *self.handle, &mut served) })?;
-        Ok(served != 0)
-    }
-
-    /// Makes a monitor of the time offset for a process of the shard.
-    pub fn monitor(&mut self, process: u32) -> Result<u32, Error> {
-        let mut monitor = 0;
-        done(unsafe { ffi::ert_shard_monitor(&mut *self.handle, process, &mut monitor) })?;
-        Ok(monitor)
-    }
-
-    /// Removes a monitor, and returns whether there was one.
-    pub fn demonitor(&mut self, process: u32, monitor: u32) -> Result<bool, Error> {
-        let status = unsafe { ffi::ert_shard_demonitor(&mut *self.handle, process, monitor) };
-        done_or(status, ffi::ERT_NO_MONITOR)
-    }
-
-    /// Notifies each monitor of a process that doesn't know the time offset yet, and returns how many were notified.
-    pub fn notify(&mut self, process: u32) -> Result<u32, Error> {
-        let mut told = 0;
-        done(unsafe { ffi::ert_shard_notify(&mut *self.handle, process, &mut told) })?;
-        Ok(told)
-    }
-
-    /// Expires the due timers of the shard.
-    pub fn advance(&mut self) -> Result<Advanced, Error> {
-        let mut advanced = Advanced::default();
-        done(unsafe { ffi::ert_shard_advance(&mut *self.handle, &mut advanced) })?;
-        Ok(advanced)
-    }
-
-    /// Delivers the expired timers of the shard.
-    pub fn deliver(&mut self) -> Result<Delivered, Error> {
-        let mut delivered = Delivered::default();
-        done(unsafe { ffi::ert_shard_deliver(&mut *self.handle, &mut delivered) })?;
-        Ok(delivered)
-    }
-
-    /// Makes a turn of the shard: serves, advances and delivers.
-    pub fn turn(&mut self) -> Result<Turned, Error> {
-        let mut turned = Turned::default();
-        done(unsafe { ffi::ert_shard_turn(&mut *self.handle, &mut turned) })?;
-        Ok(turned)
-    }
-
-    /// Makes a turn of the shard in which so many timers at most expire and so many at most are delivered, and returns
-    /// whether there is more: timers that are due or have expired, or timers that have to move within the wheel before it comes
-    /// to the turn's `to`. The next turn goes on with them, in their order.
-    pub fn turn_some(&mut self, most: u32) -> Result<(Turned, bool), Error> {
-        let mut some = ffi::ert_turned_some::default();
-        done(unsafe { ffi::ert_shard_turn_some(&mut *self.handle, most, &mut some) })?;
-        Ok(turned_some(&some))
-    }
-
-    /// How early a timer of the shard may be due, in milliseconds since the start time, as `World::next_due` returns
-    /// it; None if its wheel has none.
-    pub fn next_due(&mut self) -> Result<Option<u64>, Error> {
-        let mut due = 0;
-        let status = unsafe { ffi::ert_shard_next_due(&mut *self.handle, &mut due) };
-        Ok(done_or(status, ffi::ERT_EMPTY)?.then_some(due))
-    }
-
-    /// Lets go of all timers of the shard's wheel that other threads have cancelled, as `World::drop_settled` does, and returns
-    /// how many they were.
-    pub fn drop_settled(&mut self) -> Result<u64, Error> {
-        let mut dropped = 0;
-        done(unsafe { ffi::ert_shard_drop_settled(&mut *self.handle, &mut dropped) })?;
-        Ok(dropped)
-    }
-
-    /// Makes room in the list of expired timers of the shard for `count` more than wait in it: until as many were due,
-    /// `advance` needs no memory, and with room in the mailboxes (`reserve_mail`) neither does `turn`. If none waits yet,
-    /// room for as many as the settings have slots is enough for good.
-    pub fn reserve_expired(&mut self, count: usize) -> Result<(), Error> {
-        done(unsafe { ffi::ert_shard_reserve_expired(&mut *self.handle, count) })
-    }
-
-    /// Gives back the memory of the list of expired timers of the shard that those which wait don't need.
-    pub fn shrink_expired(&mut self) -> Result<(), Error> {
-        done(unsafe { ffi::ert_shard_shrink_expired(&mut *self.handle) })
-    }
 }
 
-impl Drop for Shard {
+impl Drop for Seat {
     fn drop(&mut self) {
-        let _status = unsafe { ffi::ert_shard_close(&mut *self.handle) };
+        // SAFETY: as of `now`.
+        let _open = unsafe { sys::ert_seat_close(self.handle.get()) };
     }
 }
 
-// A hub and a shard go from thread to thread, and one thread at a time has each. This does not compile if one of them is
-// not `Send`, or if one is `Sync`: then both implementations are its, and `IS` is ambiguous.
-const _: () = {
-    const fn crosses<T: Send>() {}
-    trait Unshared<Why> {
-        const IS: () = ();
+impl fmt::Debug for Seat {
+    fn fmt(&self, f: &mut fmt::Formatter<'_>) -> fmt::Result {
+        f.debug_struct("Seat").field("now", &self.now()).finish_non_exhaustive()
     }
-    impl<T> Unshared<()> for T {}
-    impl<T: Sync> Unshared<u8> for T {}
-    crosses::<Hub>();
-    crosses::<Shard>();
-    let () = <Hub as Unshared<_>>::IS;
-    let () = <Shard as Unshared<_>>::IS;
-};
+}

@@ -10,48 +10,21 @@
 //! assert_eq!((judged.status, judged.output.as_str()), (Status::Done, "legal 0\n"));
 //! # Ok::<(), TextError>(())
 //! ```
-use std::fmt;
+use alloc::string::String;
+use alloc::vec;
+use alloc::vec::Vec;
+use core::fmt;
 
-const DONE: u32 = 0;
-const ILLEGAL: u32 = 1;
-const REFUSED: u32 = 3;
-const TOO_LONG: u32 = 8;
+use ertime_sys as sys;
 
 /// What a buffer has room for at first.
 const ROOM: usize = 1024;
 
-#[repr(C)]
-struct Told {
-    output: usize,
-    errors: usize,
-}
-
-type Command =
-    unsafe extern "C" fn(*const u8, usize, *mut u8, usize, *mut u8, usize, *mut Told) -> u32;
-
-unsafe extern "C" {
-    fn ert_run(
-        scenario: *const u8,
-        length: usize,
-        output: *mut u8,
-        room: usize,
-        errors: *mut u8,
-        errors_room: usize,
-        told: *mut Told,
-    ) -> u32;
-    fn ert_judge(
-        history: *const u8,
-        length: usize,
-        output: *mut u8,
-        room: usize,
-        errors: *mut u8,
-        errors_room: usize,
-        told: *mut Told,
-    ) -> u32;
-}
+type Command = unsafe extern "C" fn(*const u8, usize, *mut u8, usize, *mut u8, usize, *mut sys::ert_told) -> u32;
 
 /// What was found of a text.
 #[derive(Clone, Copy, Debug, PartialEq, Eq)]
+#[non_exhaustive]
 pub enum Status {
     /// The scenario was run, or the history is legal.
     Done,
@@ -74,6 +47,7 @@ pub struct Answer {
 
 /// Why a text got no answer.
 #[derive(Clone, Copy, Debug, PartialEq, Eq)]
+#[non_exhaustive]
 pub enum TextError {
     /// Out of memory.
     NoMemory,
@@ -90,26 +64,31 @@ impl fmt::Display for TextError {
     }
 }
 
-impl std::error::Error for TextError {}
+impl core::error::Error for TextError {}
 
 /// Runs a scenario, as `ertime run` does.
+///
+/// # Errors
+///
+/// [`TextError::NoMemory`], [`TextError::TooLong`].
 pub fn run(scenario: &[u8]) -> Result<Answer, TextError> {
-    answer(ert_run, scenario)
+    answer(sys::ert_run, scenario)
 }
 
 /// Judges a history, as `ertaudit` does.
+///
+/// # Errors
+///
+/// [`TextError::NoMemory`], [`TextError::TooLong`].
 pub fn judge(history: &[u8]) -> Result<Answer, TextError> {
-    answer(ert_judge, history)
+    answer(sys::ert_judge, history)
 }
 
 /// Makes a call, and again where a buffer was too small.
 fn answer(command: Command, text: &[u8]) -> Result<Answer, TextError> {
     let (mut output, mut errors) = (vec![0; ROOM.max(text.len())], vec![0; ROOM]);
     loop {
-        let mut told = Told {
-            output: 0,
-            errors: 0,
-        };
+        let mut told = sys::ert_told::default();
         // SAFETY: each pointer is one to as many bytes as the length behind it says, and nothing overlaps.
         let status = unsafe {
             command(
@@ -119,26 +98,12 @@ fn answer(command: Command, text: &[u8]) -> Result<Answer, TextError> {
                 output.len(),
                 errors.as_mut_ptr(),
                 errors.len(),
-                &mut told,
+                &raw mut told,
             )
         };
         let fits = told.output <= output.len() && told.errors <= errors.len();
-        output.resize(
-            if fits {
-                told.output
-            } else {
-                told.output.max(output.len())
-            },
-            0,
-        );
-        errors.resize(
-            if fits {
-                told.errors
-            } else {
-                told.errors.max(errors.len())
-            },
-            0,
-        );
+        output.resize(if fits { told.output } else { told.output.max(output.len()) }, 0);
+        errors.resize(if fits { told.errors } else { told.errors.max(errors.len()) }, 0);
         if fits {
             return told_as(status, output, errors);
         }
@@ -147,16 +112,12 @@ fn answer(command: Command, text: &[u8]) -> Result<Answer, TextError> {
 
 fn told_as(status: u32, output: Vec<u8>, errors: Vec<u8>) -> Result<Answer, TextError> {
     let status = match status {
-        DONE => Status::Done,
-        ILLEGAL => Status::Illegal,
-        REFUSED => Status::Refused,
-        TOO_LONG => return Err(TextError::TooLong),
+        sys::ERT_TEXT_DONE => Status::Done,
+        sys::ERT_TEXT_ILLEGAL => Status::Illegal,
+        sys::ERT_TEXT_REFUSED => Status::Refused,
+        sys::ERT_TEXT_TOO_LONG => return Err(TextError::TooLong),
         _ => return Err(TextError::NoMemory),
     };
     let text = |bytes: Vec<u8>| String::from_utf8_lossy(&bytes).into_owned();
-    Ok(Answer {
-        status,
-        output: text(output),
-        errors: text(errors),
-    })
+    Ok(Answer { status, output: text(output), errors: text(errors) })
 }
