@@ -87,23 +87,27 @@ impl Handle {
         offset
     }
 
+    #[inline]
     pub(crate) fn start(&self, scheduler: u32, start: &sys::ert_start) -> Result<sys::ert_timer, Error> {
         let mut timer = sys::ert_timer::default();
         done(call!(self, [scheduler] ert_world_start | ert_shard_start(start, &raw mut timer)))?;
         Ok(timer)
     }
 
+    #[inline]
     pub(crate) fn restart(&self, timer: &mut sys::ert_timer, start: &sys::ert_start) -> Result<bool, Error> {
         let status = call!(self, ert_world_restart | ert_shard_restart(timer, start));
         done_or(status, sys::ERT_NO_TIMER)
     }
 
+    #[inline]
     pub(crate) fn cancel(&self, timer: &sys::ert_timer) -> Option<Duration> {
         let mut left = 0;
         let status = call!(self, ert_world_cancel | ert_shard_cancel(timer, &raw mut left));
         (status == sys::ERT_OK).then(|| Duration::from_millis(left))
     }
 
+    #[inline]
     pub(crate) fn read(&self, timer: &sys::ert_timer) -> Option<Duration> {
         let mut left = 0;
         let status = call!(self, ert_world_read | ert_shard_read(timer, &raw mut left));
@@ -137,6 +141,7 @@ impl Handle {
         Ok(count)
     }
 
+    #[inline]
     pub(crate) fn is_alive(&self, process: u32) -> Result<bool, Error> {
         let mut alive = 0;
         done(call!(self, ert_world_is_alive | ert_shard_is_alive(process, &raw mut alive)))?;
@@ -149,6 +154,7 @@ impl Handle {
         Ok(first != 0)
     }
 
+    #[inline]
     pub(crate) fn take(&self, process: u32, mail: &mut sys::ert_mail) -> Result<bool, Error> {
         let status = call!(self, ert_world_take | ert_shard_take(process, mail));
         done_or(status, sys::ERT_EMPTY)

@@ -60,6 +60,7 @@ impl fmt::Display for Error {
 impl core::error::Error for Error {}
 
 /// Ok if the call was made.
+#[inline]
 pub(crate) fn done(status: i32) -> Result<(), Error> {
     Err(match status {
         sys::ERT_OK => return Ok(()),
@@ -79,6 +80,7 @@ pub(crate) fn done(status: i32) -> Result<(), Error> {
 }
 
 /// True if the call was made, and false if it returned that there is none.
+#[inline]
 pub(crate) fn done_or(status: i32, none: i32) -> Result<bool, Error> {
     if status == none { Ok(false) } else { done(status).map(|()| true) }
 }

@@ -38,6 +38,7 @@ impl Notes {
     }
 
     /// The stack of a wheel: its own, if there are several.
+    #[inline]
     fn stack(&self, wheel: u32) -> Option<&Stack> {
         self.stacks.get(wheel as usize).or_else(|| self.stacks.first())
     }
@@ -56,13 +57,17 @@ impl Notes {
         }
     }
 
+    /// Whether a wheel has notes.
+    #[inline]
+    pub(crate) fn has(&self, wheel: u32) -> bool {
+        self.stack(wheel).is_some_and(|Stack(head)| !head.load(Ordering::Relaxed).is_null())
+    }
+
     /// Takes all notes of a wheel.
     pub(crate) fn take(&self, wheel: u32) -> Taken {
         match self.stack(wheel) {
-            Some(Stack(head)) if !head.load(Ordering::Relaxed).is_null() => {
-                Taken(head.swap(ptr::null_mut(), Ordering::Acquire))
-            }
-            _ => Taken(ptr::null_mut()),
+            Some(Stack(head)) => Taken(head.swap(ptr::null_mut(), Ordering::Acquire)),
+            None => Taken(ptr::null_mut()),
         }
     }
 }

@@ -10,6 +10,9 @@ use crate::{Error, Name, Timer};
 /// No entry.
 const NONE: u32 = u32::MAX;
 
+/// No entry, and there will be none: the process has exited.
+const EXITED: u32 = u32::MAX - 1;
+
 /// A timer whose message has not been taken, or a free place.
 struct Entry<T> {
     /// Which start it is of; 0 if the place is free.
@@ -58,13 +61,17 @@ impl<T> Post<T> {
         self.entries.try_reserve(count).map_err(|_| Error::NoMemory)
     }
 
-    /// The place of the next entry, with room for it.
-    pub(crate) fn place(&mut self) -> Result<u32, Error> {
+    /// The place of the next entry, with room for it, if the process can have one.
+    pub(crate) fn place(&mut self, process: u32) -> Result<u32, Error> {
+        let index = process.checked_sub(self.processes.start).ok_or(Error::Range)?;
+        if *self.last.get(index as usize).ok_or(Error::Range)? == EXITED {
+            return Err(Error::Exited);
+        }
         if self.free != NONE {
             return Ok(self.free);
         }
         self.reserve(1)?;
-        u32::try_from(self.entries.len()).ok().filter(|key| *key != NONE).ok_or(Error::NoMemory)
+        u32::try_from(self.entries.len()).ok().filter(|key| *key < EXITED).ok_or(Error::NoMemory)
     }
 
     /// Puts a message at the place that was just returned.
@@ -178,6 +185,13 @@ impl<T> Post<T> {
     fn at(&self, key: u32) -> Option<Timer> {
         let entry = self.entries.get(key as usize)?;
         Some(Timer { id: entry.id, key, world: self.world })
+    }
+
+    /// Notes that a process has exited. It has no entry.
+    pub(crate) fn exit(&mut self, process: u32) {
+        if self.has(process) {
+            self.last[(process - self.processes.start) as usize] = EXITED;
+        }
     }
 
     /// Whether a process is one of the world.

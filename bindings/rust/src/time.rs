@@ -8,7 +8,8 @@ const MILLISECOND: i64 = 1_000_000;
 
 /// A duration in nanoseconds, as far as they go.
 pub(crate) fn nanos(duration: Duration) -> i64 {
-    i64::try_from(duration.as_nanos()).unwrap_or(i64::MAX)
+    let whole = i64::try_from(duration.as_secs()).unwrap_or(i64::MAX);
+    whole.saturating_mul(1_000_000_000).saturating_add(duration.subsec_nanos().into())
 }
 
 /// A point in the monotonic time of a world, in nanoseconds: 0 is when the world was opened, unless [`Settings::start`] says
@@ -87,11 +88,13 @@ pub enum When {
 
 impl When {
     /// The number that the library takes, and whether it is a time.
+    #[inline]
     pub(crate) fn in_c(self) -> (i64, u32) {
         match self {
             When::After(wait) => {
-                let milliseconds = wait.as_nanos().div_ceil(MILLISECOND.unsigned_abs().into());
-                (i64::try_from(milliseconds).unwrap_or(i64::MAX), 0)
+                let rest = i64::from(wait.subsec_nanos().div_ceil(1_000_000));
+                let whole = i64::try_from(wait.as_secs()).unwrap_or(i64::MAX);
+                (whole.saturating_mul(1_000).saturating_add(rest), 0)
             }
             When::At(time) => (time.in_milliseconds(), 1),
         }

@@ -136,13 +136,8 @@ impl<T> World<T> {
         self.heed();
         let scheduler = start.scheduler.unwrap_or(self.schedulers.start);
         let process = start.process.unwrap_or(self.processes.start);
-        if !self.is_alive(process)? {
-            return Err(Error::Exited);
-        }
-        if !self.post.has(process) {
-            return Err(Error::Range);
-        }
-        let key = self.post.place()?;
+        // The library would start a timer for a process that has exited, and cancel it at once.
+        let key = self.post.place(process)?;
         let asked = in_c(start.when, key, process, start.bare);
         let name = self.handle.start(scheduler, &asked)?;
         Ok((key, Known { name, process, bare: start.bare }))
@@ -203,9 +198,16 @@ impl<T> World<T> {
     }
 
     /// Acts on the notes of other threads and of guards.
+    #[inline]
     pub(crate) fn heed(&mut self) {
-        let taken = self.notes.take(self.schedulers.start);
-        for note in taken {
+        if self.notes.has(self.schedulers.start) {
+            self.heed_all();
+        }
+    }
+
+    #[cold]
+    fn heed_all(&mut self) {
+        for note in self.notes.take(self.schedulers.start) {
             let message = match note {
                 Note::Ended(name) => self.post.named(&name).and_then(|timer| self.post.remove(timer)),
                 Note::Released(timer) => self.without(timer),
@@ -283,6 +285,7 @@ impl<T> World<T> {
         while let Some(timer) = self.post.last_of(process) {
             drop(self.post.remove(timer));
         }
+        self.post.exit(process);
         // Nobody learns what these requests answer: what they were to end is ended now.
         let asked = core::mem::take(&mut self.asked);
         let (gone, left) = asked.into_iter().partition(|(reply_to, ..)| *reply_to == process);
@@ -318,6 +321,7 @@ impl<T> World<T> {
 }
 
 /// What the library is asked to start, with the number of its message.
+#[inline]
 fn in_c(when: When, key: u32, process: u32, bare: bool) -> sys::ert_start {
     let (when, absolute) = when.in_c();
     sys::ert_start { when, msg: key.into(), absolute, bare: bare.into(), dest: process }

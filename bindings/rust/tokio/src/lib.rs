@@ -33,7 +33,7 @@ pub fn timers() -> io::Result<Timers> {
 ///
 /// # Panics
 ///
-/// It is called outside of a runtime, or in one that was built without `enable_io`.
+/// It is called outside of a runtime, or in one that was built without I/O.
 pub fn drive(timers: &Timers) -> io::Result<JoinHandle<()>> {
     let alarm = AsyncFd::with_interest(timers.clone(), Interest::READABLE)?;
     Ok(tokio::spawn(async move {
