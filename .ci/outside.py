@@ -12,7 +12,7 @@ import re
 import shutil
 from typing import Callable, Iterable, Iterator, NamedTuple, Optional
 
-USE = re.compile(r"^\s*(?:ghost |unfoldable )?(?:pub )?use (Rattle\.[\w.]+?)(?:\.\{([^}]*)\}| as (\w+))?;?$", re.M)
+USE = re.compile(r"^\s*(?:ghost |unfoldable )?(?:pub )?use (Rattle\.[\w.]+?)(?:\.\{(.*)\}| as (\w+))?;?$", re.M)
 HANDED_ON = re.compile(r"^(?:unfoldable )?pub use .*$", re.M)
 BEGIN = re.compile(r"(?:(?:abbrev |unfoldable )?pub (?!use|mod)|(?:abbrev )?mutual$|pub (?:enum|struct|trait|type) )")
 HEADER = re.compile(r"\s*(?:(?:abbrev|unfoldable) )?pub (?:record |data |enum |struct |trait |type )?([^\s(:<]+)")
@@ -44,9 +44,13 @@ def pieces(name: str) -> list[str]:
 
 
 def leaves(path: list[str], names: str) -> Iterator[tuple[list[str], str, str]]:
-    """What a `use` line imports of a module or of those below it: the module of each name, the name, and how it is called."""
-    for leaf in filter(None, (it.strip() for it in names.split(","))):
-        name, _, other = leaf.partition(" as ")
+    """What a `use` line imports of a module and of those below it: the module of each name, the name, and how it is called."""
+    for leaf in re.findall(r"[^\s,{}](?:[^,{}]|\{[^{}]*\})*", names):
+        if leaf.endswith("}"):
+            below, _, inner = leaf[:-1].partition(".{")
+            yield from leaves([*path, *below.split(".")], inner)
+            continue
+        name, _, other = leaf.strip().partition(" as ")
         *below, last = [name] if "◌" in name else name.split(".")
         yield [*path, *below], last, other or last
 
