@@ -10,9 +10,9 @@ import functools
 import pathlib
 import re
 import shutil
-from typing import Callable, Iterable, NamedTuple, Optional
+from typing import Callable, Iterable, Iterator, NamedTuple, Optional
 
-USE = re.compile(r"^\s*(?:ghost |unfoldable )?(?:pub )?use (Rattle\.[\w.]+?)(?:\.\{([^}]*)\}| as (\w+))?;?$", re.M)
+USE = re.compile(r"^\s*(?:ghost |unfoldable )?(?:pub )?use (Rattle\.[\w.]+?)(?:\.\{(.*)\}| as (\w+))?;?$", re.M)
 HANDED_ON = re.compile(r"^(?:unfoldable )?pub use .*$", re.M)
 BEGIN = re.compile(r"(?:(?:abbrev |unfoldable )?pub (?!use|mod)|(?:abbrev )?mutual$|pub (?:enum|struct|trait|type) )")
 HEADER = re.compile(r"\s*(?:(?:abbrev|unfoldable) )?pub (?:record |data |enum |struct |trait |type )?([^\s(:<]+)")
@@ -43,6 +43,18 @@ def pieces(name: str) -> list[str]:
     return [piece for piece in name.split("◌") if piece]
 
 
+def leaves(path: list[str], names: str) -> Iterator[tuple[list[str], str, str]]:
+    """What a `use` line imports of a module and of those below it: the module of each name, the name, and how it is called."""
+    for leaf in re.findall(r"[^\s,{}](?:[^,{}]|\{[^{}]*\})*", names):
+        if leaf.endswith("}"):
+            below, _, inner = leaf[:-1].partition(".{")
+            yield from leaves([*path, *below.split(".")], inner)
+            continue
+        name, _, other = leaf.strip().partition(" as ")
+        *below, last = [name] if "◌" in name else name.split(".")
+        yield [*path, *below], last, other or last
+
+
 def target_of(path: list[str], name: str | None) -> Target | None:
     """Where a name of the libraries stands; None for one of this repository or of the logic."""
     crate, rest = path[1], path[3:]
@@ -66,8 +78,7 @@ def targets(text: str) -> dict[str, Target]:
         if not names:
             known = {alias or parts[-1]: target_of(parts, None)}
         else:
-            pairs = (it.strip().partition(" as ") for it in names.split(",") if it.strip())
-            known = {piece: target_of(parts, name) for name, _, other in pairs for piece in pieces(other or name)}
+            known = {piece: target_of(module, name) for module, name, other in leaves(parts, names) for piece in pieces(other)}
         found.update({piece: it for piece, it in known.items() if it})
     return found
 
