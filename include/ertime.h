@@ -845,8 +845,8 @@ int32_t ert_world_turn_some(ert_world *world, uint32_t scheduler, uint32_t most,
  * the last turn's `to`, may `due` be too early because of such a timer.
  *
  * ERT_EMPTY: no timer is armed, and `due` is as it was. ERT_RANGE: there is no such scheduler. ERT_CLOSED.
- * No memory. The answer is cached: until time comes to it, an earlier timer is started, or the timer that it is of is
- * cancelled or moves within the wheel, a call takes a few comparisons and a look at that timer. Else it looks at 64 timers
+ * No memory. The answer is cached: until time comes to it, an earlier timer is started, or no timer stands for it any more,
+ * a call takes a few comparisons and a look at one timer. Else it looks at 64 timers
  * at most on each level of the wheel, and only if a timer was started whose deadline had passed at all that are due at the
  * next turn; and again for each timer that it drops.
  */
