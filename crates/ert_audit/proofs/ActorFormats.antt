@@ -2,19 +2,11 @@
 
 use Rattle.std.proofs.Common.{◌≡◌, ℕ, true, false, eqb, List, [], ◌∷◌, Option, Some, None, refl, sym, ap, ◌∙◌, subst, inl, inr}
 use Rattle.std.specs.Prelude.{codes, option_map, IfSome}
-use Rattle.std.specs.Fmt.{decimal}
-use Rattle.std.specs.Str.{bytes_eq}
-use Rattle.std.proofs.lemmas.Bool.{eqb-true}
-use Rattle.std.proofs.lemmas.Option.{same_Some, none-some}
-use Rattle.ert_defs.specs.declared.entry.Actor.{Actor}
-use Rattle.ert_defs.specs.declared.entry.Actor.TheVariants.{Keeper, Wheel, Inbox, Sched, MailOf, Caller}
-use Rattle.ert_audit.specs.Fits.{Fits32, FitsActor}
-use Rattle.ert_audit.specs.Parts.{Word, actor_word, with_word}
-use Rattle.ert_audit.specs.Readers.{small_of}
-use Rattle.ert_audit.specs.Reading.{keeper_of, lettered, actor_of, read_actor, with_of, read_with}
-use Rattle.ert_audit.proofs.Formats.{is_ink, IsFormat, map_some}
-use Rattle.ert_audit.proofs.Integers.{small-takes, small-again, small-ink}
-use Rattle.ert_audit.proofs.Tables.{chosen, same_word, meant-format}
+use Rattle.std.specs.{Fmt.decimal, Str.bytes_eq}
+use Rattle.std.proofs.lemmas.{Bool.eqb-true, Option.{same_Some, none-some}}
+use Rattle.ert_defs.specs.declared.entry.Actor.{Actor, TheVariants.{Keeper, Wheel, Inbox, Sched, MailOf, Caller}}
+use Rattle.ert_audit.specs.{Fits.{Fits32, FitsActor}, Parts.{Word, actor_word, with_word}, Readers.small_of, Reading.{keeper_of, lettered, actor_of, read_actor, with_of, read_with}}
+use Rattle.ert_audit.proofs.{Formats.{is_ink, IsFormat, map_some}, Integers.{small-takes, small-again, small-ink}, Tables.{chosen, same_word, meant-format}}
 
 -- what a word says of its actor
 abbrev Names : Word → Actor → Type 0

@@ -2,13 +2,9 @@
 
 use Rattle.std.proofs.Common.{◌≡◌, ◌⊎◌, inl, inr, ◌++◌, ℕ, sym, ap, ◌∙◌, subst, List, Option, Some, None}
 use Rattle.std.proofs.lemmas.List.{append-nil}
-use Rattle.ert_io.specs.Known.{StreamTold, before, HandsOut, IsAtEnd}
-use Rattle.ert_io.specs.Reads.{Input}
-use Rattle.ert_audit.specs.Audits.{status_telling, IsVerdict, HasAll, Judges}
-use Rattle.ert_audit.specs.Verdicts.{HasVerdict, verdict_line}
-use Rattle.ert_audit.specs.declared.status.AuditStatus.{AuditStatus}
-use Rattle.ert_audit.specs.declared.status.AuditStatus.TheVariants.{WriteFault, NoMemory}
-use Rattle.ert_audit.specs.declared.verdict.Verdict.{Verdict}
+use Rattle.ert_io.specs.{Known.{StreamTold, before, HandsOut, IsAtEnd}, Reads.Input}
+use Rattle.ert_audit.specs.{Audits.{status_telling, IsVerdict, HasAll, Judges}, Verdicts.{HasVerdict, verdict_line}, declared.status.AuditStatus.AuditStatus, declared.status.AuditStatus.TheVariants.{WriteFault, NoMemory}}
+use Rattle.ert_audit.specs.{declared.verdict.Verdict.Verdict}
 
 -- what was read to the end is all that there was
 pub all_read : (old new : StreamTold ℕ) (read text : List ℕ) → HandsOut old new read → IsAtEnd new.left → old.left ≡ Some text → read ≡ text

@@ -2,17 +2,10 @@
 
 use Rattle.std.proofs.Common.{◌≡◌, ◌≢◌, ℕ, zero, suc, ◌^◌, ◌<◌, ◌≤◌, true, false, ltb, leb, eqb, List, [], ◌∷◌, length, get_or, Some, None, Result, Ok, Err, refl, sym, ap, ◌∙◌, arith}
 use Rattle.std.specs.Prelude.{◌&&◌}
-use Rattle.std.specs.Fmt.{decimal}
-use Rattle.std.specs.Result.{result_ok, OkIff}
-use Rattle.std.specs.Str.{IsUtf8, all_ascii_digits}
-use Rattle.std.specs.Str.Parse.{digits_value, ParsesUnsigned}
-use Rattle.std.proofs.lemmas.Bool.{and_parts, and_from, false_from_ne_true, ltb-true, leb-true, lt-ltb, le-leb, ne_eqb}
-use Rattle.std.proofs.lemmas.Option.{cond_some}
-use Rattle.std.proofs.lemmas.Fmt.{IsAscii-from_digits, decimal_digit, decimal_nonempty, first_decimal, digits_decimal, digits_value-decimal, decimal-digits_value}
-use Rattle.std.proofs.lemmas.Str.{IsUtf8-from_ascii}
-use Rattle.std.proofs.lemmas.Str.Parse.{IsNumeralModel, digit_at, numerals_by_value, tells_all_ascii_digits, parse_plain}
-use Rattle.ert_audit.specs.Parts.{Word}
-use Rattle.ert_audit.specs.Readers.{is_plain, natural_of}
+use Rattle.std.specs.{Fmt.decimal, Result.{result_ok, OkIff}, Str.{IsUtf8, all_ascii_digits}, Str.Parse.{digits_value, ParsesUnsigned}}
+use Rattle.std.proofs.lemmas.{Bool.{and_parts, and_from, false_from_ne_true, ltb-true, leb-true, lt-ltb, le-leb, ne_eqb}, Option.cond_some, Fmt.{IsAscii-from_digits, decimal_digit, decimal_nonempty, first_decimal, digits_decimal}}
+use Rattle.std.proofs.lemmas.{Fmt.{digits_value-decimal, decimal-digits_value}, Str.IsUtf8-from_ascii, Str.Parse.{IsNumeralModel, digit_at, numerals_by_value, tells_all_ascii_digits, parse_plain}}
+use Rattle.ert_audit.specs.{Parts.Word, Readers.{is_plain, natural_of}}
 use Rattle.ert_audit.proofs.Formats.{is_ink}
 
 -- whether a word has digits alone

@@ -2,20 +2,13 @@
 
 use Rattle.std.proofs.Common.{◌≡◌, ℕ, List, [], ◌∷◌, ◌++◌, Option, Some, refl, sym, ap}
 use Rattle.std.specs.Prelude.{codes}
-use Rattle.ert_defs.specs.declared.entry.Event.{Event}
-use Rattle.ert_defs.specs.declared.entry.Event.TheVariants.{Tick, Shift, Look, Off, Arm, Probe, Peek, Cancel, Expire, Orphan, Deliver, Drop, Mark, Advanced, Ask, Pick, Answer, Take, Unwatch, Watch, Tell}
-use Rattle.ert_defs.specs.declared.settings.Settings.{Settings}
-use Rattle.ert_defs.specs.declared.settings.TheConstants.{SCENARIO_LOOKS}
-use Rattle.ert_audit.specs.Entries.{event_words, entry_words, settings_words}
-use Rattle.ert_audit.specs.Events.{read_tick, read_shift, read_look, read_off, read_arm, read_probe, read_peek, read_cancel, read_expire, read_orphan, read_deliver, read_drop, read_mark, read_advanced, read_ask, read_pick, read_answer, read_take, read_unwatch, read_watch, read_tell, event_rows, read_event, read_one_entry, read_fields, read_later_fields, settings_rows, read_settings}
-use Rattle.ert_audit.specs.Fits.{FitsEvent, FitsEntry, FitsSettings}
-use Rattle.ert_audit.specs.Parts.{Word}
-use Rattle.ert_audit.specs.Readers.{Reader}
-use Rattle.ert_audit.proofs.ActorFormats.{actor, with}
-use Rattle.ert_audit.proofs.Formats.{IsFormat, Gives, done-gives, then-gives, then-again}
-use Rattle.ert_audit.proofs.PartFormats.{reading, timer, start, request, left, found, each_found, picked, taken}
-use Rattle.ert_audit.proofs.Tables.{choice-gives, choice-again}
-use Rattle.ert_audit.proofs.WordFormats.{small, natural, integer, truth, mode, state, act}
+use Rattle.ert_defs.specs.declared.{entry.Event.Event, entry.Event.TheVariants.{Tick, Shift, Look, Off, Arm, Probe, Peek, Cancel, Expire, Orphan, Deliver, Drop, Mark, Advanced, Ask, Pick, Answer, Take, Unwatch, Watch, Tell}}
+use Rattle.ert_defs.specs.declared.{settings.Settings.Settings, settings.TheConstants.SCENARIO_LOOKS}
+use Rattle.ert_audit.specs.{Entries.{event_words, entry_words, settings_words}, Events.{read_tick, read_shift, read_look, read_off, read_arm, read_probe, read_peek, read_cancel, read_expire, read_orphan, read_deliver, read_drop, read_mark}}
+use Rattle.ert_audit.specs.{Events.{read_advanced, read_ask, read_pick, read_answer, read_take, read_unwatch, read_watch, read_tell, event_rows, read_event, read_one_entry, read_fields, read_later_fields, settings_rows, read_settings}}
+use Rattle.ert_audit.specs.{Fits.{FitsEvent, FitsEntry, FitsSettings}, Parts.Word, Readers.Reader}
+use Rattle.ert_audit.proofs.{ActorFormats.{actor, with}, Formats.{IsFormat, Gives, done-gives, then-gives, then-again}, PartFormats.{reading, timer, start, request, left, found, each_found, picked, taken}, Tables.choice-gives}
+use Rattle.ert_audit.proofs.{Tables.choice-again, WordFormats.{small, natural, integer, truth, mode, state, act}}
 
 -- each event is read after its name as it is written
 abbrev Row : Word → Reader Event → Type 0

@@ -2,18 +2,9 @@
 
 use Rattle.std.proofs.Common.{◌≡◌, ℕ, List, Some, None, Result, Ok, Err, refl, sym, ◌∙◌, subst, ◌↔◌, IsTrue}
 use Rattle.std.specs.Prelude.{is_ok}
-use Rattle.ert_defs.specs.Settings.{IsChecked, Checks}
-use Rattle.ert_defs.specs.declared.entry.Entry.{Entry}
-use Rattle.ert_defs.specs.declared.settings.Settings.{Settings}
-use Rattle.ert_defs.specs.declared.settings.SettingsFault.{SettingsFault}
-use Rattle.ert_defs.specs.declared.settings.SettingsFault.TheVariants.{Start, First, Count}
-use Rattle.ert_audit.specs.Cuts.{IsNowhereIn, IsCutAt, words_in}
-use Rattle.ert_audit.specs.Entries.{entry_words, settings_words}
-use Rattle.ert_audit.specs.Events.{read_one_entry, read_settings}
-use Rattle.ert_audit.specs.Readers.{whole}
-use Rattle.ert_audit.specs.Spelling.{IsSettingsLine, BeginsWithSettings, IsEntryLine, BeginsWithEntry}
-use Rattle.ert_audit.proofs.EntryFormats.{entry, settings}
-use Rattle.ert_audit.proofs.LineFormats.{HasWords, free_line, front_line_of, line_read, line_none}
+use Rattle.ert_defs.specs.{Settings.{IsChecked, Checks}, declared.entry.Entry.Entry, declared.settings.Settings.Settings, declared.settings.SettingsFault.SettingsFault, declared.settings.SettingsFault.TheVariants.{Start, First, Count}}
+use Rattle.ert_audit.specs.{Cuts.{IsNowhereIn, IsCutAt, words_in}, Entries.{entry_words, settings_words}, Events.{read_one_entry, read_settings}, Readers.whole, Spelling.{IsSettingsLine, BeginsWithSettings, IsEntryLine, BeginsWithEntry}}
+use Rattle.ert_audit.proofs.{EntryFormats.{entry, settings}, LineFormats.{HasWords, free_line, front_line_of, line_read, line_none}}
 
 pub entry_some : HasWords entry_words
 entry_some e = (_, _, refl)

@@ -3,14 +3,9 @@
 use Rattle.std.proofs.Common.{◌≡◌, ℕ, zero, suc, ℤ, pos, negsuc, ◌^◌, ◌<◌, true, false, cond, ltb, eqb, List, [], ◌∷◌, drop, get_or, Some, None, refl, sym, ap, ◌∙◌, subst, inl, inr, arith}
 use Rattle.std.specs.Prelude.{option_and_then}
 use Rattle.std.specs.Fmt.{decimal, signed_decimal}
-use Rattle.std.proofs.lemmas.Bool.{ltb-true, lt-ltb, eqb-true}
-use Rattle.std.proofs.lemmas.Option.{cond_some}
-use Rattle.ert_audit.specs.Fits.{Fits32, FitsInt}
-use Rattle.ert_audit.specs.Parts.{Word}
-use Rattle.ert_audit.specs.Readers.{natural_of, small_of, integer_of, negative_by, from_zero}
-use Rattle.ert_audit.proofs.Digits.{natural-takes, natural-again, natural-ink, decimal_first}
-use Rattle.ert_audit.proofs.Formats.{is_ink, and_then_some}
-use Rattle.ert_audit.proofs.Tables.{chosen}
+use Rattle.std.proofs.lemmas.{Bool.{ltb-true, lt-ltb, eqb-true}, Option.cond_some}
+use Rattle.ert_audit.specs.{Fits.{Fits32, FitsInt}, Parts.Word, Readers.{natural_of, small_of, integer_of, negative_by, from_zero}}
+use Rattle.ert_audit.proofs.{Digits.{natural-takes, natural-again, natural-ink, decimal_first}, Formats.{is_ink, and_then_some}, Tables.chosen}
 
 pub small-takes : (word : Word) (n : ℕ) → small_of word ≡ Some n → (word ≡ decimal n) × Fits32 n
 unfolding small_of

@@ -1,12 +1,8 @@
 -- The words of a line from a place on.
 
 use Rattle.std.proofs.Common.{◌≡◌, ◌≤◌, ◌<◌, ◌+◌, ◌-◌, ℕ, arith, refl, sym, ap, ◌∙◌, List, [], ◌∷◌, length, take, drop, get_or, length-append, length-drop}
-use Rattle.std.proofs.lemmas.Bool.{le-leb, lt-leb}
-use Rattle.std.proofs.lemmas.List.{drop-drop}
-use Rattle.std.proofs.Math.Seq.{drop-append-add, take-length}
-use Rattle.ert_audit.specs.Cuts.{IsNowhereIn, IsCutAt, words_in}
-use Rattle.ert_audit.specs.Faults.{word_in, words_from}
-use Rattle.ert_audit.specs.Parts.{Word}
+use Rattle.std.proofs.{lemmas.Bool.{le-leb, lt-leb}, lemmas.List.drop-drop, Math.Seq.{drop-append-add, take-length}}
+use Rattle.ert_audit.specs.{Cuts.{IsNowhereIn, IsCutAt, words_in}, Faults.{word_in, words_from}, Parts.Word}
 use Rattle.ert_audit.proofs.Splits.{cut_words, free_words}
 
 -- the first word of bytes that have a blank, and the one word of others

@@ -3,15 +3,9 @@
 use Rattle.std.proofs.Common.{◌≡◌, ◌≢◌, ℕ, ◌<◌, true, false, eqb, ltb, List, [], ◌∷◌, ◌++◌, length, length-append, All, Some, None, refl, sym, ap, ◌∙◌, subst, append_assoc, arith}
 use Rattle.std.specs.Prelude.{◌&&◌}
 use Rattle.std.specs.List.{slice_split, join_with_byte}
-use Rattle.std.proofs.lemmas.Bool.{and_parts, ltb-true, ne_eqb}
-use Rattle.std.proofs.lemmas.List.{drop_at}
-use Rattle.std.proofs.lemmas.List.Elements.{All-nil, All-cons, All-head, All-drop, All-append, All-same}
-use Rattle.std.proofs.lemmas.List.Splits.{slice_split_at, slice_split_none, join_with_byte-slice_split}
-use Rattle.std.proofs.lemmas.Option.{none-some, same_Some}
-use Rattle.ert_audit.specs.Cuts.{IsNowhereIn, IsCutAt, words_in}
-use Rattle.ert_audit.specs.Parts.{Word}
-use Rattle.ert_audit.specs.Readers.{Reader, whole}
-use Rattle.ert_audit.specs.Spelling.{line_of_words}
+use Rattle.std.proofs.lemmas.{Bool.{and_parts, ltb-true, ne_eqb}, List.drop_at, List.Elements.{All-nil, All-cons, All-head, All-drop, All-append, All-same}, List.Splits.{slice_split_at, slice_split_none, join_with_byte-slice_split}}
+use Rattle.std.proofs.lemmas.{Option.{none-some, same_Some}}
+use Rattle.ert_audit.specs.{Cuts.{IsNowhereIn, IsCutAt, words_in}, Parts.Word, Readers.{Reader, whole}, Spelling.line_of_words}
 use Rattle.ert_audit.proofs.Formats.{is_ink, AreInk, IsFormat, written_ink, whole-again, whole-takes}
 
 -- ink has no blank and no newline

@@ -3,16 +3,9 @@
 use Rattle.std.proofs.Common.{◌≡◌, ◌≢◌, ℕ, zero, suc, ◌+◌, ◌<◌, List, [], ◌∷◌, ◌++◌, length, length-append, refl, sym, ap, ◌∙◌, append_assoc, arith}
 use Rattle.std.specs.List.{AllByRecursion, flat_map, join_with_byte}
 use Rattle.std.proofs.lemmas.List.{append-nil}
-use Rattle.ert_defs.specs.Settings.{IsChecked}
-use Rattle.ert_defs.specs.declared.entry.Entry.{Entry}
-use Rattle.ert_defs.specs.declared.settings.Settings.{Settings}
-use Rattle.ert_audit.specs.Entries.{entry_words, settings_words}
-use Rattle.ert_audit.specs.Fits.{FitsEntry}
-use Rattle.ert_audit.specs.Spelling.{line_of_words, entry_line, Spells, IsEntryLine, BeginsWithEntry, AreEntryLines, MisspelledAt}
-use Rattle.ert_audit.specs.Spelling.MisspelledAt.{in_settings, in_entries}
-use Rattle.ert_audit.proofs.EntryFormats.{entry, settings}
-use Rattle.ert_audit.proofs.FirstLines.{entry_some, settings_some}
-use Rattle.ert_audit.proofs.LineFormats.{front_line_of, line_some}
+use Rattle.ert_defs.specs.{Settings.IsChecked, declared.entry.Entry.Entry, declared.settings.Settings.Settings}
+use Rattle.ert_audit.specs.{Entries.{entry_words, settings_words}, Fits.FitsEntry, Spelling.{line_of_words, entry_line, Spells, IsEntryLine, BeginsWithEntry, AreEntryLines, MisspelledAt}, Spelling.MisspelledAt.{in_settings, in_entries}}
+use Rattle.ert_audit.proofs.{EntryFormats.{entry, settings}, FirstLines.{entry_some, settings_some}, LineFormats.{front_line_of, line_some}}
 
 -- bytes that end, or go on with what is no line of an entry
 abbrev Stops : List ℕ → Type 0

@@ -1,18 +1,11 @@
 -- No text has two verdicts.
 
 use Rattle.std.proofs.Common.{◌≡◌, ◌<◌, ◌+◌, inl, inr, ℕ, arith, sym, ap, ◌∙◌, subst, List, length, take, drop}
-use Rattle.std.proofs.lemmas.Bool.{cases_lt}
-use Rattle.std.proofs.lemmas.List.{take-append-drop, take-take}
-use Rattle.ert_defs.specs.Legal.{Legal}
-use Rattle.ert_defs.specs.Settings.{IsChecked}
-use Rattle.ert_defs.specs.declared.entry.Entry.{Entry}
-use Rattle.ert_defs.specs.declared.settings.Settings.{Settings}
+use Rattle.std.proofs.lemmas.{Bool.cases_lt, List.{take-append-drop, take-take}}
+use Rattle.ert_defs.specs.{Legal.Legal, Settings.IsChecked, declared.entry.Entry.Entry, declared.settings.Settings.Settings, States.opening}
 use Rattle.ert_defs.proofs.Runs.{legal_first}
-use Rattle.ert_defs.specs.States.{opening}
 use Rattle.ert_judge.specs.Verdicts.{IsFirstIllegal}
-use Rattle.ert_audit.specs.Spelling.{Spells, MisspelledAt}
-use Rattle.ert_audit.specs.Verdicts.{IsHistory, IsLegalText, IsIllegalText, HasVerdict}
-use Rattle.ert_audit.specs.declared.verdict.Verdict.{Verdict}
+use Rattle.ert_audit.specs.{Spelling.{Spells, MisspelledAt}, Verdicts.{IsHistory, IsLegalText, IsIllegalText, HasVerdict}, declared.verdict.Verdict.Verdict}
 use Rattle.ert_audit.specs.declared.verdict.Verdict.TheVariants as verdicts
 
 -- what the laws of spelling say

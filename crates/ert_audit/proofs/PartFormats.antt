@@ -2,18 +2,11 @@
 
 use Rattle.std.proofs.Common.{◌≡◌, List, [], ◌∷◌, ◌++◌, Option, Some, None, refl, ap, ◌∙◌, append_assoc}
 use Rattle.std.specs.Prelude.{codes, IfSome}
-use Rattle.ert_defs.specs.declared.mail.Mail.{Mail}
-use Rattle.ert_defs.specs.declared.mail.Mail.TheVariants.{Timeout, Bare as BareMail, CancelDone, ReadDone, Change}
-use Rattle.ert_defs.specs.declared.timer.Status.{Status}
-use Rattle.ert_defs.specs.declared.timer.When.{When}
-use Rattle.ert_defs.specs.declared.timer.When.TheVariants.{After, At}
-use Rattle.ert_audit.specs.Fits.{FitsReading, FitsTimer, FitsWhen, FitsStart, FitsRequest, FitsLeft, FitsMail}
-use Rattle.ert_audit.specs.Parts.{Word, reading_words, timer_words, when_words, start_words, request_words, left_words, mail_words, status_word, option_words}
-use Rattle.ert_audit.specs.Readers.{optional, natural_of, read_word}
-use Rattle.ert_audit.specs.Reading.{read_natural, status_names, read_status, request_kind_names, read_request_kind, read_reading, read_timer, when_rows, read_when, read_start, read_request, read_left, read_timeout, read_bare, read_cancel_done, read_read_done, read_change, mail_rows, read_mail}
-use Rattle.ert_audit.proofs.Formats.{IsFormat, done-gives, then-gives, then-again, then-none}
-use Rattle.ert_audit.proofs.Tables.{choice-gives, choice-again, keyword-none, optional-format}
-use Rattle.ert_audit.proofs.WordFormats.{small, natural, integer, truth, status, kind, request_kind}
+use Rattle.ert_defs.specs.declared.{mail.Mail.Mail, mail.Mail.TheVariants.{Timeout, Bare as BareMail, CancelDone, ReadDone, Change}, timer.Status.Status, timer.When.When, timer.When.TheVariants.{After, At}}
+use Rattle.ert_audit.specs.{Fits.{FitsReading, FitsTimer, FitsWhen, FitsStart, FitsRequest, FitsLeft, FitsMail}, Parts.{Word, reading_words, timer_words, when_words, start_words, request_words, left_words, mail_words, status_word}}
+use Rattle.ert_audit.specs.{Parts.option_words, Readers.{optional, natural_of, read_word}, Reading.{read_natural, status_names, read_status, request_kind_names, read_request_kind, read_reading, read_timer, when_rows, read_when, read_start}}
+use Rattle.ert_audit.specs.{Reading.{read_request, read_left, read_timeout, read_bare, read_cancel_done, read_read_done, read_change, mail_rows, read_mail}}
+use Rattle.ert_audit.proofs.{Formats.{IsFormat, done-gives, then-gives, then-again, then-none}, Tables.{choice-gives, choice-again, keyword-none, optional-format}, WordFormats.{small, natural, integer, truth, status, kind, request_kind}}
 
 pub reading : IsFormat reading_words FitsReading read_reading
 unfolding read_reading

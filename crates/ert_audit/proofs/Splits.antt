@@ -1,15 +1,9 @@
 -- Words, texts and letters, as the code finds them in a line.
 
 use Rattle.std.proofs.Common.{◌≡◌, ℕ, Bool, true, false, cond, eqb, List, [], ◌∷◌, Option, Some, None, refl, ap, ◌∙◌}
-use Rattle.std.specs.List.{onto_first}
-use Rattle.std.specs.Str.{IsUtf8, is_utf8}
-use Rattle.std.proofs.lemmas.Bool.{false_from_ne_true}
-use Rattle.std.proofs.lemmas.List.Splits.{slice_split_at, slice_split_none}
-use Rattle.std.proofs.lemmas.Str.{IsUtf8-from_is_utf8, is_utf8-from_IsUtf8}
-use Rattle.ert_audit.specs.Cuts.{IsNowhereIn, IsCutAt, words_in}
-use Rattle.ert_audit.specs.Parts.{Word}
-use Rattle.ert_audit.specs.Readers.{read_text, all_read}
-use Rattle.ert_audit.specs.Reading.{lettered}
+use Rattle.std.specs.{List.onto_first, Str.{IsUtf8, is_utf8}}
+use Rattle.std.proofs.lemmas.{Bool.false_from_ne_true, List.Splits.{slice_split_at, slice_split_none}, Str.{IsUtf8-from_is_utf8, is_utf8-from_IsUtf8}}
+use Rattle.ert_audit.specs.{Cuts.{IsNowhereIn, IsCutAt, words_in}, Parts.Word, Readers.{read_text, all_read}, Reading.lettered}
 
 -- the words of a line that has a blank
 pub cut_words : (line front rest : List ℕ) → IsCutAt 32 line front rest → words_in line ≡ front ∷ words_in rest

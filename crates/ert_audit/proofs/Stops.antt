@@ -1,13 +1,8 @@
 -- Where a line stops being spelled, word by word.
 
 use Rattle.std.proofs.Common.{◌≡◌, ◌≤◌, ◌<◌, ◌+◌, ◌-◌, ℕ, arith, refl, sym, ap, ◌∙◌, true, false, List, [], ◌∷◌, length, take, drop, get_or, Some, None}
-use Rattle.ert_audit.specs.Faults.{words_from, is_read, fault_from, turns_after}
-use Rattle.ert_audit.specs.Parts.{Word}
-use Rattle.ert_audit.specs.Readers.{all_read}
-use Rattle.ert_audit.specs.declared.spelling.wanted.Wanted.{Wanted}
-use Rattle.ert_audit.specs.declared.spelling.wanted.Wanted.TheVariants.{SettingsWord, End}
-use Rattle.ert_audit.proofs.Left.{all_from, words_within, words_behind}
-use Rattle.ert_audit.proofs.Splits.{something_left}
+use Rattle.ert_audit.specs.{Faults.{words_from, is_read, fault_from, turns_after}, Parts.Word, Readers.all_read, declared.spelling.wanted.Wanted.Wanted, declared.spelling.wanted.Wanted.TheVariants.{SettingsWord, End}}
+use Rattle.ert_audit.proofs.{Left.{all_from, words_within, words_behind}, Splits.something_left}
 
 -- the reader whose turn it is
 abbrev pub next : List Wanted → Wanted

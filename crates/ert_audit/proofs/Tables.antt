@@ -2,15 +2,9 @@
 
 use Rattle.std.proofs.Common.{◌≡◌, Bool, true, false, cond, List, [], ◌∷◌, ◌++◌, Option, Some, None, refl, sym, ap, ◌∙◌, subst, inl, inr, ◌⊎◌}
 use Rattle.std.specs.Prelude.{◌&&◌, nat_lt, codes, option_map, option_and_then, IfSome}
-use Rattle.std.specs.List.{AllByRecursion}
-use Rattle.std.specs.Str.{IsAscii, is_utf8, bytes_eq}
-use Rattle.std.proofs.lemmas.Bool.{and_parts, ltb-true}
-use Rattle.std.proofs.lemmas.Option.{same_Some, none-some}
-use Rattle.std.proofs.lemmas.Slice.Eq.{bytes_eq-Decides}
-use Rattle.std.proofs.lemmas.Str.{IsUtf8-from_ascii, is_utf8-from_IsUtf8}
-use Rattle.std.proofs.lemmas.Str.Ascii.{IsAscii-nil, IsAscii-cons}
-use Rattle.ert_audit.specs.Parts.{Word, option_words}
-use Rattle.ert_audit.specs.Readers.{Reader, read_word, meant, read_text, meant_by, keyword, read_named, choice, none_at, absent_or, optional}
+use Rattle.std.specs.{List.AllByRecursion, Str.{IsAscii, is_utf8, bytes_eq}}
+use Rattle.std.proofs.lemmas.{Bool.{and_parts, ltb-true}, Option.{same_Some, none-some}, Slice.Eq.bytes_eq-Decides, Str.{IsUtf8-from_ascii, is_utf8-from_IsUtf8}, Str.Ascii.{IsAscii-nil, IsAscii-cons}}
+use Rattle.ert_audit.specs.{Parts.{Word, option_words}, Readers.{Reader, read_word, meant, read_text, meant_by, keyword, read_named, choice, none_at, absent_or, optional}}
 use Rattle.ert_audit.proofs.Formats.{is_ink, Reads, Gives, IsFormat, and_then_some, map_some}
 
 ink-ascii : (word : Word) → is_ink word ≡ true → IsAscii word

@@ -2,18 +2,9 @@
 
 use Rattle.std.proofs.Common.{◌≡◌, ◌+◌, ℕ, refl, ap, subst, List, length, Option, None}
 use Rattle.std.specs.Prelude.{Result, Ok, Err}
-use Rattle.ert_defs.specs.Legal.{Legal as IsLegalHistory}
-use Rattle.ert_defs.specs.Settings.{IsChecked}
-use Rattle.ert_defs.specs.declared.entry.Entry.{Entry}
-use Rattle.ert_defs.specs.declared.memory.NoMemory.{NoMemory}
-use Rattle.ert_defs.specs.declared.settings.Settings.{Settings}
-use Rattle.ert_judge.specs.Verdicts.{StopsAtIllegal}
-use Rattle.ert_judge.specs.declared.stops.Stop.{Stop}
-use Rattle.ert_audit.specs.Findings.{IsIllegalBy}
-use Rattle.ert_audit.specs.Spelling.{Spells}
-use Rattle.ert_audit.specs.declared.spelling.history.History.{History}
-use Rattle.ert_audit.specs.declared.spelling.history.SpellingErr.{SpellingErr}
-use Rattle.ert_audit.specs.Verdicts.{IsHistory, IsLegalText}
+use Rattle.ert_defs.specs.{Legal.Legal as IsLegalHistory, Settings.IsChecked, declared.entry.Entry.Entry, declared.memory.NoMemory.NoMemory, declared.settings.Settings.Settings}
+use Rattle.ert_judge.specs.{Verdicts.StopsAtIllegal, declared.stops.Stop.Stop}
+use Rattle.ert_audit.specs.{Findings.IsIllegalBy, Spelling.Spells, declared.spelling.history.History.History, declared.spelling.history.SpellingErr.SpellingErr, Verdicts.{IsHistory, IsLegalText}}
 
 -- the answer of a judge
 abbrev pub answer : Option Stop → Result (Option Stop) NoMemory

@@ -2,15 +2,8 @@
 
 use Rattle.std.proofs.Common.{◌≡◌, ℕ, sym, ap, ◌∙◌, refl, Bool, true, false, cond, List, [], ◌∷◌, map, Option, Some, None}
 use Rattle.std.specs.Prelude.{is_some, option_map, option_and_then}
-use Rattle.std.specs.Borrow.{Bor}
-use Rattle.std.specs.Str.{bytes_eq}
-use Rattle.ert_audit.specs.Cuts.{words_in}
-use Rattle.ert_audit.specs.Events.{event_rows}
-use Rattle.ert_audit.specs.Faults.{meaning, turn_rows, mail_turn_rows}
-use Rattle.ert_audit.specs.Parts.{Word}
-use Rattle.ert_audit.specs.Readers.{value_and_rest, meant_by, read_text}
-use Rattle.ert_audit.specs.Reading.{mail_rows}
-use Rattle.ert_audit.specs.declared.spelling.wanted.Wanted.{Wanted}
+use Rattle.std.specs.{Borrow.Bor, Str.bytes_eq}
+use Rattle.ert_audit.specs.{Cuts.words_in, Events.event_rows, Faults.{meaning, turn_rows, mail_turn_rows}, Parts.Word, Readers.{value_and_rest, meant_by, read_text}, Reading.mail_rows, declared.spelling.wanted.Wanted.Wanted}
 
 -- a reader reads where the function gave something
 pub same_some : {A : Type 0} (r : Option A) (rest : Option (Bor (List ℕ))) (x : Option (A × List Word)) → value_and_rest r rest ≡ x → is_some r ≡ is_some x

@@ -2,26 +2,13 @@
 
 use Rattle.std.proofs.Common.{◌≡◌, Bool, true, false, [], ◌∷◌, Some, refl}
 use Rattle.std.specs.Fmt.{decimal, signed_decimal}
-use Rattle.ert_defs.specs.declared.entry.Act.{Act}
-use Rattle.ert_defs.specs.declared.entry.Act.TheVariants.{Plain, Force, Finalize}
-use Rattle.ert_defs.specs.declared.mail.RequestKind.{RequestKind}
-use Rattle.ert_defs.specs.declared.mail.RequestKind.TheVariants.{Cancel as ToCancel, Read as ToRead}
-use Rattle.ert_defs.specs.declared.settings.Mode.{Mode}
-use Rattle.ert_defs.specs.declared.settings.Mode.TheVariants.{No, Single, Multi}
-use Rattle.ert_defs.specs.declared.settings.OffsetState.{OffsetState}
-use Rattle.ert_defs.specs.declared.settings.OffsetState.TheVariants.{Preliminary, Final, Volatile}
-use Rattle.ert_defs.specs.declared.timer.Kind.{Kind}
-use Rattle.ert_defs.specs.declared.timer.Kind.TheVariants.{Wrapped, Bare}
-use Rattle.ert_defs.specs.declared.timer.Status.{Status}
-use Rattle.ert_defs.specs.declared.timer.Status.TheVariants.{Armed, Expired, Delivered, Cancelled, Orphaned, Dropped}
-use Rattle.ert_audit.specs.Fits.{Fits32, Fits64, FitsInt}
-use Rattle.ert_audit.specs.Parts.{number_words, integer_words, bool_word, mode_word, state_word, act_word, status_word, kind_word, request_kind_word}
-use Rattle.ert_audit.specs.Readers.{small_of, natural_of, integer_of, meant_by}
-use Rattle.ert_audit.specs.Reading.{read_small, read_natural, read_integer, bool_names, read_bool, mode_names, read_mode, state_names, read_state, act_names, read_act, status_names, read_status, kind_names, read_kind, request_kind_names, read_request_kind}
-use Rattle.ert_audit.proofs.Digits.{natural-takes, natural-again, natural-ink}
-use Rattle.ert_audit.proofs.Formats.{IsFormat}
-use Rattle.ert_audit.proofs.Integers.{small-takes, small-again, small-ink, integer-takes, integer-again, integer-ink}
-use Rattle.ert_audit.proofs.Tables.{meant-format, keyword-format}
+use Rattle.ert_defs.specs.declared.{entry.Act.Act, entry.Act.TheVariants.{Plain, Force, Finalize}, mail.RequestKind.RequestKind, mail.RequestKind.TheVariants.{Cancel as ToCancel, Read as ToRead}, settings.Mode.Mode}
+use Rattle.ert_defs.specs.declared.{settings.Mode.TheVariants.{No, Single, Multi}, settings.OffsetState.OffsetState, settings.OffsetState.TheVariants.{Preliminary, Final, Volatile}, timer.Kind.Kind, timer.Kind.TheVariants.{Wrapped, Bare}}
+use Rattle.ert_defs.specs.declared.{timer.Status.Status, timer.Status.TheVariants.{Armed, Expired, Delivered, Cancelled, Orphaned, Dropped}}
+use Rattle.ert_audit.specs.{Fits.{Fits32, Fits64, FitsInt}, Parts.{number_words, integer_words, bool_word, mode_word, state_word, act_word, status_word, kind_word, request_kind_word}, Readers.{small_of, natural_of, integer_of, meant_by}}
+use Rattle.ert_audit.specs.{Reading.{read_small, read_natural, read_integer, bool_names, read_bool, mode_names, read_mode, state_names, read_state, act_names, read_act, status_names, read_status, kind_names, read_kind, request_kind_names}}
+use Rattle.ert_audit.specs.{Reading.read_request_kind}
+use Rattle.ert_audit.proofs.{Digits.{natural-takes, natural-again, natural-ink}, Formats.IsFormat, Integers.{small-takes, small-again, small-ink, integer-takes, integer-again, integer-ink}, Tables.{meant-format, keyword-format}}
 
 -- numbers of 32 and of 64 bits, and one that may be negative
 pub small : IsFormat number_words Fits32 read_small

@@ -1,12 +1,9 @@
 -- How an audit ends, and what it has then read and written.
 
 use Rattle.std.specs.Prelude.{◌≡◌, ℕ, List, ◌++◌}
-use Rattle.ert_io.specs.Reads.{Input, ReadsAll}
-use Rattle.ert_io.specs.Writing.{WritesFront}
-use Rattle.ert_audit.specs.Verdicts.{HasVerdict, verdict_line}
-use Rattle.ert_audit.specs.declared.status.AuditStatus.{AuditStatus}
-use Rattle.ert_audit.specs.declared.status.AuditStatus.TheVariants.{Legal, Illegal, Refused, ReadFault, WriteFault, NoMemory, TooLong}
-use Rattle.ert_audit.specs.declared.verdict.Verdict.{Verdict}
+use Rattle.ert_io.specs.{Reads.{Input, ReadsAll}, Writing.WritesFront}
+use Rattle.ert_audit.specs.{Verdicts.{HasVerdict, verdict_line}, declared.status.AuditStatus.AuditStatus, declared.status.AuditStatus.TheVariants.{Legal, Illegal, Refused, ReadFault, WriteFault, NoMemory, TooLong}}
+use Rattle.ert_audit.specs.{declared.verdict.Verdict.Verdict}
 use Rattle.ert_audit.specs.declared.verdict.Verdict.TheVariants as verdicts
 
 -- the number of a status

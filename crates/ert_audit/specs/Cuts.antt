@@ -1,8 +1,7 @@
 -- Bytes cut at one that separates.
 
 use Rattle.std.specs.Prelude.{◌≡◌, ◌==◌, ℕ, false, List, [], ◌∷◌, ◌++◌, All, Option, Some, None}
-use Rattle.std.specs.List.{slice_split}
-use Rattle.std.specs.Borrow.{Bor}
+use Rattle.std.specs.{List.slice_split, Borrow.Bor}
 use Rattle.ert_audit.specs.Parts.{Word}
 
 -- a separator stands nowhere in the bytes

@@ -2,10 +2,8 @@
 
 use Rattle.std.specs.Prelude.{List, [], ◌∷◌, ◌++◌, codes}
 use Rattle.std.specs.Fmt.{decimal, signed_decimal}
-use Rattle.ert_defs.specs.declared.entry.Entry.{Entry}
-use Rattle.ert_defs.specs.declared.entry.Event.{Event}
-use Rattle.ert_defs.specs.declared.entry.Event.TheVariants.{Tick, Shift, Look, Off, Arm, Probe, Peek, Cancel, Expire, Orphan, Deliver, Drop, Mark, Advanced, Ask, Pick, Answer, Take, Unwatch, Watch, Tell}
-use Rattle.ert_defs.specs.declared.settings.Settings.{Settings}
+use Rattle.ert_defs.specs.declared.{entry.Entry.Entry, entry.Event.Event, entry.Event.TheVariants.{Tick, Shift, Look, Off, Arm, Probe, Peek, Cancel, Expire, Orphan, Deliver, Drop, Mark, Advanced, Ask, Pick, Answer, Take, Unwatch, Watch}}
+use Rattle.ert_defs.specs.declared.{entry.Event.TheVariants.Tell, settings.Settings.Settings}
 use Rattle.ert_audit.specs.Parts.{Word, integer_words, bool_word, mode_word, state_word, act_word, status_word, actor_word, with_word, reading_words, timer_words, start_words, request_words, mail_words, option_words, left_words}
 
 -- the words of an event: its name, and its fields in their order

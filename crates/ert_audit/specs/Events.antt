@@ -1,12 +1,8 @@
 -- The readers of events, entries and settings.
 
 use Rattle.std.specs.Prelude.{ℕ, ℤ, Bool, List, [], ◌∷◌, codes}
-use Rattle.ert_defs.specs.declared.entry.Entry.{Entry}
-use Rattle.ert_defs.specs.declared.entry.Event.{Event}
-use Rattle.ert_defs.specs.declared.entry.Event.TheVariants.{Tick, Shift, Look, Off, Arm, Probe, Peek, Cancel, Expire, Orphan, Deliver, Drop, Mark, Advanced, Ask, Pick, Answer, Take, Unwatch, Watch, Tell}
-use Rattle.ert_defs.specs.declared.settings.Mode.{Mode}
-use Rattle.ert_defs.specs.declared.settings.Settings.{Settings}
-use Rattle.ert_defs.specs.declared.settings.TheConstants.{SCENARIO_LOOKS}
+use Rattle.ert_defs.specs.declared.{entry.Entry.Entry, entry.Event.Event, entry.Event.TheVariants.{Tick, Shift, Look, Off, Arm, Probe, Peek, Cancel, Expire, Orphan, Deliver, Drop, Mark, Advanced, Ask, Pick, Answer, Take, Unwatch, Watch}}
+use Rattle.ert_defs.specs.declared.{entry.Event.TheVariants.Tell, settings.Mode.Mode, settings.Settings.Settings, settings.TheConstants.SCENARIO_LOOKS}
 use Rattle.ert_audit.specs.Parts.{Word}
 use Rattle.ert_audit.specs.Readers.{Reader, ◌>>=◌, done, choice, optional}
 use Rattle.ert_audit.specs.Reading.{read_small, read_natural, read_integer, read_bool, read_mode, read_state, read_act, read_status, read_actor, read_with, read_reading, read_timer, read_start, read_request, read_left, read_mail}

@@ -2,10 +2,7 @@
 
 use Rattle.std.specs.Prelude.{ℕ, List}
 use Rattle.ert_io.specs.Writing.{WritesFront}
-use Rattle.ert_audit.specs.Messages.{IsIllegalMessage}
-use Rattle.ert_audit.specs.Refusals.{IsRefusalMessage}
-use Rattle.ert_audit.specs.declared.status.AuditStatus.{AuditStatus}
-use Rattle.ert_audit.specs.declared.status.AuditStatus.TheVariants.{Illegal, Refused}
+use Rattle.ert_audit.specs.{Messages.IsIllegalMessage, Refusals.IsRefusalMessage, declared.status.AuditStatus.AuditStatus, declared.status.AuditStatus.TheVariants.{Illegal, Refused}}
 
 -- what a message on a text says at a status: at another there is none
 abbrev pub IsMessage : AuditStatus → List ℕ → List ℕ → Type 0

@@ -1,19 +1,11 @@
 -- Where a line stops being spelled: whose turn it is to read each of its words, and the first that isn't read.
 
-use Rattle.std.specs.Prelude.{◌≡◌, ℕ, ◌+◌, ◌-◌, Bool, true, false, ◌||◌, List, [], ◌∷◌, length, drop, nat_le, get_or, cond, codes, Option, Some, None, is_some, option_map, unwrap_or, if◌then◌else◌}
+use Rattle.std.specs.Prelude.{◌≡◌, ℕ, ◌+◌, ◌-◌, Bool, true, false, ◌||◌, List, [], ◌∷◌, length, drop, nat_le, get_or, cond, codes, Option, Some, None, is_some, option_map, unwrap_or, if◌then◌else◌, Err}
 use Rattle.std.specs.Str.{bytes_eq}
-use Rattle.ert_defs.specs.Settings.{Checks}
-use Rattle.ert_defs.specs.declared.settings.Settings.{Settings}
-use Rattle.ert_defs.specs.declared.settings.SettingsFault.{SettingsFault}
-use Rattle.std.specs.Prelude.{Err}
-use Rattle.ert_audit.specs.Cuts.{words_in}
-use Rattle.ert_audit.specs.Events.{event_rows, read_settings}
-use Rattle.ert_audit.specs.Parts.{Word}
-use Rattle.ert_audit.specs.Readers.{optional, meant_by, keyword, whole}
-use Rattle.ert_audit.specs.Reading.{read_small, read_natural, read_integer, read_bool, read_mode, read_state, read_act, read_status, read_kind, read_request_kind, read_actor, read_with, read_left, when_rows, mail_rows}
-use Rattle.ert_audit.specs.declared.spelling.wanted.WordFault.{WordFault}
-use Rattle.ert_audit.specs.declared.spelling.wanted.Wanted.{Wanted}
-use Rattle.ert_audit.specs.declared.spelling.wanted.Wanted.TheVariants.{SettingsWord, Mode, Truth, Integer, Small, Natural, Act, State, Found, Kind, When, Actor, Partner, Event, RequestKind, Picked, Taken, Left, End}
+use Rattle.ert_defs.specs.{Settings.Checks, declared.settings.Settings.Settings, declared.settings.SettingsFault.SettingsFault}
+use Rattle.ert_audit.specs.{Cuts.words_in, Events.{event_rows, read_settings}, Parts.Word, Readers.{optional, meant_by, keyword, whole}, Reading.{read_small, read_natural, read_integer, read_bool, read_mode, read_state, read_act}}
+use Rattle.ert_audit.specs.{Reading.{read_status, read_kind, read_request_kind, read_actor, read_with, read_left, when_rows, mail_rows}, declared.spelling.wanted.WordFault.WordFault, declared.spelling.wanted.Wanted.Wanted}
+use Rattle.ert_audit.specs.{declared.spelling.wanted.Wanted.TheVariants.{SettingsWord, Mode, Truth, Integer, Small, Natural, Act, State, Found, Kind, When, Actor, Partner, Event, RequestKind, Picked, Taken, Left, End}}
 
 -- the first word of bytes
 abbrev pub word_in : List ℕ → Word

@@ -1,16 +1,9 @@
 -- What is found of a text: its verdict, and why it isn't legal.
 
 use Rattle.std.specs.Prelude.{◌≡◌, ℕ, ◌+◌, List, slice_get, take, Some}
-use Rattle.ert_defs.specs.States.{state}
-use Rattle.ert_defs.specs.declared.entry.Entry.{Entry}
-use Rattle.ert_judge.specs.Reasons.{IsFirstReason}
-use Rattle.ert_judge.specs.Verdicts.{IsFirstIllegal}
-use Rattle.ert_judge.specs.declared.reasons.Reason.{Reason}
-use Rattle.ert_audit.specs.Spelling.{MisspelledAt}
-use Rattle.ert_audit.specs.Verdicts.{IsHistory, IsLegalText}
-use Rattle.ert_audit.specs.declared.verdict.Finding.{Finding}
-use Rattle.ert_audit.specs.declared.verdict.Finding.TheVariants.{Legal, Illegal, Refused}
-use Rattle.ert_audit.specs.declared.verdict.Verdict.{Verdict}
+use Rattle.ert_defs.specs.{States.state, declared.entry.Entry.Entry}
+use Rattle.ert_judge.specs.{Reasons.IsFirstReason, Verdicts.IsFirstIllegal, declared.reasons.Reason.Reason}
+use Rattle.ert_audit.specs.{Spelling.MisspelledAt, Verdicts.{IsHistory, IsLegalText}, declared.verdict.Finding.Finding, declared.verdict.Finding.TheVariants.{Legal, Illegal, Refused}, declared.verdict.Verdict.Verdict}
 use Rattle.ert_audit.specs.declared.verdict.Verdict.TheVariants as verdicts
 
 -- the entry at a line, where the settings have line 1, is the first that isn't legal, by a reason that holds of it

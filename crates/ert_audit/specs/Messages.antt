@@ -1,8 +1,7 @@
 -- What the error output is told of a history that isn't legal.
 
 use Rattle.std.specs.Prelude.{◌≡◌, ℕ, zero, suc, ◌+◌, ◌-◌, ◌/◌, ◌%◌, ◌==◌, Bool, ◌&&◌, not, nat_lt, nat_le, List, [], ◌∷◌, ◌++◌, length, take, drop, position, codes, Option, Some, None, if◌then◌else◌}
-use Rattle.std.specs.Fmt.{decimal}
-use Rattle.std.specs.List.{flat_map}
+use Rattle.std.specs.{Fmt.decimal, List.flat_map}
 use Rattle.ert_judge.specs.Texts.{◌⋅◌, reason_text}
 use Rattle.ert_judge.specs.declared.reasons.Reason.{Reason}
 use Rattle.ert_audit.specs.Findings.{IsIllegalBy}

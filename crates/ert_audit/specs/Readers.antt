@@ -1,11 +1,8 @@
 -- How words are read: functions that take words from the front, and those that join them.
 
 use Rattle.std.specs.Prelude.{ℕ, zero, suc, ℤ, pos, negsuc, ◌==◌, List, [], ◌∷◌, drop, slice_index, Bool, false, ◌&&◌, nat_lt, nat_le, codes, Option, Some, None, option_map, option_and_then, if◌then◌else◌}
-use Rattle.std.specs.Borrow.{Bor}
-use Rattle.std.specs.Str.{bytes_eq, is_utf8, all_ascii_digits}
-use Rattle.std.specs.Str.Parse.{digits_value}
-use Rattle.ert_audit.specs.Cuts.{words_of}
-use Rattle.ert_audit.specs.Parts.{Word}
+use Rattle.std.specs.{Borrow.Bor, Str.{bytes_eq, is_utf8, all_ascii_digits}, Str.Parse.digits_value}
+use Rattle.ert_audit.specs.{Cuts.words_of, Parts.Word}
 
 -- what reads a value from the front of words: the value and the words after it
 abbrev pub Reader : Type 0 → Type 0

@@ -2,16 +2,11 @@
 
 use Rattle.std.specs.Prelude.{◌≡◌, ◌≢◌, ◌==◌, ℕ, ◌+◌, ◌-◌, ◌≤◌, List, length, drop, codes, Some, None}
 use Rattle.std.specs.Fmt.{decimal}
-use Rattle.ert_defs.specs.declared.settings.SettingsFault.{SettingsFault}
-use Rattle.ert_defs.specs.declared.settings.SettingsFault.TheVariants.{Start, First, Count}
+use Rattle.ert_defs.specs.declared.settings.SettingsFault.{SettingsFault, TheVariants.{Start, First, Count}}
 use Rattle.ert_judge.specs.Texts.{◌⋅◌}
-use Rattle.ert_audit.specs.Faults.{word_in, line_fault, IsUnfit}
-use Rattle.ert_audit.specs.Spelling.{MisspelledAt}
-use Rattle.ert_audit.specs.declared.spelling.wanted.Wanted.{Wanted}
-use Rattle.ert_audit.specs.declared.spelling.wanted.Wanted.TheVariants.{SettingsWord, Mode, Truth, Integer, Small, Natural, Act, State, Found, Kind, When, Actor, Partner, Event, RequestKind, Picked, Taken, Left, End}
-use Rattle.ert_audit.specs.Messages.{line_after, line_end, lines_on, shortened, line_front}
-use Rattle.ert_audit.specs.declared.refusing.LineRefusal.{LineRefusal}
-use Rattle.ert_audit.specs.declared.refusing.LineRefusal.TheVariants.{At, Unfit, NoNewline, Misspelled}
+use Rattle.ert_audit.specs.{Faults.{word_in, line_fault, IsUnfit}, Spelling.MisspelledAt, declared.spelling.wanted.Wanted.Wanted, declared.spelling.wanted.Wanted.TheVariants.{SettingsWord, Mode, Truth, Integer, Small, Natural, Act, State}}
+use Rattle.ert_audit.specs.{declared.spelling.wanted.Wanted.TheVariants.{Found, Kind, When, Actor, Partner, Event, RequestKind, Picked, Taken, Left, End}, Messages.{line_after, line_end, lines_on, shortened, line_front}}
+use Rattle.ert_audit.specs.{declared.refusing.LineRefusal.LineRefusal, declared.refusing.LineRefusal.TheVariants.{At, Unfit, NoNewline, Misspelled}}
 
 -- why a line is misspelled, the first of these that holds: it stops being spelled at a word; no newline ends it; no
 -- service can be opened with its settings

@@ -2,12 +2,8 @@
 
 use Rattle.std.specs.Prelude.{◌≡◌, ◌≢◌, ℕ, ◌+◌, List, [], ◌∷◌, ◌++◌, length}
 use Rattle.std.specs.List.{AllByRecursion, flat_map, join_with_byte}
-use Rattle.ert_defs.specs.Settings.{IsChecked}
-use Rattle.ert_defs.specs.declared.entry.Entry.{Entry}
-use Rattle.ert_defs.specs.declared.settings.Settings.{Settings}
-use Rattle.ert_audit.specs.Entries.{entry_words, settings_words}
-use Rattle.ert_audit.specs.Fits.{FitsEntry, FitsSettings}
-use Rattle.ert_audit.specs.Parts.{Word}
+use Rattle.ert_defs.specs.{Settings.IsChecked, declared.entry.Entry.Entry, declared.settings.Settings.Settings}
+use Rattle.ert_audit.specs.{Entries.{entry_words, settings_words}, Fits.{FitsEntry, FitsSettings}, Parts.Word}
 
 -- a line: the words with a blank between each two, and a newline
 abbrev pub line_of_words : List Word → List ℕ

@@ -2,13 +2,9 @@
 
 use Rattle.std.specs.Prelude.{◌≡◌, ℕ, ◌+◌, List, ◌++◌, length, codes}
 use Rattle.std.specs.Fmt.{decimal}
-use Rattle.ert_defs.specs.Legal.{Legal}
-use Rattle.ert_defs.specs.Settings.{IsChecked}
-use Rattle.ert_defs.specs.declared.entry.Entry.{Entry}
-use Rattle.ert_defs.specs.declared.settings.Settings.{Settings}
+use Rattle.ert_defs.specs.{Legal.Legal, Settings.IsChecked, declared.entry.Entry.Entry, declared.settings.Settings.Settings}
 use Rattle.ert_judge.specs.Verdicts.{IsFirstIllegal}
-use Rattle.ert_audit.specs.Spelling.{Spells, MisspelledAt}
-use Rattle.ert_audit.specs.declared.verdict.Verdict.{Verdict}
+use Rattle.ert_audit.specs.{Spelling.{Spells, MisspelledAt}, declared.verdict.Verdict.Verdict}
 use Rattle.ert_audit.specs.declared.verdict.Verdict.TheVariants as verdicts
 
 -- a text spells a history of settings that a service can be opened with

@@ -1,10 +1,6 @@
 ghost use Rattle.std.specs.Prelude.{◌≡◌, ◌⊎◌, ◌≤◌, ◌++◌, ℕ, List, Some, None, IsTrue, false, length, string_bytes};
-ghost use Rattle.ert_io.specs.Faults.{Rose};
-ghost use Rattle.ert_io.specs.Known.{stream_told, HandsUpTo};
-ghost use Rattle.ert_io.specs.Reads.{ReadsMore, input_of};
-ghost use Rattle.ert_io.specs.Writing.{WritesFront};
-ghost use Rattle.ert_audit.specs.Audits.{IsVerdict, Judges, StopsInLine, status_telling};
-ghost use Rattle.ert_audit.specs.Verdicts.{HasVerdict, verdict_line};
+ghost use Rattle.ert_io.specs.{Faults.Rose, Known.{stream_told, HandsUpTo}, Reads.{ReadsMore, input_of}, Writing.WritesFront};
+ghost use Rattle.ert_audit.specs.{Audits.{IsVerdict, Judges, StopsInLine, status_telling}, Verdicts.{HasVerdict, verdict_line}};
 ghost use Rattle.ert_audit.specs.declared.verdict.Verdict as verdicts;
 
 use crate::explaining::message_on;
@@ -26,8 +22,7 @@ pub struct Audited {
 
 impl Model for Audited {
     ghost use Rattle.std.specs.Prelude.{IfSome};
-    ghost use Rattle.ert_audit.specs.Audits.{AuditEnd};
-    ghost use Rattle.ert_audit.specs.Findings.{IsFound};
+    ghost use Rattle.ert_audit.specs.{Audits.AuditEnd, Findings.IsFound};
 
     ghost Value = { AuditEnd };
 
@@ -38,8 +33,7 @@ impl Model for Audited {
 
 impl Audited {
     ghost use Rattle.std.specs.Prelude.{◌≡◌, IfSome};
-    ghost use Rattle.ert_audit.specs.Audits.{status_telling};
-    ghost use Rattle.ert_audit.specs.Explained.{IsMessage};
+    ghost use Rattle.ert_audit.specs.{Audits.status_telling, Explained.IsMessage};
 
     /// How it ended.
     pub fn status(&self) -> AuditStatus

@@ -1,14 +1,10 @@
 //! Why a text has its verdict, for a person. No contract of the audit speaks of it.
 
 ghost use Rattle.std.specs.Prelude.{◌≡◌, ◌⊎◌, ◌≤◌, ◌++◌, codes, IfSome, OnOk, None, string_bytes};
-ghost use Rattle.ert_audit.specs.Audits.{status_telling};
-ghost use Rattle.ert_audit.specs.Explained.{IsMessage, TellsPart};
-ghost use Rattle.ert_audit.specs.Findings.{IsFound, IsIllegalBy, finding_verdict};
-ghost use Rattle.ert_audit.specs.Messages.{line_front, shortened, illegal_message, IsIllegalMessage};
-ghost use Rattle.ert_audit.specs.Refusals.{IsRefusalMessage};
+ghost use Rattle.ert_audit.specs.{Audits.status_telling, Explained.{IsMessage, TellsPart}, Findings.{IsFound, IsIllegalBy, finding_verdict}, Messages.{line_front, shortened, illegal_message, IsIllegalMessage}, Refusals.IsRefusalMessage};
+ghost use Rattle.ert_audit.specs.{Spelling.MisspelledAt};
 ghost use Rattle.ert_io.specs.Writing.{WritesFront};
 ghost use Rattle.ert_judge.specs.Texts.{◌⋅◌, reason_text};
-ghost use Rattle.ert_audit.specs.Spelling.{MisspelledAt};
 
 use crate::auditing::Audited;
 use crate::lines::{line_after, write_shown};

@@ -1,10 +1,8 @@
 //! Why a line is misspelled, for a person.
 
 ghost use Rattle.std.specs.Prelude.{◌≡◌, ◌++◌, ◌-◌, ◌≤◌, ◌+◌, codes, drop, length, IfSome, OnOk, string_bytes};
-ghost use Rattle.ert_audit.specs.Messages.{line_after, line_front, shortened};
-ghost use Rattle.ert_audit.specs.Refusals.{IsRefusal, LiesIn, wanted_text, unfit_text, word_front, refusal_message};
+ghost use Rattle.ert_audit.specs.{Messages.{line_after, line_front, shortened}, Refusals.{IsRefusal, LiesIn, wanted_text, unfit_text, word_front, refusal_message}, Faults.word_in};
 ghost use Rattle.ert_judge.specs.Texts.{◌⋅◌};
-ghost use Rattle.ert_audit.specs.Faults.{word_in};
 
 use crate::lines::{has_end, line_after, write_shown};
 use crate::spelling::{Wanted, WordFault, fault_in, first_word, unfit};

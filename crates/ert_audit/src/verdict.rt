@@ -1,6 +1,5 @@
 ghost use Rattle.std.specs.Prelude.{◌≡◌, ◌++◌, ℕ, List, IfOk, OnOk, string_bytes};
-ghost use Rattle.ert_audit.specs.Findings.{IsFound};
-ghost use Rattle.ert_audit.specs.Verdicts.{HasVerdict, verdict_line};
+ghost use Rattle.ert_audit.specs.{Findings.IsFound, Verdicts.{HasVerdict, verdict_line}};
 ghost use Rattle.ert_audit.specs.declared.verdict.Verdict as verdicts;
 
 use crate::spelling::{SpellingErr, one_spelling, read_history};
@@ -33,8 +32,7 @@ pub enum Finding {
 
 impl Finding {
     ghost use Rattle.std.specs.Prelude.{◌≡◌, ℕ, List};
-    ghost use Rattle.ert_audit.specs.Findings.{IsFound, finding_verdict};
-    ghost use Rattle.ert_audit.specs.Verdicts.{HasVerdict};
+    ghost use Rattle.ert_audit.specs.{Findings.{IsFound, finding_verdict}, Verdicts.HasVerdict};
 
     /// The verdict on the text.
     pub fn verdict(self) -> Verdict

@@ -26,8 +26,7 @@ use denote.Steps.{nothing}
 use denote.Triple.Clauses.{Clauses, Ended, closing}
 use denote.Triple.Spec.{Meets}
 use denote.Triple.Walked.{Stays, stay_dropped, walk_of, says, ends_at, Goes-spent_ref}
-use Rattle.std.proofs.VecSteps.Shapes.{after}
-use Rattle.std.proofs.raw_atomic.Walks.{proved}
+use Rattle.std.proofs.{VecSteps.Shapes.after, raw_atomic.Walks.proved}
 use Rattle.ert_c.specs.contracts.place.Place as places
 use Rattle.ert_c.specs.declared.place.Place.{Place}
 

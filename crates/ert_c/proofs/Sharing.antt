@@ -1,19 +1,12 @@
 -- How a call through the handle of a hub or of a shard is shown.
 
 use Rattle.std.proofs.Common.{◌≡◌, ℕ, ◌<◌, ◌≤◌, ◌+◌, ◌-◌, ◌↔◌, ℤ, Bool, true, IsTrue, Option, Some, None, Ok, inl, inr, refl, ap, ◌∙◌, subst, sym, false, arith}
-use Rattle.ert_c.specs.HubCalls.{OpensHub}
-use Rattle.ert_c.specs.Opened.{ReadsSettings}
-use Rattle.ert_c.specs.Places.{is_there}
-use Rattle.ert_c.specs.ShardCalls.{GivesOrRefuses, CutsShard, OpensShard, IfHome}
-use Rattle.ert_c.specs.Through.{Through}
-use Rattle.ert_c.specs.declared.opening.ErtSettings.{ErtSettings}
-use Rattle.ert_c.specs.declared.status.TheConstants.{OK, NO_MEMORY}
+use Rattle.ert_c.specs.{HubCalls.OpensHub, Opened.ReadsSettings, Places.is_there, ShardCalls.{GivesOrRefuses, CutsShard, OpensShard, IfHome}, Through.Through, declared.opening.ErtSettings.ErtSettings, declared.status.TheConstants.OK}
+use Rattle.ert_c.specs.{declared.status.TheConstants.NO_MEMORY}
 use Rattle.ert_defs.specs.declared.settings.Settings.{Settings}
-use Rattle.ert_shard.specs.Hubs.{Rest, IsFresh, GivesShard, TakesBack, IsLastOut}
-use Rattle.ert_shard.specs.Shards.{Share, IsHome, Owned}
+use Rattle.ert_shard.specs.{Hubs.{Rest, IsFresh, GivesShard, TakesBack, IsLastOut}, Shards.{Share, IsHome, Owned}}
 use Rattle.ert_world.proofs.Given.{longer_same}
-use Rattle.ert_world.specs.Openings.{IsOpened}
-use Rattle.ert_world.specs.Worlds.{Seen}
+use Rattle.ert_world.specs.{Openings.IsOpened, Worlds.Seen}
 
 -- a call is made by what was lent
 pub made_through : {W : Type 0} (kept : Type 0) (call : W → W → Type 0) (old new : Option W) (status : ℤ) (was now : W) → old ≡ Some was

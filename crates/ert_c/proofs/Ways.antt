@@ -1,11 +1,7 @@
 -- How a call through a handle is shown.
 
 use Rattle.std.proofs.Common.{◌≡◌, ℤ, Option, Some, None, Ok, inr, refl, subst, sym, false}
-use Rattle.ert_c.specs.Opened.{ReadsSettings, Opens}
-use Rattle.ert_c.specs.Places.{is_there}
-use Rattle.ert_c.specs.Through.{Through}
-use Rattle.ert_c.specs.declared.opening.ErtSettings.{ErtSettings}
-use Rattle.ert_c.specs.declared.status.TheConstants.{NO_MEMORY}
+use Rattle.ert_c.specs.{Opened.{ReadsSettings, Opens}, Places.is_there, Through.Through, declared.opening.ErtSettings.ErtSettings, declared.status.TheConstants.NO_MEMORY}
 use Rattle.ert_defs.specs.declared.settings.Settings.{Settings}
 use Rattle.ert_world.specs.Worlds.{Seen}
 

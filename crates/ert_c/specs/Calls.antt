@@ -1,39 +1,15 @@
 -- What a service does by the calls on timers, mailboxes and turns.
 
 use Rattle.std.specs.Prelude.{◌≡◌, ◌≢◌, ℕ, ◌≤◌, ℤ, Bool, Option, Result, Err, IfOk, MatchOption, OnSome, ⊤}
-use Rattle.ert_effects.specs.Chains.{Exits, Serves, AdvancesWheel, Delivers, Turns}
-use Rattle.ert_effects.specs.MailCalls.{Takes, Monitors, Demonitors, Notifies}
-use Rattle.ert_effects.specs.RequestCalls.{Asks, inbox_for}
-use Rattle.ert_effects.specs.RoomCalls.{TellsRoom}
-use Rattle.ert_effects.specs.Sleeping.{ProbesForNext}
-use Rattle.ert_effects.specs.TimerCalls.{Reads, Cancels, Starts}
-use Rattle.ert_effects.specs.Ways.{Growth, Way}
-use Rattle.ert_effects.specs.WheelCalls.{TellsAlive}
-use Rattle.ert_effects.specs.declared.answers.MonitorErr.{MonitorErr}
-use Rattle.ert_effects.specs.declared.answers.Room.{Room}
-use Rattle.ert_effects.specs.declared.answers.StartErr.{StartErr}
-use Rattle.ert_effects.specs.declared.answers.StartErr.TheVariants.{BadArg, Full, NoMemory}
-use Rattle.ert_effects.specs.declared.answers.Taken.{Taken}
-use Rattle.ert_effects.specs.declared.answers.Turned.{Turned}
-use Rattle.ert_defs.specs.States.{state}
-use Rattle.ert_defs.specs.declared.entry.Actor.TheVariants.{Caller}
-use Rattle.ert_defs.specs.declared.mail.Request.{Request}
-use Rattle.ert_defs.specs.declared.memory.NoMemory.{NoMemory as OutOfMemory}
-use Rattle.ert_defs.specs.declared.timer.Start.{Start}
-use Rattle.ert_defs.specs.declared.timer.TimerRef.{TimerRef}
-use Rattle.ert_world.specs.Frees.{IsUsedUpAt, HasOpenSlotAt, SearchesAt, UsesFreeAt}
-use Rattle.ert_world.specs.Restarts.{HasNoDeadline}
-use Rattle.ert_world.specs.Sleeping.{DropsSettledAt, HasSameTimeAt, IsFoundAt}
-use Rattle.ert_world.specs.Stepping.{Stays}
-use Rattle.ert_world.specs.Tried.{TriesHeldAt}
-use Rattle.ert_world.specs.Worlds.{Seen, Goes, By, HasForgotten, HasPassedAt, IsNextHeldAt, IsNearestAt, StayForgotten}
+use Rattle.ert_effects.specs.{Chains.{Exits, Serves, AdvancesWheel, Delivers, Turns}, MailCalls.{Takes, Monitors, Demonitors, Notifies}, RequestCalls.{Asks, inbox_for}, RoomCalls.TellsRoom, Sleeping.ProbesForNext, TimerCalls.Reads}
+use Rattle.ert_effects.specs.{TimerCalls.{Cancels, Starts}, Ways.{Growth, Way}, WheelCalls.TellsAlive, declared.answers.MonitorErr.MonitorErr, declared.answers.Room.Room, declared.answers.StartErr.StartErr}
+use Rattle.ert_effects.specs.{declared.answers.StartErr.TheVariants.{BadArg, Full, NoMemory}, declared.answers.Taken.Taken, declared.answers.Turned.Turned}
+use Rattle.ert_defs.specs.{States.state, declared.entry.Actor.TheVariants.Caller, declared.mail.Request.Request, declared.memory.NoMemory.NoMemory as OutOfMemory, declared.timer.Start.Start, declared.timer.TimerRef.TimerRef}
+use Rattle.ert_world.specs.{Frees.{IsUsedUpAt, HasOpenSlotAt, SearchesAt, UsesFreeAt}, Restarts.HasNoDeadline, Sleeping.{DropsSettledAt, HasSameTimeAt, IsFoundAt}, Stepping.Stays, Tried.TriesHeldAt, Worlds.{Seen, Goes, By, HasForgotten}}
+use Rattle.ert_world.specs.{Worlds.{HasPassedAt, IsNextHeldAt, IsNearestAt, StayForgotten}}
 use Rattle.ert_timers.specs.NextDue.{NoneArmedBefore}
-use Rattle.ert_c.specs.Through.{Through, TellsC, IfBelow, IsOutOfRange, IsRefusedAs}
-use Rattle.ert_c.specs.Told.{start_of, request_kind_at, request_of, IsStartTold, IsRoomTold, IsToldDone}
-use Rattle.ert_c.specs.declared.mail_calls.ErtRequest.{ErtRequest}
-use Rattle.ert_c.specs.declared.status.TheConstants.{BAD_KIND}
-use Rattle.ert_c.specs.declared.timer_calls.ErtStart.{ErtStart}
-use Rattle.ert_c.specs.declared.timer_calls.ErtTimer.{ErtTimer}
+use Rattle.ert_c.specs.{Through.{Through, TellsC, IfBelow, IsOutOfRange, IsRefusedAs}, Told.{start_of, request_kind_at, request_of, IsStartTold, IsRoomTold, IsToldDone}, declared.mail_calls.ErtRequest.ErtRequest}
+use Rattle.ert_c.specs.{declared.status.TheConstants.BAD_KIND, declared.timer_calls.ErtStart.ErtStart, declared.timer_calls.ErtTimer.ErtTimer}
 
 -- a service makes a call that isn't one on the clock
 abbrev pub MakesCall : (Seen → Way → Growth) → Seen → Seen → Type 0

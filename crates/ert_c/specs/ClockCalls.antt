@@ -2,18 +2,10 @@
 
 use Rattle.std.specs.Prelude.{◌≡◌, ℕ, ℤ, ◌+ℤ◌, pos, Bool, not, nat_eq, Option, Some, None, Result, Ok, Err}
 use Rattle.ert_effects.specs.ClockCalls.{Ticks, Finalizes, TellsTime, TellsOffset, TellsSystemTime}
-use Rattle.ert_clock.specs.Ticks.{act_of, Gives, ClockFinalizesFrom}
-use Rattle.ert_clock.specs.declared.clock.ClockErr.{ClockErr}
-use Rattle.ert_clock.specs.declared.clock.ClockErr.TheVariants.{BadReading, OffsetWide}
-use Rattle.ert_clock.specs.declared.clock.Moved.{Moved}
-use Rattle.ert_defs.specs.declared.entry.Actor.TheVariants.{Caller}
-use Rattle.ert_defs.specs.declared.settings.OffsetState.{OffsetState}
-use Rattle.ert_defs.specs.declared.settings.OffsetState.TheVariants.{Preliminary, Final, Volatile}
-use Rattle.ert_defs.specs.declared.settings.Reading.{Reading}
+use Rattle.ert_clock.specs.{Ticks.{act_of, Gives, ClockFinalizesFrom}, declared.clock.ClockErr.ClockErr, declared.clock.ClockErr.TheVariants.{BadReading, OffsetWide}, declared.clock.Moved.Moved}
+use Rattle.ert_defs.specs.declared.{entry.Actor.TheVariants.Caller, settings.OffsetState.OffsetState, settings.OffsetState.TheVariants.{Preliminary, Final, Volatile}, settings.Reading.Reading}
 use Rattle.ert_world.specs.Worlds.{Seen, Goes, GoesOnClock, By}
-use Rattle.ert_c.specs.declared.clock_calls.ErtMoved.{ErtMoved}
-use Rattle.ert_c.specs.declared.clock_calls.ErtOffset.{ErtOffset}
-use Rattle.ert_c.specs.declared.status.TheConstants.{OK, BAD_READING, OFFSET_WIDE}
+use Rattle.ert_c.specs.declared.{clock_calls.ErtMoved.ErtMoved, clock_calls.ErtOffset.ErtOffset, status.TheConstants.{OK, BAD_READING, OFFSET_WIDE}}
 
 -- a flag of C is on where it isn't 0
 abbrev pub is_on : ℕ → Bool

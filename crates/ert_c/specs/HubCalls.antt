@@ -1,26 +1,13 @@
 -- What C is told of a hub.
 
 use Rattle.std.specs.Prelude.{◌≡◌, ◌⊎◌, ℕ, ◌<◌, ◌≤◌, ℤ, Bool, Option, Some, None, Result, Ok, Err}
-use Rattle.ert_clock.specs.Ticks.{act_of, Gives, ClockFinalizesFrom}
-use Rattle.ert_clock.specs.declared.clock.ClockErr.{ClockErr}
-use Rattle.ert_clock.specs.declared.clock.Moved.{Moved}
-use Rattle.ert_effects.specs.ClockCalls.{Ticks, Finalizes, TellsTime, TellsOffset, TellsSystemTime}
-use Rattle.ert_effects.specs.TimerCalls.{Reads, Cancels}
-use Rattle.ert_c.specs.ClockCalls.{state_as}
-use Rattle.ert_c.specs.Opened.{ReadsSettings}
-use Rattle.ert_c.specs.Through.{IfBelow}
-use Rattle.ert_c.specs.declared.clock_calls.ErtOffset.{ErtOffset}
-use Rattle.ert_c.specs.declared.opening.ErtSettings.{ErtSettings}
-use Rattle.ert_c.specs.declared.status.TheConstants.{OK, CLOSED, OPEN, NO_MEMORY, BAD_COUNT, NO_SEAT}
-use Rattle.ert_defs.specs.declared.entry.Actor.TheVariants.{Caller}
-use Rattle.ert_defs.specs.declared.settings.OffsetState.{OffsetState}
-use Rattle.ert_defs.specs.declared.settings.Reading.{Reading}
-use Rattle.ert_defs.specs.declared.settings.Settings.{Settings}
-use Rattle.ert_defs.specs.declared.timer.TimerRef.{TimerRef}
+use Rattle.ert_clock.specs.{Ticks.{act_of, Gives, ClockFinalizesFrom}, declared.clock.ClockErr.ClockErr, declared.clock.Moved.Moved}
+use Rattle.ert_effects.specs.{ClockCalls.{Ticks, Finalizes, TellsTime, TellsOffset, TellsSystemTime}, TimerCalls.{Reads, Cancels}}
+use Rattle.ert_c.specs.{ClockCalls.state_as, Opened.ReadsSettings, Through.IfBelow, declared.clock_calls.ErtOffset.ErtOffset, declared.opening.ErtSettings.ErtSettings, declared.status.TheConstants.{OK, CLOSED, OPEN, NO_MEMORY, BAD_COUNT}}
+use Rattle.ert_c.specs.{declared.status.TheConstants.NO_SEAT}
+use Rattle.ert_defs.specs.declared.{entry.Actor.TheVariants.Caller, settings.OffsetState.OffsetState, settings.Reading.Reading, settings.Settings.Settings, timer.TimerRef.TimerRef}
 use Rattle.ert_shard.specs.Hubs.{Rest, IsFresh, HubGivesSeat, HubGoes, HubSteps, HubBy}
-use Rattle.ert_world.specs.Openings.{IsOpened}
-use Rattle.ert_world.specs.Seats.{Seated}
-use Rattle.ert_world.specs.Worlds.{Seen}
+use Rattle.ert_world.specs.{Openings.IsOpened, Seats.Seated, Worlds.Seen}
 
 -- a hub stands behind the handle: that of a service that was opened with these settings, of which nothing was given away
 pub record HasHub (g : Settings) (status : ℤ) (new : Option Rest) : Type 0 where

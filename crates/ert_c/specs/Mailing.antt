@@ -2,19 +2,9 @@
 -- list of expired timers, and cancel all timers of a process, and how C is told the answers.
 
 use Rattle.std.specs.Prelude.{◌≡◌, ℕ, ℤ, map, drop, List, ◌++◌, length, Option, Some, None, Result, Ok, Err, IfOk, OnErr, ⊤}
-use Rattle.ert_defs.specs.declared.mail.Mail.{Mail}
-use Rattle.ert_defs.specs.declared.memory.NoMemory.{NoMemory as OutOfMemory}
-use Rattle.ert_world.specs.Cancelling.{CancelsAll}
-use Rattle.ert_world.specs.Mailing.{FindsMail, TakesSome}
-use Rattle.ert_world.specs.Stepping.{Stays}
-use Rattle.ert_world.specs.Worlds.{Seen}
-use Rattle.ert_world.specs.declared.mailing.TakeEnd.{TakeEnd}
-use Rattle.ert_world.specs.declared.mailing.TakeEnd.TheVariants.{Most, Empty, Exited}
-use Rattle.ert_c.specs.Calls.{AtProcess, AtSched, MakesCall}
-use Rattle.ert_c.specs.Through.{Through}
-use Rattle.ert_c.specs.Told.{mail_as, IsToldDone}
-use Rattle.ert_c.specs.declared.mail_calls.ErtMail.{ErtMail}
-use Rattle.ert_c.specs.declared.status.TheConstants.{OK, NO_MEMORY, EMPTY, EXITED}
+use Rattle.ert_defs.specs.declared.{mail.Mail.Mail, memory.NoMemory.NoMemory as OutOfMemory}
+use Rattle.ert_world.specs.{Cancelling.CancelsAll, Mailing.{FindsMail, TakesSome}, Stepping.Stays, Worlds.Seen, declared.mailing.TakeEnd.TakeEnd, declared.mailing.TakeEnd.TheVariants.{Most, Empty, Exited}}
+use Rattle.ert_c.specs.{Calls.{AtProcess, AtSched, MakesCall}, Through.Through, Told.{mail_as, IsToldDone}, declared.mail_calls.ErtMail.ErtMail, declared.status.TheConstants.{OK, NO_MEMORY, EMPTY, EXITED}}
 
 -- a process that hasn't exited and has mail is told, or that there is none; memory may run out
 -- at the first such call alone, and then nothing has changed

@@ -1,19 +1,10 @@
 -- What C passes to open a service, and what that means.
 
 use Rattle.std.specs.Prelude.{◌≡◌, ◌≢◌, ◌⊎◌, ℕ, ℤ, cond, nat_eq, not, Option, Some, None, Result, Ok, Err}
-use Rattle.ert_defs.specs.Settings.{IsChecked, Checks}
-use Rattle.ert_defs.specs.declared.settings.Mode.{Mode}
-use Rattle.ert_defs.specs.declared.settings.Mode.TheVariants.{No, Single, Multi}
-use Rattle.ert_defs.specs.declared.settings.Reading.{Reading}
-use Rattle.ert_defs.specs.declared.settings.Settings.{Settings}
-use Rattle.ert_defs.specs.declared.settings.SettingsFault.{SettingsFault}
-use Rattle.ert_defs.specs.declared.settings.SettingsFault.TheVariants.{Start, First, Count}
-use Rattle.ert_world.specs.Openings.{IsOpened}
-use Rattle.ert_world.specs.Worlds.{Seen}
-use Rattle.ert_c.specs.declared.opening.ErtReading.{ErtReading}
-use Rattle.ert_c.specs.declared.opening.ErtSettings.{ErtSettings}
-use Rattle.ert_c.specs.declared.opening.TheConstants.{SETTINGS_SIZE}
-use Rattle.ert_c.specs.declared.status.TheConstants.{OK, CLOSED, OPEN, NO_MEMORY, BAD_SIZE, BAD_MODE, BAD_START, BAD_READING, BAD_COUNT}
+use Rattle.ert_defs.specs.{Settings.{IsChecked, Checks}, declared.settings.Mode.Mode, declared.settings.Mode.TheVariants.{No, Single, Multi}, declared.settings.Reading.Reading, declared.settings.Settings.Settings}
+use Rattle.ert_defs.specs.{declared.settings.SettingsFault.SettingsFault, declared.settings.SettingsFault.TheVariants.{Start, First, Count}}
+use Rattle.ert_world.specs.{Openings.IsOpened, Worlds.Seen}
+use Rattle.ert_c.specs.declared.{opening.ErtReading.ErtReading, opening.ErtSettings.ErtSettings, opening.TheConstants.SETTINGS_SIZE, status.TheConstants.{OK, CLOSED, OPEN, NO_MEMORY, BAD_SIZE, BAD_MODE, BAD_START, BAD_READING, BAD_COUNT}}
 
 -- the reading of the service
 abbrev pub reading_as : ErtReading → Reading

@@ -1,19 +1,10 @@
 -- What C is told of seats.
 
 use Rattle.std.specs.Prelude.{◌≡◌, ◌⊎◌, ℕ, ◌<◌, ◌≤◌, ℤ, Bool, Option, Some, None}
-use Rattle.ert_effects.specs.ClockCalls.{TellsTime, TellsOffset, TellsSystemTime}
-use Rattle.ert_effects.specs.TimerCalls.{Reads, Cancels}
-use Rattle.ert_effects.specs.WheelCalls.{TellsAlive}
-use Rattle.ert_c.specs.ClockCalls.{state_as}
-use Rattle.ert_c.specs.Through.{TellsC, IfBelow, IsOutOfRange}
-use Rattle.ert_c.specs.Told.{IsFlag}
-use Rattle.ert_c.specs.declared.clock_calls.ErtOffset.{ErtOffset}
-use Rattle.ert_c.specs.declared.status.TheConstants.{OK, CLOSED, OPEN, NO_MEMORY, NO_SEAT}
-use Rattle.ert_defs.specs.declared.entry.Actor.TheVariants.{Caller}
-use Rattle.ert_defs.specs.declared.settings.OffsetState.{OffsetState}
-use Rattle.ert_defs.specs.declared.timer.TimerRef.{TimerRef}
-use Rattle.ert_world.specs.Seats.{Seated, Steps, BySeat, GivesSeat}
-use Rattle.ert_world.specs.Worlds.{Seen}
+use Rattle.ert_effects.specs.{ClockCalls.{TellsTime, TellsOffset, TellsSystemTime}, TimerCalls.{Reads, Cancels}, WheelCalls.TellsAlive}
+use Rattle.ert_c.specs.{ClockCalls.state_as, Through.{TellsC, IfBelow, IsOutOfRange}, Told.IsFlag, declared.clock_calls.ErtOffset.ErtOffset, declared.status.TheConstants.{OK, CLOSED, OPEN, NO_MEMORY, NO_SEAT}}
+use Rattle.ert_defs.specs.declared.{entry.Actor.TheVariants.Caller, settings.OffsetState.OffsetState, timer.TimerRef.TimerRef}
+use Rattle.ert_world.specs.{Seats.{Seated, Steps, BySeat, GivesSeat}, Worlds.Seen}
 
 -- a service gave its next caller a seat, and this one stands behind the seat's handle
 pub record HasSeat (old : Seen) (status : ℤ) (world : Option Seen) (seat : Option Seated) : Type 0 where

@@ -2,47 +2,17 @@
 
 use Rattle.std.specs.Prelude.{◌≡◌, ◌≢◌, ◌⊎◌, [], ◌∷◌, ℕ, ◌+◌, ◌<◌, ◌≤◌, ℤ, Bool, true, length, count_by, Option, Some, None, Result, Err, IfOk, OnSome, ⊤}
 use Rattle.std.specs.Option.{is_some}
-use Rattle.ert_effects.specs.Chains.{AdvancesWheel, Delivers}
-use Rattle.ert_effects.specs.ClockCalls.{TellsTime, TellsOffset, TellsSystemTime}
-use Rattle.ert_effects.specs.MailCalls.{Takes, Monitors, Demonitors, Notifies}
-use Rattle.ert_effects.specs.RestartCalls.{Restarts}
-use Rattle.ert_effects.specs.Sleeping.{ProbesForNext}
-use Rattle.ert_effects.specs.TimerCalls.{Reads, Cancels, Starts}
-use Rattle.ert_effects.specs.WheelCalls.{TellsAlive}
-use Rattle.ert_effects.specs.declared.answers.MonitorErr.{MonitorErr}
-use Rattle.ert_effects.specs.declared.answers.RestartErr.{RestartErr}
-use Rattle.ert_effects.specs.declared.answers.StartErr.{StartErr}
-use Rattle.ert_effects.specs.declared.answers.StartErr.TheVariants.{Full, NoMemory}
-use Rattle.ert_effects.specs.declared.answers.RestartErr.TheVariants.{Full as FullAgain}
-use Rattle.ert_timers.specs.Frees.{IsUsedUp, UsesFree}
-use Rattle.ert_effects.specs.declared.answers.Taken.{Taken}
-use Rattle.ert_c.specs.ClockCalls.{state_as}
-use Rattle.ert_c.specs.Through.{Through, TellsC, IfBelow, IsOutOfRange}
-use Rattle.ert_c.specs.Told.{flag, start_of, timer_from_c, IsStartTold, IsFlag, IsGiven, IsDemonitored}
-use Rattle.ert_c.specs.Waiting.{IsRestarted}
-use Rattle.ert_c.specs.declared.clock_calls.ErtOffset.{ErtOffset}
-use Rattle.ert_c.specs.declared.status.TheConstants.{OK, CLOSED, OPEN, NO_MEMORY, RANGE, NO_SHARD}
-use Rattle.ert_c.specs.declared.timer_calls.ErtStart.{ErtStart}
-use Rattle.ert_c.specs.declared.timer_calls.ErtTimer.{ErtTimer}
-use Rattle.ert_c.specs.declared.turn_calls.ErtTurned.{ErtTurned}
-use Rattle.ert_c.specs.declared.waiting_calls.ErtTurnedSome.{ErtTurnedSome}
-use Rattle.ert_defs.specs.States.{state}
-use Rattle.ert_defs.specs.declared.entry.Actor.TheVariants.{Caller, Wheel}
-use Rattle.ert_defs.specs.declared.memory.NoMemory.{NoMemory as OutOfMemory}
-use Rattle.ert_defs.specs.declared.settings.OffsetState.{OffsetState}
-use Rattle.ert_defs.specs.declared.timer.Start.{Start}
-use Rattle.ert_defs.specs.declared.timer.TimerRef.{TimerRef}
-use Rattle.ert_shard.specs.Hubs.{Rest, GivesShard, IsAtHome}
-use Rattle.ert_shard.specs.Renewing.{LetsGo}
-use Rattle.ert_shard.specs.Shards.{Share, IsHome, Owned, ShardGoes, ShardSteps, ShardBy, ShardHasForgotten, ShardStayForgotten}
-use Rattle.ert_shard.specs.Sleeping.{ShardDropsSettled}
-use Rattle.ert_shard.specs.Turning.{shard_expired, HasTurnedMost, IsMoreLeft, ShardTurns, TurnsUpTo, ShardExits}
-use Rattle.ert_shard.specs.declared.turns.Turn.{Turn}
-use Rattle.ert_timers.specs.NextDue.{NoneArmedBefore, IsNextHeld}
-use Rattle.ert_timers.specs.Expiring.{TriesHeld}
-use Rattle.ert_timers.specs.Passed.{HasPassed}
-use Rattle.ert_timers.specs.Searching.{HasOpenSlot, Searches}
-use Rattle.ert_timers.specs.Sleeping.{IsFoundNext}
+use Rattle.ert_effects.specs.{Chains.{AdvancesWheel, Delivers}, ClockCalls.{TellsTime, TellsOffset, TellsSystemTime}, MailCalls.{Takes, Monitors, Demonitors, Notifies}, RestartCalls.Restarts, Sleeping.ProbesForNext, TimerCalls.Reads}
+use Rattle.ert_effects.specs.{TimerCalls.{Cancels, Starts}, WheelCalls.TellsAlive, declared.answers.MonitorErr.MonitorErr, declared.answers.RestartErr.RestartErr, declared.answers.StartErr.StartErr}
+use Rattle.ert_effects.specs.{declared.answers.StartErr.TheVariants.{Full, NoMemory}, declared.answers.RestartErr.TheVariants.Full as FullAgain, declared.answers.Taken.Taken}
+use Rattle.ert_timers.specs.{Frees.{IsUsedUp, UsesFree}, NextDue.{NoneArmedBefore, IsNextHeld}, Expiring.TriesHeld, Passed.HasPassed, Searching.{HasOpenSlot, Searches}, Sleeping.IsFoundNext}
+use Rattle.ert_c.specs.{ClockCalls.state_as, Through.{Through, TellsC, IfBelow, IsOutOfRange}, Told.{flag, start_of, timer_from_c, IsStartTold, IsFlag, IsGiven, IsDemonitored}, Waiting.IsRestarted, declared.clock_calls.ErtOffset.ErtOffset}
+use Rattle.ert_c.specs.{declared.status.TheConstants.{OK, CLOSED, OPEN, NO_MEMORY, RANGE, NO_SHARD}, declared.timer_calls.ErtStart.ErtStart, declared.timer_calls.ErtTimer.ErtTimer, declared.turn_calls.ErtTurned.ErtTurned}
+use Rattle.ert_c.specs.{declared.waiting_calls.ErtTurnedSome.ErtTurnedSome}
+use Rattle.ert_defs.specs.{States.state, declared.entry.Actor.TheVariants.{Caller, Wheel}, declared.memory.NoMemory.NoMemory as OutOfMemory, declared.settings.OffsetState.OffsetState, declared.timer.Start.Start}
+use Rattle.ert_defs.specs.{declared.timer.TimerRef.TimerRef}
+use Rattle.ert_shard.specs.{Hubs.{Rest, GivesShard, IsAtHome}, Renewing.LetsGo, Shards.{Share, IsHome, Owned, ShardGoes, ShardSteps, ShardBy, ShardHasForgotten, ShardStayForgotten}, Sleeping.ShardDropsSettled, Turning.shard_expired}
+use Rattle.ert_shard.specs.{Turning.{HasTurnedMost, IsMoreLeft, ShardTurns, TurnsUpTo, ShardExits}, declared.turns.Turn.Turn}
 
 -- a hub gave a shard, and this one stands behind the shard's handle
 pub record HasShard (processes : ℕ) (old : Rest) (status : ℤ) (hub : Option Rest) (shard : Option Owned) : Type 0 where

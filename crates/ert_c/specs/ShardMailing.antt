@@ -2,15 +2,9 @@
 -- list of expired timers, and how C is told the answers.
 
 use Rattle.std.specs.Prelude.{◌≡◌, ℕ, ◌+◌, ℤ, List, length, Option, None, Result, IfOk, OnErr, ⊤}
-use Rattle.ert_c.specs.Mailing.{LeavesAll, StandFirst}
-use Rattle.ert_c.specs.ShardCalls.{AtHome}
-use Rattle.ert_c.specs.Through.{Through, TellsC}
-use Rattle.ert_c.specs.Told.{IsToldDone}
-use Rattle.ert_c.specs.declared.mail_calls.ErtMail.{ErtMail}
-use Rattle.ert_defs.specs.declared.mail.Mail.{Mail}
-use Rattle.ert_defs.specs.declared.memory.NoMemory.{NoMemory as OutOfMemory}
-use Rattle.ert_shard.specs.Receiving.{ShardFindsMail, CallerTakesSome}
-use Rattle.ert_shard.specs.Shards.{Owned, ShardSteps}
+use Rattle.ert_c.specs.{Mailing.{LeavesAll, StandFirst}, ShardCalls.AtHome, Through.{Through, TellsC}, Told.IsToldDone, declared.mail_calls.ErtMail.ErtMail}
+use Rattle.ert_defs.specs.declared.{mail.Mail.Mail, memory.NoMemory.NoMemory as OutOfMemory}
+use Rattle.ert_shard.specs.{Receiving.{ShardFindsMail, CallerTakesSome}, Shards.{Owned, ShardSteps}}
 use Rattle.ert_world.specs.declared.mailing.TakeEnd.{TakeEnd}
 
 -- a process of a shard that hasn't exited and has mail is told, or that there is none; memory may run out

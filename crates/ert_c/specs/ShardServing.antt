@@ -1,18 +1,10 @@
 -- What a shard does by the calls on asynchronous requests, and how C is told the answers.
 
 use Rattle.std.specs.Prelude.{◌≡◌, ℕ, ◌+◌, ℤ, Bool, Option, Result, Ok, Err, MatchOption, ⊤}
-use Rattle.ert_c.specs.ShardCalls.{AtHome}
-use Rattle.ert_c.specs.Through.{Through, IsRefusedAs}
-use Rattle.ert_c.specs.Told.{flag, request_of, request_kind_at, IsToldDone}
-use Rattle.ert_c.specs.declared.mail_calls.ErtRequest.{ErtRequest}
-use Rattle.ert_c.specs.declared.status.TheConstants.{OK, NO_MEMORY, RANGE, BAD_KIND}
-use Rattle.ert_defs.specs.declared.mail.Request.{Request}
-use Rattle.ert_defs.specs.declared.memory.NoMemory.{NoMemory as OutOfMemory}
+use Rattle.ert_c.specs.{ShardCalls.AtHome, Through.{Through, IsRefusedAs}, Told.{flag, request_of, request_kind_at, IsToldDone}, declared.mail_calls.ErtRequest.ErtRequest, declared.status.TheConstants.{OK, NO_MEMORY, RANGE, BAD_KIND}}
+use Rattle.ert_defs.specs.declared.{mail.Request.Request, memory.NoMemory.NoMemory as OutOfMemory}
 use Rattle.ert_effects.specs.RequestCalls.{Asks}
-use Rattle.ert_shard.specs.Serving.{ShardForgetsCancelled, ShardServes}
-use Rattle.ert_shard.specs.Shards.{Owned, ShardSteps, ShardBy}
-use Rattle.ert_shard.specs.declared.requests.ServeErr.{ServeErr}
-use Rattle.ert_shard.specs.declared.requests.ServeErr.TheVariants.{NotHome, NoMemory}
+use Rattle.ert_shard.specs.{Serving.{ShardForgetsCancelled, ShardServes}, Shards.{Owned, ShardSteps, ShardBy}, declared.requests.ServeErr.ServeErr, declared.requests.ServeErr.TheVariants.{NotHome, NoMemory}}
 
 -- a shard puts a request into its inbox as its caller, or there is no memory
 abbrev pub ShardAsksBy : Request → Result (Unit {0}) OutOfMemory → Owned → Owned → Type 0

@@ -2,35 +2,13 @@
 -- be written is as it was.
 
 use Rattle.std.specs.Prelude.{◌≡◌, ℕ, ℤ, pos, Bool, true, false, cond, nat_eq, Option, Some, None, Result, Ok, Err}
-use Rattle.ert_effects.specs.declared.answers.MonitorErr.{MonitorErr}
-use Rattle.ert_effects.specs.declared.answers.MonitorErr.TheVariants.{Full as NoPlace, NoMemory as MonitorNoMemory}
-use Rattle.ert_effects.specs.declared.answers.Room.{Room}
-use Rattle.ert_effects.specs.declared.answers.StartErr.{StartErr}
-use Rattle.ert_effects.specs.declared.answers.StartErr.TheVariants.{BadArg, Full, NoMemory}
-use Rattle.ert_effects.specs.declared.answers.Taken.{Taken}
-use Rattle.ert_effects.specs.declared.answers.Taken.TheVariants.{Mail as Took, Empty, Exited}
-use Rattle.ert_effects.specs.declared.answers.Turned.{Turned}
-use Rattle.ert_defs.specs.declared.mail.Mail.{Mail}
-use Rattle.ert_defs.specs.declared.mail.Mail.TheVariants.{Timeout, Bare as BareMail, CancelDone, ReadDone, Change}
-use Rattle.ert_defs.specs.declared.mail.Request.{Request}
-use Rattle.ert_defs.specs.declared.mail.RequestKind.{RequestKind}
-use Rattle.ert_defs.specs.declared.mail.RequestKind.TheVariants.{Cancel, Read}
-use Rattle.ert_defs.specs.declared.memory.NoMemory.{NoMemory as OutOfMemory}
-use Rattle.ert_defs.specs.declared.timer.Kind.{Kind}
-use Rattle.ert_defs.specs.declared.timer.Kind.TheVariants.{Wrapped, Bare}
-use Rattle.ert_defs.specs.declared.timer.Start.{Start}
-use Rattle.ert_defs.specs.declared.timer.TimerRef.{TimerRef}
-use Rattle.ert_defs.specs.declared.timer.When.{When}
-use Rattle.ert_defs.specs.declared.timer.When.TheVariants.{After, At}
-use Rattle.ert_c.specs.ClockCalls.{is_on}
-use Rattle.ert_c.specs.declared.mail_calls.ErtMail.{ErtMail}
-use Rattle.ert_c.specs.declared.mail_calls.ErtRequest.{ErtRequest}
-use Rattle.ert_c.specs.declared.timer_calls.ErtStart.{ErtStart}
-use Rattle.ert_c.specs.declared.timer_calls.ErtTimer.{ErtTimer}
-use Rattle.ert_c.specs.declared.turn_calls.ErtAdvanced.{ErtAdvanced}
-use Rattle.ert_c.specs.declared.turn_calls.ErtDelivered.{ErtDelivered}
-use Rattle.ert_c.specs.declared.turn_calls.ErtTurned.{ErtTurned}
-use Rattle.ert_c.specs.declared.status.TheConstants.{OK, NO_MEMORY, BAD_TIME, FULL, NO_TIMER, EMPTY, EXITED, NO_MONITOR}
+use Rattle.ert_effects.specs.declared.answers.{MonitorErr.MonitorErr, MonitorErr.TheVariants.{Full as NoPlace, NoMemory as MonitorNoMemory}, Room.Room, StartErr.StartErr, StartErr.TheVariants.{BadArg, Full, NoMemory}, Taken.Taken}
+use Rattle.ert_effects.specs.declared.answers.{Taken.TheVariants.{Mail as Took, Empty, Exited}, Turned.Turned}
+use Rattle.ert_defs.specs.declared.{mail.Mail.Mail, mail.Mail.TheVariants.{Timeout, Bare as BareMail, CancelDone, ReadDone, Change}, mail.Request.Request, mail.RequestKind.RequestKind, mail.RequestKind.TheVariants.{Cancel, Read}}
+use Rattle.ert_defs.specs.declared.{memory.NoMemory.NoMemory as OutOfMemory, timer.Kind.Kind, timer.Kind.TheVariants.{Wrapped, Bare}, timer.Start.Start, timer.TimerRef.TimerRef, timer.When.When, timer.When.TheVariants.{After, At}}
+use Rattle.ert_c.specs.{ClockCalls.is_on, declared.mail_calls.ErtMail.ErtMail, declared.mail_calls.ErtRequest.ErtRequest, declared.timer_calls.ErtStart.ErtStart, declared.timer_calls.ErtTimer.ErtTimer}
+use Rattle.ert_c.specs.{declared.turn_calls.ErtAdvanced.ErtAdvanced, declared.turn_calls.ErtDelivered.ErtDelivered, declared.turn_calls.ErtTurned.ErtTurned, declared.status.TheConstants.{OK, NO_MEMORY, BAD_TIME, FULL, NO_TIMER, EMPTY}}
+use Rattle.ert_c.specs.{declared.status.TheConstants.{EXITED, NO_MONITOR}}
 
 -- a flag for C
 abbrev pub flag : Bool → ℕ

@@ -2,25 +2,10 @@
 -- messages at most, and how C is told the answers.
 
 use Rattle.std.specs.Prelude.{◌≡◌, ℕ, ℤ, Bool, true, length, Result, Ok, Err, IfOk}
-use Rattle.ert_defs.specs.States.{state}
-use Rattle.ert_defs.specs.declared.memory.NoMemory.{NoMemory as OutOfMemory}
-use Rattle.ert_defs.specs.declared.timer.Start.{Start}
-use Rattle.ert_defs.specs.declared.timer.TimerRef.{TimerRef}
-use Rattle.ert_effects.specs.declared.answers.Turned.{Turned}
-use Rattle.ert_world.specs.Bounded.{HasDoneMost, IsMoreAt, TurnsSome}
-use Rattle.ert_world.specs.Held.{HoldsSoManyRows, AreArmed}
-use Rattle.ert_effects.specs.RestartCalls.{Restarts}
-use Rattle.ert_world.specs.Frees.{IsUsedUpAt, UsesFreeAt}
-use Rattle.ert_world.specs.Restarts.{Forgets, HasNoDeadline, wheel_for}
-use Rattle.ert_world.specs.Stepping.{Stays}
-use Rattle.ert_world.specs.Worlds.{Seen, By, world_sched}
-use Rattle.ert_effects.specs.declared.answers.RestartErr.{RestartErr}
-use Rattle.ert_effects.specs.declared.answers.RestartErr.TheVariants.{BadArg, NotArmed, Full}
-use Rattle.ert_c.specs.Calls.{MakesCall}
-use Rattle.ert_c.specs.Told.{flag, timer_as, IsGiven}
-use Rattle.ert_c.specs.declared.status.TheConstants.{OK, BAD_TIME, FULL, NO_TIMER}
-use Rattle.ert_c.specs.declared.timer_calls.ErtTimer.{ErtTimer}
-use Rattle.ert_c.specs.declared.waiting_calls.ErtTurnedSome.{ErtTurnedSome}
+use Rattle.ert_defs.specs.{States.state, declared.memory.NoMemory.NoMemory as OutOfMemory, declared.timer.Start.Start, declared.timer.TimerRef.TimerRef}
+use Rattle.ert_effects.specs.{declared.answers.Turned.Turned, RestartCalls.Restarts, declared.answers.RestartErr.RestartErr, declared.answers.RestartErr.TheVariants.{BadArg, NotArmed, Full}}
+use Rattle.ert_world.specs.{Bounded.{HasDoneMost, IsMoreAt, TurnsSome}, Held.{HoldsSoManyRows, AreArmed}, Frees.{IsUsedUpAt, UsesFreeAt}, Restarts.{Forgets, HasNoDeadline, wheel_for}, Stepping.Stays, Worlds.{Seen, By, world_sched}}
+use Rattle.ert_c.specs.{Calls.MakesCall, Told.{flag, timer_as, IsGiven}, declared.status.TheConstants.{OK, BAD_TIME, FULL, NO_TIMER}, declared.timer_calls.ErtTimer.ErtTimer, declared.waiting_calls.ErtTurnedSome.ErtTurnedSome}
 
 -- caller 0 gives an armed timer a new deadline: the name of the next, or why there is none; where there is one its wheel holds
 -- no row of the old one. It is refused as full, and takes a free slot, as a start

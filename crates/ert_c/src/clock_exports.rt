@@ -1,8 +1,6 @@
 //! The exported calls that open and close a service, and those on its clock.
 ghost use Rattle.std.specs.Prelude.{◌≡◌};
-ghost use Rattle.ert_c.specs.ClockCalls.{is_on, TicksBy, FinalizesBy, ReadsTime, ReadsSystemTime, ReadsOffset, IsMoved, IsFinalized};
-ghost use Rattle.ert_c.specs.Opened.{reading_as, Opens, ClosesHandle};
-ghost use Rattle.ert_c.specs.Through.{Through, TellsC, AnswersThrough};
+ghost use Rattle.ert_c.specs.{ClockCalls.{is_on, TicksBy, FinalizesBy, ReadsTime, ReadsSystemTime, ReadsOffset, IsMoved, IsFinalized}, Opened.{reading_as, Opens, ClosesHandle}, Through.{Through, TellsC, AnswersThrough}};
 
 use crate::clock_calls::{ErtMoved, ErtOffset, state_as, tell_finalized, tell_moved};
 use crate::handle::{ErtWorld, opened};

@@ -2,8 +2,7 @@
 ghost use Rattle.std.specs.Prelude.{◌≡◌, Option};
 ghost use Rattle.std.specs.Coded.{codes};
 ghost use Rattle.ert_c.specs.Places.{is_there};
-ghost use Rattle.ert_world.specs.Seats.{Seated};
-ghost use Rattle.ert_world.specs.Worlds.{Seen};
+ghost use Rattle.ert_world.specs.{Seats.Seated, Worlds.Seen};
 ghost use Rattle.ert_timers.specs.Parts.{part_code};
 
 use crate::place::Place;

@@ -1,11 +1,7 @@
 //! The exported calls of a hub.
 ghost use Rattle.std.specs.Prelude.{◌≡◌};
-ghost use Rattle.ert_c.specs.ClockCalls.{is_on, IsMoved, IsFinalized};
-ghost use Rattle.ert_c.specs.HubCalls.{OpensHub, OpensHubSeat, HubTicksBy, HubFinalizesBy, HubReadsTime, HubReadsSystemTime, HubReadsOffset, HubCancelsBy, HubReadsBy};
-ghost use Rattle.ert_c.specs.Opened.{reading_as, ClosesHandle};
-ghost use Rattle.ert_c.specs.ShardCalls.{OpensShard};
-ghost use Rattle.ert_c.specs.Through.{Through, TellsC, AnswersThrough};
-ghost use Rattle.ert_c.specs.Told.{timer_from_c, IsLeftTold};
+ghost use Rattle.ert_c.specs.{ClockCalls.{is_on, IsMoved, IsFinalized}, HubCalls.{OpensHub, OpensHubSeat, HubTicksBy, HubFinalizesBy, HubReadsTime, HubReadsSystemTime, HubReadsOffset, HubCancelsBy, HubReadsBy}, Opened.reading_as};
+ghost use Rattle.ert_c.specs.{Opened.ClosesHandle, ShardCalls.OpensShard, Through.{Through, TellsC, AnswersThrough}, Told.{timer_from_c, IsLeftTold}};
 
 use crate::clock_calls::{ErtMoved, ErtOffset, state_as, tell_finalized, tell_moved};
 use crate::handle::{ErtSeat, opened};

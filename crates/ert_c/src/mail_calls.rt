@@ -1,10 +1,8 @@
 //! Messages, requests and monitors, as C passes and is told them.
 ghost use Rattle.std.specs.Prelude.{◌≡◌, ◌<◌};
 ghost use Rattle.ert_defs.specs.Legal.{Legal};
-ghost use Rattle.ert_c.specs.Mailing.{end_as, IsNextTold, TakesPlaces};
-ghost use Rattle.ert_c.specs.ShardMailing.{ShardTakesPlaces};
+ghost use Rattle.ert_c.specs.{Mailing.{end_as, IsNextTold, TakesPlaces}, ShardMailing.ShardTakesPlaces, Told.{no_timer, c_mail_of, mail_as, request_of, request_kind_at, IsTakeTold, IsToldDone, IsMonitorTold, IsDemonitored}};
 ghost use Rattle.ert_shard.specs.Shards.{IsHome};
-ghost use Rattle.ert_c.specs.Told.{no_timer, c_mail_of, mail_as, request_of, request_kind_at, IsTakeTold, IsToldDone, IsMonitorTold, IsDemonitored};
 
 use crate::status::{EMPTY, EXITED, FULL, NO_MEMORY, NO_MONITOR, OK};
 use crate::timer_calls::ErtTimer;

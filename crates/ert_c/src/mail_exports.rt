@@ -1,9 +1,7 @@
 //! The exported calls on mailboxes, requests and monitors.
 ghost use Rattle.std.specs.Prelude.{⊤, length};
-ghost use Rattle.ert_c.specs.Calls.{AtProcess, AnswersAtProcess, PutsRequest, TakesBy, MonitorsBy, DemonitorsBy, NotifiesBy};
-ghost use Rattle.ert_c.specs.Told.{IsTakeTold, IsMonitorTold, IsDemonitored, IsNumber};
-ghost use Rattle.ert_c.specs.Mailing.{FindsMailBy, IsNextTold, TakesSomeBy, IsTookSome, ChangesRoom};
-ghost use Rattle.ert_c.specs.Through.{Through, AnswersThrough};
+ghost use Rattle.ert_c.specs.{Calls.{AtProcess, AnswersAtProcess, PutsRequest, TakesBy, MonitorsBy, DemonitorsBy, NotifiesBy}, Told.{IsTakeTold, IsMonitorTold, IsDemonitored, IsNumber}, Mailing.{FindsMailBy, IsNextTold, TakesSomeBy}};
+ghost use Rattle.ert_c.specs.{Mailing.{IsTookSome, ChangesRoom}, Through.{Through, AnswersThrough}};
 
 use crate::handle::{ErtWorld, at_process, opened};
 use crate::mail_calls::{

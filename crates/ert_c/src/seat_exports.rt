@@ -1,9 +1,6 @@
 //! The exported calls of seats.
 ghost use Rattle.std.specs.Prelude.{◌≡◌};
-ghost use Rattle.ert_c.specs.Opened.{ClosesHandle};
-ghost use Rattle.ert_c.specs.SeatCalls.{OpensSeat, SeatReadsTime, SeatReadsSystemTime, SeatReadsOffset, SeatCancelsBy, SeatReadsBy, SeatTellsAlive};
-ghost use Rattle.ert_c.specs.Through.{Through, AnswersThrough};
-ghost use Rattle.ert_c.specs.Told.{timer_from_c, IsLeftTold};
+ghost use Rattle.ert_c.specs.{Opened.ClosesHandle, SeatCalls.{OpensSeat, SeatReadsTime, SeatReadsSystemTime, SeatReadsOffset, SeatCancelsBy, SeatReadsBy, SeatTellsAlive}, Through.{Through, AnswersThrough}, Told.{timer_from_c, IsLeftTold}};
 
 use crate::clock_calls::{ErtOffset, state_as};
 use crate::handle::{ErtSeat, ErtWorld, opened};

@@ -1,9 +1,7 @@
 //! The exported calls of a shard: its close, and those on the clock, on timers and on exits.
 ghost use Rattle.std.specs.Prelude.{◌≡◌};
-ghost use Rattle.ert_c.specs.Opened.{ClosesHandle};
-ghost use Rattle.ert_c.specs.ShardCalls.{TellsProcesses, ShardReadsTime, ShardReadsSystemTime, ShardReadsOffset, ShardStarts, ShardCancelsBy, ShardReadsBy, ShardTellsAlive, AnswersAtHome, ShardExitsBy};
-ghost use Rattle.ert_c.specs.Through.{Through, AnswersThrough};
-ghost use Rattle.ert_c.specs.Told.{timer_from_c, IsFlag, IsLeftTold};
+ghost use Rattle.ert_c.specs.{Opened.ClosesHandle, ShardCalls.{TellsProcesses, ShardReadsTime, ShardReadsSystemTime, ShardReadsOffset, ShardStarts, ShardCancelsBy, ShardReadsBy, ShardTellsAlive, AnswersAtHome, ShardExitsBy}};
+ghost use Rattle.ert_c.specs.{Through.{Through, AnswersThrough}, Told.{timer_from_c, IsFlag, IsLeftTold}};
 
 use crate::clock_calls::{ErtOffset, state_as};
 use crate::handle::opened;

@@ -2,8 +2,7 @@
 ghost use Rattle.std.specs.Prelude.{◌≡◌, Option};
 ghost use Rattle.std.specs.Coded.{codes};
 ghost use Rattle.ert_c.specs.Places.{is_there};
-ghost use Rattle.ert_shard.specs.Hubs.{Rest};
-ghost use Rattle.ert_shard.specs.Shards.{Owned};
+ghost use Rattle.ert_shard.specs.{Hubs.Rest, Shards.Owned};
 ghost use Rattle.ert_timers.specs.Parts.{part_code};
 
 use crate::place::Place;

@@ -1,10 +1,7 @@
 //! The exported calls of a shard on mailboxes and monitors.
 ghost use Rattle.std.specs.Prelude.{length};
-ghost use Rattle.ert_c.specs.Mailing.{IsNextTold, IsTookSome};
-ghost use Rattle.ert_c.specs.ShardCalls.{AnswersAtHome, ShardDemonitors, ShardTakesBy, ShardMonitorsBy, ShardNotifiesBy};
-ghost use Rattle.ert_c.specs.ShardMailing.{ShardFindsMailBy, ShardTakesSomeBy, ShardChangesRoom};
-ghost use Rattle.ert_c.specs.Through.{AnswersThrough};
-ghost use Rattle.ert_c.specs.Told.{IsTakeTold, IsMonitorTold, IsNumber};
+ghost use Rattle.ert_c.specs.{Mailing.{IsNextTold, IsTookSome}, ShardCalls.{AnswersAtHome, ShardDemonitors, ShardTakesBy, ShardMonitorsBy, ShardNotifiesBy}, ShardMailing.{ShardFindsMailBy, ShardTakesSomeBy, ShardChangesRoom}};
+ghost use Rattle.ert_c.specs.{Through.AnswersThrough, Told.{IsTakeTold, IsMonitorTold, IsNumber}};
 
 use crate::handle::opened;
 use crate::mail_calls::{

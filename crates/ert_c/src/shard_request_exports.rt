@@ -1,6 +1,5 @@
 //! The exported calls of a shard on asynchronous requests.
-ghost use Rattle.ert_c.specs.ShardServing.{ShardPutsRequest, ShardServesBy, IsServeTold};
-ghost use Rattle.ert_c.specs.Through.{AnswersThrough};
+ghost use Rattle.ert_c.specs.{ShardServing.{ShardPutsRequest, ShardServesBy, IsServeTold}, Through.AnswersThrough};
 
 use crate::handle::opened;
 use crate::mail_calls::{ErtRequest, request_kind_at, tell_done};

@@ -1,9 +1,6 @@
 //! The exported calls of a shard's scheduler, and those that make room in its list of expired timers and give it back.
-ghost use Rattle.ert_c.specs.ShardCalls.{ShardAdvancesBy, ShardDeliversBy, ShardTurnsBy, ShardLooksAhead, ShardDrops, IsTurnTold};
-ghost use Rattle.ert_c.specs.ShardMailing.{ShardChangesListRoom};
-ghost use Rattle.ert_c.specs.Through.{AnswersThrough};
-ghost use Rattle.ert_c.specs.Told.{IsAdvanceTold, IsDelivered, IsDueTold};
-ghost use Rattle.ert_c.specs.Waiting.{IsCount};
+ghost use Rattle.ert_c.specs.{ShardCalls.{ShardAdvancesBy, ShardDeliversBy, ShardTurnsBy, ShardLooksAhead, ShardDrops, IsTurnTold}, ShardMailing.ShardChangesListRoom, Through.AnswersThrough, Told.{IsAdvanceTold, IsDelivered, IsDueTold}};
+ghost use Rattle.ert_c.specs.{Waiting.IsCount};
 
 use crate::handle::opened;
 use crate::mail_calls::tell_done;

@@ -1,7 +1,5 @@
 //! The exported calls of a shard that give a timer a new deadline, tell how much waits, and hand over so much at most.
-ghost use Rattle.ert_c.specs.ShardCalls.{AnswersAtHome, ShardRestarts, ShardTurnsSomeBy, ShardTellsHeld, ShardTellsExpired, ShardTellsMail, IsTurnSomeTold};
-ghost use Rattle.ert_c.specs.Through.{AnswersThrough};
-ghost use Rattle.ert_c.specs.Waiting.{IsCount};
+ghost use Rattle.ert_c.specs.{ShardCalls.{AnswersAtHome, ShardRestarts, ShardTurnsSomeBy, ShardTellsHeld, ShardTellsExpired, ShardTellsMail, IsTurnSomeTold}, Through.AnswersThrough, Waiting.IsCount};
 
 use crate::handle::opened;
 use crate::shard_handle::{ErtShard, at_home};

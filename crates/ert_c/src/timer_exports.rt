@@ -1,10 +1,6 @@
 //! The exported calls on timers and processes.
 ghost use Rattle.std.specs.Prelude.{◌≡◌};
-ghost use Rattle.ert_c.specs.Calls.{AnswersAtProcess, StartsTimer, AsksRoom, CancelsBy, ReadsBy, TellsAliveBy, ExitsBy};
-ghost use Rattle.ert_c.specs.Mailing.{CancelsAllBy};
-ghost use Rattle.ert_c.specs.Told.{timer_from_c, IsLeftTold, IsFlag};
-ghost use Rattle.ert_c.specs.Waiting.{IsCount};
-ghost use Rattle.ert_c.specs.Through.{AnswersThrough};
+ghost use Rattle.ert_c.specs.{Calls.{AnswersAtProcess, StartsTimer, AsksRoom, CancelsBy, ReadsBy, TellsAliveBy, ExitsBy}, Mailing.CancelsAllBy, Told.{timer_from_c, IsLeftTold, IsFlag}, Waiting.IsCount, Through.AnswersThrough};
 
 use crate::handle::{ErtWorld, at_process, at_sched, opened};
 use crate::status::{CLOSED, RANGE};

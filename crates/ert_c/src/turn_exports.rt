@@ -1,8 +1,5 @@
 //! The exported calls of schedulers, and those that make room in a list of expired timers and give it back.
-ghost use Rattle.ert_c.specs.Calls.{AnswersAtSched, ServesBy, AdvancesBy, DeliversBy, TurnsBy, LooksAheadForC, DropsForC};
-ghost use Rattle.ert_c.specs.Mailing.{ChangesListRoom};
-ghost use Rattle.ert_c.specs.Told.{IsServed, IsAdvanceTold, IsDelivered, IsTurned, IsDueTold};
-ghost use Rattle.ert_c.specs.Waiting.{IsCount};
+ghost use Rattle.ert_c.specs.{Calls.{AnswersAtSched, ServesBy, AdvancesBy, DeliversBy, TurnsBy, LooksAheadForC, DropsForC}, Mailing.ChangesListRoom, Told.{IsServed, IsAdvanceTold, IsDelivered, IsTurned, IsDueTold}, Waiting.IsCount};
 
 use crate::handle::{ErtWorld, at_sched, opened};
 use crate::mail_calls::tell_done;

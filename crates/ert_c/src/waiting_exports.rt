@@ -1,8 +1,6 @@
 //! The exported calls that give a timer a new deadline, tell how much waits, and hand over so much at most.
 ghost use Rattle.std.specs.Prelude.{◌≡◌};
-ghost use Rattle.ert_c.specs.Calls.{AnswersAtProcess, AnswersAtSched};
-ghost use Rattle.ert_c.specs.Told.{timer_from_c, start_of};
-ghost use Rattle.ert_c.specs.Waiting.{RestartsBy, TellsHeld, TellsExpired, TellsMail, TurnsSomeBy, IsRestarted, IsCount, IsTurnedSome};
+ghost use Rattle.ert_c.specs.{Calls.{AnswersAtProcess, AnswersAtSched}, Told.{timer_from_c, start_of}, Waiting.{RestartsBy, TellsHeld, TellsExpired, TellsMail, TurnsSomeBy, IsRestarted, IsCount, IsTurnedSome}};
 
 use crate::handle::{ErtWorld, at_process, at_sched, opened};
 use crate::status::{CLOSED, RANGE};

@@ -1,8 +1,7 @@
 -- Numbers of 64 bits, and what is computed of them in 128 bits.
 
 use Rattle.std.proofs.Common.{◌≡◌, ℕ, arith, FitsSigned, w64, to_z, of_z, to_z-of_z, ◌*◌, ◌≤◌}
-use Rattle.std.proofs.lemmas.Int.{ints, unsigned_abs-mul}
-use Rattle.std.proofs.Math.Nat.{mul-le-mul_left}
+use Rattle.std.proofs.{lemmas.Int.{ints, unsigned_abs-mul}, Math.Nat.mul-le-mul_left}
 use Rattle.std.specs.Prelude.{ℤ, pos, ◌+ℤ◌, ◌-ℤ◌, ◌*ℤ◌, unsigned_abs}
 use Rattle.std.specs.Int.{w16, w128, int_div_euclid}
 use Rattle.ert_defs.proofs.Numbers.{wide, wide_difference, floor_low, floor_high}

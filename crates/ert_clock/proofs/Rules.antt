@@ -3,12 +3,8 @@
 use Rattle.std.proofs.Common.{◌≡◌, refl, sym, ◌∙◌, true, false, FitsSigned, w64}
 use Rattle.std.specs.Prelude.{ℤ, pos, ◌-ℤ◌, ◌+ℤ◌, int_le}
 use Rattle.std.specs.Int.{int_max}
-use Rattle.ert_defs.specs.Lines.{Face, mono_after, time_after, due_at, rate_after, base_from, ticked}
-use Rattle.ert_defs.specs.Readings.{IsValid}
-use Rattle.ert_defs.specs.declared.entry.Act.{Act}
-use Rattle.ert_defs.specs.declared.entry.Act.TheVariants.{Plain}
-use Rattle.ert_defs.specs.declared.settings.Reading.{Reading}
-use Rattle.ert_defs.specs.declared.settings.Settings.{Settings}
+use Rattle.ert_defs.specs.{Lines.{Face, mono_after, time_after, due_at, rate_after, base_from, ticked}, Readings.IsValid, declared.entry.Act.Act, declared.entry.Act.TheVariants.Plain, declared.settings.Reading.Reading}
+use Rattle.ert_defs.specs.{declared.settings.Settings.Settings}
 use Rattle.ert_defs.proofs.Bounds.{sound_tick, time_fits}
 use Rattle.ert_clock.specs.Shown.{IsKept}
 

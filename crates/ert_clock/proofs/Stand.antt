@@ -1,34 +1,15 @@
 -- A clock that has ticked stands for the history with the entries of the tick last, and so far as others
 -- make entries between: what the maker of each entry knows, and for which histories the clock then stands.
 
-use Rattle.std.proofs.Common.{◌≡◌, ℕ, ◌<◌, ℤ, ◌-ℤ◌, refl, sym, subst, ap, ◌∙◌}
-use Rattle.std.proofs.Common.{Bool, true, false, cond, List, [], ◌∷◌, ◌++◌, Option, Some, None}
+use Rattle.std.proofs.Common.{◌≡◌, ℕ, ◌<◌, ℤ, ◌-ℤ◌, refl, sym, subst, ap, ◌∙◌, Bool, true, false, cond, List, [], ◌∷◌, ◌++◌, Option, Some, None}
 use Rattle.std.specs.Prelude.{Result, Ok, Err, nat_lt, unsigned_abs}
-use Rattle.ert_defs.specs.Actors.{IsFree}
-use Rattle.ert_defs.specs.Clocks.{Clock, face, clock_after}
-use Rattle.ert_defs.specs.Legal.{Can, Known, Legal}
-use Rattle.ert_defs.specs.Lines.{Face, Due, IsInRange, MayAct, shift_of, due_from, due_after, due_at}
-use Rattle.ert_defs.specs.Lines.{time_after, ticked, shifted}
-use Rattle.ert_defs.specs.Readings.{IsValid}
-use Rattle.ert_defs.specs.States.{State, opening, next, state}
+use Rattle.ert_defs.specs.{Actors.IsFree, Clocks.{Clock, face, clock_after}, Legal.{Can, Known, Legal}, Lines.{Face, Due, IsInRange, MayAct, shift_of, due_from, due_after, due_at, time_after, ticked, shifted}, Readings.IsValid}
+use Rattle.ert_defs.specs.{States.{State, opening, next, state}, declared.entry.Act.Act, declared.entry.Act.TheVariants.{Plain, Force, Finalize}, declared.entry.Actor.Actor, declared.entry.Actor.TheVariants.{Keeper, Caller}}
+use Rattle.ert_defs.specs.{declared.entry.Entry.Entry, declared.entry.Event.TheVariants.{Tick, Shift}, declared.settings.OffsetState.OffsetState, declared.settings.OffsetState.TheVariants.{Preliminary, Final, Volatile}}
+use Rattle.ert_defs.specs.{declared.settings.Reading.Reading, declared.settings.Settings.Settings, Entries.{keeper_entry, tick_entry}}
 use Rattle.ert_defs.proofs.Runs.{state-append, legal-append, legal_more, clock_stays}
-use Rattle.ert_defs.specs.declared.entry.Act.{Act}
-use Rattle.ert_defs.specs.declared.entry.Act.TheVariants.{Plain, Force, Finalize}
-use Rattle.ert_defs.specs.declared.entry.Actor.{Actor}
-use Rattle.ert_defs.specs.declared.entry.Actor.TheVariants.{Keeper, Caller}
-use Rattle.ert_defs.specs.declared.entry.Entry.{Entry}
-use Rattle.ert_defs.specs.declared.entry.Event.TheVariants.{Tick, Shift}
-use Rattle.ert_defs.specs.declared.settings.OffsetState.{OffsetState}
-use Rattle.ert_defs.specs.declared.settings.OffsetState.TheVariants.{Preliminary, Final, Volatile}
-use Rattle.ert_defs.specs.declared.settings.Reading.{Reading}
-use Rattle.ert_defs.specs.declared.settings.Settings.{Settings}
-use Rattle.ert_clock.specs.Shown.{Shown, ClockStands}
-use Rattle.ert_defs.specs.Entries.{keeper_entry, tick_entry}
-use Rattle.ert_clock.specs.Ticks.{act_of, offset_of, IsDone, Gives, state_by, tick_entries, ClockTicks}
-use Rattle.ert_clock.specs.Ticks.{final_entries, ClockFinalizes}
-use Rattle.ert_clock.specs.declared.clock.ClockErr.{ClockErr}
-use Rattle.ert_clock.specs.declared.clock.ClockErr.TheVariants.{BadReading, OffsetWide}
-use Rattle.ert_clock.specs.declared.clock.Moved.{Moved}
+use Rattle.ert_clock.specs.{Shown.{Shown, ClockStands}, Ticks.{act_of, offset_of, IsDone, Gives, state_by, tick_entries, ClockTicks, final_entries, ClockFinalizes}, declared.clock.ClockErr.ClockErr}
+use Rattle.ert_clock.specs.{declared.clock.ClockErr.TheVariants.{BadReading, OffsetWide}, declared.clock.Moved.Moved}
 
 -- what the clock of a history shows
 abbrev pub shown_at : Settings → Clock → Shown

@@ -3,22 +3,11 @@
 
 use Rattle.std.proofs.Common.{Bool, false, ◌≡◌, ℤ, ◌-ℤ◌, refl, sym, ap, ◌∙◌, subst, Option, Some, None}
 use Rattle.std.specs.Prelude.{Ok, Err}
-use Rattle.ert_defs.specs.Lines.{Face, Due, IsInRange, time_after, due_after, due_at, due_from, is_base, ticked, shifted}
-use Rattle.ert_defs.specs.Readings.{IsValid}
-use Rattle.ert_defs.specs.Sound.{Sound, MayShift}
-use Rattle.ert_defs.specs.declared.entry.Act.{Act}
-use Rattle.ert_defs.specs.declared.settings.Reading.{Reading}
-use Rattle.ert_defs.specs.declared.settings.Settings.{Settings}
+use Rattle.ert_defs.specs.{Lines.{Face, Due, IsInRange, time_after, due_after, due_at, due_from, is_base, ticked, shifted}, Readings.IsValid, Sound.{Sound, MayShift}, declared.entry.Act.Act, declared.settings.Reading.Reading}
+use Rattle.ert_defs.specs.{declared.settings.Settings.Settings, declared.entry.Act.TheVariants.{Plain, Force, Finalize}, declared.settings.OffsetState.OffsetState, declared.settings.OffsetState.TheVariants.{Preliminary, Final, Volatile}}
 use Rattle.ert_defs.proofs.Bounds.{sound_tick, sound_shift, due_fits}
-use Rattle.ert_defs.specs.declared.entry.Act.TheVariants.{Plain, Force, Finalize}
-use Rattle.ert_defs.specs.declared.settings.OffsetState.{OffsetState}
-use Rattle.ert_defs.specs.declared.settings.OffsetState.TheVariants.{Preliminary, Final, Volatile}
 use Rattle.std.proofs.lemmas.Bool.{true≢false}
-use Rattle.ert_clock.specs.Faces.{runs_on}
-use Rattle.ert_clock.specs.Shown.{IsKept}
-use Rattle.ert_clock.specs.Ticks.{offset_of, IsWide, Limits, Gives}
-use Rattle.ert_clock.specs.declared.clock.ClockErr.{ClockErr}
-use Rattle.ert_clock.specs.declared.clock.ClockErr.TheVariants.{BadReading, OffsetWide}
+use Rattle.ert_clock.specs.{Faces.runs_on, Shown.IsKept, Ticks.{offset_of, IsWide, Limits, Gives}, declared.clock.ClockErr.ClockErr, declared.clock.ClockErr.TheVariants.{BadReading, OffsetWide}}
 
 -- what the code computed before the test of the limits: the time and the shift that is due
 pub record Computed (g : Settings) (f : Face) (r : Reading) (act : Act) (now : ℤ) (due : Option Due) : Type 0 where

@@ -1,10 +1,8 @@
 -- What the numbers of a line and of a face mean.
 
 use Rattle.std.specs.Prelude.{ℤ}
-use Rattle.ert_defs.specs.Lines.{Base, Face, mono_after}
-use Rattle.ert_defs.specs.declared.settings.Reading.{Reading}
-use Rattle.ert_clock.specs.declared.faces.Face.{Face as KeptFace}
-use Rattle.ert_clock.specs.declared.faces.Line.{Line}
+use Rattle.ert_defs.specs.{Lines.{Base, Face, mono_after}, declared.settings.Reading.Reading}
+use Rattle.ert_clock.specs.declared.faces.{Face.Face as KeptFace, Line.Line}
 
 -- the base of a line
 abbrev pub base_of : Line → Base

@@ -1,14 +1,7 @@
 -- What a clock shows, and the history that it stands for.
 
 use Rattle.std.specs.Prelude.{◌≡◌, List, None}
-use Rattle.ert_defs.specs.Clocks.{face, first_clock}
-use Rattle.ert_defs.specs.Legal.{Legal}
-use Rattle.ert_defs.specs.Lines.{Face}
-use Rattle.ert_defs.specs.Settings.{IsChecked}
-use Rattle.ert_defs.specs.Sound.{Sound}
-use Rattle.ert_defs.specs.States.{state}
-use Rattle.ert_defs.specs.declared.entry.Entry.{Entry}
-use Rattle.ert_defs.specs.declared.settings.Settings.{Settings}
+use Rattle.ert_defs.specs.{Clocks.{face, first_clock}, Legal.Legal, Lines.Face, Settings.IsChecked, Sound.Sound, States.state, declared.entry.Entry.Entry, declared.settings.Settings.Settings}
 
 -- the settings that a clock was opened with, and its face: its time, its offset and the state of that,
 -- the base of its line, and the OS monotonic time of its last tick

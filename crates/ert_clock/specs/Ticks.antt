@@ -1,21 +1,10 @@
 -- What a tick and a finalization answer, and the entries that they stand for.
 
-use Rattle.std.specs.Prelude.{◌≡◌, ℕ, ◌<◌, ℤ, Bool, true, false, List, [], ◌∷◌, ◌++◌}
-use Rattle.std.specs.Prelude.{Option, Some, None, Result, Ok, Err}
-use Rattle.ert_defs.specs.Entries.{tick_entry, shift_entry}
-use Rattle.ert_defs.specs.Lines.{Due, IsOffset, IsInRange, time_after, due_after, ticked, shifted}
-use Rattle.ert_defs.specs.Readings.{IsValid}
-use Rattle.ert_clock.specs.Shown.{Shown, ClockStands}
-use Rattle.ert_clock.specs.declared.clock.ClockErr.{ClockErr}
-use Rattle.ert_clock.specs.declared.clock.ClockErr.TheVariants.{BadReading, OffsetWide}
-use Rattle.ert_clock.specs.declared.clock.Moved.{Moved}
-use Rattle.ert_defs.specs.declared.entry.Act.{Act}
-use Rattle.ert_defs.specs.declared.entry.Act.TheVariants.{Plain, Force, Finalize}
-use Rattle.ert_defs.specs.declared.entry.Entry.{Entry}
-use Rattle.ert_defs.specs.declared.settings.OffsetState.{OffsetState}
-use Rattle.ert_defs.specs.declared.settings.OffsetState.TheVariants.{Preliminary, Final, Volatile}
-use Rattle.ert_defs.specs.declared.settings.Reading.{Reading}
-use Rattle.ert_defs.specs.declared.settings.Settings.{Settings}
+use Rattle.std.specs.Prelude.{◌≡◌, ℕ, ◌<◌, ℤ, Bool, true, false, List, [], ◌∷◌, ◌++◌, Option, Some, None, Result, Ok, Err}
+use Rattle.ert_defs.specs.{Entries.{tick_entry, shift_entry}, Lines.{Due, IsOffset, IsInRange, time_after, due_after, ticked, shifted}, Readings.IsValid, declared.entry.Act.Act, declared.entry.Act.TheVariants.{Plain, Force, Finalize}}
+use Rattle.ert_defs.specs.{declared.entry.Entry.Entry, declared.settings.OffsetState.OffsetState, declared.settings.OffsetState.TheVariants.{Preliminary, Final, Volatile}, declared.settings.Reading.Reading}
+use Rattle.ert_defs.specs.{declared.settings.Settings.Settings}
+use Rattle.ert_clock.specs.{Shown.{Shown, ClockStands}, declared.clock.ClockErr.ClockErr, declared.clock.ClockErr.TheVariants.{BadReading, OffsetWide}, declared.clock.Moved.Moved}
 
 -- a tick that is forced, or not
 abbrev pub act_of : Bool → Act

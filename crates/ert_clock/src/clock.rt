@@ -1,9 +1,6 @@
 ghost use Rattle.std.specs.Prelude.{◌≡◌};
-ghost use Rattle.ert_defs.specs.Lines.{time_after};
-ghost use Rattle.ert_defs.specs.Readings.{IsValid};
-ghost use Rattle.ert_clock.specs.Faces.{face_of};
-ghost use Rattle.ert_clock.specs.Shown.{IsKept};
-ghost use Rattle.ert_clock.specs.Ticks.{Limits, offset_of};
+ghost use Rattle.ert_defs.specs.{Lines.time_after, Readings.IsValid};
+ghost use Rattle.ert_clock.specs.{Faces.face_of, Shown.IsKept, Ticks.{Limits, offset_of}};
 
 use crate::faces::{Face, is_offset};
 use ert_defs::{Act, OffsetState, Reading, Settings};
@@ -36,8 +33,7 @@ pub struct Clock {
 }
 
 impl Model for Clock {
-    ghost use Rattle.ert_clock.specs.Shown.{Shown, IsKept};
-    ghost use Rattle.ert_clock.specs.Faces.{face_of};
+    ghost use Rattle.ert_clock.specs.{Shown.{Shown, IsKept}, Faces.face_of};
 
     ghost Value = { Shown };
 
@@ -50,8 +46,7 @@ impl Clock {
     ghost use Rattle.std.specs.Prelude.{◌≡◌, ◌+ℤ◌, [], FitsSigned};
     ghost use Rattle.std.specs.Int.{w64};
     ghost use Rattle.ert_defs.specs.Settings.{IsChecked};
-    ghost use Rattle.ert_clock.specs.Shown.{ClockStands, opening_shown};
-    ghost use Rattle.ert_clock.specs.Ticks.{Limits, act_of, Gives, ClockTicks, ClockFinalizesFrom, ClockFinalizes};
+    ghost use Rattle.ert_clock.specs.{Shown.{ClockStands, opening_shown}, Ticks.{Limits, act_of, Gives, ClockTicks, ClockFinalizesFrom, ClockFinalizes}};
 
     /// A clock that has just been opened: monotonic time is the start time, and system time that of the
     /// first reading. The offset is final in no time warp mode, preliminary in single and volatile in multi

@@ -1,10 +1,6 @@
 ghost use Rattle.std.specs.Int.{w128, int_div_euclid};
 ghost use Rattle.std.specs.Prelude.{◌≡◌, ◌↔◌, ◌*ℤ◌, pos, FitsSigned, IsTrue};
-ghost use Rattle.ert_defs.specs.Clocks.{face, first_clock};
-ghost use Rattle.ert_defs.specs.Lines.{IsOffset, rate_of, rate_after, is_base, shift_of};
-ghost use Rattle.ert_defs.specs.Lines.{mono_after, line_time, time_after, base_from, due_at};
-ghost use Rattle.ert_defs.specs.Lines.{due_after, ticked, shifted};
-ghost use Rattle.ert_defs.specs.Settings.{IsChecked};
+ghost use Rattle.ert_defs.specs.{Clocks.{face, first_clock}, Lines.{IsOffset, rate_of, rate_after, is_base, shift_of, mono_after, line_time, time_after, base_from, due_at, due_after, ticked, shifted}, Settings.IsChecked};
 
 use ert_defs::milliseconds::{NANOSECONDS_PER_MILLISECOND, millionth};
 use ert_defs::{Act, OffsetState, Reading, Settings};

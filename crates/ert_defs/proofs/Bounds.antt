@@ -4,18 +4,9 @@ use Rattle.std.proofs.Common.{◌≡◌, refl, sym, arith, cond, Bool, true, fal
 use Rattle.std.proofs.lemmas.Int.{ints, clamps}
 use Rattle.std.specs.Prelude.{ℤ, pos, negsuc, ◌+ℤ◌, ◌-ℤ◌, ◌*ℤ◌, ◌≤ℤ◌, ◌<ℤ◌, int_lt, nat_lt, unsigned_abs, FitsSigned}
 use Rattle.std.specs.Int.{int_max, w64}
-use Rattle.ert_defs.specs.Clocks.{face, first_clock}
-use Rattle.ert_defs.specs.Lines.{Face, first_base, end_time, Due, IsInRange, line_time, mono_after, time_after, is_base, base_from, rate_of, rate_after, due_at, due_from, due_after, ticked, shifted}
-use Rattle.ert_defs.specs.ClockMoves.{GrowsWithinPercent}
-use Rattle.ert_defs.specs.Readings.{IsValid}
-use Rattle.ert_defs.specs.Settings.{IsChecked}
-use Rattle.ert_defs.specs.Sound.{IsRate, OnLine, Reaches, Sound, DueFits, MayShift}
-use Rattle.ert_defs.specs.declared.entry.Act.{Act}
-use Rattle.ert_defs.specs.declared.entry.Act.TheVariants.{Plain, Force, Finalize}
-use Rattle.ert_defs.specs.declared.settings.OffsetState.{OffsetState}
-use Rattle.ert_defs.specs.declared.settings.OffsetState.TheVariants.{Preliminary, Final, Volatile}
-use Rattle.ert_defs.specs.declared.settings.Reading.{Reading}
-use Rattle.ert_defs.specs.declared.settings.Settings.{Settings}
+use Rattle.ert_defs.specs.{Clocks.{face, first_clock}, Lines.{Face, first_base, end_time, Due, IsInRange, line_time, mono_after, time_after, is_base, base_from, rate_of, rate_after, due_at, due_from, due_after, ticked, shifted}}
+use Rattle.ert_defs.specs.{ClockMoves.GrowsWithinPercent, Readings.IsValid, Settings.IsChecked, Sound.{IsRate, OnLine, Reaches, Sound, DueFits, MayShift}, declared.entry.Act.Act, declared.entry.Act.TheVariants.{Plain, Force, Finalize}}
+use Rattle.ert_defs.specs.{declared.settings.OffsetState.OffsetState, declared.settings.OffsetState.TheVariants.{Preliminary, Final, Volatile}, declared.settings.Reading.Reading, declared.settings.Settings.Settings}
 use Rattle.ert_defs.proofs.Numbers.{line_grows, line_base, line_far}
 
 -- the time after a tick, with correction or without

@@ -1,29 +1,12 @@
 -- The expired timers of each scheduler after a legal history: each is expired and stands once.
 
 use Rattle.std.proofs.Common.{◌≡◌, ◌≢◌, ℕ, Bool, true, false, cond, ◌||◌, nat_eq, List, [], ◌∷◌, All, get_or, Option, Some, None, refl, sym, ap, ◌∙◌, inl, inr, subst, arith, eqb-true, eq-eqb}
-use Rattle.std.proofs.lemmas.Bool.{cases_eq, cases_eq}
-use Rattle.std.proofs.lemmas.List.Elements.{All-nil, All-push, All-head}
-use Rattle.std.proofs.lemmas.List.Quantifiers.{all_pairs_push}
-use Rattle.ert_defs.specs.Actors.{has_actor, is_with, same_actor}
-use Rattle.std.proofs.Math.Bool.{or-false}
-use Rattle.ert_defs.specs.Laws.{IsExpired, AreExpired, LawOfExpired, LawOfDelivery, LawOfDrop}
-use Rattle.ert_defs.specs.Legal.{Can, IsFirst, Known, Legal}
-use Rattle.ert_defs.specs.Mails.{others_of, first_of, sched_after, with_row}
-use Rattle.ert_defs.specs.States.{State, opening, next, state}
-use Rattle.ert_defs.specs.Timers.{Row, row_of, same_timer, is_taken}
-use Rattle.ert_defs.proofs.ExpiredTimers.{cond_same, same_timer_self, same_timer-false, row_named, row_kept, hands, all_stay, expired_others}
-use Rattle.ert_defs.proofs.Lists.{pairs_head}
-use Rattle.ert_defs.proofs.Rows.{Differ}
-use Rattle.ert_defs.proofs.Runs.{carry, kept_from, legal_one_more, state-append}
-use Rattle.ert_defs.proofs.Slots.{IsOrdered, ordered, ordered_next, ordered_opening}
-use Rattle.ert_defs.specs.declared.entry.Actor.{Actor}
-use Rattle.ert_defs.specs.declared.entry.Actor.TheVariants.{Wheel, Sched}
-use Rattle.ert_defs.specs.declared.entry.Entry.{Entry}
-use Rattle.ert_defs.specs.declared.entry.Event.{Event}
-use Rattle.ert_defs.specs.declared.entry.Event.TheVariants.{Expire, Deliver, Drop}
-use Rattle.ert_defs.specs.declared.settings.Settings.{Settings}
-use Rattle.ert_defs.specs.declared.timer.Status.TheVariants.{Armed, Expired, Delivered, Dropped}
-use Rattle.ert_defs.specs.declared.timer.TimerRef.{TimerRef}
+use Rattle.std.proofs.{lemmas.Bool.cases_eq, lemmas.List.Elements.{All-nil, All-push, All-head}, lemmas.List.Quantifiers.all_pairs_push, Math.Bool.or-false}
+use Rattle.ert_defs.specs.{Actors.{has_actor, is_with, same_actor}, Laws.{IsExpired, AreExpired, LawOfExpired, LawOfDelivery, LawOfDrop}, Legal.{Can, IsFirst, Known, Legal}, Mails.{others_of, first_of, sched_after, with_row}, States.State}
+use Rattle.ert_defs.specs.{States.{opening, next, state}, Timers.{Row, row_of, same_timer, is_taken}, declared.entry.Actor.Actor, declared.entry.Actor.TheVariants.{Wheel, Sched}, declared.entry.Entry.Entry, declared.entry.Event.Event}
+use Rattle.ert_defs.specs.{declared.entry.Event.TheVariants.{Expire, Deliver, Drop}, declared.settings.Settings.Settings, declared.timer.Status.TheVariants.{Armed, Expired, Delivered, Dropped}, declared.timer.TimerRef.TimerRef}
+use Rattle.ert_defs.proofs.{ExpiredTimers.{cond_same, same_timer_self, same_timer-false, row_named, row_kept, hands, all_stay, expired_others}, Lists.pairs_head, Rows.Differ, Runs.{carry, kept_from, legal_one_more, state-append}}
+use Rattle.ert_defs.proofs.{Slots.{IsOrdered, ordered, ordered_next, ordered_opening}}
 
 -- an event that is by a scheduler has no other
 pub sched_of : (e : Entry) (v w : ℕ) → e.by ≡ Sched v → is_with e.with (Sched w) ≡ false → has_actor e (Sched w) ≡ true → v ≡ w

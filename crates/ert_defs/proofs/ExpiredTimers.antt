@@ -1,28 +1,11 @@
 -- An expired timer waits at its scheduler until it is handed over.
 
 use Rattle.std.proofs.Common.{◌≡◌, ◌≢◌, ℕ, ℤ, Bool, true, false, cond, ◌&&◌, nat_eq, List, [], ◌∷◌, ◌++◌, All, get_or, Option, Some, refl, sym, ap, ◌∙◌, eq-eqb}
-use Rattle.std.proofs.lemmas.Bool.{and_left, and_right}
-use Rattle.std.proofs.lemmas.List.Elements.{All-tail}
-use Rattle.ert_defs.specs.Actors.{has_actor}
-use Rattle.ert_defs.specs.Laws.{IsExpired, AreExpired}
-use Rattle.ert_defs.specs.Legal.{Can, CanArm, Known}
-use Rattle.ert_defs.specs.Mails.{others_of}
-use Rattle.ert_defs.specs.Milliseconds.{deadline_of}
-use Rattle.ert_defs.specs.States.{State, next}
-use Rattle.ert_defs.specs.Timers.{Row, row_of, rows_after, row_from, last_after, same_timer, status_after, is_taken, timer_at}
-use Rattle.ert_defs.proofs.Lists.{pairs_tail}
-use Rattle.ert_defs.proofs.Rows.{Differ}
-use Rattle.ert_defs.proofs.Runs.{carry}
-use Rattle.ert_defs.proofs.Slots.{can_use, same_timer-true}
-use Rattle.ert_defs.proofs.Statuses.{arms}
-use Rattle.ert_defs.specs.declared.entry.Actor.{Actor}
-use Rattle.ert_defs.specs.declared.entry.Actor.TheVariants.{Wheel}
-use Rattle.ert_defs.specs.declared.entry.Entry.{Entry}
-use Rattle.ert_defs.specs.declared.entry.Event.{Event}
-use Rattle.ert_defs.specs.declared.entry.Event.TheVariants.{Arm, Cancel, Expire, Orphan, Deliver, Drop}
-use Rattle.ert_defs.specs.declared.settings.Settings.{Settings}
-use Rattle.ert_defs.specs.declared.timer.Status.TheVariants.{Expired}
-use Rattle.ert_defs.specs.declared.timer.TimerRef.{TimerRef}
+use Rattle.std.proofs.lemmas.{Bool.{and_left, and_right}, List.Elements.All-tail}
+use Rattle.ert_defs.specs.{Actors.has_actor, Laws.{IsExpired, AreExpired}, Legal.{Can, CanArm, Known}, Mails.others_of, Milliseconds.deadline_of, States.{State, next}, Timers.{Row, row_of, rows_after, row_from, last_after, same_timer}}
+use Rattle.ert_defs.specs.{Timers.{status_after, is_taken, timer_at}, declared.entry.Actor.Actor, declared.entry.Actor.TheVariants.Wheel, declared.entry.Entry.Entry, declared.entry.Event.Event, declared.entry.Event.TheVariants.Arm}
+use Rattle.ert_defs.specs.{declared.entry.Event.TheVariants.{Cancel, Expire, Orphan, Deliver, Drop}, declared.settings.Settings.Settings, declared.timer.Status.TheVariants.Expired, declared.timer.TimerRef.TimerRef}
+use Rattle.ert_defs.proofs.{Lists.pairs_tail, Rows.Differ, Runs.carry, Slots.{can_use, same_timer-true}, Statuses.arms}
 
 pub cond_same : {X : Type 0} (b : Bool) (x : X) → cond b x x ≡ x
 cond_same true x = refl

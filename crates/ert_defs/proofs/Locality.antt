@@ -2,26 +2,12 @@
 
 use Rattle.std.proofs.Common.{◌≡◌, ℕ, ℤ, pos, ◌<◌, ◌≤ℤ◌, nat_le, nat_lt, ◌∙◌, Bool, true, false, List, [], ◌∷◌, ◌++◌, length, All, Option, Some, None, subst}
 use Rattle.std.proofs.lemmas.List.Elements.{All-head, All-tail, All-weaker}
-use Rattle.ert_defs.specs.Actors.{IsFree, IsFreeOf}
-use Rattle.ert_defs.specs.Clocks.{Clock, face}
-use Rattle.ert_defs.specs.Laws.{LawOfLocality}
-use Rattle.ert_defs.specs.Legal.{AllSettled, CanArm, CanTick, IsFirst, IsNext, IsResult, Keeps, Known, Legal, names_timer, stands_in}
-use Rattle.ert_defs.specs.Mails.{MailState, SchedState, first_of}
-use Rattle.ert_defs.specs.Milliseconds.{natural, down, deadline_of}
-use Rattle.ert_defs.specs.States.{State, uses_at, opening, run, state}
-use Rattle.ert_defs.specs.Timers.{Row, IsNextUse, row_of, is_taken, timer_at}
-use Rattle.ert_defs.proofs.Lists.{all_front, all_back}
-use Rattle.ert_defs.proofs.Rows.{IsRow, rows_hold}
-use Rattle.ert_defs.proofs.Runs.{carry, state-append, legal_first, legal_more, clock_stays, exit_stays, inbox_stays, last_stays, uses_stay, look_stays, mail_stays, rows_stay, sched_stays}
-use Rattle.ert_defs.proofs.Statuses.{not_armed_stays, free_stays}
-use Rattle.ert_defs.specs.declared.entry.Actor.{Actor}
-use Rattle.ert_defs.specs.declared.entry.Actor.TheVariants.{Keeper, Wheel, Inbox, Sched, MailOf}
-use Rattle.ert_defs.specs.declared.entry.Entry.{Entry}
-use Rattle.ert_defs.specs.declared.entry.Event.{Event}
-use Rattle.ert_defs.specs.declared.entry.Event.TheVariants.{Tick, Shift, Arm, Expire, Orphan, Deliver, Drop, Advanced, Pick, Answer, Take, Unwatch, Watch}
-use Rattle.ert_defs.specs.declared.mail.Request.{Request}
-use Rattle.ert_defs.specs.declared.settings.Settings.{Settings}
-use Rattle.ert_defs.specs.declared.timer.TimerRef.{TimerRef}
+use Rattle.ert_defs.specs.{Actors.{IsFree, IsFreeOf}, Clocks.{Clock, face}, Laws.LawOfLocality, Legal.{AllSettled, CanArm, CanTick, IsFirst, IsNext, IsResult, Keeps, Known, Legal, names_timer, stands_in}, Mails.{MailState, SchedState}}
+use Rattle.ert_defs.specs.{Mails.first_of, Milliseconds.{natural, down, deadline_of}, States.{State, uses_at, opening, run, state}, Timers.{Row, IsNextUse, row_of, is_taken, timer_at}, declared.entry.Actor.Actor}
+use Rattle.ert_defs.specs.{declared.entry.Actor.TheVariants.{Keeper, Wheel, Inbox, Sched, MailOf}, declared.entry.Entry.Entry, declared.entry.Event.Event, declared.entry.Event.TheVariants.{Tick, Shift, Arm, Expire, Orphan, Deliver, Drop}}
+use Rattle.ert_defs.specs.{declared.entry.Event.TheVariants.{Advanced, Pick, Answer, Take, Unwatch, Watch}, declared.mail.Request.Request, declared.settings.Settings.Settings, declared.timer.TimerRef.TimerRef}
+use Rattle.ert_defs.proofs.{Lists.{all_front, all_back}, Rows.{IsRow, rows_hold}, Runs.{carry, state-append, legal_first, legal_more, clock_stays, exit_stays, inbox_stays, last_stays, uses_stay, look_stays, mail_stays, rows_stay}}
+use Rattle.ert_defs.proofs.{Runs.sched_stays, Statuses.{not_armed_stays, free_stays}}
 
 pub free_by : (m : List Entry) (by : Actor) (with : Option Actor) → IsFreeOf m by with → IsFree m by
 free_by m by None free = free

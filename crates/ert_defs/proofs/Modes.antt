@@ -3,22 +3,10 @@
 use Rattle.std.proofs.Common.{◌≡◌, refl, cond, Bool, true, false, ◌&&◌, Option, Some, None, subst, List, [], ◌∷◌}
 use Rattle.std.specs.Prelude.{ℤ, ◌-ℤ◌, nat_lt, unsigned_abs}
 use borrow.Author.Tests.{ltb-true}
-use Rattle.ert_defs.specs.ClockMoves.{ShiftIs, OfLastTick}
-use Rattle.ert_defs.specs.Clocks.{Clock, Ticked, last_mono, last_base, clock_after, first_clock}
-use Rattle.ert_defs.specs.Legal.{Can, Known}
-use Rattle.ert_defs.specs.Lines.{Due, MayAct, is_due, due_from, first_state}
-use Rattle.ert_defs.specs.States.{State, state}
-use Rattle.ert_defs.specs.declared.entry.Act.{Act}
-use Rattle.ert_defs.specs.declared.entry.Act.TheVariants.{Plain, Force, Finalize}
-use Rattle.ert_defs.specs.declared.entry.Actor.{Actor}
-use Rattle.ert_defs.specs.declared.entry.Entry.{Entry}
-use Rattle.ert_defs.specs.declared.entry.Event.{Event}
-use Rattle.ert_defs.specs.declared.entry.Event.TheVariants.{Tick, Shift}
-use Rattle.ert_defs.specs.declared.settings.Mode.{Mode}
-use Rattle.ert_defs.specs.declared.settings.Mode.TheVariants.{No, Single, Multi}
-use Rattle.ert_defs.specs.declared.settings.OffsetState.{OffsetState}
-use Rattle.ert_defs.specs.declared.settings.OffsetState.TheVariants.{Preliminary, Final, Volatile}
-use Rattle.ert_defs.specs.declared.settings.Settings.{Settings}
+use Rattle.ert_defs.specs.{ClockMoves.{ShiftIs, OfLastTick}, Clocks.{Clock, Ticked, last_mono, last_base, clock_after, first_clock}, Legal.{Can, Known}, Lines.{Due, MayAct, is_due, due_from, first_state}, States.{State, state}}
+use Rattle.ert_defs.specs.{declared.entry.Act.Act, declared.entry.Act.TheVariants.{Plain, Force, Finalize}, declared.entry.Actor.Actor, declared.entry.Entry.Entry, declared.entry.Event.Event, declared.entry.Event.TheVariants.{Tick, Shift}}
+use Rattle.ert_defs.specs.{declared.settings.Mode.Mode, declared.settings.Mode.TheVariants.{No, Single, Multi}, declared.settings.OffsetState.OffsetState, declared.settings.OffsetState.TheVariants.{Preliminary, Final, Volatile}}
+use Rattle.ert_defs.specs.{declared.settings.Settings.Settings}
 
 -- the states that the offset has in each mode
 abbrev pub IsOfMode : Mode → OffsetState → Type 0

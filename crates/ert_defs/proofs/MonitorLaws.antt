@@ -1,13 +1,8 @@
 -- What it is to tell one monitor more, and all of them.
 
 use Rattle.std.proofs.Common.{◌≡◌, ◌∙◌, refl, ap, inl, inr, ℕ, ℤ, ◌+◌, ◌<◌, ◌≤◌, List, [], ◌∷◌, ◌++◌, length, get_or, set, take, drop, append-nil, arith}
-use Rattle.std.proofs.lemmas.Bool.{cases_Bool}
-use Rattle.std.proofs.lemmas.Grind.{common_steps}
-use Rattle.std.proofs.lemmas.List.{take_more, drop_all, take_all, get_or_default}
-use Rattle.std.proofs.lemmas.List.Edits.{map_over_more}
-use Rattle.ert_defs.specs.Mails.{is_news, changes_of, told_of}
-use Rattle.ert_defs.specs.declared.mail.Mail.TheVariants.{Change}
-use Rattle.ert_defs.specs.declared.mail.Monitor.{Monitor}
+use Rattle.std.proofs.lemmas.{Bool.cases_Bool, Grind.common_steps, List.{take_more, drop_all, take_all, get_or_default}, List.Edits.map_over_more}
+use Rattle.ert_defs.specs.{Mails.{is_news, changes_of, told_of}, declared.mail.Mail.TheVariants.Change, declared.mail.Monitor.Monitor}
 
 -- the messages to one more monitor come last
 changes_push : (offset : ℤ) (ms ns : List Monitor) → changes_of offset (ms ++ ns) ≡ changes_of offset ms ++ changes_of offset ns

@@ -1,13 +1,10 @@
 -- Lines: how far the time on a line comes while OS monotonic time grows.
 
 use Rattle.std.proofs.Common.{◌≡◌, ℕ, ◌+◌, ◌*◌, ◌/◌, ◌≤◌, arith, FitsSigned, w64}
-use Rattle.std.proofs.lemmas.Int.{ints}
-use Rattle.std.proofs.Math.Nat.{mul-le-mul_left}
+use Rattle.std.proofs.{lemmas.Int.ints, Math.Nat.mul-le-mul_left}
 use Rattle.std.specs.Prelude.{ℤ, pos, negsuc, ◌+ℤ◌, ◌-ℤ◌, ◌*ℤ◌, ◌≤ℤ◌, ◌<ℤ◌, unsigned_abs}
 use Rattle.std.specs.Int.{w128, int_div_euclid}
-use Rattle.ert_defs.specs.Lines.{Base, line_time}
-use Rattle.ert_defs.specs.ClockMoves.{GrowsWithinPercent}
-use Rattle.ert_defs.specs.Sound.{IsRate}
+use Rattle.ert_defs.specs.{Lines.{Base, line_time}, ClockMoves.GrowsWithinPercent, Sound.IsRate}
 
 -- a number of 64 bits is one of 128
 pub wide : (z : ℤ) → FitsSigned w64 z → FitsSigned w128 z

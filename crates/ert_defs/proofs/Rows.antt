@@ -2,24 +2,11 @@
 -- its slot, and no two have one reference.
 
 use Rattle.std.proofs.Common.{◌≡◌, ◌≢◌, ℕ, ℤ, Bool, true, false, cond, ◌&&◌, nat_eq, List, ◌++◌, All, AllPairs, Option, Some, None, refl, sym, ap, subst, ◌∙◌, arith, append-nil, get_or, eqb-true, eq-eqb}
-use Rattle.std.proofs.lemmas.List.Elements.{All-nil, All-push, All-weaker}
-use Rattle.std.proofs.lemmas.List.Quantifiers.{all_pairs_push}
-use Rattle.ert_defs.specs.Actors.{has_actor}
-use Rattle.ert_defs.specs.Legal.{Can, Known, Legal}
-use Rattle.ert_defs.specs.Milliseconds.{deadline_of}
-use Rattle.ert_defs.specs.States.{State, uses_at, opening, next, state}
-use Rattle.ert_defs.specs.Timers.{Row, Uses, row_from, rows_after, deadline_told, timer_at}
-use Rattle.ert_defs.proofs.Runs.{kept_from}
-use Rattle.ert_defs.proofs.Slots.{IsOrdered, MayUse, can_use, ordered_next, ordered_opening, uses_after, uses_told, uses_with}
-use Rattle.ert_defs.proofs.Uses.{IsBefore, Use, before_self, before_stays, fresh, used}
-use Rattle.ert_defs.specs.declared.entry.Actor.{Actor}
-use Rattle.ert_defs.specs.declared.entry.Actor.TheVariants.{Wheel}
-use Rattle.ert_defs.specs.declared.entry.Entry.{Entry}
-use Rattle.ert_defs.specs.declared.entry.Event.{Event}
-use Rattle.ert_defs.specs.declared.entry.Event.TheVariants.{Arm}
-use Rattle.ert_defs.specs.declared.settings.Settings.{Settings}
-use Rattle.ert_defs.specs.declared.timer.Start.{Start}
-use Rattle.ert_defs.specs.declared.timer.TimerRef.{TimerRef}
+use Rattle.std.proofs.lemmas.List.{Elements.{All-nil, All-push, All-weaker}, Quantifiers.all_pairs_push}
+use Rattle.ert_defs.specs.{Actors.has_actor, Legal.{Can, Known, Legal}, Milliseconds.deadline_of, States.{State, uses_at, opening, next, state}, Timers.{Row, Uses, row_from, rows_after, deadline_told, timer_at}, declared.entry.Actor.Actor}
+use Rattle.ert_defs.specs.{declared.entry.Actor.TheVariants.Wheel, declared.entry.Entry.Entry, declared.entry.Event.Event, declared.entry.Event.TheVariants.Arm, declared.settings.Settings.Settings, declared.timer.Start.Start}
+use Rattle.ert_defs.specs.{declared.timer.TimerRef.TimerRef}
+use Rattle.ert_defs.proofs.{Runs.kept_from, Slots.{IsOrdered, MayUse, can_use, ordered_next, ordered_opening, uses_after, uses_told, uses_with}, Uses.{IsBefore, Use, before_self, before_stays, fresh, used}}
 
 -- a row of a wheel whose slots have these uses
 pub record IsRow (w : ℕ) (uses : ℕ → Uses) (r : Row) : Type 0 where

@@ -1,15 +1,8 @@
 -- The state after a history that grows at its end, and what stays of it while an actor makes no entry.
 
 use Rattle.std.proofs.Common.{◌≡◌, ℕ, Bool, true, false, ◌||◌, List, [], ◌∷◌, ◌++◌, filter, refl, sym, subst, ◌∙◌, ◌↔◌}
-use Rattle.ert_defs.specs.Actors.{same_actor, has_actor, IsFree}
-use Rattle.ert_defs.specs.Legal.{Can, LegalFrom, Legal}
-use Rattle.ert_defs.specs.States.{State, uses_at, opening, next, run, state, exited_after}
-use Rattle.ert_defs.specs.declared.entry.Actor.{Actor}
-use Rattle.ert_defs.specs.declared.entry.Actor.TheVariants.{Keeper, Wheel, Inbox, Sched, MailOf}
-use Rattle.ert_defs.specs.declared.entry.Entry.{Entry}
-use Rattle.ert_defs.specs.declared.entry.Event.{Event}
-use Rattle.ert_defs.specs.declared.entry.Event.TheVariants.{Mark}
-use Rattle.ert_defs.specs.declared.settings.Settings.{Settings}
+use Rattle.ert_defs.specs.{Actors.{same_actor, has_actor, IsFree}, Legal.{Can, LegalFrom, Legal}, States.{State, uses_at, opening, next, run, state, exited_after}, declared.entry.Actor.Actor, declared.entry.Actor.TheVariants.Keeper}
+use Rattle.ert_defs.specs.{declared.entry.Actor.TheVariants.{Wheel, Inbox, Sched, MailOf}, declared.entry.Entry.Entry, declared.entry.Event.Event, declared.entry.Event.TheVariants.Mark, declared.settings.Settings.Settings}
 
 -- a fact of one value is a fact of an equal one
 pub carry : {X : Type 0} (P : X → Type 0) {x y : X} → y ≡ x → P x → P y

@@ -1,28 +1,13 @@
 -- How an entry moves the status of a timer, and that a timer settles once.
 
 use Rattle.std.proofs.Common.{◌≡◌, ◌≢◌, ℕ, ℤ, nat_eq, All, append-nil, eqb-true, ap, ◌∙◌, ◌+◌, ◌≤◌, Bool, true, false, cond, not, ◌&&◌, List, [], ◌∷◌, ◌++◌, Contains, Option, Some, None, refl, inl, inr, subst, arith}
-use Rattle.std.proofs.lemmas.Bool.{and_parts, and_right}
-use Rattle.std.proofs.lemmas.List.Elements.{All-contains, All-nil, All-push, All-weaker}
-use Rattle.ert_defs.specs.Actors.{has_actor}
-use Rattle.ert_defs.specs.Laws.{MayMove, is_armed, has_settled, settlings, LawOfMoves, LawOfSettling, LawOfSettled, LawOfRows, LawOfSlots}
-use Rattle.ert_defs.specs.Legal.{Can, CanArm, Known, LegalFrom, Legal}
-use Rattle.ert_defs.specs.Milliseconds.{natural, down, deadline_of}
-use Rattle.ert_defs.specs.States.{State, uses_at, opening, next, run, state}
-use Rattle.ert_defs.specs.Timers.{Row, deadline_told, row_from, rows_after, same_timer, status_after, timer_at}
-use Rattle.ert_defs.proofs.ExpiredTimers.{same_timer_self}
-use Rattle.ert_defs.proofs.Runs.{carry, kept_from, state-append, legal_first, legal_then, legal_one_more}
-use Rattle.ert_defs.proofs.Slots.{IsOrdered, in_order, next_is_new, same_timer-true, ordered, ordered_next, ordered_opening}
-use Rattle.ert_defs.proofs.Statuses.{forward_after, forward_may}
-use Rattle.ert_defs.specs.declared.entry.Actor.{Actor}
-use Rattle.ert_defs.specs.declared.entry.Actor.TheVariants.{Wheel}
-use Rattle.ert_defs.specs.declared.entry.Entry.{Entry}
-use Rattle.ert_defs.specs.declared.entry.Event.{Event}
-use Rattle.ert_defs.specs.declared.entry.Event.TheVariants.{Arm}
-use Rattle.ert_defs.specs.declared.settings.Settings.{Settings}
-use Rattle.ert_defs.specs.declared.timer.Start.{Start}
-use Rattle.ert_defs.specs.declared.timer.Status.{Status}
-use Rattle.ert_defs.specs.declared.timer.Status.TheVariants.{Armed, Expired, Delivered, Cancelled, Orphaned, Dropped}
-use Rattle.ert_defs.specs.declared.timer.TimerRef.{TimerRef}
+use Rattle.std.proofs.lemmas.{Bool.{and_parts, and_right}, List.Elements.{All-contains, All-nil, All-push, All-weaker}}
+use Rattle.ert_defs.specs.{Actors.has_actor, Laws.{MayMove, is_armed, has_settled, settlings, LawOfMoves, LawOfSettling, LawOfSettled, LawOfRows, LawOfSlots}, Legal.{Can, CanArm, Known, LegalFrom, Legal}, Milliseconds.{natural, down}}
+use Rattle.ert_defs.specs.{Milliseconds.deadline_of, States.{State, uses_at, opening, next, run, state}, Timers.{Row, deadline_told, row_from, rows_after, same_timer, status_after, timer_at}, declared.entry.Actor.Actor}
+use Rattle.ert_defs.specs.{declared.entry.Actor.TheVariants.Wheel, declared.entry.Entry.Entry, declared.entry.Event.Event, declared.entry.Event.TheVariants.Arm, declared.settings.Settings.Settings, declared.timer.Start.Start}
+use Rattle.ert_defs.specs.{declared.timer.Status.Status, declared.timer.Status.TheVariants.{Armed, Expired, Delivered, Cancelled, Orphaned, Dropped}, declared.timer.TimerRef.TimerRef}
+use Rattle.ert_defs.proofs.{ExpiredTimers.same_timer_self, Runs.{carry, kept_from, state-append, legal_first, legal_then, legal_one_more}, Slots.{IsOrdered, in_order, next_is_new, same_timer-true, ordered, ordered_next, ordered_opening}}
+use Rattle.ert_defs.proofs.{Statuses.{forward_after, forward_may}}
 
 -- a generation that can be armed was never armed
 pub armed_first : (g : Settings) (s : State) (by : Actor) (timer r : TimerRef) (deadline : Option ℕ) → IsOrdered s → CanArm g s by timer deadline

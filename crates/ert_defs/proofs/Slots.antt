@@ -2,24 +2,10 @@
 
 use Rattle.std.proofs.Common.{◌≡◌, ◌≢◌, ℕ, ℤ, ◌+◌, ◌≤◌, max, Bool, true, false, cond, ◌&&◌, nat_eq, List, Option, Some, None, refl, sym, ap, ◌∙◌, inl, inr, subst, subst₂, arith, eqb-true, eq-eqb, ne_eqb}
 use Rattle.std.proofs.lemmas.Bool.{and_parts, cases_eq}
-use Rattle.ert_defs.specs.Actors.{has_actor}
-use Rattle.ert_defs.specs.Laws.{AreInOrder}
-use Rattle.ert_defs.specs.Legal.{Can, CanArm, Known, Legal}
-use Rattle.ert_defs.specs.Milliseconds.{natural, down, deadline_of}
-use Rattle.ert_defs.proofs.Uses.{Use, CanUse, IsBefore, IsSound, used, fresh, before_self, before_stays, sound_next, told_is}
-use Rattle.ert_defs.specs.States.{State, uses_at, opening, next, state}
-use Rattle.ert_defs.specs.Timers.{Uses, same_timer, status_after, last_after, since_after, above_after, above_with, turned, is_taken, timer_at}
-use Rattle.ert_defs.proofs.Runs.{carry, kept_from}
-use Rattle.ert_defs.proofs.Statuses.{Forward, forward_after, forward_free, forward_not_none}
-use Rattle.ert_defs.specs.declared.entry.Actor.{Actor}
-use Rattle.ert_defs.specs.declared.entry.Actor.TheVariants.{Wheel}
-use Rattle.ert_defs.specs.declared.entry.Entry.{Entry}
-use Rattle.ert_defs.specs.declared.entry.Event.{Event}
-use Rattle.ert_defs.specs.declared.entry.Event.TheVariants.{Arm}
-use Rattle.ert_defs.specs.declared.settings.Settings.{Settings}
-use Rattle.ert_defs.specs.declared.timer.Status.{Status}
-use Rattle.ert_defs.specs.declared.timer.Status.TheVariants.{Armed}
-use Rattle.ert_defs.specs.declared.timer.TimerRef.{TimerRef}
+use Rattle.ert_defs.specs.{Actors.has_actor, Laws.AreInOrder, Legal.{Can, CanArm, Known, Legal}, Milliseconds.{natural, down, deadline_of}, States.{State, uses_at, opening, next, state}, Timers.{Uses, same_timer, status_after, last_after}}
+use Rattle.ert_defs.specs.{Timers.{since_after, above_after, above_with, turned, is_taken, timer_at}, declared.entry.Actor.Actor, declared.entry.Actor.TheVariants.Wheel, declared.entry.Entry.Entry, declared.entry.Event.Event}
+use Rattle.ert_defs.specs.{declared.entry.Event.TheVariants.Arm, declared.settings.Settings.Settings, declared.timer.Status.Status, declared.timer.Status.TheVariants.Armed, declared.timer.TimerRef.TimerRef}
+use Rattle.ert_defs.proofs.{Uses.{Use, CanUse, IsBefore, IsSound, used, fresh, before_self, before_stays, sound_next, told_is}, Runs.{carry, kept_from}, Statuses.{Forward, forward_after, forward_free, forward_not_none}}
 
 -- references that pass the test are one
 pub same_timer-true : (r t : TimerRef) → same_timer r t ≡ true → r ≡ t

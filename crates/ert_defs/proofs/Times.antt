@@ -5,24 +5,10 @@ use Rattle.std.proofs.Common.{sym, arith, cond, Bool, true, false, Option, subst
 use Rattle.std.proofs.lemmas.Int.{ints}
 use Rattle.std.specs.Prelude.{ℤ, ◌+ℤ◌, ◌≤ℤ◌, FitsSigned}
 use Rattle.std.specs.Int.{w64}
-use Rattle.ert_defs.specs.Actors.{has_actor}
-use Rattle.ert_defs.specs.Clocks.{Clock, face, first_clock, clock_after}
-use Rattle.ert_defs.specs.Legal.{Can, Known, LegalFrom, Legal}
-use Rattle.ert_defs.specs.Lines.{IsInRange, time_after, due_after}
-use Rattle.ert_defs.specs.Readings.{IsValid}
-use Rattle.ert_defs.specs.Settings.{IsChecked}
-use Rattle.ert_defs.specs.Sound.{Sound, MayShift}
-use Rattle.ert_defs.specs.States.{State, opening, next, run, state}
-use Rattle.ert_defs.specs.declared.entry.Act.{Act}
-use Rattle.ert_defs.specs.declared.entry.Actor.{Actor}
-use Rattle.ert_defs.specs.declared.entry.Actor.TheVariants.{Keeper}
-use Rattle.ert_defs.specs.declared.entry.Entry.{Entry}
-use Rattle.ert_defs.specs.declared.entry.Event.{Event}
-use Rattle.ert_defs.specs.declared.entry.Event.TheVariants.{Tick, Shift}
-use Rattle.ert_defs.specs.declared.settings.Reading.{Reading}
-use Rattle.ert_defs.specs.declared.settings.Settings.{Settings}
-use Rattle.ert_defs.proofs.Bounds.{sound_opening, sound_tick, sound_shift, due_fits, no_fall, IsWithin, in_range, sum_fits}
-use Rattle.ert_defs.proofs.Runs.{run-append, legal_first, legal_then}
+use Rattle.ert_defs.specs.{Actors.has_actor, Clocks.{Clock, face, first_clock, clock_after}, Legal.{Can, Known, LegalFrom, Legal}, Lines.{IsInRange, time_after, due_after}, Readings.IsValid, Settings.IsChecked, Sound.{Sound, MayShift}}
+use Rattle.ert_defs.specs.{States.{State, opening, next, run, state}, declared.entry.Act.Act, declared.entry.Actor.Actor, declared.entry.Actor.TheVariants.Keeper, declared.entry.Entry.Entry, declared.entry.Event.Event}
+use Rattle.ert_defs.specs.{declared.entry.Event.TheVariants.{Tick, Shift}, declared.settings.Reading.Reading, declared.settings.Settings.Settings}
+use Rattle.ert_defs.proofs.{Bounds.{sound_opening, sound_tick, sound_shift, due_fits, no_fall, IsWithin, in_range, sum_fits}, Runs.{run-append, legal_first, legal_then}}
 
 -- what a clock keeps: its bounds, and those of the shift that is due
 pub record KeepsBounds (g : Settings) (c : Clock) : Type 0 where

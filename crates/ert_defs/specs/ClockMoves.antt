@@ -1,14 +1,8 @@
 -- How far a clock may move at a tick, and which shift may follow it (ERTS User's Guide, "Time Warp Modes").
 
 use Rattle.std.specs.Prelude.{◌≡◌, ℤ, pos, ◌+◌, ◌*◌, ◌/◌, ◌<◌, ◌+ℤ◌, ◌-ℤ◌, ◌≤ℤ◌, true, unsigned_abs, List, [], ◌∷◌}
-use Rattle.ert_defs.specs.Clocks.{Ticked, last_mono, last_base}
-use Rattle.ert_defs.specs.Lines.{is_due, is_check}
-use Rattle.ert_defs.specs.declared.entry.Act.TheVariants.{Finalize}
-use Rattle.ert_defs.specs.declared.settings.Mode.{Mode}
-use Rattle.ert_defs.specs.declared.settings.Mode.TheVariants.{No, Single, Multi}
-use Rattle.ert_defs.specs.declared.settings.OffsetState.{OffsetState}
-use Rattle.ert_defs.specs.declared.settings.OffsetState.TheVariants.{Preliminary, Final, Volatile}
-use Rattle.ert_defs.specs.declared.settings.Settings.{Settings}
+use Rattle.ert_defs.specs.{Clocks.{Ticked, last_mono, last_base}, Lines.{is_due, is_check}, declared.entry.Act.TheVariants.Finalize, declared.settings.Mode.Mode, declared.settings.Mode.TheVariants.{No, Single, Multi}}
+use Rattle.ert_defs.specs.{declared.settings.OffsetState.OffsetState, declared.settings.OffsetState.TheVariants.{Preliminary, Final, Volatile}, declared.settings.Settings.Settings}
 
 -- while OS monotonic time grew from a to b, time grew from x to y, by 99 to 101 percent of that
 pub record GrowsWithinPercent (a b x y : ℤ) : Type 0 where

@@ -2,13 +2,8 @@
 
 use Rattle.std.specs.Prelude.{ℤ, cond, List, [], ◌∷◌, Option, None}
 use Rattle.std.specs.Int.{int_max}
-use Rattle.ert_defs.specs.Lines.{Base, Face, Due, first_base, first_offset, first_state, is_due, is_base, base_from, due_after}
-use Rattle.ert_defs.specs.declared.entry.Act.{Act}
-use Rattle.ert_defs.specs.declared.entry.Event.{Event}
-use Rattle.ert_defs.specs.declared.entry.Event.TheVariants.{Tick, Shift}
-use Rattle.ert_defs.specs.declared.settings.OffsetState.{OffsetState}
-use Rattle.ert_defs.specs.declared.settings.Reading.{Reading}
-use Rattle.ert_defs.specs.declared.settings.Settings.{Settings}
+use Rattle.ert_defs.specs.{Lines.{Base, Face, Due, first_base, first_offset, first_state, is_due, is_base, base_from, due_after}, declared.entry.Act.Act, declared.entry.Event.Event, declared.entry.Event.TheVariants.{Tick, Shift}}
+use Rattle.ert_defs.specs.{declared.settings.OffsetState.OffsetState, declared.settings.Reading.Reading, declared.settings.Settings.Settings}
 
 -- a tick, with the offset and its state as they were when it was made
 pub record Ticked : Type 0 where

@@ -2,20 +2,9 @@
 
 use Rattle.std.specs.Prelude.{ℕ, ℤ, Bool, Option, Some, None, List}
 use Rattle.std.specs.List.{list_any}
-use Rattle.ert_defs.specs.Actors.{has_actor}
-use Rattle.ert_defs.specs.declared.entry.Act.{Act}
-use Rattle.ert_defs.specs.declared.entry.Actor.{Actor}
-use Rattle.ert_defs.specs.declared.entry.Actor.TheVariants.{Keeper, Wheel, Inbox, Sched, MailOf, Caller}
-use Rattle.ert_defs.specs.declared.entry.Entry.{Entry}
-use Rattle.ert_defs.specs.declared.entry.Event.{Event}
-use Rattle.ert_defs.specs.declared.entry.Event.TheVariants.{Tick, Shift, Look, Off, Arm, Probe, Peek, Cancel, Expire, Orphan, Deliver, Drop, Mark, Advanced, Ask, Pick, Answer, Take, Unwatch, Watch, Tell}
-use Rattle.ert_defs.specs.declared.mail.Mail.{Mail}
-use Rattle.ert_defs.specs.declared.mail.Request.{Request}
-use Rattle.ert_defs.specs.declared.settings.OffsetState.{OffsetState}
-use Rattle.ert_defs.specs.declared.settings.Reading.{Reading}
-use Rattle.ert_defs.specs.declared.timer.Start.{Start}
-use Rattle.ert_defs.specs.declared.timer.Status.{Status}
-use Rattle.ert_defs.specs.declared.timer.TimerRef.{TimerRef}
+use Rattle.ert_defs.specs.{Actors.has_actor, declared.entry.Act.Act, declared.entry.Actor.Actor, declared.entry.Actor.TheVariants.{Keeper, Wheel, Inbox, Sched, MailOf, Caller}, declared.entry.Entry.Entry, declared.entry.Event.Event}
+use Rattle.ert_defs.specs.{declared.entry.Event.TheVariants.{Tick, Shift, Look, Off, Arm, Probe, Peek, Cancel, Expire, Orphan, Deliver, Drop, Mark, Advanced, Ask, Pick, Answer, Take, Unwatch, Watch, Tell}, declared.mail.Mail.Mail}
+use Rattle.ert_defs.specs.{declared.mail.Request.Request, declared.settings.OffsetState.OffsetState, declared.settings.Reading.Reading, declared.timer.Start.Start, declared.timer.Status.Status, declared.timer.TimerRef.TimerRef}
 
 -- whether an entry has an actor among these
 abbrev pub is_ours : List Actor → Entry → Bool

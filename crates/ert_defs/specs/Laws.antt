@@ -1,16 +1,9 @@
 -- The laws of histories that don't concern the clock's numbers: what a stranger may expect of the model.
 
 use Rattle.std.specs.Prelude.{◌≡◌, ◌≢◌, ◌⊎◌, ◌↔◌, ℕ, ◌+◌, ◌≤◌, Bool, true, false, cond, not, ◌&&◌, All, AllPairs, Contains, List, [], ◌∷◌, ◌++◌, Option, Some, None}
-use Rattle.ert_defs.specs.Actors.{IsFreeOf}
-use Rattle.ert_defs.specs.Legal.{Keeps, Known, Found, Can, LegalFrom, Legal}
-use Rattle.ert_defs.specs.States.{State, uses_at, opening, next, run, state}
-use Rattle.ert_defs.specs.Timers.{Row, Uses, IsNextUse, row_of, is_taken, timer_at}
-use Rattle.ert_defs.specs.declared.entry.Entry.{Entry}
-use Rattle.ert_defs.specs.declared.entry.Event.TheVariants.{Deliver, Drop}
-use Rattle.ert_defs.specs.declared.settings.Settings.{Settings}
-use Rattle.ert_defs.specs.declared.timer.Status.{Status}
-use Rattle.ert_defs.specs.declared.timer.Status.TheVariants.{Armed, Expired, Delivered, Cancelled, Orphaned, Dropped}
-use Rattle.ert_defs.specs.declared.timer.TimerRef.{TimerRef}
+use Rattle.ert_defs.specs.{Actors.IsFreeOf, Legal.{Keeps, Known, Found, Can, LegalFrom, Legal}, States.{State, uses_at, opening, next, run, state}, Timers.{Row, Uses, IsNextUse, row_of, is_taken, timer_at}, declared.entry.Entry.Entry}
+use Rattle.ert_defs.specs.{declared.entry.Event.TheVariants.{Deliver, Drop}, declared.settings.Settings.Settings, declared.timer.Status.Status, declared.timer.Status.TheVariants.{Armed, Expired, Delivered, Cancelled, Orphaned, Dropped}}
+use Rattle.ert_defs.specs.{declared.timer.TimerRef.TimerRef}
 
 -- each beginning of a legal history is legal
 abbrev pub LawOfPrefixes : Type 0

@@ -3,27 +3,11 @@
 
 use Rattle.std.specs.Prelude.{◌≡◌, ◌≢◌, ℕ, ℤ, pos, ◌<◌, ◌≤ℤ◌, ◌++◌, Bool, true, false, ◌&&◌, ◌||◌, nat_eq, nat_lt, nat_le, List, [], ◌∷◌, length, Option, Some, None, option_map}
 use Rattle.std.specs.List.{list_any}
-use Rattle.ert_defs.specs.Actors.{IsCaller, IsUser}
-use Rattle.ert_defs.specs.Clocks.{face}
-use Rattle.ert_defs.specs.Lines.{Face, time_after, due_after, MayAct, IsInRange}
-use Rattle.ert_defs.specs.Mails.{first_of}
-use Rattle.ert_defs.specs.Milliseconds.{natural, down, left, deadline_of}
-use Rattle.ert_defs.specs.Readings.{IsValid}
-use Rattle.ert_defs.specs.States.{State, uses_at, opening, next}
-use Rattle.ert_defs.specs.Timers.{Row, IsNextUse, row_of, is_taken, timer_at}
-use Rattle.ert_defs.specs.declared.entry.Act.{Act}
-use Rattle.ert_defs.specs.declared.entry.Actor.{Actor}
-use Rattle.ert_defs.specs.declared.entry.Actor.TheVariants.{Keeper, Wheel, Inbox, Sched, MailOf, Caller}
-use Rattle.ert_defs.specs.declared.entry.Entry.{Entry}
-use Rattle.ert_defs.specs.declared.entry.Event.{Event}
-use Rattle.ert_defs.specs.declared.entry.Event.TheVariants.{Tick, Shift, Look, Off, Arm, Probe, Peek, Cancel, Expire, Orphan, Deliver, Drop, Mark, Advanced, Ask, Pick, Answer, Take, Unwatch, Watch, Tell}
-use Rattle.ert_defs.specs.declared.mail.Monitor.{Monitor}
-use Rattle.ert_defs.specs.declared.mail.Request.{Request}
-use Rattle.ert_defs.specs.declared.settings.Reading.{Reading}
-use Rattle.ert_defs.specs.declared.settings.Settings.{Settings}
-use Rattle.ert_defs.specs.declared.timer.Status.{Status}
-use Rattle.ert_defs.specs.declared.timer.Status.TheVariants.{Armed}
-use Rattle.ert_defs.specs.declared.timer.TimerRef.{TimerRef}
+use Rattle.ert_defs.specs.{Actors.{IsCaller, IsUser}, Clocks.face, Lines.{Face, time_after, due_after, MayAct, IsInRange}, Mails.first_of, Milliseconds.{natural, down, left, deadline_of}, Readings.IsValid, States.{State, uses_at, opening}}
+use Rattle.ert_defs.specs.{States.next, Timers.{Row, IsNextUse, row_of, is_taken, timer_at}, declared.entry.Act.Act, declared.entry.Actor.Actor, declared.entry.Actor.TheVariants.{Keeper, Wheel, Inbox, Sched, MailOf, Caller}}
+use Rattle.ert_defs.specs.{declared.entry.Entry.Entry, declared.entry.Event.Event, declared.entry.Event.TheVariants.{Tick, Shift, Look, Off, Arm, Probe, Peek, Cancel, Expire, Orphan, Deliver, Drop, Mark, Advanced, Ask, Pick, Answer, Take}}
+use Rattle.ert_defs.specs.{declared.entry.Event.TheVariants.{Unwatch, Watch, Tell}, declared.mail.Monitor.Monitor, declared.mail.Request.Request, declared.settings.Reading.Reading, declared.settings.Settings.Settings}
+use Rattle.ert_defs.specs.{declared.timer.Status.Status, declared.timer.Status.TheVariants.Armed, declared.timer.TimerRef.TimerRef}
 
 -- a slot of a wheel in range
 pub record IsSlot (g : Settings) (wheel slot : ℕ) : Type 0 where

@@ -3,14 +3,8 @@
 
 use Rattle.std.specs.Prelude.{◌≡◌, ℤ, pos, negsuc, ◌+ℤ◌, ◌-ℤ◌, ◌*ℤ◌, ◌<ℤ◌, Bool, true, false, cond, ◌&&◌, nat_lt, nat_le, int_lt, int_le, unsigned_abs, Option, Some, None}
 use Rattle.std.specs.Int.{int_max, int_div_euclid}
-use Rattle.ert_defs.specs.declared.entry.Act.{Act}
-use Rattle.ert_defs.specs.declared.entry.Act.TheVariants.{Plain, Force, Finalize}
-use Rattle.ert_defs.specs.declared.settings.Mode.{Mode}
-use Rattle.ert_defs.specs.declared.settings.Mode.TheVariants.{No, Single, Multi}
-use Rattle.ert_defs.specs.declared.settings.OffsetState.{OffsetState}
-use Rattle.ert_defs.specs.declared.settings.OffsetState.TheVariants.{Preliminary, Final, Volatile}
-use Rattle.ert_defs.specs.declared.settings.Reading.{Reading}
-use Rattle.ert_defs.specs.declared.settings.Settings.{Settings}
+use Rattle.ert_defs.specs.declared.{entry.Act.Act, entry.Act.TheVariants.{Plain, Force, Finalize}, settings.Mode.Mode, settings.Mode.TheVariants.{No, Single, Multi}, settings.OffsetState.OffsetState}
+use Rattle.ert_defs.specs.declared.{settings.OffsetState.TheVariants.{Preliminary, Final, Volatile}, settings.Reading.Reading, settings.Settings.Settings}
 
 -- an offset within its limits (profile): between -2^62 and 2^62
 pub record IsOffset (x : ℤ) : Type 0 where

@@ -3,19 +3,10 @@
 
 use Rattle.std.specs.Prelude.{ℕ, ℤ, Bool, false, cond, not, nat_eq, nat_lt, List, [], ◌∷◌, ◌++◌, ◌+◌, map, filter, Option, Some, None}
 use Rattle.std.specs.Ordering.{int_eq}
-use Rattle.ert_defs.specs.Timers.{Row, same_timer, row_of}
-use Rattle.ert_defs.specs.declared.entry.Event.{Event}
-use Rattle.ert_defs.specs.declared.entry.Event.TheVariants.{Peek, Cancel, Expire, Deliver, Drop, Ask, Pick, Answer, Take, Unwatch, Watch, Tell}
-use Rattle.ert_defs.specs.declared.mail.Mail.{Mail}
-use Rattle.ert_defs.specs.declared.mail.Mail.TheVariants.{Timeout, Bare as BareMail, CancelDone, ReadDone, Change}
-use Rattle.ert_defs.specs.declared.mail.Monitor.{Monitor}
-use Rattle.ert_defs.specs.declared.mail.Request.{Request}
-use Rattle.ert_defs.specs.declared.mail.RequestKind.{RequestKind}
-use Rattle.ert_defs.specs.declared.mail.RequestKind.TheVariants.{Cancel as ToCancel, Read as ToRead}
-use Rattle.ert_defs.specs.declared.settings.Settings.{Settings}
-use Rattle.ert_defs.specs.declared.timer.Kind.{Kind}
-use Rattle.ert_defs.specs.declared.timer.Kind.TheVariants.{Wrapped, Bare}
-use Rattle.ert_defs.specs.declared.timer.TimerRef.{TimerRef}
+use Rattle.ert_defs.specs.{Timers.{Row, same_timer, row_of}, declared.entry.Event.Event, declared.entry.Event.TheVariants.{Peek, Cancel, Expire, Deliver, Drop, Ask, Pick, Answer, Take, Unwatch, Watch, Tell}, declared.mail.Mail.Mail}
+use Rattle.ert_defs.specs.{declared.mail.Mail.TheVariants.{Timeout, Bare as BareMail, CancelDone, ReadDone, Change}, declared.mail.Monitor.Monitor, declared.mail.Request.Request, declared.mail.RequestKind.RequestKind}
+use Rattle.ert_defs.specs.{declared.mail.RequestKind.TheVariants.{Cancel as ToCancel, Read as ToRead}, declared.settings.Settings.Settings, declared.timer.Kind.Kind, declared.timer.Kind.TheVariants.{Wrapped, Bare}}
+use Rattle.ert_defs.specs.{declared.timer.TimerRef.TimerRef}
 
 -- the first of a list, where there is one
 abbrev pub first_of : {X : Type 0} → List X → Option X

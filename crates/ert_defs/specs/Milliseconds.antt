@@ -3,10 +3,7 @@
 
 use Rattle.std.specs.Prelude.{ℕ, ℤ, pos, negsuc, ◌+ℤ◌, ◌-ℤ◌, cond, nat_le, Option, Some, None}
 use Rattle.std.specs.Int.{int_div_euclid}
-use Rattle.ert_defs.specs.declared.settings.Settings.{Settings}
-use Rattle.ert_defs.specs.declared.timer.Start.{Start}
-use Rattle.ert_defs.specs.declared.timer.When.{When}
-use Rattle.ert_defs.specs.declared.timer.When.TheVariants.{After, At}
+use Rattle.ert_defs.specs.declared.{settings.Settings.Settings, timer.Start.Start, timer.When.When, timer.When.TheVariants.{After, At}}
 
 -- the milliseconds from the start time to a time, rounded down (profile)
 abbrev pub down : Settings → ℤ → ℤ

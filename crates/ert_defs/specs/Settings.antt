@@ -2,12 +2,8 @@
 
 use Rattle.std.specs.Prelude.{◌≡◌, ℤ, pos, negsuc, ◌*◌, ◌≤◌, ◌≤ℤ◌, false, Result, Ok, Err}
 use Rattle.std.specs.Int.{int_rem_euclid}
-use Rattle.ert_defs.specs.Readings.{IsValid}
-use Rattle.ert_defs.specs.declared.settings.Mode.TheVariants.{No}
-use Rattle.ert_defs.specs.declared.settings.Settings.{Settings}
-use Rattle.ert_defs.specs.declared.settings.SettingsFault.{SettingsFault}
-use Rattle.ert_defs.specs.declared.settings.SettingsFault.TheVariants.{Start, First, Count}
-use Rattle.ert_defs.specs.declared.settings.TheConstants.{MOST_SCHEDULERS, MOST_PROCESSES, MOST_CHAINS, MOST_SLOTS, MOST_SLOTS_IN_ALL, MOST_CALLERS}
+use Rattle.ert_defs.specs.{Readings.IsValid, declared.settings.Mode.TheVariants.No, declared.settings.Settings.Settings, declared.settings.SettingsFault.SettingsFault, declared.settings.SettingsFault.TheVariants.{Start, First, Count}}
+use Rattle.ert_defs.specs.{declared.settings.TheConstants.{MOST_SCHEDULERS, MOST_PROCESSES, MOST_CHAINS, MOST_SLOTS, MOST_SLOTS_IN_ALL, MOST_CALLERS}}
 
 -- a start time (profile): a multiple of 1,000,000 from -2^58 to 2^58
 pub record IsStart (start : ℤ) : Type 0 where

@@ -2,8 +2,7 @@
 -- legal history.
 
 use Rattle.std.specs.Prelude.{◌≡◌, ℤ, pos, negsuc, ◌+ℤ◌, ◌-ℤ◌, ◌*ℤ◌, ◌≤ℤ◌, ◌<ℤ◌, Bool, true, false, Option, Some, None}
-use Rattle.ert_defs.specs.Lines.{Face, Due, IsOffset, line_time}
-use Rattle.ert_defs.specs.declared.settings.Settings.{Settings}
+use Rattle.ert_defs.specs.{Lines.{Face, Due, IsOffset, line_time}, declared.settings.Settings.Settings}
 
 -- a rate in parts per million: at most one percent
 pub record IsRate (r : ℤ) : Type 0 where

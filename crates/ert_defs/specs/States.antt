@@ -2,19 +2,9 @@
 -- that actor. The statuses of timers and the exits of processes belong to nobody, and move forward alone.
 
 use Rattle.std.specs.Prelude.{◌≡◌, ℕ, ℤ, Bool, true, false, cond, ◌&&◌, ◌||◌, nat_eq, List, [], ◌∷◌, Option, None}
-use Rattle.ert_defs.specs.Actors.{same_actor, has_actor}
-use Rattle.ert_defs.specs.Clocks.{Clock, first_clock, clock_after}
-use Rattle.ert_defs.specs.Mails.{MailState, SchedState, no_mail, idle_sched, mail_after, inbox_after, sched_after}
-use Rattle.ert_defs.specs.Timers.{Row, Uses, rows_after, last_after, since_after, above_after, status_after}
-use Rattle.ert_defs.specs.declared.entry.Actor.{Actor}
-use Rattle.ert_defs.specs.declared.entry.Actor.TheVariants.{Keeper, Wheel, Inbox, Sched, MailOf}
-use Rattle.ert_defs.specs.declared.entry.Entry.{Entry}
-use Rattle.ert_defs.specs.declared.entry.Event.{Event}
-use Rattle.ert_defs.specs.declared.entry.Event.TheVariants.{Look, Mark}
-use Rattle.ert_defs.specs.declared.mail.Request.{Request}
-use Rattle.ert_defs.specs.declared.settings.Settings.{Settings}
-use Rattle.ert_defs.specs.declared.timer.Status.{Status}
-use Rattle.ert_defs.specs.declared.timer.TimerRef.{TimerRef}
+use Rattle.ert_defs.specs.{Actors.{same_actor, has_actor}, Clocks.{Clock, first_clock, clock_after}, Mails.{MailState, SchedState, no_mail, idle_sched, mail_after, inbox_after, sched_after}, Timers.{Row, Uses, rows_after, last_after}}
+use Rattle.ert_defs.specs.{Timers.{since_after, above_after, status_after}, declared.entry.Actor.Actor, declared.entry.Actor.TheVariants.{Keeper, Wheel, Inbox, Sched, MailOf}, declared.entry.Entry.Entry, declared.entry.Event.Event}
+use Rattle.ert_defs.specs.{declared.entry.Event.TheVariants.{Look, Mark}, declared.mail.Request.Request, declared.settings.Settings.Settings, declared.timer.Status.Status, declared.timer.TimerRef.TimerRef}
 
 -- the state of a service
 pub record State : Type 0 where

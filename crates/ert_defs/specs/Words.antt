@@ -5,14 +5,8 @@
 -- of the first group and behind the last, so that none shares a line with what others have in memory.
 
 use Rattle.std.specs.Prelude.{ℕ, ℤ, pos, ◌+◌, ◌-◌, ◌*◌, ◌/◌, ◌%◌, ◌+ℤ◌, ◌-ℤ◌, Bool, true, false, cond, nat_eq, nat_lt, Option, Some}
-use Rattle.ert_defs.specs.Milliseconds.{natural}
-use Rattle.ert_defs.specs.States.{State}
-use Rattle.ert_defs.specs.Timers.{Row, use_of, row_of, timer_at}
-use Rattle.ert_defs.specs.declared.settings.OffsetState.{OffsetState}
-use Rattle.ert_defs.specs.declared.settings.OffsetState.TheVariants.{Final}
-use Rattle.ert_defs.specs.declared.settings.Settings.{Settings}
-use Rattle.ert_defs.specs.declared.timer.Status.{Status}
-use Rattle.ert_defs.specs.declared.timer.Status.TheVariants.{Armed, Expired, Delivered, Cancelled, Orphaned, Dropped}
+use Rattle.ert_defs.specs.{Milliseconds.natural, States.State, Timers.{Row, use_of, row_of, timer_at}, declared.settings.OffsetState.OffsetState, declared.settings.OffsetState.TheVariants.Final, declared.settings.Settings.Settings}
+use Rattle.ert_defs.specs.{declared.timer.Status.Status, declared.timer.Status.TheVariants.{Armed, Expired, Delivered, Cancelled, Orphaned, Dropped}}
 
 -- the time word: the nanoseconds since the start time, 0 to 8796093022207000000
 abbrev pub time_word : ℤ → ℤ → ℕ

@@ -1,24 +1,10 @@
 -- Worked histories: some short histories that were written by hand. `ert_laws` says what the model says of them.
 
 use Rattle.std.specs.Prelude.{ℕ, ℤ, pos, negsuc, true, false, List, [], ◌∷◌, ◌++◌, Option, Some, None}
-use Rattle.ert_defs.specs.declared.entry.Act.{Act}
-use Rattle.ert_defs.specs.declared.entry.Act.TheVariants.{Plain, Force}
-use Rattle.ert_defs.specs.declared.entry.Actor.{Actor}
-use Rattle.ert_defs.specs.declared.entry.Actor.TheVariants.{Keeper, Wheel, Inbox, Sched, MailOf, Caller}
-use Rattle.ert_defs.specs.declared.entry.Entry.{Entry}
-use Rattle.ert_defs.specs.declared.entry.Event.{Event}
-use Rattle.ert_defs.specs.declared.entry.Event.TheVariants.{Tick, Shift, Look, Arm, Peek, Cancel, Expire, Orphan, Deliver, Mark, Advanced, Ask, Pick, Answer, Take, Watch, Tell}
-use Rattle.ert_defs.specs.declared.mail.Mail.TheVariants.{Timeout, CancelDone, Change}
-use Rattle.ert_defs.specs.declared.mail.Request.{Request}
-use Rattle.ert_defs.specs.declared.mail.RequestKind.TheVariants.{Cancel as ToCancel}
-use Rattle.ert_defs.specs.declared.settings.Mode.{Mode}
-use Rattle.ert_defs.specs.declared.settings.OffsetState.TheVariants.{Volatile}
-use Rattle.ert_defs.specs.declared.settings.Reading.{Reading}
-use Rattle.ert_defs.specs.declared.settings.Settings.{Settings}
-use Rattle.ert_defs.specs.declared.timer.Kind.TheVariants.{Wrapped}
-use Rattle.ert_defs.specs.declared.timer.Start.{Start}
-use Rattle.ert_defs.specs.declared.timer.TimerRef.{TimerRef}
-use Rattle.ert_defs.specs.declared.timer.When.TheVariants.{After}
+use Rattle.ert_defs.specs.declared.{entry.Act.Act, entry.Act.TheVariants.{Plain, Force}, entry.Actor.Actor, entry.Actor.TheVariants.{Keeper, Wheel, Inbox, Sched, MailOf, Caller}, entry.Entry.Entry, entry.Event.Event}
+use Rattle.ert_defs.specs.declared.{entry.Event.TheVariants.{Tick, Shift, Look, Arm, Peek, Cancel, Expire, Orphan, Deliver, Mark, Advanced, Ask, Pick, Answer, Take, Watch, Tell}, mail.Mail.TheVariants.{Timeout, CancelDone, Change}}
+use Rattle.ert_defs.specs.declared.{mail.Request.Request, mail.RequestKind.TheVariants.Cancel as ToCancel, settings.Mode.Mode, settings.OffsetState.TheVariants.Volatile, settings.Reading.Reading, settings.Settings.Settings}
+use Rattle.ert_defs.specs.declared.{timer.Kind.TheVariants.Wrapped, timer.Start.Start, timer.TimerRef.TimerRef, timer.When.TheVariants.After}
 
 -- the settings: no time correction, the start time and the first reading 0, and one of each kind
 abbrev pub small : Mode → Settings

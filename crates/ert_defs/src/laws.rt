@@ -2,8 +2,7 @@
 //! does nothing, so that it is proved wherever this crate is.
 
 ghost use Rattle.std.specs.Prelude.{◌≡◌, pos};
-ghost use Rattle.ert_defs.specs.Laws.{LawOfPrefixes, LawOfParts, LawOfOneMore, LawOfStates, LawOfLocality};
-ghost use Rattle.ert_defs.specs.Laws.{LawOfMoves, LawOfSettling, LawOfSettled, LawOfRows, LawOfSlots};
+ghost use Rattle.ert_defs.specs.Laws.{LawOfPrefixes, LawOfParts, LawOfOneMore, LawOfStates, LawOfLocality, LawOfMoves, LawOfSettling, LawOfSettled, LawOfRows, LawOfSlots};
 
 use crate::milliseconds::{LAST_DEADLINE, NANOSECONDS_PER_MILLISECOND};
 use crate::settings::{

@@ -6,8 +6,7 @@
 
 ghost use Rattle.std.specs.Prelude.{◌≡◌, ◌≤◌, ◌<◌, ◌+◌, [], ◌∷◌, ◌++◌, length, vec_len};
 ghost use Rattle.std.specs.VecDeque.{deque_len, deque_capacity};
-ghost use Rattle.ert_defs.specs.Legal.{stands_in};
-ghost use Rattle.ert_defs.specs.Mails.{changes_of, told_of, without};
+ghost use Rattle.ert_defs.specs.{Legal.stands_in, Mails.{changes_of, told_of, without}};
 
 use crate::{Mail, Monitor};
 use std::collections::VecDeque;

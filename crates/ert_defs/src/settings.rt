@@ -1,7 +1,5 @@
 ghost use Rattle.std.specs.Prelude.{◌≡◌, ◌↔◌, IsTrue};
-ghost use Rattle.ert_defs.specs.Lines.{first_state, end_time};
-ghost use Rattle.ert_defs.specs.Settings.{IsStart, HasCounts, Checks};
-ghost use Rattle.ert_defs.specs.Readings.{IsValid};
+ghost use Rattle.ert_defs.specs.{Lines.{first_state, end_time}, Settings.{IsStart, HasCounts, Checks}, Readings.IsValid};
 
 use crate::milliseconds::{LAST_DEADLINE, NANOSECONDS_PER_MILLISECOND};
 

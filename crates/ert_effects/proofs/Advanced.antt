@@ -2,10 +2,7 @@
 
 use Rattle.std.proofs.Common.{◌≡◌, ℕ, ℤ, List, [], ◌∷◌, ◌++◌}
 use Rattle.ert_effects.specs.WheelCalls.{Try, expiry_entries, hits, HasAdvanced}
-use Rattle.ert_defs.specs.Entries.{look_entry, advanced_entry}
-use Rattle.ert_defs.specs.States.{State}
-use Rattle.ert_defs.specs.declared.entry.Actor.TheVariants.{Sched}
-use Rattle.ert_defs.specs.declared.entry.Entry.{Entry}
+use Rattle.ert_defs.specs.{Entries.{look_entry, advanced_entry}, States.State, declared.entry.Actor.TheVariants.Sched, declared.entry.Entry.Entry}
 
 -- an advance, whatever its tries are of and its misses found
 pub record IsAdvance (w : ℕ) (answer : ℕ × ℕ) (es : List Entry) : Type 0 where

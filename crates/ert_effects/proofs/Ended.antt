@@ -1,25 +1,12 @@
 -- What the entries of the calls tell, alone and beside others.
 
 use Rattle.std.proofs.Common.{◌≡◌, ℕ, zero, suc, ◌+◌, ◌*◌, Bool, true, false, not, cond, List, [], ◌∷◌, filter, Option, Some, None, Result, Ok, Err, is_ok, refl, sym, ap, ◌∙◌, arith}
-use Rattle.ert_effects.proofs.Advanced.{advance_is}
-use Rattle.ert_effects.specs.Chains.{Serves, Delivers, HasTurned, SweepsWheel, SweepsWheels, Exits}
-use Rattle.ert_effects.specs.RequestCalls.{Asks}
-use Rattle.ert_effects.specs.Ways.{Way, alone, beside}
-use Rattle.ert_effects.specs.WheelCalls.{Try, Advances, MarksExit, Sweeps, orphans_by, orphan_entries}
-use Rattle.ert_effects.specs.declared.answers.Turned.{Turned}
-use Rattle.ert_defs.specs.Entries.{is_ours, mark_entry}
-use Rattle.ert_defs.specs.declared.entry.Actor.TheVariants.{Wheel, Inbox, Caller}
-use Rattle.ert_defs.specs.declared.entry.Entry.{Entry}
-use Rattle.ert_defs.specs.declared.entry.Event.{Event}
-use Rattle.ert_defs.specs.declared.entry.Event.TheVariants.{Expire, Deliver, Drop, Advanced, Answer}
-use Rattle.ert_defs.specs.declared.mail.Request.{Request}
-use Rattle.ert_defs.specs.declared.memory.NoMemory.{NoMemory}
-use Rattle.ert_defs.specs.declared.settings.Settings.{Settings}
-use Rattle.ert_defs.specs.declared.timer.Status.{Status}
-use Rattle.ert_defs.specs.declared.timer.TimerRef.{TimerRef}
-use Rattle.ert_effects.proofs.Sums.{sum-cons, IsSum, alone_sum, beside_sum, step_sum, then_sum, none_sum}
-use Rattle.ert_effects.proofs.Turning.{Weighs, advance_sum, serve_sum, delivers_sum, turn_sum}
-use Rattle.ert_effects.specs.Told.{by_answer, by_expiry, by_delivery, by_drop, by_advance, by_exit, by_ask, sum_of, served_by, turn_in, LawOfToldServes, LawOfToldDeliveries, LawOfToldTurns, LawOfToldExits, LawOfToldAsks}
+use Rattle.ert_effects.proofs.{Advanced.advance_is, Sums.{sum-cons, IsSum, alone_sum, beside_sum, step_sum, then_sum, none_sum}, Turning.{Weighs, advance_sum, serve_sum, delivers_sum, turn_sum}}
+use Rattle.ert_effects.specs.{Chains.{Serves, Delivers, HasTurned, SweepsWheel, SweepsWheels, Exits}, RequestCalls.Asks, Ways.{Way, alone, beside}, WheelCalls.{Try, Advances, MarksExit, Sweeps, orphans_by, orphan_entries}}
+use Rattle.ert_effects.specs.{declared.answers.Turned.Turned, Told.{by_answer, by_expiry, by_delivery, by_drop, by_advance, by_exit, by_ask, sum_of, served_by, turn_in, LawOfToldServes, LawOfToldDeliveries, LawOfToldTurns, LawOfToldExits}}
+use Rattle.ert_effects.specs.{Told.LawOfToldAsks}
+use Rattle.ert_defs.specs.{Entries.{is_ours, mark_entry}, declared.entry.Actor.TheVariants.{Wheel, Inbox, Caller}, declared.entry.Entry.Entry, declared.entry.Event.Event, declared.entry.Event.TheVariants.{Expire, Deliver, Drop, Advanced}}
+use Rattle.ert_defs.specs.{declared.entry.Event.TheVariants.Answer, declared.mail.Request.Request, declared.memory.NoMemory.NoMemory, declared.settings.Settings.Settings, declared.timer.Status.Status, declared.timer.TimerRef.TimerRef}
 
 answers_weigh : Weighs by_answer 1 0 0 0 (λ _. 0)
 answers_weigh (Answer wheel left) = refl

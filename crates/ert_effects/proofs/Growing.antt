@@ -2,11 +2,7 @@
 
 use Rattle.std.proofs.Common.{◌≡◌, Bool, true, false, ◌||◌, List, [], ◌∷◌, ◌++◌, filter, refl, sym, ap, subst, ◌∙◌, append-nil, append_assoc}
 use Rattle.std.proofs.lemmas.List.Elements.{filter-append}
-use Rattle.ert_defs.specs.Actors.{has_actor}
-use Rattle.ert_defs.specs.Entries.{is_ours}
-use Rattle.ert_defs.specs.declared.entry.Actor.{Actor}
-use Rattle.ert_defs.specs.declared.entry.Entry.{Entry}
-use Rattle.ert_defs.specs.declared.settings.Settings.{Settings}
+use Rattle.ert_defs.specs.{Actors.has_actor, Entries.is_ours, declared.entry.Actor.Actor, declared.entry.Entry.Entry, declared.settings.Settings.Settings}
 use Rattle.ert_effects.specs.Ways.{Step, Growth, Whole, Then, Many, Grows}
 
 -- a history that grows by one call and then by another

@@ -3,13 +3,7 @@
 use Rattle.std.proofs.Common.{◌≡◌, ◌⊎◌, ℕ, zero, suc, ◌+◌, true, List, [], ◌∷◌, ◌++◌, length, length-append, Option, inl, inr, sym, ap, subst, ◌∙◌, arith}
 use Rattle.ert_effects.specs.TimerCalls.{AreTaken, Rests, Round, IsRoundTaken}
 use Rattle.ert_effects.proofs.Told.{event_same}
-use Rattle.ert_defs.specs.Entries.{probe_entry}
-use Rattle.ert_defs.specs.States.{State}
-use Rattle.ert_defs.specs.Timers.{is_taken}
-use Rattle.ert_defs.specs.declared.entry.Actor.TheVariants.{Caller}
-use Rattle.ert_defs.specs.declared.entry.Entry.{Entry}
-use Rattle.ert_defs.specs.declared.entry.Event.TheVariants.{Probe}
-use Rattle.ert_defs.specs.declared.timer.Status.{Status}
+use Rattle.ert_defs.specs.{Entries.probe_entry, States.State, Timers.is_taken, declared.entry.Actor.TheVariants.Caller, declared.entry.Entry.Entry, declared.entry.Event.TheVariants.Probe, declared.timer.Status.Status}
 
 taken_many : (by w now : ℕ) (s : State) (slot n : ℕ) (es : List Entry) → AreTaken by w now s slot n es → length es ≡ n
 taken_many by w now s slot zero es taken = ap length taken

@@ -1,17 +1,10 @@
 -- The sum of a number of each event, over pieces that come about by a way.
 
 use Rattle.std.proofs.Common.{◌≡◌, ℕ, ◌+◌, List, [], ◌∷◌, ◌++◌, filter, refl, ap, ◌∙◌}
-use Rattle.std.proofs.lemmas.List.Elements.{filter-append}
-use Rattle.std.proofs.lemmas.List.Sums.{sum_by-append, sum_by-cons}
+use Rattle.std.proofs.lemmas.List.{Elements.filter-append, Sums.{sum_by-append, sum_by-cons}}
 use Rattle.ert_effects.proofs.Growing.{whole_own}
-use Rattle.ert_effects.specs.Ways.{Step, Growth, Way, Then, alone, beside}
-use Rattle.ert_defs.specs.Entries.{is_ours}
-use Rattle.ert_defs.specs.States.{State, state}
-use Rattle.ert_defs.specs.declared.entry.Actor.{Actor}
-use Rattle.ert_defs.specs.declared.entry.Entry.{Entry}
-use Rattle.ert_defs.specs.declared.entry.Event.{Event}
-use Rattle.ert_defs.specs.declared.settings.Settings.{Settings}
-use Rattle.ert_effects.specs.Told.{sum_of}
+use Rattle.ert_effects.specs.{Ways.{Step, Growth, Way, Then, alone, beside}, Told.sum_of}
+use Rattle.ert_defs.specs.{Entries.is_ours, States.{State, state}, declared.entry.Actor.Actor, declared.entry.Entry.Entry, declared.entry.Event.Event, declared.settings.Settings.Settings}
 
 pub sum-cons : (f : Event → ℕ) (e : Entry) (es : List Entry) → sum_of f (e ∷ es) ≡ f e.event + sum_of f es
 sum-cons f e es = sum_by-cons (λ (x : Entry). f x.event) e es

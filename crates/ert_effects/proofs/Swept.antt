@@ -2,25 +2,10 @@
 
 use Rattle.std.proofs.Common.{◌≡◌, ◌≢◌, ℕ, zero, suc, ◌+◌, ◌<◌, ◌≤◌, ℤ, Bool, true, false, cond, nat_eq, List, [], ◌∷◌, ◌++◌, length, Contains, slice_index_or, Option, Some, refl, sym, ap, subst, ◌∙◌, arith, append_assoc, eqb-true, eq-eqb}
 use Rattle.std.proofs.lemmas.List.Elements.{Contains-append_left}
-use Rattle.ert_effects.specs.Chains.{SweepsWheel, SweepsWheels}
-use Rattle.ert_effects.specs.Laws.{ExitSettles, LawOfExits}
-use Rattle.ert_effects.specs.Ways.{Way, alone, beside}
-use Rattle.ert_effects.specs.WheelCalls.{AreSwept}
-use Rattle.ert_defs.specs.Actors.{has_actor}
-use Rattle.ert_defs.specs.Legal.{Legal}
-use Rattle.ert_defs.specs.Milliseconds.{deadline_of}
-use Rattle.ert_defs.specs.States.{State, next, run, state}
-use Rattle.ert_defs.specs.Timers.{Row, row_from, rows_after}
-use Rattle.ert_defs.specs.declared.entry.Actor.TheVariants.{Wheel}
-use Rattle.ert_defs.specs.declared.entry.Entry.{Entry}
-use Rattle.ert_defs.specs.declared.entry.Event.{Event}
-use Rattle.ert_defs.specs.declared.entry.Event.TheVariants.{Arm}
-use Rattle.ert_defs.specs.declared.settings.Settings.{Settings}
-use Rattle.ert_defs.specs.declared.timer.Status.{Status}
-use Rattle.ert_defs.specs.declared.timer.Status.TheVariants.{Armed}
-use Rattle.ert_defs.specs.declared.timer.TimerRef.{TimerRef}
-use Rattle.ert_defs.proofs.Runs.{carry, state-append}
-use Rattle.ert_defs.proofs.Settlings.{rows_stay_settled}
+use Rattle.ert_effects.specs.{Chains.{SweepsWheel, SweepsWheels}, Laws.{ExitSettles, LawOfExits}, Ways.{Way, alone, beside}, WheelCalls.AreSwept}
+use Rattle.ert_defs.specs.{Actors.has_actor, Legal.Legal, Milliseconds.deadline_of, States.{State, next, run, state}, Timers.{Row, row_from, rows_after}, declared.entry.Actor.TheVariants.Wheel, declared.entry.Entry.Entry}
+use Rattle.ert_defs.specs.{declared.entry.Event.Event, declared.entry.Event.TheVariants.Arm, declared.settings.Settings.Settings, declared.timer.Status.Status, declared.timer.Status.TheVariants.Armed, declared.timer.TimerRef.TimerRef}
+use Rattle.ert_defs.proofs.{Runs.{carry, state-append}, Settlings.rows_stay_settled}
 
 -- the rows of a wheel grow
 kept_or : (b : Bool) (rows : List Row) (more : List Row) (row : Row) → Contains rows row → Contains (cond b (rows ++ more) rows) row

@@ -2,21 +2,11 @@
 
 use Rattle.std.proofs.Common.{inl, inr, ◌≡◌, ℕ, zero, suc, ◌+◌, ℤ, false, List, [], ◌∷◌, ◌++◌, Option, Some, None, Ok, Err, refl, sym, ap, subst, ◌∙◌, arith}
 use Rattle.ert_effects.proofs.Advanced.{IsAdvance, advance_is}
-use Rattle.ert_effects.specs.Laws.{LawOfStarts, LawOfAdvances}
-use Rattle.ert_effects.specs.TimerCalls.{AreProbes, AreTaken, Round, IsRoundTaken, IsStarted, IsBadArg, IsWheelFull}
-use Rattle.ert_effects.specs.WheelCalls.{Try, expires_by, expiry_entries, hit_by, hits}
-use Rattle.ert_effects.specs.declared.answers.StartErr.TheVariants.{BadArg, Full, NoMemory}
-use Rattle.ert_defs.specs.Entries.{look_entry, probe_entry, arm_entry, expire_entry, mark_entry, advanced_entry}
-use Rattle.ert_defs.specs.Milliseconds.{deadline_of}
-use Rattle.ert_defs.specs.States.{State}
-use Rattle.ert_defs.specs.declared.entry.Actor.{Actor}
-use Rattle.ert_defs.specs.declared.entry.Actor.TheVariants.{Caller, Sched}
-use Rattle.ert_defs.specs.declared.entry.Entry.{Entry}
-use Rattle.ert_defs.specs.declared.entry.Event.TheVariants.{Look, Arm, Probe, Expire, Advanced}
-use Rattle.ert_defs.specs.declared.settings.Settings.{Settings}
-use Rattle.ert_defs.specs.declared.timer.Start.{Start}
-use Rattle.ert_defs.specs.declared.timer.Status.{Status}
-use Rattle.ert_defs.specs.declared.timer.TimerRef.{TimerRef}
+use Rattle.ert_effects.specs.{Laws.{LawOfStarts, LawOfAdvances}, TimerCalls.{AreProbes, AreTaken, Round, IsRoundTaken, IsStarted, IsBadArg, IsWheelFull}, WheelCalls.{Try, expires_by, expiry_entries, hit_by, hits}}
+use Rattle.ert_effects.specs.{declared.answers.StartErr.TheVariants.{BadArg, Full, NoMemory}}
+use Rattle.ert_defs.specs.{Entries.{look_entry, probe_entry, arm_entry, expire_entry, mark_entry, advanced_entry}, Milliseconds.deadline_of, States.State, declared.entry.Actor.Actor, declared.entry.Actor.TheVariants.{Caller, Sched}}
+use Rattle.ert_defs.specs.{declared.entry.Entry.Entry, declared.entry.Event.TheVariants.{Look, Arm, Probe, Expire, Advanced}, declared.settings.Settings.Settings, declared.timer.Start.Start, declared.timer.Status.Status}
+use Rattle.ert_defs.specs.{declared.timer.TimerRef.TimerRef}
 
 -- one entry has one event
 pub event_same : (e f : Entry) → e ≡ f → e.event ≡ f.event

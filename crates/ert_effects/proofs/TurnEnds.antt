@@ -1,13 +1,8 @@
 -- What a turn leaves.
 
 use Rattle.std.proofs.Common.{◌≡◌, ℕ, ◌≤◌, List, [], ◌++◌, sym, ap, ◌∙◌, append_assoc}
-use Rattle.ert_effects.specs.Chains.{HasTurned}
-use Rattle.ert_effects.specs.Laws.{LawOfTurns}
-use Rattle.ert_effects.specs.Ways.{Way, alone, beside}
-use Rattle.ert_effects.specs.declared.answers.Turned.{Turned}
-use Rattle.ert_defs.specs.States.{state}
-use Rattle.ert_defs.specs.declared.entry.Entry.{Entry}
-use Rattle.ert_defs.specs.declared.settings.Settings.{Settings}
+use Rattle.ert_effects.specs.{Chains.HasTurned, Laws.LawOfTurns, Ways.{Way, alone, beside}, declared.answers.Turned.Turned}
+use Rattle.ert_defs.specs.{States.state, declared.entry.Entry.Entry, declared.settings.Settings.Settings}
 use Rattle.ert_defs.proofs.Runs.{carry}
 
 -- a history and two pieces, of which the second is two pieces

@@ -2,34 +2,14 @@
 
 use Rattle.std.proofs.Common.{◌≡◌, ℕ, zero, suc, ◌+◌, ◌*◌, Bool, true, false, cond, List, [], ◌∷◌, ◌++◌, Option, Some, None, Result, Ok, Err, refl, ap, ◌∙◌, arith}
 use Rattle.std.specs.Prelude.{nat_lt}
-use Rattle.ert_effects.proofs.Advanced.{IsAdvance}
-use Rattle.ert_effects.specs.Chains.{HoldsBy, Serves, HasServed, ServesAll, ServesMany, AdvancesWheel, Hands, HandsMany, Delivers, HasTurned, put_by, puts, dropped_by, drops}
-use Rattle.ert_effects.specs.MailCalls.{handed_entries, HandsOver}
-use Rattle.ert_effects.specs.RequestCalls.{Picks, Answers, DoesAsked, HasAnswered}
-use Rattle.ert_effects.specs.TimerCalls.{read_entries, cancel_entries}
-use Rattle.ert_effects.specs.Ways.{Way, Then}
-use Rattle.ert_effects.specs.WheelCalls.{Try, expires_by, expiry_entries, hit_by, hits}
-use Rattle.ert_effects.specs.declared.answers.Handed.{Handed}
-use Rattle.ert_effects.specs.declared.answers.Handed.TheVariants.{Put, Dropped}
-use Rattle.ert_effects.specs.declared.answers.Turned.{Turned}
-use Rattle.ert_defs.specs.Entries.{look_entry, peek_entry, cancel_entry, pick_entry, mark_entry, deliver_entry, drop_entry, answer_entry, advanced_entry}
-use Rattle.ert_defs.specs.Legal.{names_timer}
-use Rattle.ert_defs.specs.States.{State, state}
-use Rattle.ert_defs.specs.Timers.{Row}
-use Rattle.ert_defs.specs.declared.entry.Actor.{Actor}
-use Rattle.ert_defs.specs.declared.entry.Actor.TheVariants.{Inbox, MailOf, Sched}
-use Rattle.ert_defs.specs.declared.entry.Entry.{Entry}
-use Rattle.ert_defs.specs.declared.entry.Event.{Event}
-use Rattle.ert_defs.specs.declared.entry.Event.TheVariants.{Look, Probe, Peek, Cancel, Expire, Deliver, Drop, Mark, Advanced, Pick, Answer}
-use Rattle.ert_defs.specs.declared.mail.Request.{Request}
-use Rattle.ert_defs.specs.declared.mail.RequestKind.{RequestKind}
-use Rattle.ert_defs.specs.declared.mail.RequestKind.TheVariants.{Cancel as ToCancel, Read as ToRead}
-use Rattle.ert_defs.specs.declared.memory.NoMemory.{NoMemory}
-use Rattle.ert_defs.specs.declared.settings.Settings.{Settings}
-use Rattle.ert_defs.specs.declared.timer.Status.{Status}
-use Rattle.ert_defs.specs.declared.timer.TimerRef.{TimerRef}
-use Rattle.ert_effects.proofs.Sums.{sum-cons, sum-append, IsSum, step_sum, then_sum, none_sum}
-use Rattle.ert_effects.specs.Told.{sum_of, served_by}
+use Rattle.ert_effects.proofs.{Advanced.IsAdvance, Sums.{sum-cons, sum-append, IsSum, step_sum, then_sum, none_sum}}
+use Rattle.ert_effects.specs.{Chains.{HoldsBy, Serves, HasServed, ServesAll, ServesMany, AdvancesWheel, Hands, HandsMany, Delivers, HasTurned, put_by, puts, dropped_by, drops}, MailCalls.{handed_entries, HandsOver}, RequestCalls.Picks}
+use Rattle.ert_effects.specs.{RequestCalls.{Answers, DoesAsked, HasAnswered}, TimerCalls.{read_entries, cancel_entries}, Ways.{Way, Then}, WheelCalls.{Try, expires_by, expiry_entries, hit_by, hits}, declared.answers.Handed.Handed}
+use Rattle.ert_effects.specs.{declared.answers.Handed.TheVariants.{Put, Dropped}, declared.answers.Turned.Turned, Told.{sum_of, served_by}}
+use Rattle.ert_defs.specs.{Entries.{look_entry, peek_entry, cancel_entry, pick_entry, mark_entry, deliver_entry, drop_entry, answer_entry, advanced_entry}, Legal.names_timer, States.{State, state}, Timers.Row, declared.entry.Actor.Actor}
+use Rattle.ert_defs.specs.{declared.entry.Actor.TheVariants.{Inbox, MailOf, Sched}, declared.entry.Entry.Entry, declared.entry.Event.Event, declared.entry.Event.TheVariants.{Look, Probe, Peek, Cancel, Expire, Deliver, Drop, Mark, Advanced}}
+use Rattle.ert_defs.specs.{declared.entry.Event.TheVariants.{Pick, Answer}, declared.mail.Request.Request, declared.mail.RequestKind.RequestKind, declared.mail.RequestKind.TheVariants.{Cancel as ToCancel, Read as ToRead}}
+use Rattle.ert_defs.specs.{declared.memory.NoMemory.NoMemory, declared.settings.Settings.Settings, declared.timer.Status.Status, declared.timer.TimerRef.TimerRef}
 
 -- what an event of a scheduler's calls counts: an answer, an expiry, a message that is put or thrown away, and the
 -- record of an advance; all others nothing

@@ -2,21 +2,10 @@
 -- and `turn`, and of a caller `exit`. Each is said once, over a way.
 
 use Rattle.std.specs.Prelude.{◌≡◌, ◌⊎◌, ℕ, zero, suc, ◌+◌, ◌<◌, ◌≤◌, Bool, true, false, cond, nat_lt, List, [], ◌∷◌, ◌++◌, Option, Some, None, Result, Ok, Err}
-use Rattle.ert_defs.specs.Mails.{first_of}
-use Rattle.ert_defs.specs.States.{state}
-use Rattle.ert_defs.specs.Timers.{Row}
-use Rattle.ert_defs.specs.declared.entry.Actor.TheVariants.{Wheel, Inbox, MailOf, Caller}
-use Rattle.ert_defs.specs.declared.entry.Entry.{Entry}
-use Rattle.ert_defs.specs.declared.mail.Request.{Request}
-use Rattle.ert_defs.specs.declared.memory.NoMemory.{NoMemory}
-use Rattle.ert_defs.specs.declared.settings.Settings.{Settings}
-use Rattle.ert_effects.specs.MailCalls.{HandsOver}
-use Rattle.ert_effects.specs.RequestCalls.{Picks, HasAnswered, Answers}
-use Rattle.ert_effects.specs.Ways.{Growth, Way, Then, Many}
-use Rattle.ert_effects.specs.WheelCalls.{HasAdvanced, Advances, Sweeps, AreSwept, MarksExit}
-use Rattle.ert_effects.specs.declared.answers.Handed.{Handed}
-use Rattle.ert_effects.specs.declared.answers.Handed.TheVariants.{Put, Dropped}
-use Rattle.ert_effects.specs.declared.answers.Turned.{Turned}
+use Rattle.ert_defs.specs.{Mails.first_of, States.state, Timers.Row, declared.entry.Actor.TheVariants.{Wheel, Inbox, MailOf, Caller}, declared.entry.Entry.Entry, declared.mail.Request.Request, declared.memory.NoMemory.NoMemory}
+use Rattle.ert_defs.specs.{declared.settings.Settings.Settings}
+use Rattle.ert_effects.specs.{MailCalls.HandsOver, RequestCalls.{Picks, HasAnswered, Answers}, Ways.{Growth, Way, Then, Many}, WheelCalls.{HasAdvanced, Advances, Sweeps, AreSwept, MarksExit}, declared.answers.Handed.Handed}
+use Rattle.ert_effects.specs.{declared.answers.Handed.TheVariants.{Put, Dropped}, declared.answers.Turned.Turned}
 
 -- a scheduler has a request in its hand: the one that was there, or else the one that it picks
 abbrev pub HoldsBy : Option Request → Way → Settings → ℕ → Option Request → Growth

@@ -2,24 +2,10 @@
 -- `system_time`, `system_flag`).
 
 use Rattle.std.specs.Prelude.{◌≡◌, ℕ, ℤ, ◌+ℤ◌, Bool, List, [], ◌∷◌, None, Result, Ok, Err}
-use Rattle.ert_clock.specs.Ticks.{act_of, shift_entries, offset_of, IsWide}
-use Rattle.ert_clock.specs.declared.clock.ClockErr.{ClockErr}
-use Rattle.ert_clock.specs.declared.clock.ClockErr.TheVariants.{BadReading, OffsetWide}
-use Rattle.ert_clock.specs.declared.clock.Moved.{Moved}
-use Rattle.ert_defs.specs.Clocks.{face}
-use Rattle.ert_defs.specs.Entries.{look_entry, off_entry, keeper_entry, tick_entry}
-use Rattle.ert_defs.specs.Lines.{MayAct, time_after, due_after}
-use Rattle.ert_defs.specs.Readings.{IsValid}
-use Rattle.ert_defs.specs.States.{State}
-use Rattle.ert_defs.specs.declared.entry.Act.{Act}
-use Rattle.ert_defs.specs.declared.entry.Act.TheVariants.{Finalize}
-use Rattle.ert_defs.specs.declared.entry.Actor.{Actor}
-use Rattle.ert_defs.specs.declared.entry.Entry.{Entry}
-use Rattle.ert_defs.specs.declared.entry.Event.TheVariants.{Off}
-use Rattle.ert_defs.specs.declared.settings.OffsetState.{OffsetState}
-use Rattle.ert_defs.specs.declared.settings.OffsetState.TheVariants.{Preliminary, Final, Volatile}
-use Rattle.ert_defs.specs.declared.settings.Reading.{Reading}
-use Rattle.ert_defs.specs.declared.settings.Settings.{Settings}
+use Rattle.ert_clock.specs.{Ticks.{act_of, shift_entries, offset_of, IsWide}, declared.clock.ClockErr.ClockErr, declared.clock.ClockErr.TheVariants.{BadReading, OffsetWide}, declared.clock.Moved.Moved}
+use Rattle.ert_defs.specs.{Clocks.face, Entries.{look_entry, off_entry, keeper_entry, tick_entry}, Lines.{MayAct, time_after, due_after}, Readings.IsValid, States.State, declared.entry.Act.Act, declared.entry.Act.TheVariants.Finalize}
+use Rattle.ert_defs.specs.{declared.entry.Actor.Actor, declared.entry.Entry.Entry, declared.entry.Event.TheVariants.Off, declared.settings.OffsetState.OffsetState, declared.settings.OffsetState.TheVariants.{Preliminary, Final, Volatile}}
+use Rattle.ert_defs.specs.{declared.settings.Reading.Reading, declared.settings.Settings.Settings}
 
 -- a tick moves the clock: its own entry, and that of the shift where it made one due; the answer is the time
 -- of the one and the offset of the other

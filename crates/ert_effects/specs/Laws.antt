@@ -2,27 +2,12 @@
 -- proved.
 
 use Rattle.std.specs.Prelude.{◌≡◌, ◌≢◌, ℕ, ◌<◌, Bool, true, Contains, List, ◌++◌, Option, Some, Ok, Err, ◌≤◌, []}
-use Rattle.ert_defs.specs.Legal.{Legal}
-use Rattle.ert_defs.specs.States.{State, state}
-use Rattle.ert_defs.specs.Timers.{Row}
-use Rattle.ert_defs.specs.declared.entry.Actor.{Actor}
-use Rattle.ert_defs.specs.declared.entry.Entry.{Entry}
-use Rattle.ert_defs.specs.declared.mail.Request.{Request}
-use Rattle.ert_defs.specs.declared.settings.Reading.{Reading}
-use Rattle.ert_defs.specs.declared.settings.Settings.{Settings}
-use Rattle.ert_defs.specs.declared.timer.Start.{Start}
-use Rattle.ert_defs.specs.declared.timer.Status.TheVariants.{Armed}
-use Rattle.ert_defs.specs.declared.timer.TimerRef.{TimerRef}
-use Rattle.ert_effects.specs.Chains.{Exits, Turns}
-use Rattle.ert_effects.specs.ClockCalls.{Ticks, Finalizes, TellsTime, TellsOffset, TellsSystemTime}
-use Rattle.ert_effects.specs.MailCalls.{HandsOver, Takes, Monitors, Demonitors, Notifies}
-use Rattle.ert_effects.specs.RequestCalls.{Picks, Answers}
-use Rattle.ert_effects.specs.TimerCalls.{Reads, Cancels, Starts}
-use Rattle.ert_effects.specs.Ways.{Way, alone, beside}
-use Rattle.ert_effects.specs.WheelCalls.{Advances, TellsAlive, MarksExit}
+use Rattle.ert_defs.specs.{Legal.Legal, States.{State, state}, Timers.Row, declared.entry.Actor.Actor, declared.entry.Entry.Entry, declared.mail.Request.Request, declared.settings.Reading.Reading, declared.settings.Settings.Settings}
+use Rattle.ert_defs.specs.{declared.timer.Start.Start, declared.timer.Status.TheVariants.Armed, declared.timer.TimerRef.TimerRef}
+use Rattle.ert_effects.specs.{Chains.{Exits, Turns}, ClockCalls.{Ticks, Finalizes, TellsTime, TellsOffset, TellsSystemTime}, MailCalls.{HandsOver, Takes, Monitors, Demonitors, Notifies}, RequestCalls.{Picks, Answers}, TimerCalls.Reads}
+use Rattle.ert_effects.specs.{TimerCalls.{Cancels, Starts}, Ways.{Way, alone, beside}, WheelCalls.{Advances, TellsAlive, MarksExit}, declared.answers.Turned.Turned}
 use Rattle.ert_effects.specs.declared.answers.MonitorErr.TheVariants as monitors
 use Rattle.ert_effects.specs.declared.answers.StartErr.TheVariants as starts
-use Rattle.ert_effects.specs.declared.answers.Turned.{Turned}
 
 -- an answer is read from the entries: in one state the same entries have one answer
 abbrev pub IsRead : {A : Type 0} → (A → State → List Entry → Type 0) → Type 0

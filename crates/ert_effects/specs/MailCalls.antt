@@ -2,21 +2,9 @@
 -- reference, `monitor` with `time_offset`).
 
 use Rattle.std.specs.Prelude.{◌≡◌, ◌⊎◌, ℕ, ◌<◌, ◌≤◌, ℤ, Bool, true, false, List, [], ◌∷◌, length, Some, None, Result, Ok, Err}
-use Rattle.ert_defs.specs.Entries.{off_entry, mark_entry, deliver_entry, drop_entry, take_entry, watch_entry, unwatch_entry, tell_entry}
-use Rattle.ert_defs.specs.Mails.{MailState, changes_of}
-use Rattle.ert_defs.specs.States.{State}
-use Rattle.ert_defs.specs.Timers.{Row}
-use Rattle.ert_defs.specs.declared.entry.Actor.TheVariants.{Caller, Sched}
-use Rattle.ert_defs.specs.declared.entry.Entry.{Entry}
-use Rattle.ert_defs.specs.declared.memory.NoMemory.{NoMemory as OutOfMemory}
-use Rattle.ert_defs.specs.declared.settings.OffsetState.{OffsetState}
-use Rattle.ert_defs.specs.declared.settings.Settings.{Settings}
-use Rattle.ert_effects.specs.declared.answers.Handed.{Handed}
-use Rattle.ert_effects.specs.declared.answers.Handed.TheVariants.{Put, Dropped}
-use Rattle.ert_effects.specs.declared.answers.MonitorErr.{MonitorErr}
-use Rattle.ert_effects.specs.declared.answers.MonitorErr.TheVariants.{Full, NoMemory}
-use Rattle.ert_effects.specs.declared.answers.Taken.{Taken}
-use Rattle.ert_effects.specs.declared.answers.Taken.TheVariants.{Mail, Empty, Exited}
+use Rattle.ert_defs.specs.{Entries.{off_entry, mark_entry, deliver_entry, drop_entry, take_entry, watch_entry, unwatch_entry, tell_entry}, Mails.{MailState, changes_of}, States.State, Timers.Row, declared.entry.Actor.TheVariants.Caller}
+use Rattle.ert_defs.specs.{declared.entry.Actor.TheVariants.Sched, declared.entry.Entry.Entry, declared.memory.NoMemory.NoMemory as OutOfMemory, declared.settings.OffsetState.OffsetState, declared.settings.Settings.Settings}
+use Rattle.ert_effects.specs.declared.answers.{Handed.Handed, Handed.TheVariants.{Put, Dropped}, MonitorErr.MonitorErr, MonitorErr.TheVariants.{Full, NoMemory}, Taken.Taken, Taken.TheVariants.{Mail, Empty, Exited}}
 
 -- the entries of one that is handed over: its destination is found to have exited, or it is put
 abbrev pub handed_entries : ℕ → Row → Handed → List Entry

@@ -1,19 +1,9 @@
 -- What the call that gives an armed timer a new deadline records and answers.
 
 use Rattle.std.specs.Prelude.{◌≡◌, ◌≢◌, ◌⊎◌, ℕ, ℤ, length, Bool, true, false, nat_lt, List, [], ◌∷◌, ◌++◌, Option, Some, None, Result, Ok, Err}
-use Rattle.ert_defs.specs.Entries.{look_entry, peek_entry, cancel_entry, arm_entry, mark_entry}
-use Rattle.ert_defs.specs.Legal.{names_timer}
-use Rattle.ert_defs.specs.Milliseconds.{natural, down, deadline_of}
-use Rattle.ert_defs.specs.States.{State}
-use Rattle.ert_defs.specs.Timers.{use_of}
-use Rattle.ert_defs.specs.declared.entry.Actor.TheVariants.{Caller}
-use Rattle.ert_defs.specs.declared.entry.Entry.{Entry}
-use Rattle.ert_defs.specs.declared.settings.Settings.{Settings}
-use Rattle.ert_defs.specs.declared.timer.Start.{Start}
-use Rattle.ert_defs.specs.declared.timer.TimerRef.{TimerRef}
-use Rattle.ert_effects.specs.TimerCalls.{AreProbes, Closes, IsBadArg, IsRoundTaken, Round}
-use Rattle.ert_effects.specs.declared.answers.RestartErr.{RestartErr}
-use Rattle.ert_effects.specs.declared.answers.RestartErr.TheVariants.{BadArg, NotArmed, Full}
+use Rattle.ert_defs.specs.{Entries.{look_entry, peek_entry, cancel_entry, arm_entry, mark_entry}, Legal.names_timer, Milliseconds.{natural, down, deadline_of}, States.State, Timers.use_of, declared.entry.Actor.TheVariants.Caller}
+use Rattle.ert_defs.specs.{declared.entry.Entry.Entry, declared.settings.Settings.Settings, declared.timer.Start.Start, declared.timer.TimerRef.TimerRef}
+use Rattle.ert_effects.specs.{TimerCalls.{AreProbes, Closes, IsBadArg, IsRoundTaken, Round}, declared.answers.RestartErr.RestartErr, declared.answers.RestartErr.TheVariants.{BadArg, NotArmed, Full}}
 
 -- a timer is read, cancelled, and another is started on the wheel; then the exit of its destination is looked at, and what
 -- follows from that

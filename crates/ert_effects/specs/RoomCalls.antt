@@ -1,14 +1,8 @@
 -- What the call that looks how much room a wheel has records and answers.
 
 use Rattle.std.specs.Prelude.{◌≡◌, ℕ, zero, suc, ◌+◌, ℤ, Bool, true, false, min, nat_lt, if◌then◌else◌, List, [], ◌∷◌, length, Option, Some, None}
-use Rattle.ert_defs.specs.Entries.{look_entry, probe_entry}
-use Rattle.ert_defs.specs.Milliseconds.{natural, down}
-use Rattle.ert_defs.specs.States.{State, uses_at}
-use Rattle.ert_defs.specs.Timers.{turned, is_taken}
-use Rattle.ert_defs.specs.declared.entry.Actor.TheVariants.{Caller}
-use Rattle.ert_defs.specs.declared.entry.Entry.{Entry}
-use Rattle.ert_defs.specs.declared.settings.Settings.{Settings}
-use Rattle.ert_defs.specs.declared.timer.Status.{Status}
+use Rattle.ert_defs.specs.{Entries.{look_entry, probe_entry}, Milliseconds.{natural, down}, States.{State, uses_at}, Timers.{turned, is_taken}, declared.entry.Actor.TheVariants.Caller, declared.entry.Entry.Entry}
+use Rattle.ert_defs.specs.{declared.settings.Settings.Settings, declared.timer.Status.Status}
 use Rattle.ert_effects.specs.declared.answers.Room.{Room}
 
 -- no slot was looked at yet

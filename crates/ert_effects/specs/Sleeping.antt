@@ -1,14 +1,8 @@
 -- What the calls record by which the rows of settled timers go: `next_due`, and the one that lets go of all.
 
 use Rattle.std.specs.Prelude.{◌≡◌, ◌≢◌, ◌⊎◌, ℕ, ◌+◌, ◌≤◌, cond, List, [], ◌∷◌, map, length, Option, Some}
-use Rattle.ert_defs.specs.Entries.{probe_entry}
-use Rattle.ert_defs.specs.Laws.{is_armed}
-use Rattle.ert_defs.specs.States.{State}
-use Rattle.ert_defs.specs.declared.entry.Actor.TheVariants.{Sched}
-use Rattle.ert_defs.specs.declared.entry.Entry.{Entry}
-use Rattle.ert_defs.specs.declared.settings.Settings.{Settings}
-use Rattle.ert_defs.specs.declared.timer.Status.{Status}
-use Rattle.ert_defs.specs.declared.timer.Status.TheVariants.{Armed}
+use Rattle.ert_defs.specs.{Entries.probe_entry, Laws.is_armed, States.State, declared.entry.Actor.TheVariants.Sched, declared.entry.Entry.Entry, declared.settings.Settings.Settings, declared.timer.Status.Status}
+use Rattle.ert_defs.specs.{declared.timer.Status.TheVariants.Armed}
 
 -- a slot that was probed, and the status that its last timer was found in
 pub record Probed : Type 0 where

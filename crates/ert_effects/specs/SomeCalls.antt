@@ -1,17 +1,9 @@
 -- What an advance of a wheel records and answers that tries so many timers at most.
 
 use Rattle.std.specs.Prelude.{◌≡◌, ℕ, ◌≤◌, ℤ, pos, Bool, true, false, List, [], ◌∷◌, ◌++◌, length, Result, Ok, Err}
-use Rattle.ert_defs.specs.Entries.{look_entry, advanced_entry}
-use Rattle.ert_defs.specs.Milliseconds.{down}
-use Rattle.ert_defs.specs.States.{State}
-use Rattle.ert_defs.specs.declared.entry.Actor.TheVariants.{Wheel, Sched}
-use Rattle.ert_defs.specs.declared.entry.Entry.{Entry}
-use Rattle.ert_defs.specs.declared.memory.NoMemory.{NoMemory}
-use Rattle.ert_defs.specs.declared.settings.Settings.{Settings}
-use Rattle.ert_effects.specs.Ways.{Growth, Way}
-use Rattle.ert_effects.specs.WheelCalls.{Try, expiry_entries, hits, AllMissesSettled, AllDue, AreOnce, Advances}
-use Rattle.ert_effects.specs.declared.answers.Left.{Left}
-use Rattle.ert_effects.specs.declared.answers.Left.TheVariants.{Nothing, Due, Moving}
+use Rattle.ert_defs.specs.{Entries.{look_entry, advanced_entry}, Milliseconds.down, States.State, declared.entry.Actor.TheVariants.{Wheel, Sched}, declared.entry.Entry.Entry, declared.memory.NoMemory.NoMemory}
+use Rattle.ert_defs.specs.{declared.settings.Settings.Settings}
+use Rattle.ert_effects.specs.{Ways.{Growth, Way}, WheelCalls.{Try, expiry_entries, hits, AllMissesSettled, AllDue, AreOnce, Advances}, declared.answers.Left.Left, declared.answers.Left.TheVariants.{Nothing, Due, Moving}}
 
 -- whether the next advance goes on with something
 abbrev pub is_more : Left → Bool

@@ -2,19 +2,9 @@
 -- carry the laws as contracts, so that they are proved.
 
 use Rattle.std.specs.Prelude.{◌≡◌, ℕ, Bool, true, false, cond, sum_by, filter, List, [], ◌∷◌, Result, Ok, Err, is_ok}
-use Rattle.ert_effects.specs.Chains.{Serves, Delivers, Turns, Exits}
-use Rattle.ert_effects.specs.RequestCalls.{Asks}
-use Rattle.ert_effects.specs.Ways.{Growth, Way, alone, beside}
-use Rattle.ert_effects.specs.declared.answers.Turned.{Turned}
-use Rattle.ert_defs.specs.Entries.{is_ours}
-use Rattle.ert_defs.specs.declared.entry.Actor.{Actor}
-use Rattle.ert_defs.specs.declared.entry.Actor.TheVariants.{Inbox}
-use Rattle.ert_defs.specs.declared.entry.Entry.{Entry}
-use Rattle.ert_defs.specs.declared.entry.Event.{Event}
-use Rattle.ert_defs.specs.declared.entry.Event.TheVariants.{Expire, Deliver, Drop, Mark, Advanced, Ask, Answer}
-use Rattle.ert_defs.specs.declared.mail.Request.{Request}
-use Rattle.ert_defs.specs.declared.memory.NoMemory.{NoMemory}
-use Rattle.ert_defs.specs.declared.settings.Settings.{Settings}
+use Rattle.ert_effects.specs.{Chains.{Serves, Delivers, Turns, Exits}, RequestCalls.Asks, Ways.{Growth, Way, alone, beside}, declared.answers.Turned.Turned}
+use Rattle.ert_defs.specs.{Entries.is_ours, declared.entry.Actor.Actor, declared.entry.Actor.TheVariants.Inbox, declared.entry.Entry.Entry, declared.entry.Event.Event, declared.entry.Event.TheVariants.{Expire, Deliver, Drop, Mark}}
+use Rattle.ert_defs.specs.{declared.entry.Event.TheVariants.{Advanced, Ask, Answer}, declared.mail.Request.Request, declared.memory.NoMemory.NoMemory, declared.settings.Settings.Settings}
 
 -- 1 for an event that answers a request
 abbrev pub by_answer : Event → ℕ

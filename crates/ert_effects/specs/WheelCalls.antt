@@ -1,17 +1,8 @@
 -- What the calls that go over the timers of a wheel record and answer.
 
 use Rattle.std.specs.Prelude.{◌≡◌, ◌≢◌, ◌⊎◌, ℕ, ◌+◌, ◌≤◌, ℤ, Bool, true, false, not, List, [], ◌∷◌, ◌++◌, map, Option, Some, None, Result, Ok, Err}
-use Rattle.ert_defs.specs.Entries.{look_entry, probe_entry, expire_entry, orphan_entry, advanced_entry, mark_entry}
-use Rattle.ert_defs.specs.States.{State}
-use Rattle.ert_defs.specs.Timers.{Row, row_of}
-use Rattle.ert_defs.specs.declared.entry.Actor.{Actor}
-use Rattle.ert_defs.specs.declared.entry.Actor.TheVariants.{Caller, Sched}
-use Rattle.ert_defs.specs.declared.entry.Entry.{Entry}
-use Rattle.ert_defs.specs.declared.memory.NoMemory.{NoMemory}
-use Rattle.ert_defs.specs.declared.settings.Settings.{Settings}
-use Rattle.ert_defs.specs.declared.timer.Status.{Status}
-use Rattle.ert_defs.specs.declared.timer.Status.TheVariants.{Armed}
-use Rattle.ert_defs.specs.declared.timer.TimerRef.{TimerRef}
+use Rattle.ert_defs.specs.{Entries.{look_entry, probe_entry, expire_entry, orphan_entry, advanced_entry, mark_entry}, States.State, Timers.{Row, row_of}, declared.entry.Actor.Actor, declared.entry.Actor.TheVariants.{Caller, Sched}}
+use Rattle.ert_defs.specs.{declared.entry.Entry.Entry, declared.memory.NoMemory.NoMemory, declared.settings.Settings.Settings, declared.timer.Status.Status, declared.timer.Status.TheVariants.Armed, declared.timer.TimerRef.TimerRef}
 
 -- a try to settle a timer: it hit, or missed, and then its slot was found so
 pub record Try : Type 0 where

@@ -3,22 +3,10 @@
 
 use Rattle.std.specs.Prelude.{ℕ, pos, negsuc, Bool, true, false, List, [], ◌∷◌, ◌++◌, Option, Some, None}
 use Rattle.ert_effects.specs.declared.answers.Turned.{Turned}
-use Rattle.ert_defs.specs.Entries.{arm_entry, orphan_entry, probe_entry, tell_entry}
-use Rattle.ert_defs.specs.States.{State, state}
-use Rattle.ert_defs.specs.Worked.{small, timer, start_after, by_caller, by_sched, tick, begun}
-use Rattle.ert_defs.specs.declared.entry.Act.TheVariants.{Plain}
-use Rattle.ert_defs.specs.declared.entry.Actor.TheVariants.{Wheel, Inbox, Sched, MailOf, Caller}
-use Rattle.ert_defs.specs.declared.entry.Entry.{Entry}
-use Rattle.ert_defs.specs.declared.entry.Event.TheVariants.{Look, Peek, Cancel, Expire, Deliver, Mark, Advanced, Ask, Pick, Answer}
-use Rattle.ert_defs.specs.declared.mail.Request.{Request}
-use Rattle.ert_defs.specs.declared.mail.RequestKind.TheVariants.{Read}
-use Rattle.ert_defs.specs.declared.settings.Mode.TheVariants.{No}
-use Rattle.ert_defs.specs.declared.settings.Settings.{Settings}
-use Rattle.ert_defs.specs.declared.timer.Kind.TheVariants.{Wrapped}
-use Rattle.ert_defs.specs.declared.timer.Start.{Start}
-use Rattle.ert_defs.specs.declared.timer.Status.{Status}
-use Rattle.ert_defs.specs.declared.timer.TimerRef.{TimerRef}
-use Rattle.ert_defs.specs.declared.timer.When.TheVariants.{After}
+use Rattle.ert_defs.specs.{Entries.{arm_entry, orphan_entry, probe_entry, tell_entry}, States.{State, state}, Worked.{small, timer, start_after, by_caller, by_sched, tick, begun}, declared.entry.Act.TheVariants.Plain}
+use Rattle.ert_defs.specs.{declared.entry.Actor.TheVariants.{Wheel, Inbox, Sched, MailOf, Caller}, declared.entry.Entry.Entry, declared.entry.Event.TheVariants.{Look, Peek, Cancel, Expire, Deliver, Mark, Advanced, Ask, Pick, Answer}}
+use Rattle.ert_defs.specs.{declared.mail.Request.Request, declared.mail.RequestKind.TheVariants.Read, declared.settings.Mode.TheVariants.No, declared.settings.Settings.Settings, declared.timer.Kind.TheVariants.Wrapped}
+use Rattle.ert_defs.specs.{declared.timer.Start.Start, declared.timer.Status.Status, declared.timer.TimerRef.TimerRef, declared.timer.When.TheVariants.After}
 
 -- the settings of the worked histories: one of each kind
 abbrev pub one : Settings

@@ -52,7 +52,8 @@ pub enum Left {
     Nothing,
     /// More timers are due by then: just so many were tried.
     Due,
-    /// The wheel hasn't come to that time. Rows of later timers have to move first, and so many at most move in a call.
+    /// The wheel hasn't come to that time. As many rows as may move in a call have moved or were put in order, and more are left:
+    /// rows of later timers, or rows that are due by then.
     Moving,
 }
 

@@ -1,9 +1,7 @@
 //! Laws on what the calls answer, each the contract of a function that does nothing.
 
-ghost use Rattle.ert_effects.specs.Laws.{LawOfTicks, LawOfFinalizations, LawOfTimes, LawOfOffsets, LawOfSystemTimes};
-ghost use Rattle.ert_effects.specs.Laws.{LawOfReads, LawOfCancels, LawOfStarts, LawOfAdvances, LawOfMarks};
-ghost use Rattle.ert_effects.specs.Laws.{LawOfHandedOver, LawOfTaken, LawOfMonitors, LawOfDemonitors, LawOfTold};
-ghost use Rattle.ert_effects.specs.Laws.{LawOfPicks, LawOfAnswers, LawOfExits, LawOfTurns};
+ghost use Rattle.ert_effects.specs.Laws.{LawOfTicks, LawOfFinalizations, LawOfTimes, LawOfOffsets, LawOfSystemTimes, LawOfReads, LawOfCancels, LawOfStarts, LawOfAdvances, LawOfMarks, LawOfHandedOver, LawOfTaken, LawOfMonitors};
+ghost use Rattle.ert_effects.specs.Laws.{LawOfDemonitors, LawOfTold, LawOfPicks, LawOfAnswers, LawOfExits, LawOfTurns};
 
 /// The answers of the calls on the clock and on timers are read from their entries: in one state the same
 /// entries have one answer, unless memory ran out.

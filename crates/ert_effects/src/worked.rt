@@ -1,24 +1,11 @@
 //! What the definitions say of entries that were judged by hand.
 
 ghost use Rattle.std.specs.Prelude.{pos, Bool, true, false, [], ◌∷◌, ◌++◌, Some, None, Ok, Err};
-ghost use Rattle.ert_defs.specs.Entries.{off_entry, orphan_entry, mark_entry, take_entry, watch_entry};
-ghost use Rattle.ert_defs.specs.States.{state};
-ghost use Rattle.ert_defs.specs.Worked.{small, timer, start_after, leapt_back, told};
-ghost use Rattle.ert_defs.specs.declared.settings.Mode.TheVariants.{Multi};
-ghost use Rattle.ert_defs.specs.declared.settings.OffsetState.TheVariants.{Final};
-ghost use Rattle.ert_defs.specs.declared.entry.Actor.TheVariants.{Caller};
-ghost use Rattle.ert_defs.specs.declared.timer.Status.TheVariants.{Armed, Cancelled};
-ghost use Rattle.ert_effects.specs.Chains.{Exits, Turns};
-ghost use Rattle.ert_effects.specs.TimerCalls.{Reads, Cancels, Starts};
-ghost use Rattle.ert_effects.specs.Ways.{alone};
-ghost use Rattle.ert_effects.specs.WheelCalls.{Advances, Sweeps};
-ghost use Rattle.ert_effects.specs.MailCalls.{Takes, Monitors, Notifies};
-ghost use Rattle.ert_effects.specs.declared.answers.MonitorErr.TheVariants.{Full as MonitorsFull};
-ghost use Rattle.ert_effects.specs.declared.answers.Taken.TheVariants.{Empty, Exited};
-ghost use Rattle.ert_effects.specs.declared.answers.StartErr.TheVariants.{BadArg, Full};
-ghost use Rattle.ert_effects.specs.Worked.{one, idle, armed, start_before, look, starting, orphaned_by_exit, probed, reading, cancelling};
-ghost use Rattle.ert_effects.specs.Worked.{unbound, two, first_timer_of, both_armed, exiting, asked_at_once, turning, advancing};
-ghost use Rattle.ert_effects.specs.Worked.{missing, missing_twice, delivering, worked_turn, notifying};
+ghost use Rattle.ert_defs.specs.{Entries.{off_entry, orphan_entry, mark_entry, take_entry, watch_entry}, States.state, Worked.{small, timer, start_after, leapt_back, told}, declared.settings.Mode.TheVariants.Multi};
+ghost use Rattle.ert_defs.specs.{declared.settings.OffsetState.TheVariants.Final, declared.entry.Actor.TheVariants.Caller, declared.timer.Status.TheVariants.{Armed, Cancelled}};
+ghost use Rattle.ert_effects.specs.{Chains.{Exits, Turns}, TimerCalls.{Reads, Cancels, Starts}, Ways.alone, WheelCalls.{Advances, Sweeps}, MailCalls.{Takes, Monitors, Notifies}, declared.answers.MonitorErr.TheVariants.Full as MonitorsFull};
+ghost use Rattle.ert_effects.specs.{declared.answers.Taken.TheVariants.{Empty, Exited}, declared.answers.StartErr.TheVariants.{BadArg, Full}, Worked.{one, idle, armed, start_before, look, starting, orphaned_by_exit, probed, reading}};
+ghost use Rattle.ert_effects.specs.{Worked.{cancelling, unbound, two, first_timer_of, both_armed, exiting, asked_at_once, turning, advancing, missing, missing_twice, delivering, worked_turn, notifying}};
 
 /// A start of a timer for a process that had exited cancels it, or finds it settled: it doesn't leave it
 /// armed.

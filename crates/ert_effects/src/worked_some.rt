@@ -1,12 +1,8 @@
 //! What the definition of an advance with a bound says of entries that were judged by hand.
 
 ghost use Rattle.std.specs.Prelude.{pos, [], ◌∷◌, Ok};
-ghost use Rattle.ert_defs.specs.Entries.{look_entry};
-ghost use Rattle.ert_defs.specs.States.{state};
-ghost use Rattle.ert_defs.specs.declared.entry.Actor.TheVariants.{Sched};
-ghost use Rattle.ert_effects.specs.SomeCalls.{AdvancesSome};
-ghost use Rattle.ert_effects.specs.declared.answers.Left.TheVariants.{Nothing, Due, Moving};
-ghost use Rattle.ert_effects.specs.Worked.{one, asked_at_once, advancing};
+ghost use Rattle.ert_defs.specs.{Entries.look_entry, States.state, declared.entry.Actor.TheVariants.Sched};
+ghost use Rattle.ert_effects.specs.{SomeCalls.AdvancesSome, declared.answers.Left.TheVariants.{Nothing, Due, Moving}, Worked.{one, asked_at_once, advancing}};
 
 /// An advance that tries one timer at most ends with its record, or says that more are due after that many tries: not
 /// before it has tried one, and not after it has tried more than it may. Where rows have to move it may have tried none. The

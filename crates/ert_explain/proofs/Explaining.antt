@@ -2,11 +2,8 @@
 
 use Rattle.std.proofs.Common.{◌≡◌, ◌≢◌, ℕ, Bool, List, refl}
 use Rattle.serde_json.specs.Data.{Data}
-use Rattle.ert_scenario.specs.Scenarios.{IsValue}
-use Rattle.ert_scenario.specs.declared.scenario.ScenarioErr.{ScenarioErr}
-use Rattle.ert_scenario.specs.declared.scenario.ScenarioErr.TheVariants.{Json, Shape, Range, Limit, NoMemory}
-use Rattle.ert_explain.specs.Explained.{IsExplained, IsExplainedBy}
-use Rattle.ert_explain.specs.declared.explanation.Explanation.{Explanation}
+use Rattle.ert_scenario.specs.{Scenarios.IsValue, declared.scenario.ScenarioErr.ScenarioErr, declared.scenario.ScenarioErr.TheVariants.{Json, Shape, Range, Limit, NoMemory}}
+use Rattle.ert_explain.specs.{Explained.{IsExplained, IsExplainedBy}, declared.explanation.Explanation.Explanation}
 
 -- the bytes are the value
 pub explained : (race : Bool) (bytes : List ℕ) (d : Data) (refusal : ScenarioErr) (e : Explanation) → refusal ≢ Json → IsValue bytes d

@@ -2,8 +2,7 @@
 
 use Rattle.std.proofs.Common.{◌≡◌, ◌≤◌, ℕ, List, length, take, min, sym, ap, ◌∙◌, arith}
 use Rattle.std.proofs.lemmas.List.{length-take-le}
-use Rattle.ert_explain.specs.Positions.{position_at, position_behind, IsPosition}
-use Rattle.ert_explain.specs.declared.position.Position.{Position}
+use Rattle.ert_explain.specs.{Positions.{position_at, position_behind, IsPosition}, declared.position.Position.Position}
 
 -- it lies in the bytes or at their end
 pub position_in : (bytes : List ℕ) (offset : ℕ) (p : Position) → p ≡ position_at bytes offset → IsPosition bytes p

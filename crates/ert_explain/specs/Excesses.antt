@@ -1,13 +1,9 @@
 -- Of what a scenario has too many.
 
 use Rattle.std.specs.Prelude.{ℕ, ℤ, pos, int_lt, nat_lt, List, length, codes, Bool, Option, Some, None, if◌then◌else◌}
-use Rattle.serde_json.specs.Data.{Data}
-use Rattle.serde_json.specs.Find.{get}
+use Rattle.serde_json.specs.{Data.Data, Find.get}
 use Rattle.ert_scenario.specs.declared.limits.TheConstants.{MOST_LISTS, MOST_TURNS}
-use Rattle.ert_explain.specs.FieldRanges.{field_number}
-use Rattle.ert_explain.specs.Places.{items_at}
-use Rattle.ert_explain.specs.declared.excess.Excess.{Excess}
-use Rattle.ert_explain.specs.declared.excess.Excess.TheVariants.{Callers, Turns, Ops}
+use Rattle.ert_explain.specs.{FieldRanges.field_number, Places.items_at, declared.excess.Excess.Excess, declared.excess.Excess.TheVariants.{Callers, Turns, Ops}}
 use Rattle.ert_explain.specs.declared.field.Field.TheVariants as fields
 
 -- that of a race with so many callers' lists and turns

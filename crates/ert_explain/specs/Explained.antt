@@ -3,26 +3,12 @@
 use Rattle.std.specs.Prelude.{◌≡◌, ◌≢◌, ◌⊎◌, ◌+◌, ◌-◌, ◌==◌, ℕ, ℤ, pos, List, length, take, drop, min, Bool, Option, Some, None, option_and_then, if◌then◌else◌}
 use Rattle.std.specs.Ordering.{int_eq}
 use Rattle.serde_json.specs.Data.{Data}
-use Rattle.ert_scenario.specs.Scenarios.{IsValue}
-use Rattle.ert_scenario.specs.declared.scenario.ScenarioErr.{ScenarioErr}
+use Rattle.ert_scenario.specs.{Scenarios.IsValue, declared.scenario.ScenarioErr.ScenarioErr}
 use Rattle.ert_scenario.specs.declared.scenario.ScenarioErr.TheVariants as refusals
-use Rattle.ert_explain.specs.Excesses.{excess_of}
-use Rattle.ert_explain.specs.FieldRanges.{fields_range, field_number, counts_given}
-use Rattle.ert_explain.specs.FieldShapes.{fields_shape}
-use Rattle.ert_explain.specs.Labels.{IsSameLabel, IsNewLabel}
-use Rattle.ert_explain.specs.OpRanges.{op_range}
-use Rattle.ert_explain.specs.OpShapes.{op_shape}
-use Rattle.ert_explain.specs.OwnTexts.{IsOwnText}
-use Rattle.ert_explain.specs.Places.{OpSeen, op_at}
-use Rattle.ert_explain.specs.Positions.{IsPosition}
-use Rattle.ert_explain.specs.declared.cause.Cause.{Cause}
-use Rattle.ert_explain.specs.declared.cause.Cause.TheVariants.{Json, Fields, FieldRange, Op, Argument, Label, Excess, Other}
-use Rattle.ert_explain.specs.declared.expected.Expected.{Expected}
-use Rattle.ert_explain.specs.declared.explanation.Explanation.{Explanation}
-use Rattle.ert_explain.specs.declared.field.Field.TheVariants.{Format}
-use Rattle.ert_explain.specs.declared.field_range.FieldRange.{FieldRange as RangeOfField}
-use Rattle.ert_explain.specs.declared.field_shape.FieldShape.{FieldShape}
-use Rattle.ert_explain.specs.declared.op_range.OutOfRange.{OutOfRange}
+use Rattle.ert_explain.specs.{Excesses.excess_of, FieldRanges.{fields_range, field_number, counts_given}, FieldShapes.fields_shape, Labels.{IsSameLabel, IsNewLabel}, OpRanges.op_range, OpShapes.op_shape, OwnTexts.IsOwnText, Places.OpSeen}
+use Rattle.ert_explain.specs.{Places.op_at, Positions.IsPosition, declared.cause.Cause.Cause, declared.cause.Cause.TheVariants.{Json, Fields, FieldRange, Op, Argument, Label, Excess, Other}, declared.expected.Expected.Expected}
+use Rattle.ert_explain.specs.{declared.explanation.Explanation.Explanation, declared.field.Field.TheVariants.Format, declared.field_range.FieldRange.FieldRange as RangeOfField, declared.field_shape.FieldShape.FieldShape}
+use Rattle.ert_explain.specs.{declared.op_range.OutOfRange.OutOfRange}
 
 -- whether the format is 1
 abbrev pub is_one : Data → Bool

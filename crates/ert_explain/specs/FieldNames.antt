@@ -1,12 +1,10 @@
 -- The fields of a scenario, and of the object in its field `race`.
 
 use Rattle.std.specs.Prelude.{ℕ, List, [], ◌∷◌, codes, Bool, true, false, ◌||◌, Option, Some, None, is_none}
-use Rattle.serde_json.specs.Data.{Data, Items}
-use Rattle.serde_json.specs.Find.{as_array, as_object, as_str}
+use Rattle.serde_json.specs.{Data.{Data, Items}, Find.{as_array, as_object, as_str}}
 use Rattle.ert_scenario.specs.Kinds.{list_of}
-use Rattle.ert_explain.specs.Kinds.{no_integer, no_boolean, is_not_among}
-use Rattle.ert_explain.specs.declared.field.Field.{Field}
-use Rattle.ert_explain.specs.declared.field.Field.TheVariants.{Format, Mode, Correction, Start, Schedulers, Processes, Slots, First, Ops, Race, Turns, Keeper, Callers}
+use Rattle.ert_explain.specs.{Kinds.{no_integer, no_boolean, is_not_among}, declared.field.Field.Field, declared.field.Field.TheVariants.{Format, Mode, Correction, Start, Schedulers, Processes, Slots, First, Ops, Race, Turns, Keeper}}
+use Rattle.ert_explain.specs.{declared.field.Field.TheVariants.Callers}
 
 -- the name of its member
 unfoldable pub member_name : Field → List ℕ

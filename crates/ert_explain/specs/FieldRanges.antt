@@ -1,23 +1,12 @@
 -- Which field of a scenario is out of its range.
 
 use Rattle.std.specs.Prelude.{ℕ, ℤ, pos, negsuc, int_lt, ◌*ℤ◌, List, [], ◌∷◌, codes, Bool, true, false, ◌&&◌, Option, Some, None, if◌then◌else◌, option_and_then}
-use Rattle.std.specs.Int.{int_rem_euclid}
-use Rattle.std.specs.Option.{option_or}
-use Rattle.std.specs.Ordering.{int_eq}
-use Rattle.serde_json.specs.Data.{Data}
-use Rattle.serde_json.specs.Find.{get, as_number, as_i64}
+use Rattle.std.specs.{Int.int_rem_euclid, Option.option_or, Ordering.int_eq}
+use Rattle.serde_json.specs.{Data.Data, Find.{get, as_number, as_i64}}
 use Rattle.ert_scenario.specs.declared.limits.TheConstants.{MOST_SCHEDULERS, MOST_PROCESSES, MOST_SLOTS, MOST_SLOTS_IN_ALL, MOST_TURNS}
-use Rattle.ert_explain.specs.FieldNames.{member_name}
-use Rattle.ert_explain.specs.OpRanges.{is_out}
-use Rattle.ert_explain.specs.Places.{items_at}
-use Rattle.ert_explain.specs.declared.field.Field.{Field}
-use Rattle.ert_explain.specs.declared.field.Field.TheVariants.{Format, Start, Schedulers, Processes, Slots, Turns}
-use Rattle.ert_explain.specs.declared.field_range.FieldRange.{FieldRange}
-use Rattle.ert_explain.specs.declared.field_range.FieldRange.TheVariants.{Outside, ManySlots, PartOfMillisecond, Reading}
-use Rattle.ert_explain.specs.declared.op_range.Counts.{Counts}
-use Rattle.ert_explain.specs.declared.op_range.Limits.{Limits}
-use Rattle.ert_explain.specs.declared.param.Param.{Param}
-use Rattle.ert_explain.specs.declared.param.Param.TheVariants.{Mono, Sys}
+use Rattle.ert_explain.specs.{FieldNames.member_name, OpRanges.is_out, Places.items_at, declared.field.Field.Field, declared.field.Field.TheVariants.{Format, Start, Schedulers, Processes, Slots, Turns}}
+use Rattle.ert_explain.specs.{declared.field_range.FieldRange.FieldRange, declared.field_range.FieldRange.TheVariants.{Outside, ManySlots, PartOfMillisecond, Reading}, declared.op_range.Counts.Counts, declared.op_range.Limits.Limits}
+use Rattle.ert_explain.specs.{declared.param.Param.Param, declared.param.Param.TheVariants.{Mono, Sys}}
 
 -- limits from this number to that
 abbrev pub from_to : ℤ → ℤ → Limits

@@ -2,15 +2,11 @@
 
 use Rattle.std.specs.Prelude.{ℕ, ◌+◌, List, [], ◌∷◌, codes, Bool, true, false, Option, Some, None, is_none, if◌then◌else◌}
 use Rattle.std.specs.Option.{option_or}
-use Rattle.serde_json.specs.Data.{Data, Members}
-use Rattle.serde_json.specs.Find.{get, as_array, as_object}
+use Rattle.serde_json.specs.{Data.{Data, Members}, Find.{get, as_array, as_object}}
 use Rattle.ert_scenario.specs.Fields.{is_field, is_among, race_fields, are_named}
-use Rattle.ert_explain.specs.FieldNames.{member_name, is_needed, is_wrong_value}
-use Rattle.ert_explain.specs.Places.{items_at}
-use Rattle.ert_explain.specs.declared.field.Field.{Field}
-use Rattle.ert_explain.specs.declared.field.Field.TheVariants.{Format, Mode, Correction, Start, Schedulers, Processes, Slots, First, Ops, Race, Turns, Keeper, Callers}
-use Rattle.ert_explain.specs.declared.field_shape.FieldShape.{FieldShape}
-use Rattle.ert_explain.specs.declared.field_shape.FieldShape.TheVariants.{NoObject, OtherField, RaceGiven, Missing, Kind, OtherRaceField, Caller}
+use Rattle.ert_explain.specs.{FieldNames.{member_name, is_needed, is_wrong_value}, Places.items_at, declared.field.Field.Field, declared.field.Field.TheVariants.{Format, Mode, Correction, Start, Schedulers, Processes, Slots, First, Ops}}
+use Rattle.ert_explain.specs.{declared.field.Field.TheVariants.{Race, Turns, Keeper, Callers}, declared.field_shape.FieldShape.FieldShape, declared.field_shape.FieldShape.TheVariants.{NoObject, OtherField, RaceGiven, Missing, Kind}}
+use Rattle.ert_explain.specs.{declared.field_shape.FieldShape.TheVariants.{OtherRaceField, Caller}}
 
 -- a fault, where the test holds
 abbrev pub fault_if : Bool → FieldShape → Option FieldShape

@@ -1,11 +1,9 @@
 -- Which kind of value an argument has, as a test. Each says what a row of `ert_scenario` asks for.
 
 use Rattle.std.specs.Prelude.{ℕ, List, [], ◌∷◌, codes, Bool, true, false, not, Option, Some, None, is_none, option_and_then}
-use Rattle.serde_json.specs.Data.{Data}
-use Rattle.serde_json.specs.Find.{as_number, as_i64, as_u64, as_bool, as_str}
+use Rattle.serde_json.specs.{Data.Data, Find.{as_number, as_i64, as_u64, as_bool, as_str}}
 use Rattle.ert_scenario.specs.Fields.{is_among}
-use Rattle.ert_explain.specs.declared.param.Param.{Param}
-use Rattle.ert_explain.specs.declared.param.Param.TheVariants.{Mono, Sys, Time, From, To, Label, Scheduler, Process, Monitor, Origin, Milliseconds, Message, Told}
+use Rattle.ert_explain.specs.declared.param.Param.{Param, TheVariants.{Mono, Sys, Time, From, To, Label, Scheduler, Process, Monitor, Origin, Milliseconds, Message, Told}}
 
 -- whether it is no integer of 64 bits with sign
 unfoldable pub no_integer : Data → Bool

@@ -1,13 +1,9 @@
 -- The labels of starts.
 
 use Rattle.std.specs.Prelude.{◌≡◌, ◌<◌, ◌+◌, ℕ, ℤ, List, [], ◌∷◌, Bool, Option, Some, None, option_and_then}
-use Rattle.serde_json.specs.Data.{Data}
-use Rattle.serde_json.specs.Find.{as_number, as_i64, as_str}
+use Rattle.serde_json.specs.{Data.Data, Find.{as_number, as_i64, as_str}}
 use Rattle.ert_scenario.specs.Kinds.{items_in}
-use Rattle.ert_explain.specs.OpNames.{op_called}
-use Rattle.ert_explain.specs.Places.{op_at}
-use Rattle.ert_explain.specs.declared.op_name.OpName.{OpName}
-use Rattle.ert_explain.specs.declared.op_name.OpName.TheVariants.{Start, SendAfter}
+use Rattle.ert_explain.specs.{OpNames.op_called, Places.op_at, declared.op_name.OpName.OpName, declared.op_name.OpName.TheVariants.{Start, SendAfter}}
 
 -- the integer that a value is, where the op is a start
 abbrev pub integer_label : Data → OpName → Option ℤ

@@ -2,30 +2,17 @@
 
 use Rattle.std.specs.Prelude.{ℕ, ◌==◌, ◌++◌, List, [], codes, Bool, true, false, Option, Some, None, if◌then◌else◌, ℤ}
 use Rattle.std.specs.Fmt.{decimal, signed_decimal}
-use Rattle.ert_scenario.specs.declared.limits.TheConstants.{MOST_SLOTS_IN_ALL, MOST_LISTS, MOST_TURNS, MOST_OPS}
-use Rattle.ert_scenario.specs.declared.scenario.ScenarioErr.{ScenarioErr}
+use Rattle.ert_scenario.specs.declared.{limits.TheConstants.{MOST_SLOTS_IN_ALL, MOST_LISTS, MOST_TURNS, MOST_OPS}, scenario.ScenarioErr.ScenarioErr}
 use Rattle.ert_scenario.specs.declared.scenario.ScenarioErr.TheVariants as refusals
-use Rattle.ert_explain.specs.Explained.{shown_bytes}
-use Rattle.ert_explain.specs.FieldNames.{member_name}
-use Rattle.ert_explain.specs.Shown.{shown_value}
-use Rattle.ert_explain.specs.Words.{op_word, param_word, param_kind, expected_text, signature_text, field_kind, list_text}
-use Rattle.ert_explain.specs.declared.cause.Cause.{Cause}
-use Rattle.ert_explain.specs.declared.cause.Cause.TheVariants.{Json, Fields, FieldRange, Op, Argument, Label, Excess, Other}
-use Rattle.ert_explain.specs.declared.excess.Excess.{Excess as TooMany}
+use Rattle.ert_explain.specs.{Explained.shown_bytes, FieldNames.member_name, Shown.shown_value, Words.{op_word, param_word, param_kind, expected_text, signature_text, field_kind, list_text}, declared.cause.Cause.Cause}
+use Rattle.ert_explain.specs.{declared.cause.Cause.TheVariants.{Json, Fields, FieldRange, Op, Argument, Label, Excess, Other}, declared.excess.Excess.Excess as TooMany, declared.explanation.Explanation.Explanation}
+use Rattle.ert_explain.specs.{declared.field.Field.Field, declared.field_range.FieldRange.FieldRange as RangeOfField, declared.field_shape.FieldShape.FieldShape, declared.near.Near.Near, declared.op_name.OpName.OpName}
+use Rattle.ert_explain.specs.{declared.op_range.Limits.Limits, declared.op_shape.OpShape.OpShape, declared.place.ListName.ListName}
 use Rattle.ert_explain.specs.declared.excess.Excess.TheVariants as excesses
-use Rattle.ert_explain.specs.declared.explanation.Explanation.{Explanation}
-use Rattle.ert_explain.specs.declared.field.Field.{Field}
-use Rattle.ert_explain.specs.declared.field_range.FieldRange.{FieldRange as RangeOfField}
 use Rattle.ert_explain.specs.declared.field_range.FieldRange.TheVariants as ranges
-use Rattle.ert_explain.specs.declared.field_shape.FieldShape.{FieldShape}
 use Rattle.ert_explain.specs.declared.field_shape.FieldShape.TheVariants as shapes
-use Rattle.ert_explain.specs.declared.near.Near.{Near}
 use Rattle.ert_explain.specs.declared.near.Near.TheVariants as nears
-use Rattle.ert_explain.specs.declared.op_name.OpName.{OpName}
-use Rattle.ert_explain.specs.declared.op_range.Limits.{Limits}
-use Rattle.ert_explain.specs.declared.op_shape.OpShape.{OpShape}
 use Rattle.ert_explain.specs.declared.op_shape.OpShape.TheVariants as ops
-use Rattle.ert_explain.specs.declared.place.ListName.{ListName}
 
 -- one text, and then another
 infixr 20 ◌⋅◌

@@ -1,12 +1,9 @@
 -- The names of ops, and where each may stand.
 
 use Rattle.std.specs.Prelude.{ℕ, List, [], ◌∷◌, codes, Bool, true, false, not, Option, Some, None, if◌then◌else◌}
-use Rattle.std.specs.Option.{option_or}
-use Rattle.std.specs.Str.{bytes_eq}
-use Rattle.ert_explain.specs.declared.op_name.OpName.{OpName}
-use Rattle.ert_explain.specs.declared.op_name.OpName.TheVariants.{Tick, Check, Finalize, Notify, Serve, Advance, Deliver, Turn, Time, System, Offset, Info, Convert, Receive, Exit, Alive, Monitor, Demonitor, Start, Cancel, Read, CancelAsync, ReadAsync, SendAfter, CancelQuiet}
-use Rattle.ert_explain.specs.declared.place.ListName.{ListName}
-use Rattle.ert_explain.specs.declared.place.ListName.TheVariants.{Ops, Keeper, Caller}
+use Rattle.std.specs.{Option.option_or, Str.bytes_eq}
+use Rattle.ert_explain.specs.declared.{op_name.OpName.OpName, op_name.OpName.TheVariants.{Tick, Check, Finalize, Notify, Serve, Advance, Deliver, Turn, Time, System, Offset, Info, Convert, Receive, Exit, Alive, Monitor, Demonitor, Start}}
+use Rattle.ert_explain.specs.declared.{op_name.OpName.TheVariants.{Cancel, Read, CancelAsync, ReadAsync, SendAfter, CancelQuiet}, place.ListName.ListName, place.ListName.TheVariants.{Ops, Keeper, Caller}}
 
 -- what stands beside a name in a table
 abbrev pub looked_up : {X : Type 0} → List ℕ → List (List ℕ × X) → Option X

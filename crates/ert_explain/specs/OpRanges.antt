@@ -1,17 +1,10 @@
 -- Which argument of an op is out of its range.
 
 use Rattle.std.specs.Prelude.{ℕ, ◌+◌, ℤ, pos, negsuc, ◌-ℤ◌, int_lt, List, [], ◌∷◌, Bool, ◌||◌, Option, Some, None, is_some, option_map, option_and_then, if◌then◌else◌}
-use Rattle.serde_json.specs.Data.{Data}
-use Rattle.serde_json.specs.Find.{as_number, as_i64, as_u64, as_str}
+use Rattle.serde_json.specs.{Data.Data, Find.{as_number, as_i64, as_u64, as_str}}
 use Rattle.ert_scenario.specs.Kinds.{items_in}
-use Rattle.ert_explain.specs.OpNames.{op_called}
-use Rattle.ert_explain.specs.Params.{signature_of, param_at}
-use Rattle.ert_explain.specs.declared.op_range.Counts.{Counts}
-use Rattle.ert_explain.specs.declared.op_range.Limits.{Limits}
-use Rattle.ert_explain.specs.declared.op_range.OutOfRange.{OutOfRange}
-use Rattle.ert_explain.specs.declared.param.Param.{Param}
-use Rattle.ert_explain.specs.declared.param.Param.TheVariants.{Mono, Sys, Time, From, To, Label, Scheduler, Process, Monitor, Origin, Milliseconds, Message, Told}
-use Rattle.ert_explain.specs.declared.param.Signature.{Signature}
+use Rattle.ert_explain.specs.{OpNames.op_called, Params.{signature_of, param_at}, declared.op_range.Counts.Counts, declared.op_range.Limits.Limits, declared.op_range.OutOfRange.OutOfRange, declared.param.Param.Param}
+use Rattle.ert_explain.specs.{declared.param.Param.TheVariants.{Mono, Sys, Time, From, To, Label, Scheduler, Process, Monitor, Origin, Milliseconds, Message, Told}, declared.param.Signature.Signature}
 
 -- from this number to that
 abbrev pub between : ℤ → ℤ → Option Limits

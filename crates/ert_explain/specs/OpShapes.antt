@@ -1,18 +1,10 @@
 -- What is wrong with the shape of an op.
 
 use Rattle.std.specs.Prelude.{ℕ, ◌+◌, ◌==◌, List, [], ◌∷◌, length, Bool, not, ◌&&◌, Option, Some, None, if◌then◌else◌}
-use Rattle.serde_json.specs.Data.{Data, Items}
-use Rattle.serde_json.specs.Find.{as_array, as_str}
+use Rattle.serde_json.specs.{Data.{Data, Items}, Find.{as_array, as_str}}
 use Rattle.ert_scenario.specs.Kinds.{list_of}
-use Rattle.ert_explain.specs.Kinds.{is_wrong}
-use Rattle.ert_explain.specs.OpNames.{op_called, may_stand, is_late}
-use Rattle.ert_explain.specs.Params.{signature_of, arity_of, param_at}
-use Rattle.ert_explain.specs.declared.op_name.OpName.{OpName}
-use Rattle.ert_explain.specs.declared.op_shape.OpShape.{OpShape}
-use Rattle.ert_explain.specs.declared.op_shape.OpShape.TheVariants.{NoArray, NoName, Unknown, Late, Elsewhere, Count, Kind, Sound}
-use Rattle.ert_explain.specs.declared.param.Param.{Param}
-use Rattle.ert_explain.specs.declared.param.Signature.{Signature}
-use Rattle.ert_explain.specs.declared.place.ListName.{ListName}
+use Rattle.ert_explain.specs.{Kinds.is_wrong, OpNames.{op_called, may_stand, is_late}, Params.{signature_of, arity_of, param_at}, declared.op_name.OpName.OpName, declared.op_shape.OpShape.OpShape}
+use Rattle.ert_explain.specs.{declared.op_shape.OpShape.TheVariants.{NoArray, NoName, Unknown, Late, Elsewhere, Count, Kind, Sound}, declared.param.Param.Param, declared.param.Signature.Signature, declared.place.ListName.ListName}
 
 -- what an argument says, where it isn't of its kind
 abbrev pub wrong_by : Option Param → Data → Option Param

@@ -2,15 +2,9 @@
 
 use Rattle.std.specs.Prelude.{◌≡◌, ◌⊎◌, ◌-◌, ℕ, List, [], ◌∷◌, codes, length, slice_index, nat_lt, Bool, true, false, ◌&&◌, Option, Some, None, is_some, option_and_then}
 use Rattle.std.specs.Float.Ieee.{eq}
-use Rattle.serde_json.specs.Data.{Num, Data, null, boolean, number, string, array, object}
-use Rattle.serde_json.specs.Find.{get, as_integer, to_float}
-use Rattle.ert_scenario.specs.Fields.{is_field, is_among, race_fields}
-use Rattle.ert_scenario.specs.Scenarios.{IsValue}
-use Rattle.ert_scenario.specs.declared.scenario.ScenarioErr.{ScenarioErr}
-use Rattle.ert_explain.specs.Refused.{refused_value}
-use Rattle.ert_explain.specs.declared.cause.Cause.{Cause}
-use Rattle.ert_explain.specs.declared.cause.Cause.TheVariants.{Fields}
-use Rattle.ert_explain.specs.declared.field_shape.FieldShape.TheVariants.{OtherField, OtherRaceField}
+use Rattle.serde_json.specs.{Data.{Num, Data, null, boolean, number, string, array, object}, Find.{get, as_integer, to_float}}
+use Rattle.ert_scenario.specs.{Fields.{is_field, is_among, race_fields}, Scenarios.IsValue, declared.scenario.ScenarioErr.ScenarioErr}
+use Rattle.ert_explain.specs.{Refused.refused_value, declared.cause.Cause.Cause, declared.cause.Cause.TheVariants.Fields, declared.field_shape.FieldShape.TheVariants.{OtherField, OtherRaceField}}
 
 -- whether there are bytes, of which neither the first nor the last is a blank
 abbrev pub is_trimmed : List ℕ → Bool

@@ -1,11 +1,9 @@
 -- The arguments of ops.
 
 use Rattle.std.specs.Prelude.{ℕ, ◌==◌, Bool, true, false, Option, Some, None, if◌then◌else◌}
-use Rattle.ert_explain.specs.declared.op_name.OpName.{OpName}
-use Rattle.ert_explain.specs.declared.op_name.OpName.TheVariants.{Tick, Check, Finalize, Notify, Serve, Advance, Deliver, Turn, Time, System, Offset, Info, Convert, Receive, Exit, Alive, Monitor, Demonitor, Start, Cancel, Read, CancelAsync, ReadAsync, SendAfter, CancelQuiet}
-use Rattle.ert_explain.specs.declared.param.Param.{Param}
+use Rattle.ert_explain.specs.declared.{op_name.OpName.OpName, op_name.OpName.TheVariants.{Tick, Check, Finalize, Notify, Serve, Advance, Deliver, Turn, Time, System, Offset, Info, Convert, Receive, Exit, Alive, Monitor, Demonitor, Start}}
+use Rattle.ert_explain.specs.declared.{op_name.OpName.TheVariants.{Cancel, Read, CancelAsync, ReadAsync, SendAfter, CancelQuiet}, param.Param.Param, param.Signature.Signature}
 use Rattle.ert_explain.specs.declared.param.Param.TheVariants as params
-use Rattle.ert_explain.specs.declared.param.Signature.{Signature}
 use Rattle.ert_explain.specs.declared.param.Signature.TheVariants as signatures
 
 -- the arguments of an op of format 1, or of format 2

@@ -1,13 +1,9 @@
 -- The ops of a value, by their places.
 
 use Rattle.std.specs.Prelude.{ℕ, ◌+◌, ◌-◌, List, [], ◌∷◌, length, codes, nat_lt, Bool, true, false, Option, Some, None, option_map, option_and_then, slice_get, if◌then◌else◌}
-use Rattle.serde_json.specs.Data.{Data}
-use Rattle.serde_json.specs.Find.{get}
-use Rattle.serde_json.specs.View.{view}
+use Rattle.serde_json.specs.{Data.Data, Find.get, View.view}
 use Rattle.ert_scenario.specs.Kinds.{listed, or_empty, items_in}
-use Rattle.ert_explain.specs.declared.place.ListName.{ListName}
-use Rattle.ert_explain.specs.declared.place.ListName.TheVariants.{Ops, Keeper, Caller}
-use Rattle.ert_explain.specs.declared.place.PlacedOp.{PlacedOp}
+use Rattle.ert_explain.specs.declared.place.{ListName.ListName, ListName.TheVariants.{Ops, Keeper, Caller}, PlacedOp.PlacedOp}
 
 -- an op that stands in a value: its list, its index there, and its value
 pub record OpSeen : Type 0 where

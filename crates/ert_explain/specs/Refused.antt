@@ -2,25 +2,15 @@
 
 use Rattle.std.specs.Prelude.{ℕ, ◌-◌, List, [], ◌∷◌, codes, Bool, Option, Some, None, option_and_then, slice_get}
 use Rattle.std.specs.Option.{option_or}
-use Rattle.serde_json.specs.Data.{Data}
-use Rattle.serde_json.specs.Find.{get}
-use Rattle.ert_scenario.specs.Kinds.{items_in}
-use Rattle.ert_scenario.specs.declared.scenario.ScenarioErr.{ScenarioErr}
+use Rattle.serde_json.specs.{Data.Data, Find.get}
+use Rattle.ert_scenario.specs.{Kinds.items_in, declared.scenario.ScenarioErr.ScenarioErr}
 use Rattle.ert_scenario.specs.declared.scenario.ScenarioErr.TheVariants as refusals
-use Rattle.ert_explain.specs.FieldNames.{member_name}
-use Rattle.ert_explain.specs.Places.{OpSeen, items_at, op_at}
-use Rattle.ert_explain.specs.declared.cause.Cause.{Cause}
-use Rattle.ert_explain.specs.declared.cause.Cause.TheVariants.{Fields, FieldRange, Op, Argument, Label}
-use Rattle.ert_explain.specs.declared.field.Field.{Field}
-use Rattle.ert_explain.specs.declared.field.Field.TheVariants.{Start, First, Turns, Keeper, Callers}
-use Rattle.ert_explain.specs.declared.field_range.FieldRange.{FieldRange as RangeOfField}
+use Rattle.ert_explain.specs.{FieldNames.member_name, Places.{OpSeen, items_at, op_at}, declared.cause.Cause.Cause, declared.cause.Cause.TheVariants.{Fields, FieldRange, Op, Argument, Label}, declared.field.Field.Field}
+use Rattle.ert_explain.specs.{declared.field.Field.TheVariants.{Start, First, Turns, Keeper, Callers}, declared.field_range.FieldRange.FieldRange as RangeOfField, declared.field_shape.FieldShape.FieldShape}
+use Rattle.ert_explain.specs.{declared.op_shape.OpShape.OpShape, declared.param.Param.Param, declared.param.Param.TheVariants.Mono}
 use Rattle.ert_explain.specs.declared.field_range.FieldRange.TheVariants as ranges
-use Rattle.ert_explain.specs.declared.field_shape.FieldShape.{FieldShape}
 use Rattle.ert_explain.specs.declared.field_shape.FieldShape.TheVariants as shapes
-use Rattle.ert_explain.specs.declared.op_shape.OpShape.{OpShape}
 use Rattle.ert_explain.specs.declared.op_shape.OpShape.TheVariants as ops
-use Rattle.ert_explain.specs.declared.param.Param.{Param}
-use Rattle.ert_explain.specs.declared.param.Param.TheVariants.{Mono}
 
 -- the value of a field of a race
 abbrev pub race_value : Field → Data → Option Data

@@ -1,9 +1,7 @@
 -- What is written of the explanation of a refusal.
 
 use Rattle.std.specs.Prelude.{◌≡◌, ◌⊎◌, ℕ, Bool, List}
-use Rattle.ert_explain.specs.Explained.{IsExplained}
-use Rattle.ert_explain.specs.Messages.{message}
-use Rattle.ert_explain.specs.declared.explanation.Explanation.{Explanation}
+use Rattle.ert_explain.specs.{Explained.IsExplained, Messages.message, declared.explanation.Explanation.Explanation}
 use Rattle.ert_io.specs.Told.{SinkTold, TakesFront}
 use Rattle.ert_scenario.specs.declared.scenario.ScenarioErr.{ScenarioErr}
 

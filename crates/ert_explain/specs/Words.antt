@@ -1,17 +1,12 @@
 -- What things are called in a message.
 
 use Rattle.std.specs.Prelude.{ℕ, List, codes}
-use Rattle.ert_explain.specs.declared.expected.Expected.{Expected}
+use Rattle.ert_explain.specs.declared.{expected.Expected.Expected, field.Field.Field, op_name.OpName.OpName, param.Param.Param, param.Signature.Signature, place.ListName.ListName}
 use Rattle.ert_explain.specs.declared.expected.Expected.TheVariants as expects
-use Rattle.ert_explain.specs.declared.field.Field.{Field}
 use Rattle.ert_explain.specs.declared.field.Field.TheVariants as fields
-use Rattle.ert_explain.specs.declared.op_name.OpName.{OpName}
 use Rattle.ert_explain.specs.declared.op_name.OpName.TheVariants as names
-use Rattle.ert_explain.specs.declared.param.Param.{Param}
 use Rattle.ert_explain.specs.declared.param.Param.TheVariants as params
-use Rattle.ert_explain.specs.declared.param.Signature.{Signature}
 use Rattle.ert_explain.specs.declared.param.Signature.TheVariants as signatures
-use Rattle.ert_explain.specs.declared.place.ListName.{ListName}
 use Rattle.ert_explain.specs.declared.place.ListName.TheVariants as lists
 
 -- the name of an op

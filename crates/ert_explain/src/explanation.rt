@@ -1,13 +1,9 @@
 //! Why bytes are no scenario.
 ghost use Rattle.std.specs.Prelude.{◌≡◌, ◌≢◌, Bool, IfOk};
 ghost use Rattle.serde_json.specs.View.{view};
-ghost use Rattle.ert_scenario.specs.Scenarios.{HasRefusal};
-ghost use Rattle.ert_scenario.specs.declared.scenario.ScenarioErr.TheVariants.{Json};
-ghost use Rattle.ert_explain.specs.Explained.{IsExplained, IsExplainedBy, IsCauseIn, IsShapeCause, IsRangeCauseAt, IsRangeCause, IsLabelCause};
-ghost use Rattle.ert_explain.specs.Explained.{of_shape, of_range, shape_cause, argument_out, is_one};
-ghost use Rattle.ert_explain.specs.Explained.{part_at};
-ghost use Rattle.ert_explain.specs.FieldRanges.{fields_range};
-ghost use Rattle.ert_explain.specs.FieldShapes.{fields_shape};
+ghost use Rattle.ert_scenario.specs.{Scenarios.HasRefusal, declared.scenario.ScenarioErr.TheVariants.Json};
+ghost use Rattle.ert_explain.specs.{Explained.{IsExplained, IsExplainedBy, IsCauseIn, IsShapeCause, IsRangeCauseAt, IsRangeCause, IsLabelCause, of_shape, of_range, shape_cause, argument_out, is_one, part_at}, FieldRanges.fields_range};
+ghost use Rattle.ert_explain.specs.{FieldShapes.fields_shape};
 
 use crate::cause::Cause;
 use crate::excess::excess_of;

@@ -1,8 +1,7 @@
 //! Which field of a scenario is out of its range.
 ghost use Rattle.std.specs.Prelude.{◌≡◌, map, pos, negsuc};
 ghost use Rattle.serde_json.specs.View.{view};
-ghost use Rattle.ert_explain.specs.FieldRanges.{outside, field_number, counts_given, is_part};
-ghost use Rattle.ert_explain.specs.FieldRanges.{fields_range, sizes_range, slots_range, start_range, reading_range, item_range, turns_range};
+ghost use Rattle.ert_explain.specs.FieldRanges.{outside, field_number, counts_given, is_part, fields_range, sizes_range, slots_range, start_range, reading_range, item_range, turns_range};
 
 use crate::field::Field;
 use crate::op_range::{Counts, Limits, is_out};

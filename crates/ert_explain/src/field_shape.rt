@@ -1,8 +1,7 @@
 //! What is wrong with the shape of the fields of a scenario.
 ghost use Rattle.std.specs.Prelude.{◌≡◌, map};
 ghost use Rattle.serde_json.specs.View.{view};
-ghost use Rattle.ert_explain.specs.FieldShapes.{field_shape, names_shape, plain_shape, given_shape, fields_shape};
-ghost use Rattle.ert_explain.specs.FieldShapes.{race_names_shape, race_shape, in_race_shape, caller_from};
+ghost use Rattle.ert_explain.specs.FieldShapes.{field_shape, names_shape, plain_shape, given_shape, fields_shape, race_names_shape, race_shape, in_race_shape, caller_from};
 
 use crate::field::Field;
 use crate::place::items_of;

@@ -1,7 +1,6 @@
 //! The names of ops, and where each may stand.
 ghost use Rattle.std.specs.Prelude.{◌≡◌, Some, None};
-ghost use Rattle.ert_explain.specs.OpNames.{looked_up, op_called, may_stand, is_keepers, is_scheds, is_late};
-ghost use Rattle.ert_explain.specs.OpNames.{keeper_names, sched_names, clock_names, process_names, timer_names, late_names};
+ghost use Rattle.ert_explain.specs.OpNames.{looked_up, op_called, may_stand, is_keepers, is_scheds, is_late, keeper_names, sched_names, clock_names, process_names, timer_names, late_names};
 
 use crate::place::ListName;
 

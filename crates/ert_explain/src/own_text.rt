@@ -1,8 +1,7 @@
 //! Whether bytes are the text of what a refusal is about.
 ghost use Rattle.std.specs.Prelude.{◌≡◌, Some, IsTrue, option_map};
 ghost use Rattle.serde_json.specs.View.{view, number_view};
-ghost use Rattle.ert_explain.specs.OwnTexts.{is_trimmed, IsSameNumber, IsSameScalar, IsScalarText, IsTextOf};
-ghost use Rattle.ert_explain.specs.OwnTexts.{is_known, IsOtherName, IsTextOfOther, IsTextOfName, IsOwnText};
+ghost use Rattle.ert_explain.specs.OwnTexts.{is_trimmed, IsSameNumber, IsSameScalar, IsScalarText, IsTextOf, is_known, IsOtherName, IsTextOfOther, IsTextOfName, IsOwnText};
 
 use crate::cause::Cause;
 use crate::field_shape::FieldShape;

@@ -2,8 +2,7 @@
 ghost use Rattle.std.specs.Prelude.{◌≡◌, map, option_map, slice_get};
 ghost use Rattle.serde_json.specs.View.{view};
 ghost use Rattle.ert_scenario.specs.declared.scenario.ScenarioErr.TheVariants.{Shape};
-ghost use Rattle.ert_explain.specs.Refused.{race_value, field_value, reading_index, shape_value, range_value, value_in_fields};
-ghost use Rattle.ert_explain.specs.Refused.{arg_at, shape_item, value_in_items, items_of_op, refused_value};
+ghost use Rattle.ert_explain.specs.Refused.{race_value, field_value, reading_index, shape_value, range_value, value_in_fields, arg_at, shape_item, value_in_items, items_of_op, refused_value};
 
 use crate::cause::Cause;
 use crate::field::Field;

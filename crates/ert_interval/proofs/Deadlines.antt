@@ -1,8 +1,7 @@
 -- The next deadline of an interval.
 
 use Rattle.std.proofs.Common.{◌≡◌, ℕ, ◌+◌, ◌*◌, ◌≤◌, ℤ, pos, negsuc, ◌+ℤ◌, ◌-ℤ◌, Bool, true, false, cond, nat_le, Some, None, refl, ap, subst, ◌∙◌, arith}
-use Rattle.std.proofs.lemmas.Bool.{le-leb, leb-true}
-use Rattle.std.proofs.lemmas.Int.{ints}
+use Rattle.std.proofs.lemmas.{Bool.{le-leb, leb-true}, Int.ints}
 use Rattle.ert_defs.specs.Milliseconds.{deadline_at}
 
 pub deadline_pos : (z : ℤ) (d : ℕ) → deadline_at z ≡ Some d → (z ≡ pos d) × (d ≤ 8796093022207)

@@ -1,19 +1,10 @@
 -- Intervals stay in order while the history grows.
 
 use Rattle.std.proofs.Common.{◌≡◌, ◌≢◌, ℕ, suc, ◌<◌, List, ◌∷◌, ◌++◌, length, slice_index_or, Some, None, sym, ap, subst, ◌∙◌, inl, inr, append_assoc}
-use Rattle.ert_defs.specs.Entries.{arm_entry}
-use Rattle.ert_defs.specs.Legal.{Legal, LegalFrom}
-use Rattle.ert_defs.specs.States.{State, state, run}
-use Rattle.ert_defs.specs.Timers.{row_of}
-use Rattle.ert_defs.specs.declared.entry.Entry.{Entry}
-use Rattle.ert_defs.specs.declared.settings.Settings.{Settings}
-use Rattle.ert_defs.specs.declared.timer.TimerRef.{TimerRef}
-use Rattle.ert_defs.proofs.Runs.{legal_first, legal_then, state-append, exit_stays}
-use Rattle.ert_defs.proofs.Slots.{IsOrdered, ordered}
-use Rattle.ert_interval.specs.Intervals.{IsFiring, HasToldDeadline, IsAfter, AreFirings, IsPastExpiry, CannotGoOn, IsInState, IsIntervalOf, row_for}
-use Rattle.ert_interval.specs.declared.interval.Interval.{Interval}
-use Rattle.ert_interval.specs.declared.interval.IntervalState.{IntervalState}
-use Rattle.ert_interval.specs.declared.interval.IntervalState.TheVariants.{Running, Waiting, Stopped, Ended}
+use Rattle.ert_defs.specs.{Entries.arm_entry, Legal.{Legal, LegalFrom}, States.{State, state, run}, Timers.row_of, declared.entry.Entry.Entry, declared.settings.Settings.Settings, declared.timer.TimerRef.TimerRef}
+use Rattle.ert_defs.proofs.{Runs.{legal_first, legal_then, state-append, exit_stays}, Slots.{IsOrdered, ordered}}
+use Rattle.ert_interval.specs.{Intervals.{IsFiring, HasToldDeadline, IsAfter, AreFirings, IsPastExpiry, CannotGoOn, IsInState, IsIntervalOf, row_for}, declared.interval.Interval.Interval, declared.interval.IntervalState.IntervalState}
+use Rattle.ert_interval.specs.{declared.interval.IntervalState.TheVariants.{Running, Waiting, Stopped, Ended}}
 use Rattle.ert_interval.proofs.Steps.{AllSpare, row_stays, expired_stays, used_stays, done_stays, going_stays}
 
 -- the same interval, in another state

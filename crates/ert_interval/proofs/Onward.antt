@@ -1,26 +1,13 @@
 -- How an interval goes on while the world's history grows.
 
 use Rattle.std.proofs.Common.{◌≡◌, ◌≢◌, ℕ, ◌≤◌, ℤ, false, List, [], ◌++◌, Some, None, sym, ap, subst, ◌∙◌, append_assoc, append-nil}
-use Rattle.ert_defs.specs.Legal.{Legal, LegalFrom}
-use Rattle.ert_defs.specs.Milliseconds.{deadline_of}
-use Rattle.ert_defs.specs.States.{State, state, run}
-use Rattle.ert_defs.specs.declared.entry.Entry.{Entry}
-use Rattle.ert_defs.specs.declared.settings.Settings.{Settings}
-use Rattle.ert_defs.specs.declared.timer.Status.TheVariants.{Armed}
-use Rattle.ert_defs.specs.declared.timer.TimerRef.{TimerRef}
+use Rattle.ert_defs.specs.{Legal.{Legal, LegalFrom}, Milliseconds.deadline_of, States.{State, state, run}, declared.entry.Entry.Entry, declared.settings.Settings.Settings, declared.timer.Status.TheVariants.Armed}
+use Rattle.ert_defs.specs.{declared.timer.TimerRef.TimerRef}
 use Rattle.ert_defs.proofs.Slots.{IsOrdered, ordered}
-use Rattle.ert_interval.specs.Calls.{Still, AreStill, EndsAs}
-use Rattle.ert_interval.specs.Deadlines.{base, start_at, time_of_deadline}
-use Rattle.ert_interval.specs.Intervals.{IsOpen, IsGoing, IsInState, CannotGoOn, IsIntervalOf}
-use Rattle.ert_interval.specs.declared.interval.Interval.{Interval}
-use Rattle.ert_interval.specs.declared.interval.IntervalState.{IntervalState}
-use Rattle.ert_interval.specs.declared.interval.IntervalState.TheVariants.{Running, Waiting, Stopped, Ended}
-use Rattle.ert_interval.proofs.Deadlines.{deadline_back}
-use Rattle.ert_interval.proofs.Growing.{with_state, with_timers, kept_with, kept_moved, kept_grows, at_end_stays}
-use Rattle.ert_interval.proofs.Plain.{plain_spares, still_plain}
-use Rattle.ert_interval.proofs.Reading.{grown_legal, piece_legal, piece_state}
-use Rattle.ert_interval.proofs.Steps.{AllSpare, done_stays, used_stays, none_from}
-use Rattle.ert_interval.proofs.Still.{still_armed, still_lives, still_full, still_append}
+use Rattle.ert_interval.specs.{Calls.{Still, AreStill, EndsAs}, Deadlines.{base, start_at, time_of_deadline}, Intervals.{IsOpen, IsGoing, IsInState, CannotGoOn, IsIntervalOf}, declared.interval.Interval.Interval}
+use Rattle.ert_interval.specs.{declared.interval.IntervalState.IntervalState, declared.interval.IntervalState.TheVariants.{Running, Waiting, Stopped, Ended}}
+use Rattle.ert_interval.proofs.{Deadlines.deadline_back, Growing.{with_state, with_timers, kept_with, kept_moved, kept_grows, at_end_stays}, Plain.{plain_spares, still_plain}, Reading.{grown_legal, piece_legal, piece_state}, Steps.AllSpare}
+use Rattle.ert_interval.proofs.{Steps.{done_stays, used_stays, none_from}, Still.{still_armed, still_lives, still_full, still_append}}
 use Rattle.ert_world.specs.Worlds.{Seen}
 
 -- one growth and then another

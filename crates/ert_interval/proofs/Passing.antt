@@ -2,14 +2,9 @@
 
 use Rattle.std.proofs.Common.{◌≡◌, ◌⊎◌, ℕ, ◌+◌, ◌<◌, ◌≤◌, zero, suc, set, Bool, true, false, List, [], ◌∷◌, length, slice_index_or, Result, Ok, Err, refl, sym, ap, subst, ◌∙◌, inl, inr, arith, length-append}
 use Rattle.std.proofs.lemmas.Bool.{cases_eq}
-use Rattle.ert_interval.proofs.Tables.{either}
-use Rattle.ert_defs.specs.Legal.{Legal}
-use Rattle.ert_defs.specs.declared.memory.NoMemory.{NoMemory}
-use Rattle.ert_interval.specs.Calls.{Still, IsTurnedBy, Passed, PassedBy, PassesOne, PassesSome, Unmoved, timers, CountsTimers}
-use Rattle.ert_interval.specs.Going.{one_if}
-use Rattle.ert_interval.specs.Intervals.{IsIntervalOf, AreIntervalsKept}
-use Rattle.ert_interval.specs.declared.interval.Interval.{Interval}
-use Rattle.ert_interval.proofs.Onward.{ends_stay}
+use Rattle.ert_interval.proofs.{Tables.either, Onward.ends_stay}
+use Rattle.ert_defs.specs.{Legal.Legal, declared.memory.NoMemory.NoMemory}
+use Rattle.ert_interval.specs.{Calls.{Still, IsTurnedBy, Passed, PassedBy, PassesOne, PassesSome, Unmoved, timers, CountsTimers}, Going.one_if, Intervals.{IsIntervalOf, AreIntervalsKept}, declared.interval.Interval.Interval}
 use Rattle.ert_world.specs.Worlds.{Seen}
 
 -- the first so many intervals were gone through

@@ -1,44 +1,18 @@
 -- The calls on intervals cancel no timer but by a stop, and ask nothing.
 
 use Rattle.std.proofs.Common.{◌≡◌, ℕ, zero, suc, ℤ, Bool, true, false, cond, nat_lt, List, [], ◌∷◌, ◌++◌, Option, Some, None, Result, Ok, Err, refl, sym, ap, subst, ◌∙◌, inl, inr}
-use Rattle.ert_effects.specs.Chains.{HoldsRequest, HoldsBy, Serves, ServesMany, ServesAll, units, AdvancesWheel, Hands, HandsMany, Delivers, Turns, SweepsWheels, Exits}
-use Rattle.ert_effects.specs.ClockCalls.{RefusesTick, Ticks}
-use Rattle.ert_effects.specs.MailCalls.{Takes}
+use Rattle.ert_effects.specs.{Chains.{HoldsRequest, HoldsBy, Serves, ServesMany, ServesAll, units, AdvancesWheel, Hands, HandsMany, Delivers, Turns, SweepsWheels, Exits}, ClockCalls.{RefusesTick, Ticks}, MailCalls.Takes, TimerCalls.Starts}
+use Rattle.ert_effects.specs.{TimerCalls.Closes, WheelCalls.{Try, expires_by, expiry_entries, orphans_by, orphan_entries}, Ways.{alone, Many, Then}, declared.answers.Handed.Handed, declared.answers.Handed.TheVariants.{Put, Dropped}}
+use Rattle.ert_effects.specs.{declared.answers.StartErr.StartErr, declared.answers.StartErr.TheVariants.{BadArg, Full, NoMemory}, declared.answers.Taken.Taken, declared.answers.Taken.TheVariants.{Mail, Empty, Exited}}
+use Rattle.ert_effects.specs.{declared.answers.Turned.Turned}
 use Rattle.ert_effects.proofs.Told.{round_probes}
-use Rattle.ert_effects.specs.TimerCalls.{Starts, Closes}
-use Rattle.ert_effects.specs.WheelCalls.{Try, expires_by, expiry_entries, orphans_by, orphan_entries}
-use Rattle.ert_effects.specs.Ways.{alone, Many, Then}
-use Rattle.ert_effects.specs.declared.answers.Handed.{Handed}
-use Rattle.ert_effects.specs.declared.answers.Handed.TheVariants.{Put, Dropped}
-use Rattle.ert_effects.specs.declared.answers.StartErr.{StartErr}
-use Rattle.ert_effects.specs.declared.answers.StartErr.TheVariants.{BadArg, Full, NoMemory}
-use Rattle.ert_effects.specs.declared.answers.Taken.{Taken}
-use Rattle.ert_effects.specs.declared.answers.Taken.TheVariants.{Mail, Empty, Exited}
-use Rattle.ert_effects.specs.declared.answers.Turned.{Turned}
-use Rattle.ert_clock.specs.Ticks.{act_of, tick_entries}
-use Rattle.ert_clock.specs.declared.clock.ClockErr.{ClockErr}
-use Rattle.ert_clock.specs.declared.clock.ClockErr.TheVariants.{BadReading, OffsetWide}
-use Rattle.ert_clock.specs.declared.clock.Moved.{Moved}
-use Rattle.ert_defs.specs.Entries.{pick_entry}
-use Rattle.ert_defs.specs.Legal.{LegalFrom}
-use Rattle.ert_defs.specs.Mails.{first_of}
-use Rattle.ert_defs.specs.States.{State, state}
-use Rattle.ert_defs.specs.declared.entry.Act.{Act}
-use Rattle.ert_defs.specs.declared.entry.Entry.{Entry}
-use Rattle.ert_defs.specs.declared.entry.Event.{Event}
-use Rattle.ert_defs.specs.declared.entry.Event.TheVariants.{Cancel, Ask, Pick}
-use Rattle.ert_defs.specs.declared.mail.Request.{Request}
-use Rattle.ert_defs.specs.declared.memory.NoMemory.{NoMemory as OutOfMemory}
-use Rattle.ert_defs.specs.declared.settings.Reading.{Reading}
-use Rattle.ert_defs.specs.declared.settings.Settings.{Settings}
-use Rattle.ert_defs.specs.declared.timer.Start.{Start}
-use Rattle.ert_defs.specs.declared.timer.Status.{Status}
-use Rattle.ert_defs.specs.declared.timer.TimerRef.{TimerRef}
+use Rattle.ert_clock.specs.{Ticks.{act_of, tick_entries}, declared.clock.ClockErr.ClockErr, declared.clock.ClockErr.TheVariants.{BadReading, OffsetWide}, declared.clock.Moved.Moved}
+use Rattle.ert_defs.specs.{Entries.pick_entry, Legal.LegalFrom, Mails.first_of, States.{State, state}, declared.entry.Act.Act, declared.entry.Entry.Entry, declared.entry.Event.Event, declared.entry.Event.TheVariants.{Cancel, Ask, Pick}}
+use Rattle.ert_defs.specs.{declared.mail.Request.Request, declared.memory.NoMemory.NoMemory as OutOfMemory, declared.settings.Reading.Reading, declared.settings.Settings.Settings, declared.timer.Start.Start, declared.timer.Status.Status}
+use Rattle.ert_defs.specs.{declared.timer.TimerRef.TimerRef}
 use Rattle.ert_defs.proofs.Runs.{legal_first, legal_then, state-append}
-use Rattle.ert_interval.specs.Calls.{is_still, AreStill}
-use Rattle.ert_interval.specs.Intervals.{HasNoRequests}
-use Rattle.ert_interval.proofs.Still.{probes_still}
-use Rattle.ert_interval.proofs.Steps.{spares, AllSpare, asks, NoneAsks, idle_stays}
+use Rattle.ert_interval.specs.{Calls.{is_still, AreStill}, Intervals.HasNoRequests}
+use Rattle.ert_interval.proofs.{Still.probes_still, Steps.{spares, AllSpare, asks, NoneAsks, idle_stays}}
 
 -- whether an entry cancels no timer and is no request
 abbrev pub is_plain : Event → Bool

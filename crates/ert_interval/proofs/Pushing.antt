@@ -1,28 +1,13 @@
 -- An interval whose next timer was started.
 
 use Rattle.std.proofs.Common.{◌≡◌, ◌≢◌, ℕ, suc, ◌+◌, ◌*◌, ◌<◌, ◌≤◌, ℤ, pos, ◌+ℤ◌, ◌-ℤ◌, Bool, true, false, List, [], ◌∷◌, ◌++◌, length, slice_index_or, Option, Some, None, refl, sym, ap, subst, ◌∙◌, inl, inr, arith, length-append}
-use Rattle.std.proofs.lemmas.Int.{ints}
-use Rattle.std.proofs.Math.ListN.{get_or-append}
-use Rattle.std.proofs.Math.Seq.{get_or-append_seam}
-use Rattle.std.proofs.lemmas.Bool.{cases_eq}
-use Rattle.ert_defs.specs.Legal.{Legal}
-use Rattle.ert_defs.specs.Milliseconds.{deadline_at}
-use Rattle.ert_defs.specs.States.{State, state}
-use Rattle.ert_defs.specs.declared.entry.Entry.{Entry}
-use Rattle.ert_defs.specs.declared.settings.Settings.{Settings}
-use Rattle.ert_defs.specs.declared.timer.Status.{Status}
-use Rattle.ert_defs.specs.declared.timer.Status.TheVariants.{Armed, Expired, Delivered, Cancelled, Orphaned, Dropped}
-use Rattle.ert_defs.specs.declared.timer.TimerRef.{TimerRef}
-use Rattle.ert_defs.proofs.Runs.{legal_first, legal_then, state-append}
-use Rattle.ert_defs.proofs.Slots.{ordered}
-use Rattle.ert_interval.specs.Deadlines.{base, start_at, time_of_deadline}
-use Rattle.ert_interval.specs.Intervals.{IsFiring, IsAfter, AreFirings, IsPastExpiry, IsGoing, IsInState, IsIntervalOf}
-use Rattle.ert_interval.specs.declared.interval.Interval.{Interval}
-use Rattle.ert_interval.specs.declared.interval.IntervalState.TheVariants.{Running}
-use Rattle.ert_interval.proofs.Deadlines.{deadline_more}
-use Rattle.ert_interval.proofs.Growing.{firings_grow}
-use Rattle.ert_interval.proofs.Starting.{HasStarted}
-use Rattle.ert_interval.proofs.Steps.{expired_stays}
+use Rattle.std.proofs.{lemmas.Int.ints, Math.ListN.get_or-append, Math.Seq.get_or-append_seam, lemmas.Bool.cases_eq}
+use Rattle.ert_defs.specs.{Legal.Legal, Milliseconds.deadline_at, States.{State, state}, declared.entry.Entry.Entry, declared.settings.Settings.Settings, declared.timer.Status.Status, declared.timer.Status.TheVariants.{Armed, Expired}}
+use Rattle.ert_defs.specs.{declared.timer.Status.TheVariants.{Delivered, Cancelled, Orphaned, Dropped}, declared.timer.TimerRef.TimerRef}
+use Rattle.ert_defs.proofs.{Runs.{legal_first, legal_then, state-append}, Slots.ordered}
+use Rattle.ert_interval.specs.{Deadlines.{base, start_at, time_of_deadline}, Intervals.{IsFiring, IsAfter, AreFirings, IsPastExpiry, IsGoing, IsInState, IsIntervalOf}, declared.interval.Interval.Interval}
+use Rattle.ert_interval.specs.{declared.interval.IntervalState.TheVariants.Running}
+use Rattle.ert_interval.proofs.{Deadlines.deadline_more, Growing.firings_grow, Starting.HasStarted, Steps.expired_stays}
 use Rattle.ert_world.specs.Worlds.{Seen}
 
 -- a timer that goes on and isn't armed has expired, where its destination lives

@@ -2,21 +2,11 @@
 
 use Rattle.std.proofs.Common.{◌≡◌, ◌≢◌, ◌↔◌, ℕ, ℤ, nat_eq, ◌&&◌, ◌||◌, Bool, true, false, not, IsTrue, List, [], ◌∷◌, ◌++◌, Option, Some, None, refl, sym, ap, subst, ◌∙◌}
 use Rattle.std.specs.Option.{is_some}
-use Rattle.ert_effects.specs.TimerCalls.{Reads, read_entries}
-use Rattle.ert_effects.specs.WheelCalls.{TellsAlive}
-use Rattle.ert_defs.specs.Entries.{look_entry, peek_entry, mark_entry}
-use Rattle.ert_defs.specs.Legal.{Legal, LegalFrom, left_by}
-use Rattle.ert_defs.specs.States.{State, state, run}
-use Rattle.ert_defs.specs.Timers.{Row, row_of}
-use Rattle.ert_defs.specs.declared.entry.Actor.TheVariants.{Caller}
-use Rattle.ert_defs.specs.declared.entry.Entry.{Entry}
-use Rattle.ert_defs.specs.declared.settings.Settings.{Settings}
-use Rattle.ert_defs.specs.declared.timer.Status.{Status}
-use Rattle.ert_defs.specs.declared.timer.Status.TheVariants.{Armed, Expired, Delivered, Cancelled, Orphaned, Dropped}
-use Rattle.ert_defs.specs.declared.timer.TimerRef.{TimerRef}
+use Rattle.ert_effects.specs.{TimerCalls.{Reads, read_entries}, WheelCalls.TellsAlive}
+use Rattle.ert_defs.specs.{Entries.{look_entry, peek_entry, mark_entry}, Legal.{Legal, LegalFrom, left_by}, States.{State, state, run}, Timers.{Row, row_of}, declared.entry.Actor.TheVariants.Caller, declared.entry.Entry.Entry}
+use Rattle.ert_defs.specs.{declared.settings.Settings.Settings, declared.timer.Status.Status, declared.timer.Status.TheVariants.{Armed, Expired, Delivered, Cancelled, Orphaned, Dropped}, declared.timer.TimerRef.TimerRef}
 use Rattle.ert_defs.proofs.Runs.{legal_then, state-append}
-use Rattle.ert_interval.specs.Intervals.{IsIntervalOf, row_for}
-use Rattle.ert_interval.specs.declared.interval.Interval.{Interval}
+use Rattle.ert_interval.specs.{Intervals.{IsIntervalOf, row_for}, declared.interval.Interval.Interval}
 use Rattle.ert_world.specs.Worlds.{Seen, Goes, By}
 
 -- the history of the world before a call is legal with its entries

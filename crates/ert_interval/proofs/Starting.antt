@@ -1,37 +1,17 @@
 -- What the start of a timer leaves.
 
 use Rattle.std.proofs.Common.{◌≡◌, ◌≢◌, ◌⊎◌, inl, inr, ℕ, zero, suc, ◌<◌, ◌≤◌, max, ℤ, Bool, true, false, cond, ◌&&◌, ◌||◌, nat_lt, nat_le, List, [], ◌∷◌, ◌++◌, length, All, Option, Some, None, Ok, Err, refl, sym, ap, subst, ◌∙◌, arith, append_assoc, eq-eqb, lt-ltb}
-use Rattle.std.proofs.lemmas.Bool.{cases_eq, le-leb, ltb-true}
-use Rattle.std.proofs.lemmas.Bool.Decides.{nat_tests}
+use Rattle.std.proofs.lemmas.Bool.{cases_eq, le-leb, ltb-true, Decides.nat_tests}
 use Rattle.ert_effects.proofs.Told.{round_probes}
-use Rattle.ert_effects.specs.TimerCalls.{Starts, Closes, Round, IsRoundTaken}
-use Rattle.ert_effects.specs.declared.answers.StartErr.{StartErr}
-use Rattle.ert_effects.specs.declared.answers.StartErr.TheVariants.{BadArg, Full, NoMemory}
-use Rattle.ert_defs.specs.Actors.{has_actor}
-use Rattle.ert_defs.specs.Entries.{look_entry, arm_entry, mark_entry}
-use Rattle.ert_defs.specs.Legal.{Legal, LegalFrom, Can, CanArm, IsSlot, is_generation, names_timer}
-use Rattle.ert_defs.specs.Milliseconds.{natural, down, deadline_of}
-use Rattle.ert_defs.specs.States.{State, uses_at, state, run, next}
-use Rattle.ert_defs.specs.Timers.{Row, Uses, turned, deadline_in, deadline_told, row_of, row_from, same_timer}
-use Rattle.ert_defs.specs.declared.entry.Actor.TheVariants.{Wheel, Caller}
-use Rattle.ert_defs.specs.declared.entry.Entry.{Entry}
-use Rattle.ert_defs.specs.declared.settings.Settings.{Settings}
-use Rattle.ert_defs.specs.declared.timer.Start.{Start}
-use Rattle.ert_defs.specs.declared.timer.Status.TheVariants.{Armed}
-use Rattle.ert_defs.specs.declared.timer.TimerRef.{TimerRef}
-use Rattle.ert_defs.proofs.ExpiredTimers.{row_named, same_timer_self}
-use Rattle.ert_defs.proofs.Rows.{IsRow, rows_hold}
-use Rattle.ert_defs.proofs.Runs.{legal_first, legal_then, state-append}
-use Rattle.ert_defs.proofs.Settlings.{armed_first}
-use Rattle.ert_defs.proofs.Slots.{IsOrdered, ordered, ordered_next}
-use Rattle.ert_defs.proofs.Standing.{of_row}
-use Rattle.ert_defs.proofs.Uses.{IsBefore, Use, used, fresh, before_self, told_is}
-use Rattle.ert_interval.specs.Calls.{Still, AreStill, IsFull}
-use Rattle.ert_interval.specs.Intervals.{IsPastExpiry, IsGoing, IsToldAt, HasToldDeadline}
-use Rattle.ert_interval.proofs.Plain.{ArePlain, plain_spares, starts_plain}
-use Rattle.ert_interval.proofs.Reading.{piece_legal, piece_state}
-use Rattle.ert_interval.proofs.Steps.{row_stays, expired_stays, used_stays, going_stays, none_from}
-use Rattle.ert_interval.proofs.Still.{still_armed, still_lives, still_full, still_append, probes_still, full_round}
+use Rattle.ert_effects.specs.{TimerCalls.{Starts, Closes, Round, IsRoundTaken}, declared.answers.StartErr.StartErr, declared.answers.StartErr.TheVariants.{BadArg, Full, NoMemory}}
+use Rattle.ert_defs.specs.{Actors.has_actor, Entries.{look_entry, arm_entry, mark_entry}, Legal.{Legal, LegalFrom, Can, CanArm, IsSlot, is_generation, names_timer}, Milliseconds.{natural, down, deadline_of}, States.{State, uses_at, state}}
+use Rattle.ert_defs.specs.{States.{run, next}, Timers.{Row, Uses, turned, deadline_in, deadline_told, row_of, row_from, same_timer}, declared.entry.Actor.TheVariants.{Wheel, Caller}, declared.entry.Entry.Entry}
+use Rattle.ert_defs.specs.{declared.settings.Settings.Settings, declared.timer.Start.Start, declared.timer.Status.TheVariants.Armed, declared.timer.TimerRef.TimerRef}
+use Rattle.ert_defs.proofs.{ExpiredTimers.{row_named, same_timer_self}, Rows.{IsRow, rows_hold}, Runs.{legal_first, legal_then, state-append}, Settlings.armed_first, Slots.{IsOrdered, ordered, ordered_next}, Standing.of_row, Uses.IsBefore}
+use Rattle.ert_defs.proofs.{Uses.{Use, used, fresh, before_self, told_is}}
+use Rattle.ert_interval.specs.{Calls.{Still, AreStill, IsFull}, Intervals.{IsPastExpiry, IsGoing, IsToldAt, HasToldDeadline}}
+use Rattle.ert_interval.proofs.{Plain.{ArePlain, plain_spares, starts_plain}, Reading.{piece_legal, piece_state}, Steps.{row_stays, expired_stays, used_stays, going_stays, none_from}, Still.{still_armed, still_lives, still_full}}
+use Rattle.ert_interval.proofs.{Still.{still_append, probes_still, full_round}}
 use Rattle.ert_world.specs.Worlds.{Seen, Goes, By}
 
 -- a row at the end is found, where there was none before

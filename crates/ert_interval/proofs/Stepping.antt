@@ -2,17 +2,11 @@
 
 use Rattle.std.proofs.Common.{◌≡◌, ℕ, suc, ◌+◌, ◌<◌, ◌≤◌, Bool, true, false, List, length, slice_index_or, set, Result, Ok, Err, refl, sym, subst, ◌∙◌, inl, inr, arith, get_or-set_same, get_or-set_other}
 use Rattle.std.proofs.lemmas.List.{length-set}
-use Rattle.ert_effects.specs.Ways.{Growth, Way}
-use Rattle.ert_effects.specs.WheelCalls.{TellsAlive}
-use Rattle.ert_defs.specs.declared.entry.Actor.TheVariants.{Caller}
-use Rattle.ert_defs.specs.declared.memory.NoMemory.{NoMemory}
-use Rattle.ert_interval.specs.Calls.{IsTurnedBy}
-use Rattle.ert_interval.specs.Going.{KeepsSeats, IsPut, StartsNext, StartsWhere, GoesWhere, ReadsLast, GoesOn, StepsOne, StepsTo, one_if}
-use Rattle.ert_interval.specs.declared.interval.Interval.{Interval}
-use Rattle.ert_interval.specs.declared.interval.IntervalState.{IntervalState}
-use Rattle.ert_interval.specs.declared.interval.IntervalState.TheVariants.{Ended}
-use Rattle.ert_interval.proofs.Growing.{with_state}
-use Rattle.ert_interval.proofs.Tables.{any_default}
+use Rattle.ert_effects.specs.{Ways.{Growth, Way}, WheelCalls.TellsAlive}
+use Rattle.ert_defs.specs.declared.{entry.Actor.TheVariants.Caller, memory.NoMemory.NoMemory}
+use Rattle.ert_interval.specs.{Calls.IsTurnedBy, Going.{KeepsSeats, IsPut, StartsNext, StartsWhere, GoesWhere, ReadsLast, GoesOn, StepsOne, StepsTo, one_if}, declared.interval.Interval.Interval}
+use Rattle.ert_interval.specs.{declared.interval.IntervalState.IntervalState, declared.interval.IntervalState.TheVariants.Ended}
+use Rattle.ert_interval.proofs.{Growing.with_state, Tables.any_default}
 use Rattle.ert_world.specs.Worlds.{Seen, Goes, By}
 
 pub put : (i : Interval) (st : IntervalState) → IsPut st i (with_state i st)

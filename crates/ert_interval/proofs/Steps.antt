@@ -1,25 +1,11 @@
 -- What entries leave of a timer, of an exit, of requests and of a full wheel.
 
 use Rattle.std.proofs.Common.{◌≡◌, ◌≢◌, ℕ, Bool, true, false, cond, ◌&&◌, ◌||◌, nat_eq, List, [], ◌∷◌, Option, Some, None, refl, sym, subst, inl, inr}
-use Rattle.ert_defs.specs.Actors.{has_actor}
-use Rattle.ert_defs.specs.Laws.{MayMove}
-use Rattle.ert_defs.specs.Legal.{Known, LegalFrom, HasDestExited}
-use Rattle.ert_defs.specs.Mails.{SchedState, inbox_after, sched_after}
-use Rattle.ert_defs.specs.States.{State, next, run, exited_after}
-use Rattle.ert_defs.specs.Timers.{Row, row_of, same_timer, status_after, settled_as, handed_as}
-use Rattle.ert_defs.specs.declared.entry.Actor.{Actor}
-use Rattle.ert_defs.specs.declared.entry.Actor.TheVariants.{Wheel, Inbox, Sched}
-use Rattle.ert_defs.specs.declared.entry.Entry.{Entry}
-use Rattle.ert_defs.specs.declared.entry.Event.{Event}
-use Rattle.ert_defs.specs.declared.entry.Event.TheVariants.{Arm, Peek, Cancel, Expire, Orphan, Deliver, Drop, Mark, Ask, Pick, Answer}
-use Rattle.ert_defs.specs.declared.mail.Request.{Request}
-use Rattle.ert_defs.specs.declared.settings.Settings.{Settings}
-use Rattle.ert_defs.specs.declared.timer.Status.{Status}
-use Rattle.ert_defs.specs.declared.timer.Status.TheVariants.{Armed, Expired, Delivered, Cancelled, Orphaned, Dropped}
-use Rattle.ert_defs.specs.declared.timer.TimerRef.{TimerRef}
-use Rattle.ert_defs.proofs.ExpiredTimers.{row_kept}
-use Rattle.ert_defs.proofs.Settlings.{moves_next}
-use Rattle.ert_defs.proofs.Slots.{IsOrdered, ordered_next, same_timer-true}
+use Rattle.ert_defs.specs.{Actors.has_actor, Laws.MayMove, Legal.{Known, LegalFrom, HasDestExited}, Mails.{SchedState, inbox_after, sched_after}, States.{State, next, run, exited_after}, Timers.{Row, row_of, same_timer, status_after}}
+use Rattle.ert_defs.specs.{Timers.{settled_as, handed_as}, declared.entry.Actor.Actor, declared.entry.Actor.TheVariants.{Wheel, Inbox, Sched}, declared.entry.Entry.Entry, declared.entry.Event.Event, declared.entry.Event.TheVariants.Arm}
+use Rattle.ert_defs.specs.{declared.entry.Event.TheVariants.{Peek, Cancel, Expire, Orphan, Deliver, Drop, Mark, Ask, Pick, Answer}, declared.mail.Request.Request, declared.settings.Settings.Settings, declared.timer.Status.Status}
+use Rattle.ert_defs.specs.{declared.timer.Status.TheVariants.{Armed, Expired, Delivered, Cancelled, Orphaned, Dropped}, declared.timer.TimerRef.TimerRef}
+use Rattle.ert_defs.proofs.{ExpiredTimers.row_kept, Settlings.moves_next, Slots.{IsOrdered, ordered_next, same_timer-true}}
 use Rattle.ert_interval.specs.Intervals.{IsPastExpiry, IsGoing, HasNoRequests}
 
 -- a row stays

@@ -3,26 +3,13 @@
 use Rattle.std.proofs.Common.{◌≡◌, ◌⊎◌, ℕ, zero, suc, ◌+◌, ◌<◌, ◌≤◌, ℤ, Bool, true, false, cond, ◌&&◌, nat_eq, List, [], ◌∷◌, ◌++◌, length, Option, Some, refl, sym, ap, subst, ◌∙◌, inl, inr, arith, eqb-true, eq-eqb}
 use Rattle.std.proofs.lemmas.Bool.{cases_eq}
 use Rattle.ert_effects.specs.TimerCalls.{AreProbes, AreTaken, Round, IsInRound, IsRoundTaken}
-use Rattle.ert_defs.specs.Actors.{has_actor}
-use Rattle.ert_defs.specs.Entries.{probe_entry}
-use Rattle.ert_defs.specs.Clocks.{Clock, clock_after}
-use Rattle.ert_defs.specs.Legal.{Known, LegalFrom}
-use Rattle.ert_defs.specs.Milliseconds.{natural, down, deadline_of}
-use Rattle.ert_defs.specs.States.{State, uses_at, next, run, exited_after}
-use Rattle.ert_defs.specs.Timers.{Row, Uses, turned, above_with, row_from, rows_after, same_timer, status_after, is_taken, timer_at}
-use Rattle.ert_defs.specs.declared.entry.Actor.{Actor}
-use Rattle.ert_defs.specs.declared.entry.Actor.TheVariants.{Keeper, Wheel, Caller}
-use Rattle.ert_defs.specs.declared.entry.Entry.{Entry}
-use Rattle.ert_defs.specs.declared.entry.Event.{Event}
-use Rattle.ert_defs.specs.declared.entry.Event.TheVariants.{Tick, Shift, Look, Arm, Probe, Peek, Cancel, Expire, Orphan, Deliver, Drop, Mark}
-use Rattle.ert_defs.specs.declared.settings.Settings.{Settings}
-use Rattle.ert_defs.specs.declared.timer.Status.{Status}
-use Rattle.ert_defs.specs.declared.timer.Status.TheVariants.{Armed}
-use Rattle.ert_defs.specs.declared.timer.TimerRef.{TimerRef}
+use Rattle.ert_defs.specs.{Actors.has_actor, Entries.probe_entry, Clocks.{Clock, clock_after}, Legal.{Known, LegalFrom}, Milliseconds.{natural, down, deadline_of}, States.{State, uses_at, next, run, exited_after}, Timers.{Row, Uses}}
+use Rattle.ert_defs.specs.{Timers.{turned, above_with, row_from, rows_after, same_timer, status_after, is_taken, timer_at}, declared.entry.Actor.Actor, declared.entry.Actor.TheVariants.{Keeper, Wheel, Caller}, declared.entry.Entry.Entry}
+use Rattle.ert_defs.specs.{declared.entry.Event.Event, declared.entry.Event.TheVariants.{Tick, Shift, Look, Arm, Probe, Peek, Cancel, Expire, Orphan, Deliver, Drop, Mark}, declared.settings.Settings.Settings, declared.timer.Status.Status}
+use Rattle.ert_defs.specs.{declared.timer.Status.TheVariants.Armed, declared.timer.TimerRef.TimerRef}
 use Rattle.ert_defs.proofs.Slots.{uses_after}
 use Rattle.ert_interval.specs.Calls.{is_still, AreStill, IsFull}
-use Rattle.ert_interval.proofs.Reading.{or_none}
-use Rattle.ert_interval.proofs.Steps.{cond_same}
+use Rattle.ert_interval.proofs.{Reading.or_none, Steps.cond_same}
 
 armed_one : (r : TimerRef) (b : Bool) (x : Option Status) (event : Event) → is_still event ≡ true → x ≡ Some Armed → status_after r b x event ≡ Some Armed
 armed_one r b x (Arm timer start) still is = cond_same (b && same_timer timer r) (Some Armed) x (Some Armed) refl is

@@ -2,28 +2,13 @@
 
 use Rattle.std.proofs.Common.{◌≡◌, ◌≢◌, ◌↔◌, ℕ, ℤ, true, false, List, [], ◌∷◌, Option, Some, None, refl, sym, ap, subst, ◌∙◌}
 use Rattle.ert_effects.specs.TimerCalls.{Cancels, cancel_entries}
-use Rattle.ert_defs.specs.Entries.{look_entry, peek_entry, cancel_entry}
-use Rattle.ert_defs.specs.Legal.{Legal, LegalFrom}
-use Rattle.ert_defs.specs.States.{State, state, run}
-use Rattle.ert_defs.specs.Timers.{Row, row_of, settled_as}
-use Rattle.ert_defs.specs.declared.entry.Actor.TheVariants.{Caller}
-use Rattle.ert_defs.specs.declared.entry.Entry.{Entry}
-use Rattle.ert_defs.specs.declared.settings.Settings.{Settings}
-use Rattle.ert_defs.specs.declared.timer.Status.{Status}
-use Rattle.ert_defs.specs.declared.timer.Status.TheVariants.{Armed, Expired, Delivered, Cancelled, Orphaned, Dropped}
-use Rattle.ert_defs.specs.declared.timer.TimerRef.{TimerRef}
+use Rattle.ert_defs.specs.{Entries.{look_entry, peek_entry, cancel_entry}, Legal.{Legal, LegalFrom}, States.{State, state, run}, Timers.{Row, row_of, settled_as}, declared.entry.Actor.TheVariants.Caller, declared.entry.Entry.Entry}
+use Rattle.ert_defs.specs.{declared.settings.Settings.Settings, declared.timer.Status.Status, declared.timer.Status.TheVariants.{Armed, Expired, Delivered, Cancelled, Orphaned, Dropped}, declared.timer.TimerRef.TimerRef}
+use Rattle.ert_defs.specs.{declared.entry.Event.Event, declared.entry.Event.TheVariants.{Look, Peek, Cancel}}
 use Rattle.ert_defs.proofs.ExpiredTimers.{same_timer_self, same_timer-false}
-use Rattle.ert_interval.specs.Intervals.{IsIntervalOf, IsOpen, row_for}
-use Rattle.ert_interval.specs.declared.interval.Interval.{Interval}
-use Rattle.ert_interval.specs.declared.interval.IntervalState.{IntervalState}
-use Rattle.ert_interval.specs.declared.interval.IntervalState.TheVariants.{Running, Waiting, Stopped, Ended}
-use Rattle.ert_interval.specs.Calls.{StopsOpen, StopsIn}
-use Rattle.ert_interval.specs.Spared.{CancelsOnly, CancelOnly}
-use Rattle.ert_defs.specs.declared.entry.Event.{Event}
-use Rattle.ert_defs.specs.declared.entry.Event.TheVariants.{Look, Peek, Cancel}
-use Rattle.ert_interval.proofs.Steps.{spares, AllSpare, asks, NoneAsks}
-use Rattle.ert_interval.proofs.Growing.{with_state, kept_with}
-use Rattle.ert_interval.proofs.Reading.{grown_legal, piece_legal, left_armed}
+use Rattle.ert_interval.specs.{Intervals.{IsIntervalOf, IsOpen, row_for}, declared.interval.Interval.Interval, declared.interval.IntervalState.IntervalState, declared.interval.IntervalState.TheVariants.{Running, Waiting, Stopped, Ended}}
+use Rattle.ert_interval.specs.{Calls.{StopsOpen, StopsIn}, Spared.{CancelsOnly, CancelOnly}}
+use Rattle.ert_interval.proofs.{Steps.{spares, AllSpare, asks, NoneAsks}, Growing.{with_state, kept_with}, Reading.{grown_legal, piece_legal, left_armed}}
 use Rattle.ert_world.specs.Worlds.{Seen, Goes, By}
 
 settled_other : (x : Option Status) → settled_as Cancelled x ≢ Some Armed

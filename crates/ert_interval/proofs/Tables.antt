@@ -1,25 +1,12 @@
 -- All intervals of a world stay in order.
 
 use Rattle.std.proofs.Common.{◌≡◌, ◌≢◌, ◌⊎◌, ℕ, zero, suc, ◌+◌, ◌-◌, ◌<◌, ◌≤◌, List, [], ◌∷◌, ◌++◌, length, slice_index_or, set, None, refl, sym, ap, subst, ◌∙◌, inl, inr, arith, get_or-set_same, get_or-set_other, length-append, append-nil}
-use Rattle.std.proofs.lemmas.List.{length-set}
-use Rattle.std.proofs.Math.ListN.{get_or-append}
-use Rattle.std.proofs.Math.Seq.{get_or-append_seam}
-use Rattle.std.proofs.lemmas.Bool.{cases_eq}
+use Rattle.std.proofs.{lemmas.List.length-set, Math.ListN.get_or-append, Math.Seq.get_or-append_seam, lemmas.Bool.cases_eq}
 use Rattle.ert_effects.specs.Ways.{Growth, Way}
-use Rattle.ert_defs.specs.Legal.{Legal}
-use Rattle.ert_defs.specs.States.{state}
-use Rattle.ert_defs.specs.declared.entry.Entry.{Entry}
-use Rattle.ert_defs.specs.declared.settings.Settings.{Settings}
-use Rattle.ert_defs.specs.declared.timer.TimerRef.{TimerRef}
+use Rattle.ert_defs.specs.{Legal.Legal, States.state, declared.entry.Entry.Entry, declared.settings.Settings.Settings, declared.timer.TimerRef.TimerRef}
 use Rattle.ert_defs.proofs.Runs.{state-append}
-use Rattle.ert_interval.specs.Calls.{Still, IsNewOrSame}
-use Rattle.ert_interval.specs.Intervals.{HasNoRequests, IsIntervalOf, AreIntervalsKept}
-use Rattle.ert_interval.specs.declared.interval.Interval.{Interval}
-use Rattle.ert_interval.specs.Spared.{Spares}
-use Rattle.ert_interval.proofs.Stopping.{cancel_spares, cancel_asks}
-use Rattle.ert_interval.proofs.Onward.{spare_kept}
-use Rattle.ert_interval.proofs.Plain.{ArePlain, plain_spares, plain_asks}
-use Rattle.ert_interval.proofs.Steps.{NoneAsks, idle_stays}
+use Rattle.ert_interval.specs.{Calls.{Still, IsNewOrSame}, Intervals.{HasNoRequests, IsIntervalOf, AreIntervalsKept}, declared.interval.Interval.Interval, Spared.Spares}
+use Rattle.ert_interval.proofs.{Stopping.{cancel_spares, cancel_asks}, Onward.spare_kept, Plain.{ArePlain, plain_spares, plain_asks}, Steps.{NoneAsks, idle_stays}}
 use Rattle.ert_world.specs.Worlds.{Seen, Goes}
 
 -- no request comes by entries that ask none

@@ -1,26 +1,12 @@
 -- What the calls on intervals answer, and how they move the intervals.
 
 use Rattle.std.specs.Prelude.{◌≡◌, ◌≢◌, ◌⊎◌, ◌↔◌, ℕ, ◌+◌, ◌<◌, ◌≤◌, ℤ, ◌-ℤ◌, Bool, true, false, List, [], ◌∷◌, ◌++◌, length, slice_index_or, Option, Some, None, Result, Ok, Err}
-use Rattle.ert_effects.specs.TimerCalls.{Starts, Cancels, Rests, Round, IsInRound}
-use Rattle.ert_effects.specs.declared.answers.StartErr.TheVariants.{Full as WheelIsFull}
-use Rattle.ert_defs.specs.Milliseconds.{natural, down, deadline_at}
-use Rattle.ert_defs.specs.States.{State, state}
-use Rattle.ert_defs.specs.Timers.{is_taken, timer_at}
-use Rattle.ert_defs.specs.declared.entry.Actor.TheVariants.{Caller}
-use Rattle.ert_defs.specs.declared.entry.Entry.{Entry}
-use Rattle.ert_defs.specs.declared.entry.Event.{Event}
-use Rattle.ert_defs.specs.declared.entry.Event.TheVariants.{Look, Arm, Probe, Peek, Mark}
-use Rattle.ert_defs.specs.declared.memory.NoMemory.{NoMemory as OutOfMemory}
-use Rattle.ert_defs.specs.declared.settings.Settings.{Settings}
-use Rattle.ert_defs.specs.declared.timer.Status.TheVariants.{Armed}
-use Rattle.ert_defs.specs.declared.timer.TimerRef.{TimerRef}
-use Rattle.ert_interval.specs.Deadlines.{base, start_at}
-use Rattle.ert_interval.specs.Intervals.{IsOpen, CannotGoOn}
-use Rattle.ert_interval.specs.declared.interval.Interval.{Interval}
-use Rattle.ert_interval.specs.declared.interval.IntervalState.{IntervalState}
-use Rattle.ert_interval.specs.declared.interval.IntervalState.TheVariants.{Running, Waiting, Stopped, Ended}
-use Rattle.ert_interval.specs.declared.intervals.IntervalErr.{IntervalErr}
-use Rattle.ert_interval.specs.declared.intervals.IntervalErr.TheVariants.{BadArg, Full, NoMemory}
+use Rattle.ert_effects.specs.{TimerCalls.{Starts, Cancels, Rests, Round, IsInRound}, declared.answers.StartErr.TheVariants.Full as WheelIsFull}
+use Rattle.ert_defs.specs.{Milliseconds.{natural, down, deadline_at}, States.{State, state}, Timers.{is_taken, timer_at}, declared.entry.Actor.TheVariants.Caller, declared.entry.Entry.Entry, declared.entry.Event.Event}
+use Rattle.ert_defs.specs.{declared.entry.Event.TheVariants.{Look, Arm, Probe, Peek, Mark}, declared.memory.NoMemory.NoMemory as OutOfMemory, declared.settings.Settings.Settings, declared.timer.Status.TheVariants.Armed}
+use Rattle.ert_defs.specs.{declared.timer.TimerRef.TimerRef}
+use Rattle.ert_interval.specs.{Deadlines.{base, start_at}, Intervals.{IsOpen, CannotGoOn}, declared.interval.Interval.Interval, declared.interval.IntervalState.IntervalState, declared.interval.IntervalState.TheVariants.{Running, Waiting}}
+use Rattle.ert_interval.specs.{declared.interval.IntervalState.TheVariants.{Stopped, Ended}, declared.intervals.IntervalErr.IntervalErr, declared.intervals.IntervalErr.TheVariants.{BadArg, Full, NoMemory}}
 use Rattle.ert_world.specs.Worlds.{Seen, Goes, By}
 
 -- whether an entry settles no timer, and lets no process exit

@@ -2,10 +2,7 @@
 
 use Rattle.std.specs.Prelude.{◌≡◌, ℕ, ◌<◌, ◌≤◌, ℤ, pos, ◌+ℤ◌, Option, Some, None}
 use Rattle.std.specs.Int.{int_div_euclid}
-use Rattle.ert_defs.specs.declared.settings.Settings.{Settings}
-use Rattle.ert_defs.specs.declared.timer.Kind.TheVariants.{Wrapped}
-use Rattle.ert_defs.specs.declared.timer.Start.{Start}
-use Rattle.ert_defs.specs.declared.timer.When.TheVariants.{At}
+use Rattle.ert_defs.specs.declared.{settings.Settings.Settings, timer.Kind.TheVariants.Wrapped, timer.Start.Start, timer.When.TheVariants.At}
 
 -- the start time in whole milliseconds
 abbrev pub base : Settings → ℤ

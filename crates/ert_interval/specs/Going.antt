@@ -2,21 +2,11 @@
 
 use Rattle.std.specs.Prelude.{◌≡◌, ◌≢◌, ◌⊎◌, ℕ, zero, suc, ◌+◌, ◌<◌, ◌≤◌, Bool, true, false, List, [], ◌∷◌, ◌++◌, length, slice_index_or, Option, Result, Ok, Err}
 use Rattle.std.specs.Option.{is_some}
-use Rattle.ert_effects.specs.TimerCalls.{Reads, Starts}
-use Rattle.ert_effects.specs.WheelCalls.{TellsAlive}
-use Rattle.ert_effects.specs.declared.answers.StartErr.TheVariants.{Full as WheelIsFull}
-use Rattle.ert_defs.specs.declared.entry.Actor.TheVariants.{Caller}
-use Rattle.ert_defs.specs.declared.memory.NoMemory.{NoMemory}
-use Rattle.ert_defs.specs.declared.settings.Settings.{Settings}
-use Rattle.ert_defs.specs.declared.timer.Start.{Start}
-use Rattle.ert_defs.specs.declared.timer.TimerRef.{TimerRef}
-use Rattle.ert_interval.specs.Calls.{AsksSame, IsTurnedBy, Unmoved}
-use Rattle.ert_interval.specs.Deadlines.{start_at, time_of_deadline}
-use Rattle.ert_interval.specs.declared.interval.Interval.{Interval}
-use Rattle.ert_interval.specs.declared.interval.IntervalState.{IntervalState}
-use Rattle.ert_interval.specs.declared.interval.IntervalState.TheVariants.{Running, Waiting, Ended}
-use Rattle.ert_world.specs.Frees.{IsUsedUpAt, SearchesAt}
-use Rattle.ert_world.specs.Worlds.{Seen, Goes, By}
+use Rattle.ert_effects.specs.{TimerCalls.{Reads, Starts}, WheelCalls.TellsAlive, declared.answers.StartErr.TheVariants.Full as WheelIsFull}
+use Rattle.ert_defs.specs.declared.{entry.Actor.TheVariants.Caller, memory.NoMemory.NoMemory, settings.Settings.Settings, timer.Start.Start, timer.TimerRef.TimerRef}
+use Rattle.ert_interval.specs.{Calls.{AsksSame, IsTurnedBy, Unmoved}, Deadlines.{start_at, time_of_deadline}, declared.interval.Interval.Interval, declared.interval.IntervalState.IntervalState}
+use Rattle.ert_interval.specs.{declared.interval.IntervalState.TheVariants.{Running, Waiting, Ended}}
+use Rattle.ert_world.specs.{Frees.{IsUsedUpAt, SearchesAt}, Worlds.{Seen, Goes, By}}
 
 -- the settings and the seats of a world stay
 pub record KeepsSeats (old new : Seen) : Type 0 where

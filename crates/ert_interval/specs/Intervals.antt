@@ -1,23 +1,10 @@
 -- What every interval of a service keeps.
 
 use Rattle.std.specs.Prelude.{◌≡◌, ◌≢◌, ◌⊎◌, ℕ, suc, ◌+◌, ◌*◌, ◌<◌, ◌≤◌, pos, ◌+ℤ◌, ◌-ℤ◌, Bool, true, List, [], ◌∷◌, ◌++◌, length, slice_index_or, Option, Some, None}
-use Rattle.ert_defs.specs.Entries.{arm_entry}
-use Rattle.ert_defs.specs.Legal.{Legal, names_timer}
-use Rattle.ert_defs.specs.Milliseconds.{natural, down, deadline_at}
-use Rattle.ert_defs.specs.States.{State, state}
-use Rattle.ert_defs.specs.Timers.{Row, deadline_told, row_of}
-use Rattle.ert_defs.specs.declared.entry.Actor.TheVariants.{Caller}
-use Rattle.ert_defs.specs.declared.entry.Entry.{Entry}
-use Rattle.ert_defs.specs.declared.settings.Settings.{Settings}
-use Rattle.ert_defs.specs.declared.timer.Kind.TheVariants.{Wrapped}
-use Rattle.ert_defs.specs.declared.timer.Start.{Start}
-use Rattle.ert_defs.specs.declared.timer.Status.{Status}
-use Rattle.ert_defs.specs.declared.timer.Status.TheVariants.{Armed, Expired, Delivered, Cancelled, Orphaned, Dropped}
-use Rattle.ert_defs.specs.declared.timer.TimerRef.{TimerRef}
-use Rattle.ert_interval.specs.Deadlines.{base}
-use Rattle.ert_interval.specs.declared.interval.Interval.{Interval}
-use Rattle.ert_interval.specs.declared.interval.IntervalState.{IntervalState}
-use Rattle.ert_interval.specs.declared.interval.IntervalState.TheVariants.{Running, Waiting, Stopped, Ended}
+use Rattle.ert_defs.specs.{Entries.arm_entry, Legal.{Legal, names_timer}, Milliseconds.{natural, down, deadline_at}, States.{State, state}, Timers.{Row, deadline_told, row_of}, declared.entry.Actor.TheVariants.Caller}
+use Rattle.ert_defs.specs.{declared.entry.Entry.Entry, declared.settings.Settings.Settings, declared.timer.Kind.TheVariants.Wrapped, declared.timer.Start.Start, declared.timer.Status.Status, declared.timer.Status.TheVariants.Armed}
+use Rattle.ert_defs.specs.{declared.timer.Status.TheVariants.{Expired, Delivered, Cancelled, Orphaned, Dropped}, declared.timer.TimerRef.TimerRef}
+use Rattle.ert_interval.specs.{Deadlines.base, declared.interval.Interval.Interval, declared.interval.IntervalState.IntervalState, declared.interval.IntervalState.TheVariants.{Running, Waiting, Stopped, Ended}}
 use Rattle.ert_world.specs.Worlds.{Seen}
 
 -- a turn goes on with an interval in this state

@@ -1,10 +1,7 @@
 -- A call that may cancel one timer, and settles no other.
 
 use Rattle.std.specs.Prelude.{◌≡◌, List, [], ◌∷◌, ◌++◌}
-use Rattle.ert_defs.specs.declared.entry.Entry.{Entry}
-use Rattle.ert_defs.specs.declared.entry.Event.{Event}
-use Rattle.ert_defs.specs.declared.entry.Event.TheVariants.{Look, Peek, Cancel}
-use Rattle.ert_defs.specs.declared.timer.TimerRef.{TimerRef}
+use Rattle.ert_defs.specs.declared.{entry.Entry.Entry, entry.Event.Event, entry.Event.TheVariants.{Look, Peek, Cancel}, timer.TimerRef.TimerRef}
 use Rattle.ert_world.specs.Worlds.{Seen}
 
 -- an entry reads the time or a timer, or is a cancel of this timer

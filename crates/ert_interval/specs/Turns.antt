@@ -1,13 +1,9 @@
 -- What a turn answers, and how it moves the world and the intervals.
 
 use Rattle.std.specs.Prelude.{◌≡◌, ◌⊎◌, ℕ, List, Result, Ok, Err}
-use Rattle.ert_effects.specs.Chains.{Turns}
-use Rattle.ert_effects.specs.declared.answers.Turned.{Turned}
+use Rattle.ert_effects.specs.{Chains.Turns, declared.answers.Turned.Turned}
 use Rattle.ert_defs.specs.declared.memory.NoMemory.{NoMemory}
-use Rattle.ert_interval.specs.Calls.{Still, PassesAll, PassesSome}
-use Rattle.ert_interval.specs.Going.{StepsAll}
-use Rattle.ert_interval.specs.declared.interval.Interval.{Interval}
-use Rattle.ert_interval.specs.declared.turns.IntervalTurn.{IntervalTurn}
+use Rattle.ert_interval.specs.{Calls.{Still, PassesAll, PassesSome}, Going.StepsAll, declared.interval.Interval.Interval, declared.turns.IntervalTurn.IntervalTurn}
 use Rattle.ert_world.specs.Worlds.{Seen, Goes}
 
 -- the world makes its turn, and then its history grows by what the intervals do: by the steps of each in

@@ -1,15 +1,9 @@
 //! How one interval goes on in a turn, and how it is stopped.
 ghost use Rattle.std.specs.Prelude.{◌≡◌, ◌≢◌, ◌<◌, ◌≤◌, Some, false, IsTrue, ◌↔◌, ◌+◌, not};
-ghost use Rattle.ert_defs.specs.Legal.{Legal};
-ghost use Rattle.ert_defs.specs.States.{state};
-ghost use Rattle.ert_interval.specs.Intervals.{IsOpen, IsIntervalOf};
-ghost use Rattle.ert_interval.specs.Calls.{Still, PassedBy, StopsOne, IsNewOrSame};
-ghost use Rattle.ert_interval.specs.Going.{GoesOn, ReadsLast, StartsNext};
-ghost use Rattle.ert_interval.specs.Spared.{Spares};
+ghost use Rattle.ert_defs.specs.{Legal.Legal, States.state, declared.entry.Actor.TheVariants.Caller, declared.timer.Status.TheVariants.Armed};
+ghost use Rattle.ert_interval.specs.{Intervals.{IsOpen, IsIntervalOf}, Calls.{Still, PassedBy, StopsOne, IsNewOrSame}, Going.{GoesOn, ReadsLast, StartsNext}, Spared.Spares};
 ghost use Rattle.ert_effects.specs.WheelCalls.{TellsAlive};
-ghost use Rattle.ert_defs.specs.declared.entry.Actor.TheVariants.{Caller};
 ghost use Rattle.ert_world.specs.Worlds.{Goes, By};
-ghost use Rattle.ert_defs.specs.declared.timer.Status.TheVariants.{Armed};
 
 use crate::interval::{Interval, IntervalState, next_deadline, start_for};
 use ert_defs::NoMemory;

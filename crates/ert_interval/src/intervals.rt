@@ -30,15 +30,10 @@ pub struct IntervalWorld {
 
 impl IntervalWorld {
     ghost use Rattle.std.specs.Prelude.{◌≡◌, ◌<◌, [], IfOk, length, Err};
-    ghost use Rattle.ert_effects.specs.Chains.{Exits};
-    ghost use Rattle.ert_effects.specs.ClockCalls.{Ticks};
-    ghost use Rattle.ert_effects.specs.MailCalls.{Takes};
+    ghost use Rattle.ert_effects.specs.{Chains.Exits, ClockCalls.Ticks, MailCalls.Takes};
     ghost use Rattle.ert_defs.specs.Settings.{IsChecked};
-    ghost use Rattle.ert_interval.specs.Intervals.{AreIntervalsKept};
-    ghost use Rattle.ert_interval.specs.Calls.{FiringsAre, Every, Stops, StateIs};
-    ghost use Rattle.ert_world.specs.Frees.{IsUsedUpAt};
-    ghost use Rattle.ert_world.specs.Openings.{IsOpened};
-    ghost use Rattle.ert_world.specs.Worlds.{Goes, GoesOnClock, By};
+    ghost use Rattle.ert_interval.specs.{Intervals.AreIntervalsKept, Calls.{FiringsAre, Every, Stops, StateIs}};
+    ghost use Rattle.ert_world.specs.{Frees.IsUsedUpAt, Openings.IsOpened, Worlds.{Goes, GoesOnClock, By}};
 
     /// Opens a service, with no interval.
     pub fn open(alloc: Global, settings: &Settings) -> Result<IntervalWorld, NoMemory>

@@ -16,10 +16,7 @@ pub struct IntervalTurn {
 impl IntervalWorld {
     ghost use Rattle.std.specs.Prelude.{◌≡◌, ◌<◌, length};
     ghost use Rattle.ert_effects.specs.Chains.{Turns};
-    ghost use Rattle.ert_interval.specs.Calls.{Still, PassesBy, PassesOne, CountsTimers};
-    ghost use Rattle.ert_interval.specs.Going.{KeepsSeats, StepsAll, StepsOne};
-    ghost use Rattle.ert_interval.specs.Intervals.{AreIntervalsKept};
-    ghost use Rattle.ert_interval.specs.Turns.{TurnsIntervals};
+    ghost use Rattle.ert_interval.specs.{Calls.{Still, PassesBy, PassesOne, CountsTimers}, Going.{KeepsSeats, StepsAll, StepsOne}, Intervals.AreIntervalsKept, Turns.TurnsIntervals};
     ghost use Rattle.ert_world.specs.Worlds.{Goes};
 
     /// A turn of a scheduler (`World::turn`), and then one step of each interval of its wheel, in order of

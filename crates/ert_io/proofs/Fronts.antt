@@ -3,8 +3,7 @@
 use Rattle.std.proofs.Common.{◌≡◌, [], ℕ, List, ◌++◌, take, drop}
 use Rattle.std.proofs.lemmas.List.{take-append-drop, append-nil}
 use Rattle.std.specs.Prelude.{Result, Ok, Err, OnOk, IfErr}
-use Rattle.ert_io.specs.Writing.{WritesFront, written_of}
-use Rattle.ert_io.specs.declared.writing.WriteErr.{WriteErr}
+use Rattle.ert_io.specs.{Writing.{WritesFront, written_of}, declared.writing.WriteErr.WriteErr}
 
 -- a write that took the first bytes of a text wrote its first part
 pub taken_front : (old new : List ℕ) (n : ℕ) (text : List ℕ) → new ≡ old ++ take n text → WritesFront old new text

@@ -3,10 +3,7 @@
 use Rattle.std.proofs.Common.{◌≡◌, ℕ, ◌+◌, ◌-◌, ◌<◌, List, [], ◌++◌, take, drop, length, length-append, Option, None, Some, refl, ap, sym, ◌∙◌, append-nil, append_assoc, arith}
 use Rattle.std.proofs.lemmas.List.{take-append-drop, length-take-le}
 use Rattle.std.specs.Prelude.{Result, Ok, Err, IfErr, OnOk}
-use Rattle.ert_io.specs.Known.{more_by, HasRoomFor}
-use Rattle.ert_io.specs.Told.{SinkTold, sink_told, took, room_left, TakesFront}
-use Rattle.ert_io.specs.Writing.{written_of}
-use Rattle.ert_io.specs.declared.writing.WriteErr.{WriteErr}
+use Rattle.ert_io.specs.{Known.{more_by, HasRoomFor}, Told.{SinkTold, sink_told, took, room_left, TakesFront}, Writing.written_of, declared.writing.WriteErr.WriteErr}
 
 -- a write appended a text, and its length came off the room
 pub took_is : (taken taken_new : List ℕ) (room room_new : Option ℕ) (text : List ℕ)

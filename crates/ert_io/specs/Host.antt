@@ -1,7 +1,6 @@
 -- What stands behind a source and a sink of the host.
 
-use Rattle.ert_io.specs.declared.host.StdSource.{StdSource}
-use Rattle.ert_io.specs.declared.host.StdSink.{StdSink}
+use Rattle.ert_io.specs.declared.host.{StdSource.StdSource, StdSink.StdSink}
 
 -- the reader that a source reads
 abbrev pub reader_of : {R : Type 0} → StdSource R → R

@@ -1,10 +1,7 @@
 -- What a source and a sink in memory are, to who uses them.
 
 use Rattle.std.specs.Prelude.{ℕ, List, Bool, take, drop, length, nat_eq}
-use Rattle.ert_io.specs.declared.mem_source.MemSource.{MemSource}
-use Rattle.ert_io.specs.declared.mem_sink.MemSink.{MemSink}
-use Rattle.ert_io.specs.declared.sure_source.SureSource.{SureSource}
-use Rattle.ert_io.specs.declared.sure_sink.SureSink.{SureSink}
+use Rattle.ert_io.specs.declared.{mem_source.MemSource.MemSource, mem_sink.MemSink.MemSink, sure_source.SureSource.SureSource, sure_sink.SureSink.SureSink}
 
 -- the bytes that a source gave
 abbrev pub bytes_given : MemSource → List ℕ

@@ -1,8 +1,7 @@
 -- What an error of `write_all` tells, and what was written of a text.
 
 use Rattle.std.specs.Prelude.{◌≡◌, ℕ, List, ◌++◌}
-use Rattle.ert_io.specs.declared.writing.WriteErr.{WriteErr}
-use Rattle.ert_io.specs.declared.writing.WriteErr.TheVariants.{WriteFault}
+use Rattle.ert_io.specs.declared.writing.WriteErr.{WriteErr, TheVariants.WriteFault}
 
 -- how many bytes were appended before the fault
 abbrev pub written_of : WriteErr → ℕ

@@ -1,7 +1,6 @@
 ghost use Rattle.std.specs.Prelude.{◌≡◌, ◌<◌, ◌≤◌, [], ◌++◌, false, length, take, nat_eq, IfOk, OnOk, OnErr};
 ghost use Rattle.std.specs.Io.KnownBytes.{ReadConsumes, WriteAppends};
-ghost use Rattle.ert_io.specs.Faults.{one_more};
-ghost use Rattle.ert_io.specs.Host.{reader_of, writer_of};
+ghost use Rattle.ert_io.specs.{Faults.one_more, Host.{reader_of, writer_of}};
 
 use crate::failed::Failed;
 use crate::log::Log;

@@ -35,8 +35,7 @@ impl MemClock {
 
 impl OsClock for MemClock {
     ghost use Rattle.std.specs.Prelude.{◌≡◌, ◌≤◌, ◌↔◌, ◌⊎◌, [], ◌∷◌, ◌++◌, Some, Contains, IfOk, IsErr, OnOk, OnErr};
-    ghost use Rattle.ert_io.specs.Faults.{one_more};
-    ghost use Rattle.ert_io.specs.Clocks.{readings_given, readings_left, clock_reads, failing_clock_reads};
+    ghost use Rattle.ert_io.specs.{Faults.one_more, Clocks.{readings_given, readings_left, clock_reads, failing_clock_reads}};
 
     ghost faults = { λ s. s.calls.faults };
 

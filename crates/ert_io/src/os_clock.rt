@@ -5,8 +5,7 @@ use ert_defs::Reading;
 pub trait OsClock {
     ghost use Rattle.std.specs.Prelude.{◌≡◌, ℕ, ◌≤◌, List, [], ◌∷◌, ◌++◌, Option, None, IfOk, OnErr};
     ghost use Rattle.ert_defs.specs.declared.settings.Reading.{Reading as TheReading};
-    ghost use Rattle.ert_io.specs.Faults.{Rose};
-    ghost use Rattle.ert_io.specs.Known.{before};
+    ghost use Rattle.ert_io.specs.{Faults.Rose, Known.before};
 
     // How many readings have failed: it never falls, and stops at 18446744073709551615.
     ghost faults: { Self → ℕ };

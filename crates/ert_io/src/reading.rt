@@ -1,7 +1,5 @@
 ghost use Rattle.std.specs.Prelude.{◌≡◌, ◌≢◌, ℕ, ◌+◌, ◌++◌, ◌<◌, ◌≤◌, List, Err, true, length, vec_len, IfOk, OnOk, OnErr, IsErrOf};
-ghost use Rattle.ert_io.specs.Faults.{Rose};
-ghost use Rattle.ert_io.specs.Known.{stream_told, before, HandsOut, HandsUpTo, IsAtEnd};
-ghost use Rattle.ert_io.specs.declared.reading.ReadErr.TheVariants.{NoMemory};
+ghost use Rattle.ert_io.specs.{Faults.Rose, Known.{stream_told, before, HandsOut, HandsUpTo, IsAtEnd}, declared.reading.ReadErr.TheVariants.NoMemory};
 
 use crate::source::Source;
 use std::alloc::{AllocError, Global};

@@ -1,6 +1,5 @@
 ghost use Rattle.std.specs.Prelude.{◌≡◌, ℕ, ◌++◌, ◌<◌, ◌≤◌, List, Option, None, length, take, IfOk, OnErr};
-ghost use Rattle.ert_io.specs.Faults.{Rose};
-ghost use Rattle.ert_io.specs.Known.{more_by, HasRoomFor};
+ghost use Rattle.ert_io.specs.{Faults.Rose, Known.{more_by, HasRoomFor}};
 
 use crate::failed::Failed;
 

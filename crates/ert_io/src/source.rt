@@ -1,6 +1,5 @@
 ghost use Rattle.std.specs.Prelude.{◌≡◌, ℕ, ◌++◌, ◌<◌, ◌≤◌, List, Bool, true, Option, None, length, take, IfOk, OnErr};
-ghost use Rattle.ert_io.specs.Faults.{Rose};
-ghost use Rattle.ert_io.specs.Known.{before, IsAtEnd};
+ghost use Rattle.ert_io.specs.{Faults.Rose, Known.{before, IsAtEnd}};
 
 use crate::failed::Failed;
 

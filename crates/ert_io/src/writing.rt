@@ -1,7 +1,5 @@
 ghost use Rattle.std.specs.Prelude.{◌≡◌, ◌++◌, ◌<◌, ◌≤◌, length, take, IfErr, OnOk, OnErr};
-ghost use Rattle.ert_io.specs.Faults.{Rose};
-ghost use Rattle.ert_io.specs.Known.{more_by, HasRoomFor};
-ghost use Rattle.ert_io.specs.Writing.{written_of};
+ghost use Rattle.ert_io.specs.{Faults.Rose, Known.{more_by, HasRoomFor}, Writing.written_of};
 
 use crate::sink::Sink;
 use thiserror::Error;

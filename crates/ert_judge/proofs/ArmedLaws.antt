@@ -1,21 +1,12 @@
 -- The laws of the armed timers in order: what is read off the first of them.
 
 use Rattle.std.proofs.Common.{arith, ◌≡◌, ◌∙◌, refl, sym, ap, subst, inl, inr, ℕ, zero, suc, ◌+◌, ◌-◌, ◌<◌, ◌≤◌, Bool, true, false, not, ◌&&◌, ◌⊎◌, nat_eq, nat_le, nat_lt, List, [], ◌∷◌, length, take, drop, Option, Some, None, eq-eqb, eqb-true}
-use Rattle.std.proofs.lemmas.Bool.{cases_Bool, cases_eq, cases_lt, and_parts, lt-leb, le-ltb, leb-false, ltb-false, true≢false, false≢true}
-use Rattle.std.proofs.lemmas.Option.{same_Some}
+use Rattle.std.proofs.lemmas.{Bool.{cases_Bool, cases_eq, cases_lt, and_parts, lt-leb, le-ltb, leb-false, ltb-false, true≢false, false≢true}, Option.same_Some}
 use Rattle.std.specs.Prelude.{slice_get, IsTrue, ◌↔◌}
-use Rattle.std.specs.List.{list_any}
-use Rattle.std.specs.Ordering.{is_gt}
-use Rattle.std.specs.BTreeMap.{is_at}
-use Rattle.std.specs.BTreeSet.{BTreeSet, contains}
-use Rattle.ert_defs.specs.Laws.{is_armed}
-use Rattle.ert_defs.specs.declared.timer.Status.{Status}
-use Rattle.ert_defs.specs.declared.timer.Status.TheVariants.{Armed, Expired, Delivered, Cancelled, Orphaned, Dropped}
-use Rattle.ert_judge.specs.Wheels.{is_settled}
-use Rattle.ert_judge.specs.Indexes.{pair_cmp, is_armed_for, HasNoneBefore}
-use Rattle.ert_judge.specs.declared.state.wheels.Timer.{Timer}
-use Rattle.ert_judge.proofs.PairLaws.{pair_up_to}
-use Rattle.ert_judge.proofs.PlaceLaws.{slice_get_take, slice_get_taken, slice_get_drop}
+use Rattle.std.specs.{List.list_any, Ordering.is_gt, BTreeMap.is_at, BTreeSet.{BTreeSet, contains}}
+use Rattle.ert_defs.specs.{Laws.is_armed, declared.timer.Status.Status, declared.timer.Status.TheVariants.{Armed, Expired, Delivered, Cancelled, Orphaned, Dropped}}
+use Rattle.ert_judge.specs.{Wheels.is_settled, Indexes.{pair_cmp, is_armed_for, HasNoneBefore}, declared.state.wheels.Timer.Timer}
+use Rattle.ert_judge.proofs.{PairLaws.pair_up_to, PlaceLaws.{slice_get_take, slice_get_taken, slice_get_drop}}
 
 -- timers are settled where each that is armed fails the test
 pub settled_if : (test : ℕ → Bool) (ts : List Timer)

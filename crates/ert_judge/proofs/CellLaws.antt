@@ -2,19 +2,10 @@
 -- stays as long as it was.
 
 use Rattle.std.proofs.Common.{◌≡◌, ◌∙◌, refl, sym, ap, inl, inr, ℕ, ℤ, ◌<◌, cond, nat_eq, List, [], length, get_or, set, Option, Some, eq-eqb, ne_eqb}
-use Rattle.std.proofs.lemmas.Bool.{cases_eq}
-use Rattle.std.proofs.lemmas.List.{length-set, get_or-set_same, get_or-set_other}
+use Rattle.std.proofs.lemmas.{Bool.cases_eq, List.{length-set, get_or-set_same, get_or-set_other}}
 use Rattle.ert_defs.proofs.ExpiredTimers.{cond_same}
-use Rattle.ert_defs.specs.Actors.{same_actor, is_with, IsUser}
-use Rattle.ert_defs.specs.Mails.{SchedState, idle_sched, inbox_after, sched_after}
-use Rattle.ert_defs.specs.States.{look_after}
-use Rattle.ert_defs.specs.Timers.{Row}
-use Rattle.ert_defs.specs.declared.entry.Actor.{Actor}
-use Rattle.ert_defs.specs.declared.entry.Actor.TheVariants.{Keeper, Wheel, Inbox, Sched, MailOf, Caller}
-use Rattle.ert_defs.specs.declared.entry.Event.{Event}
-use Rattle.ert_defs.specs.declared.entry.Event.TheVariants.{Look}
-use Rattle.ert_defs.specs.declared.mail.Request.{Request}
-use Rattle.ert_defs.specs.declared.settings.Settings.{Settings}
+use Rattle.ert_defs.specs.{Actors.{same_actor, is_with, IsUser}, Mails.{SchedState, idle_sched, inbox_after, sched_after}, States.look_after, Timers.Row, declared.entry.Actor.Actor, declared.entry.Actor.TheVariants.{Keeper, Wheel, Inbox}}
+use Rattle.ert_defs.specs.{declared.entry.Actor.TheVariants.{Sched, MailOf, Caller}, declared.entry.Event.Event, declared.entry.Event.TheVariants.Look, declared.mail.Request.Request, declared.settings.Settings.Settings}
 use Rattle.ert_judge.specs.Parts.{LastLooks, look_of, looks_after, inbox_at, inboxes_after, sched_at, scheds_after}
 
 -- a cell of a list of which one cell was set

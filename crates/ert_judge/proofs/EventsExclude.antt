@@ -3,28 +3,12 @@
 use Rattle.std.proofs.Common.{◌≡◌, ◌≢◌, ◌<◌, ◌≤◌, ◌⊎◌, inl, inr, ℕ, ◌+◌, ℤ, pos, arith, refl, sym, ap, ◌∙◌, subst, Bool, true, false, cond, List, [], ◌∷◌, length, Option, Some, None, nat_le}
 use Rattle.std.proofs.lemmas.Bool.{cases_Bool, le-leb}
 use Rattle.ert_defs.proofs.Slots.{same_timer-true}
-use Rattle.ert_defs.specs.Clocks.{face}
-use Rattle.ert_defs.specs.Legal.{Known, Found, Can, CanTick, CanArm, CanAnswer, IsNext, IsFirst, HasDestExited, IsResult, AllSettled, names_timer, left_of, stands_in}
-use Rattle.ert_defs.specs.Lines.{Face, Due, IsInRange}
-use Rattle.ert_defs.specs.Mails.{MailState, SchedState, first_of}
-use Rattle.ert_defs.specs.Milliseconds.{down, deadline_of}
-use Rattle.ert_defs.specs.States.{State}
-use Rattle.ert_defs.specs.Timers.{Row, Uses, IsNextUse, use_of, turned, deadline_in, generation_in, row_of, same_timer, is_taken}
-use Rattle.ert_defs.specs.declared.entry.Act.{Act}
-use Rattle.ert_defs.specs.declared.entry.Actor.{Actor}
-use Rattle.ert_defs.specs.declared.entry.Actor.TheVariants.{MailOf}
-use Rattle.ert_defs.specs.declared.entry.Entry.{Entry}
-use Rattle.ert_defs.specs.declared.entry.Event.{Event}
-use Rattle.ert_defs.specs.declared.entry.Event.TheVariants.{Tick, Shift, Look, Off, Arm, Probe, Peek, Cancel, Expire, Orphan, Deliver, Drop, Mark, Advanced, Ask, Pick, Answer, Take, Unwatch, Watch, Tell}
-use Rattle.ert_defs.specs.declared.mail.Mail.{Mail}
-use Rattle.ert_defs.specs.declared.mail.Request.{Request}
-use Rattle.ert_defs.specs.declared.settings.OffsetState.{OffsetState}
-use Rattle.ert_defs.specs.declared.settings.Reading.{Reading}
-use Rattle.ert_defs.specs.declared.settings.Settings.{Settings}
-use Rattle.ert_defs.specs.declared.timer.Start.{Start}
-use Rattle.ert_defs.specs.declared.timer.Status.{Status}
-use Rattle.ert_defs.specs.declared.timer.Status.TheVariants.{Armed}
-use Rattle.ert_defs.specs.declared.timer.TimerRef.{TimerRef}
+use Rattle.ert_defs.specs.{Clocks.face, Legal.{Known, Found, Can, CanTick, CanArm, CanAnswer, IsNext, IsFirst, HasDestExited, IsResult, AllSettled, names_timer, left_of, stands_in}, Lines.{Face, Due, IsInRange}, Mails.MailState}
+use Rattle.ert_defs.specs.{Mails.{SchedState, first_of}, Milliseconds.{down, deadline_of}, States.State, Timers.{Row, Uses, IsNextUse, use_of, turned, deadline_in, generation_in, row_of, same_timer, is_taken}, declared.entry.Act.Act}
+use Rattle.ert_defs.specs.{declared.entry.Actor.Actor, declared.entry.Actor.TheVariants.MailOf, declared.entry.Entry.Entry, declared.entry.Event.Event, declared.entry.Event.TheVariants.{Tick, Shift, Look, Off, Arm, Probe, Peek, Cancel}}
+use Rattle.ert_defs.specs.{declared.entry.Event.TheVariants.{Expire, Orphan, Deliver, Drop, Mark, Advanced, Ask, Pick, Answer, Take, Unwatch, Watch, Tell}, declared.mail.Mail.Mail, declared.mail.Request.Request}
+use Rattle.ert_defs.specs.{declared.settings.OffsetState.OffsetState, declared.settings.Reading.Reading, declared.settings.Settings.Settings, declared.timer.Start.Start, declared.timer.Status.Status, declared.timer.Status.TheVariants.Armed}
+use Rattle.ert_defs.specs.{declared.timer.TimerRef.TimerRef}
 use Rattle.ert_judge.specs.Breaks.{Differs, IsBehind, AnswersAsker, last_status_of, UseBreaks, TickBreaks, ShiftBreaks, LookBreaks, OffBreaks, ArmBreaks, ProbeBreaks, LeftBreaks, ExpireBreaks, OrphanBreaks, DeliverBreaks, DropBreaks, MarkBreaks, AdvancedBreaks, PickBreaks, AnswerBreaks, TakeBreaks, UnwatchBreaks, WatchBreaks, TellBreaks, Breaks}
 use Rattle.ert_judge.specs.Reasons.{IsFirstReason}
 use Rattle.ert_judge.specs.Reasons.IsFirstReason.{out_of_range, breaks}

@@ -1,17 +1,12 @@
 -- The laws of the places of a wheel's timers: which timer a reference names.
 
 use Rattle.std.proofs.Common.{arith, ◌≡◌, ◌≢◌, ◌∙◌, refl, sym, ap, subst, ℕ, zero, suc, ◌<◌, ◌≤◌, Bool, true, false, ◌&&◌, nat_eq, List, [], ◌∷◌, length, get_or, Some, None}
-use Rattle.std.proofs.lemmas.Bool.{true≢false}
-use Rattle.std.proofs.lemmas.Option.{slice_get_within, get_or_from_slice_get, slice_get-get_or, same_Some}
+use Rattle.std.proofs.lemmas.{Bool.true≢false, Option.{slice_get_within, get_or_from_slice_get, slice_get-get_or, same_Some}}
 use Rattle.std.specs.Prelude.{slice_get}
 use Rattle.std.specs.BTreeMap.{BTreeMap, get}
-use Rattle.ert_defs.proofs.ExpiredTimers.{same_timer_self, same_timer-false}
-use Rattle.ert_defs.proofs.Slots.{same_timer-true}
-use Rattle.ert_defs.specs.Timers.{same_timer}
-use Rattle.ert_defs.specs.declared.timer.TimerRef.{TimerRef}
-use Rattle.ert_judge.specs.Wheels.{timer_in}
-use Rattle.ert_judge.specs.Indexes.{pair_cmp, IsUnknown, StandsAt}
-use Rattle.ert_judge.specs.declared.state.wheels.Timer.{Timer}
+use Rattle.ert_defs.proofs.{ExpiredTimers.{same_timer_self, same_timer-false}, Slots.same_timer-true}
+use Rattle.ert_defs.specs.{Timers.same_timer, declared.timer.TimerRef.TimerRef}
+use Rattle.ert_judge.specs.{Wheels.timer_in, Indexes.{pair_cmp, IsUnknown, StandsAt}, declared.state.wheels.Timer.Timer}
 
 -- the timer that stands at a place is the first of its reference
 pub found_at : (ts : List Timer) (r : TimerRef) (p : ℕ) (t : Timer) → StandsAt ts r p t → timer_in ts r ≡ Some t

@@ -2,15 +2,8 @@
 
 use Rattle.std.proofs.Common.{arith, ◌≡◌, ℤ, sym, ap, ◌∙◌, List, Option, Some, None}
 use Rattle.std.specs.Prelude.{◌≢◌, option_map}
-use Rattle.ert_defs.specs.Legal.{left_by}
-use Rattle.ert_defs.specs.Milliseconds.{left}
-use Rattle.ert_defs.specs.Timers.{Row, row_of}
-use Rattle.ert_defs.specs.declared.settings.Settings.{Settings}
-use Rattle.ert_defs.specs.declared.timer.Status.{Status}
-use Rattle.ert_defs.specs.declared.timer.Status.TheVariants.{Armed}
-use Rattle.ert_defs.specs.declared.timer.TimerRef.{TimerRef}
-use Rattle.ert_judge.specs.Wheels.{timer_in, rows_of, status_among}
-use Rattle.ert_judge.specs.declared.state.wheels.Timer.{Timer}
+use Rattle.ert_defs.specs.{Legal.left_by, Milliseconds.left, Timers.{Row, row_of}, declared.settings.Settings.Settings, declared.timer.Status.Status, declared.timer.Status.TheVariants.Armed, declared.timer.TimerRef.TimerRef}
+use Rattle.ert_judge.specs.{Wheels.{timer_in, rows_of, status_among}, declared.state.wheels.Timer.Timer}
 use Rattle.ert_judge.proofs.WheelLaws.{row_of_rows}
 
 -- what is left of a timer, by what is found of it

@@ -2,28 +2,11 @@
 
 use Rattle.std.proofs.Common.{arith, ◌≡◌, ◌<◌, ◌≤◌, ◌≤ℤ◌, ◌∙◌, refl, sym, ap, subst, inl, inr, ℕ, ℤ, pos, true, false, nat_le, nat_lt, List, get_or, Some}
 use Rattle.std.specs.Prelude.{option_map}
-use Rattle.std.proofs.lemmas.Bool.{cases_lt, lt-ltb, lt-leb, ltb-false}
-use Rattle.std.proofs.lemmas.Option.{slice_get_within, get_or_from_slice_get}
-use Rattle.ert_defs.specs.Clocks.{Clock}
-use Rattle.ert_defs.specs.Legal.{AllSettled}
-use Rattle.ert_defs.specs.Milliseconds.{down}
-use Rattle.ert_defs.specs.Timers.{row_of}
-use Rattle.ert_defs.specs.declared.entry.Actor.{Actor}
-use Rattle.ert_defs.specs.declared.timer.Status.TheVariants.{Armed}
-use Rattle.ert_defs.specs.declared.timer.TimerRef.{TimerRef}
-use Rattle.ert_judge.proofs.ArmedLaws.{settled_if, settled_each}
-use Rattle.ert_judge.proofs.WheelLaws.{row_of_rows}
-use Rattle.ert_judge.specs.Indexes.{IsFirstArmed}
-use Rattle.ert_judge.specs.Parts.{looks_in, look_of, status_at}
-use Rattle.ert_judge.specs.Wheels.{timers_at, timer_in, rows_of, is_settled, IsFirstDue, IsOwnOf}
-use Rattle.ert_judge.specs.declared.state.wheels.Timer.{Timer}
-use Rattle.ert_judge.proofs.EventsExclude.{settled_row}
-use Rattle.ert_judge.proofs.Knows.{shown_all}
-use Rattle.ert_judge.proofs.Seen.{never_next}
-use Rattle.ert_judge.proofs.WheelTests.{settled_all}
-use Rattle.ert_judge.specs.Breaks.{IsArmedTill, IsEarliestArmed, IsKeptBack, IsLater, IsSecond}
-use Rattle.ert_judge.specs.Shown.{shown, OwnTimers}
-use Rattle.ert_judge.specs.declared.judge.Judge.{Judge}
+use Rattle.std.proofs.lemmas.{Bool.{cases_lt, lt-ltb, lt-leb, ltb-false}, Option.{slice_get_within, get_or_from_slice_get}}
+use Rattle.ert_defs.specs.{Clocks.Clock, Legal.AllSettled, Milliseconds.down, Timers.row_of, declared.entry.Actor.Actor, declared.timer.Status.TheVariants.Armed, declared.timer.TimerRef.TimerRef}
+use Rattle.ert_judge.proofs.{ArmedLaws.{settled_if, settled_each}, WheelLaws.row_of_rows, EventsExclude.settled_row, Knows.shown_all, Seen.never_next, WheelTests.settled_all}
+use Rattle.ert_judge.specs.{Indexes.IsFirstArmed, Parts.{looks_in, look_of, status_at}, Wheels.{timers_at, timer_in, rows_of, is_settled, IsFirstDue, IsOwnOf}, declared.state.wheels.Timer.Timer, Breaks.{IsArmedTill, IsEarliestArmed}}
+use Rattle.ert_judge.specs.{Breaks.{IsKeptBack, IsLater, IsSecond}, Shown.{shown, OwnTimers}, declared.judge.Judge.Judge}
 
 -- the row and the status of a timer that is found
 pub found_row : (c : Clock) (j : Judge) (timer : TimerRef) (t : Timer) → timer_in (timers_at j.timers timer.wheel) timer ≡ Some t

@@ -1,14 +1,10 @@
 -- The first of a wheel's armed timers.
 
 use Rattle.std.proofs.Common.{arith, ◌≡◌, ◌<◌, ◌∙◌, refl, sym, subst, inl, inr, ℕ, List, length, get_or, nat_lt}
-use Rattle.std.proofs.lemmas.Bool.{le-ltb}
-use Rattle.std.proofs.lemmas.Option.{slice_get_within, get_or_from_slice_get}
-use Rattle.std.specs.BTreeMap.{BTreeMap}
-use Rattle.std.specs.BTreeSet.{BTreeSet}
-use Rattle.ert_judge.specs.Indexes.{IsFirstArmed}
-use Rattle.ert_judge.specs.declared.state.wheels.Timer.{Timer}
-use Rattle.ert_judge.proofs.ArmedLaws.{Waits, IsLeast, settled_if, least_armed, up_to_each, none_before}
-use Rattle.ert_judge.proofs.FindLaws.{Placed, located, found_at}
+use Rattle.std.proofs.lemmas.{Bool.le-ltb, Option.{slice_get_within, get_or_from_slice_get}}
+use Rattle.std.specs.{BTreeMap.BTreeMap, BTreeSet.BTreeSet}
+use Rattle.ert_judge.specs.{Indexes.IsFirstArmed, declared.state.wheels.Timer.Timer}
+use Rattle.ert_judge.proofs.{ArmedLaws.{Waits, IsLeast, settled_if, least_armed, up_to_each, none_before}, FindLaws.{Placed, located, found_at}}
 
 -- it stands among the timers
 pub least_within : (ts : List Timer) (armed : BTreeSet (ℕ × ℕ)) (e o : ℕ) → Waits ts armed → IsLeast armed e o → o < length ts

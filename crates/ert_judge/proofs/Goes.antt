@@ -2,29 +2,14 @@
 
 use Rattle.std.proofs.Common.{◌≡◌, ◌<◌, ◌++◌, ◌∷◌, [], ℕ, refl, sym, ap, ◌∙◌, subst, cond, List, length, Option, Some}
 use Rattle.std.specs.Prelude.{ℤ}
-use Rattle.ert_defs.specs.Actors.{is_with, IsMaker, IsUser}
-use Rattle.ert_defs.specs.Clocks.{Clock}
-use Rattle.ert_defs.specs.Legal.{Can, Keeps}
-use Rattle.ert_defs.specs.States.{State, next, state}
-use Rattle.ert_defs.specs.Timers.{rows_after, status_after}
-use Rattle.ert_defs.specs.declared.entry.Actor.{Actor}
-use Rattle.ert_defs.specs.declared.entry.Actor.TheVariants.{Wheel, Inbox, Sched, MailOf}
-use Rattle.ert_defs.specs.declared.entry.Entry.{Entry}
-use Rattle.ert_defs.specs.declared.entry.Event.{Event}
-use Rattle.ert_defs.specs.declared.entry.Event.TheVariants.{Look}
-use Rattle.ert_defs.specs.declared.settings.Settings.{Settings}
-use Rattle.ert_defs.specs.declared.timer.TimerRef.{TimerRef}
-use Rattle.ert_defs.proofs.Runs.{state-append, legal_more}
-use Rattle.ert_defs.proofs.Slots.{uses_after}
-use Rattle.ert_judge.specs.Parts.{LastLooks, looks_in, look_of, rows_in, status_at, inbox_at, sched_at}
-use Rattle.ert_judge.specs.Shown.{shown, ClockIs, ClockFollows, Follows, HasFollowed}
-use Rattle.ert_judge.specs.Uses.{uses_in}
-use Rattle.ert_judge.specs.Wheels.{timers_at, IsOwn}
-use Rattle.ert_judge.specs.declared.judge.Judge.{Judge}
-use Rattle.ert_judge.specs.declared.state.wheels.Timer.{Timer}
-use Rattle.ert_judge.proofs.CellLaws.{inboxes_follow, length-inboxes_after, scheds_follow, length-scheds_after, looks_follow, length-callers_after, length-schedulers_after}
-use Rattle.ert_judge.proofs.Makers.{IsMade, IsPartner, made, looker, not_by_wheel, not_by_inbox, not_by_mail, not_with_sched}
-use Rattle.ert_judge.proofs.Stands.{same_states, by_other, with_other, clock_stands}
+use Rattle.ert_defs.specs.{Actors.{is_with, IsMaker, IsUser}, Clocks.Clock, Legal.{Can, Keeps}, States.{State, next, state}, Timers.{rows_after, status_after}, declared.entry.Actor.Actor, declared.entry.Actor.TheVariants.{Wheel, Inbox}}
+use Rattle.ert_defs.specs.{declared.entry.Actor.TheVariants.{Sched, MailOf}, declared.entry.Entry.Entry, declared.entry.Event.Event, declared.entry.Event.TheVariants.Look, declared.settings.Settings.Settings}
+use Rattle.ert_defs.specs.{declared.timer.TimerRef.TimerRef}
+use Rattle.ert_defs.proofs.{Runs.{state-append, legal_more}, Slots.uses_after}
+use Rattle.ert_judge.specs.{Parts.{LastLooks, looks_in, look_of, rows_in, status_at, inbox_at, sched_at}, Shown.{shown, ClockIs, ClockFollows, Follows, HasFollowed}, Uses.uses_in, Wheels.{timers_at, IsOwn}, declared.judge.Judge.Judge}
+use Rattle.ert_judge.specs.{declared.state.wheels.Timer.Timer}
+use Rattle.ert_judge.proofs.{CellLaws.{inboxes_follow, length-inboxes_after, scheds_follow, length-scheds_after, looks_follow, length-callers_after, length-schedulers_after}, Makers.{IsMade, IsPartner, made, looker, not_by_wheel}}
+use Rattle.ert_judge.proofs.{Makers.{not_by_inbox, not_by_mail, not_with_sched}, Stands.{same_states, by_other, with_other, clock_stands}}
 
 -- the timers have gone on by an event that is made with an actor
 pub record TimersGo (g : Settings) (look : ℤ) (with : Option Actor) (event : Event) (old new : List (List Timer)) : Type 0 where

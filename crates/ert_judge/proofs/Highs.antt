@@ -4,16 +4,9 @@ use Rattle.std.proofs.Common.{◌≡◌, ◌<◌, inl, inr, ℕ, refl, sym, ◌�
 use Rattle.std.proofs.lemmas.Bool.{cases_Bool, cond_both, leb-false, lt-leb}
 use Rattle.std.specs.Option.{option_or}
 use Rattle.std.specs.Prelude.{IfSome}
-use Rattle.ert_defs.specs.declared.entry.Actor.{Actor}
-use Rattle.ert_defs.specs.declared.entry.Actor.TheVariants.{Sched, MailOf, Caller}
-use Rattle.ert_defs.specs.declared.entry.Entry.{Entry}
-use Rattle.ert_defs.specs.declared.settings.Settings.{Settings}
-use Rattle.ert_judge.specs.Ranges.{wheel_of_event, slot_of_event, process_of, count_of_kind, high, high_by, high_with, too_high, maker_of, partner_of, IsMadeBy, IsMadeWith}
-use Rattle.ert_judge.specs.Reasons.{BreaksRange}
-use Rattle.ert_judge.specs.declared.reasons.Counted.{Counted}
-use Rattle.ert_judge.specs.declared.reasons.Counted.TheVariants.{Callers, Schedulers, Processes, Slots}
-use Rattle.ert_judge.specs.declared.reasons.Reason.{Reason}
-use Rattle.ert_judge.specs.declared.reasons.Reason.TheVariants.{TooHigh}
+use Rattle.ert_defs.specs.declared.{entry.Actor.Actor, entry.Actor.TheVariants.{Sched, MailOf, Caller}, entry.Entry.Entry, settings.Settings.Settings}
+use Rattle.ert_judge.specs.{Ranges.{wheel_of_event, slot_of_event, process_of, count_of_kind, high, high_by, high_with, too_high, maker_of, partner_of, IsMadeBy, IsMadeWith}, Reasons.BreaksRange, declared.reasons.Counted.Counted}
+use Rattle.ert_judge.specs.{declared.reasons.Counted.TheVariants.{Callers, Schedulers, Processes, Slots}, declared.reasons.Reason.Reason, declared.reasons.Reason.TheVariants.TooHigh}
 
 -- nothing is told of a number exactly where it is below the count of its kind
 pub low_high : (g : Settings) (thing : Counted) (o : Option ℕ) → IfSome o (λ n. n < count_of_kind g thing) → high g thing o ≡ None

@@ -2,23 +2,13 @@
 
 use Rattle.std.proofs.Common.{◌≡◌, ◌<◌, ℕ, refl, sym, subst, ◌∙◌, Option, Some, None}
 use Rattle.std.specs.Prelude.{IfSome}
-use Rattle.ert_defs.specs.Actors.{IsCaller, IsMaker, IsUser}
-use Rattle.ert_defs.specs.Legal.{Keeps, IsWithCaller, IsWithMail, IsProber, IsReader}
-use Rattle.ert_defs.specs.declared.entry.Actor.{Actor}
-use Rattle.ert_defs.specs.declared.entry.Actor.TheVariants.{Keeper, Wheel, Inbox, Sched, MailOf, Caller}
-use Rattle.ert_defs.specs.declared.entry.Entry.{Entry}
-use Rattle.ert_defs.specs.declared.entry.Event.{Event}
-use Rattle.ert_defs.specs.declared.entry.Event.TheVariants.{Tick, Shift, Look, Off, Arm, Probe, Peek, Cancel, Expire, Orphan, Deliver, Drop, Mark, Advanced, Ask, Pick, Answer, Take, Unwatch, Watch, Tell}
-use Rattle.ert_defs.specs.declared.settings.Settings.{Settings}
-use Rattle.ert_judge.proofs.Highs.{AreLow, low_high, high_low, all_low, none_too_high}
-use Rattle.ert_judge.proofs.Makers.{IsPartner, made}
-use Rattle.ert_judge.specs.Ranges.{maker_of, partner_of, reads_with, wheel_of_event, slot_of_event, process_of, high_by, high_with, IsMadeBy, IsMadeWith, MayBeInRange}
-use Rattle.ert_judge.specs.Reasons.{BreaksRange}
-use Rattle.ert_judge.specs.declared.reasons.Counted.TheVariants.{Callers, Schedulers, Processes}
-use Rattle.ert_judge.specs.declared.reasons.Maker.TheVariants.{AnyCaller, User, CallerOr, Reader}
-use Rattle.ert_judge.specs.declared.reasons.Partner.TheVariants.{SomeCaller, SomeMailbox}
-use Rattle.ert_judge.specs.declared.reasons.Reason.{Reason}
-use Rattle.ert_judge.specs.declared.reasons.Reason.TheVariants.{NotBy, NotWith, TooHigh}
+use Rattle.ert_defs.specs.{Actors.{IsCaller, IsMaker, IsUser}, Legal.{Keeps, IsWithCaller, IsWithMail, IsProber, IsReader}, declared.entry.Actor.Actor, declared.entry.Actor.TheVariants.{Keeper, Wheel, Inbox, Sched, MailOf, Caller}}
+use Rattle.ert_defs.specs.{declared.entry.Entry.Entry, declared.entry.Event.Event, declared.entry.Event.TheVariants.{Tick, Shift, Look, Off, Arm, Probe, Peek, Cancel, Expire, Orphan, Deliver, Drop, Mark, Advanced, Ask, Pick, Answer, Take}}
+use Rattle.ert_defs.specs.{declared.entry.Event.TheVariants.{Unwatch, Watch, Tell}, declared.settings.Settings.Settings}
+use Rattle.ert_judge.proofs.{Highs.{AreLow, low_high, high_low, all_low, none_too_high}, Makers.{IsPartner, made}}
+use Rattle.ert_judge.specs.{Ranges.{maker_of, partner_of, reads_with, wheel_of_event, slot_of_event, process_of, high_by, high_with, IsMadeBy, IsMadeWith, MayBeInRange}, Reasons.BreaksRange, declared.reasons.Counted.TheVariants.Callers}
+use Rattle.ert_judge.specs.{declared.reasons.Counted.TheVariants.{Schedulers, Processes}, declared.reasons.Maker.TheVariants.{AnyCaller, User, CallerOr, Reader}, declared.reasons.Partner.TheVariants.{SomeCaller, SomeMailbox}}
+use Rattle.ert_judge.specs.{declared.reasons.Reason.Reason, declared.reasons.Reason.TheVariants.{NotBy, NotWith, TooHigh}}
 
 -- a caller in range is a caller
 caller_made : (g : Settings) (by : Actor) → IsCaller g by → IsMadeBy AnyCaller by

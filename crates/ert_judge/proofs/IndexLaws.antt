@@ -1,24 +1,13 @@
 -- The laws of what finds a wheel's timers: it fits them after one was armed and after one moved.
 
 use Rattle.std.proofs.Common.{arith, ◌≡◌, ◌≢◌, ◌∙◌, refl, sym, ap, subst, inl, inr, ℕ, Bool, true, false, cond, ◌&&◌, nat_eq, List, [], ◌∷◌, ◌++◌, length, get_or, set, Some, eq-eqb, ne_eqb}
-use Rattle.std.proofs.lemmas.Bool.{cases_eq, and_left, and_right, and_from}
-use Rattle.std.proofs.lemmas.Option.{slice_get_within, slice_get_past, same_Some}
+use Rattle.std.proofs.lemmas.{Bool.{cases_eq, and_left, and_right, and_from}, Option.{slice_get_within, slice_get_past, same_Some}}
 use Rattle.std.specs.Prelude.{slice_get}
-use Rattle.std.specs.BTreeMap.{BTreeMap, get, is_at}
-use Rattle.std.specs.BTreeSet.{BTreeSet, contains}
-use Rattle.ert_defs.specs.Laws.{is_armed}
-use Rattle.ert_defs.specs.declared.timer.Status.{Status}
-use Rattle.ert_defs.specs.declared.timer.Status.TheVariants.{Armed, Expired, Delivered, Cancelled, Orphaned, Dropped}
-use Rattle.ert_defs.specs.declared.timer.TimerRef.{TimerRef}
-use Rattle.ert_judge.specs.Uses.{uses_of, none_kept, used_by, uses_in, IsNewUse}
-use Rattle.ert_judge.specs.Indexes.{pair_cmp, kept_at, is_armed_for, PutsPlace, Sets, IsIndexed, StandsAt}
-use Rattle.ert_judge.specs.declared.state.uses.Uses.{Uses as KeptUses}
-use Rattle.ert_judge.specs.declared.state.wheels.Timer.{Timer}
-use Rattle.ert_judge.proofs.PairLaws.{is_at_pair}
-use Rattle.ert_judge.proofs.PlaceLaws.{slice_get_push, slice_get_before, slice_get_set, slice_get_others}
-use Rattle.ert_judge.proofs.UseLaws.{uses_push, uses_moved}
-use Rattle.ert_judge.proofs.ArmedLaws.{Waits}
-use Rattle.ert_judge.proofs.MoveLaws.{moved_at, read_there}
+use Rattle.std.specs.{BTreeMap.{BTreeMap, get, is_at}, BTreeSet.{BTreeSet, contains}}
+use Rattle.ert_defs.specs.{Laws.is_armed, declared.timer.Status.Status, declared.timer.Status.TheVariants.{Armed, Expired, Delivered, Cancelled, Orphaned, Dropped}, declared.timer.TimerRef.TimerRef}
+use Rattle.ert_judge.specs.{Uses.{uses_of, none_kept, used_by, uses_in, IsNewUse}, Indexes.{pair_cmp, kept_at, is_armed_for, PutsPlace, Sets, IsIndexed, StandsAt}, declared.state.uses.Uses.Uses as KeptUses}
+use Rattle.ert_judge.specs.{declared.state.wheels.Timer.Timer}
+use Rattle.ert_judge.proofs.{PairLaws.is_at_pair, PlaceLaws.{slice_get_push, slice_get_before, slice_get_set, slice_get_others}, UseLaws.{uses_push, uses_moved}, ArmedLaws.Waits, MoveLaws.{moved_at, read_there}}
 
 -- a map has the uses of a slot, and all else as another has it
 abbrev pub PutsUses : BTreeMap ℕ KeptUses → BTreeMap ℕ KeptUses → ℕ → KeptUses → Type 0

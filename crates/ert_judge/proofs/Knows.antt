@@ -2,17 +2,9 @@
 
 use Rattle.std.proofs.Common.{◌≡◌, ℕ, refl, Bool}
 use Rattle.std.specs.Prelude.{◌↔◌, IsTrue}
-use Rattle.ert_defs.specs.Clocks.{Clock}
-use Rattle.ert_defs.specs.Legal.{IsNext}
-use Rattle.ert_defs.specs.Milliseconds.{down}
-use Rattle.ert_defs.specs.declared.entry.Actor.{Actor}
-use Rattle.ert_defs.specs.declared.timer.TimerRef.{TimerRef}
-use Rattle.ert_judge.specs.Parts.{looks_in, look_of, status_at}
-use Rattle.ert_judge.specs.Shown.{shown, OwnTimers}
-use Rattle.ert_judge.specs.Wheels.{timers_at, status_among, AreShown, IsFirstDue}
-use Rattle.ert_judge.specs.declared.judge.Judge.{Judge}
-use Rattle.ert_judge.proofs.WheelLaws.{own_shown}
-use Rattle.ert_judge.proofs.WheelTests.{first_is_next}
+use Rattle.ert_defs.specs.{Clocks.Clock, Legal.IsNext, Milliseconds.down, declared.entry.Actor.Actor, declared.timer.TimerRef.TimerRef}
+use Rattle.ert_judge.specs.{Parts.{looks_in, look_of, status_at}, Shown.{shown, OwnTimers}, Wheels.{timers_at, status_among, AreShown, IsFirstDue}, declared.judge.Judge.Judge}
+use Rattle.ert_judge.proofs.{WheelLaws.own_shown, WheelTests.first_is_next}
 
 -- each timer of a wheel has its own status in the state
 pub shown_all : (j : Judge) (w : ℕ) → OwnTimers j → AreShown (status_at j.timers) (timers_at j.timers w)

@@ -2,13 +2,9 @@
 
 use Rattle.std.proofs.Common.{◌≡◌, ◌<◌, ℕ, refl, sym, subst, false, Option, Some, None}
 use Rattle.std.specs.Prelude.{ℤ}
-use Rattle.ert_defs.specs.Actors.{same_actor, is_with, IsCaller, IsMaker, IsUser}
-use Rattle.ert_defs.specs.Legal.{Keeps, IsWithCaller, IsWithMail, IsProber, IsReader}
-use Rattle.ert_defs.specs.declared.entry.Actor.{Actor}
-use Rattle.ert_defs.specs.declared.entry.Actor.TheVariants.{Keeper, Wheel, Inbox, Sched, MailOf, Caller}
-use Rattle.ert_defs.specs.declared.entry.Event.{Event}
-use Rattle.ert_defs.specs.declared.entry.Event.TheVariants.{Tick, Shift, Look, Off, Arm, Probe, Peek, Cancel, Expire, Orphan, Deliver, Drop, Mark, Advanced, Ask, Pick, Answer, Take, Unwatch, Watch, Tell}
-use Rattle.ert_defs.specs.declared.settings.Settings.{Settings}
+use Rattle.ert_defs.specs.{Actors.{same_actor, is_with, IsCaller, IsMaker, IsUser}, Legal.{Keeps, IsWithCaller, IsWithMail, IsProber, IsReader}, declared.entry.Actor.Actor, declared.entry.Actor.TheVariants.{Keeper, Wheel, Inbox, Sched}}
+use Rattle.ert_defs.specs.{declared.entry.Actor.TheVariants.{MailOf, Caller}, declared.entry.Event.Event, declared.entry.Event.TheVariants.{Tick, Shift, Look, Off, Arm, Probe, Peek, Cancel, Expire, Orphan, Deliver, Drop, Mark, Advanced}}
+use Rattle.ert_defs.specs.{declared.entry.Event.TheVariants.{Ask, Pick, Answer, Take, Unwatch, Watch, Tell}, declared.settings.Settings.Settings}
 
 -- entries are made alone, or with a wheel, an inbox, a mailbox or a caller in range
 abbrev pub IsPartner : Settings → Option Actor → Type 0

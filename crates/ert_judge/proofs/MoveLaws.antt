@@ -1,17 +1,11 @@
 -- The laws of a move: it changes one timer, which stands at a place.
 
 use Rattle.std.proofs.Common.{◌≡◌, ◌≢◌, ◌∙◌, refl, sym, ap, inl, inr, ℕ, true, false, List, get_or, set}
-use Rattle.std.proofs.lemmas.Bool.{cases_Bool, cases_eq, and_right}
-use Rattle.std.proofs.lemmas.Option.{get_or_from_slice_get, same_Some}
+use Rattle.std.proofs.lemmas.{Bool.{cases_Bool, cases_eq, and_right}, Option.{get_or_from_slice_get, same_Some}}
 use Rattle.std.specs.Prelude.{slice_get}
 use Rattle.ert_defs.proofs.ExpiredTimers.{same_timer_self, same_timer-false}
-use Rattle.ert_defs.specs.Timers.{same_timer}
-use Rattle.ert_defs.specs.declared.timer.Status.{Status}
-use Rattle.ert_defs.specs.declared.timer.Status.TheVariants.{Armed, Expired, Delivered, Cancelled, Orphaned, Dropped}
-use Rattle.ert_defs.specs.declared.timer.TimerRef.{TimerRef}
-use Rattle.ert_judge.specs.Wheels.{same_status, moved_one, moved}
-use Rattle.ert_judge.specs.Indexes.{IsUnknown, StandsAt}
-use Rattle.ert_judge.specs.declared.state.wheels.Timer.{Timer}
+use Rattle.ert_defs.specs.{Timers.same_timer, declared.timer.Status.Status, declared.timer.Status.TheVariants.{Armed, Expired, Delivered, Cancelled, Orphaned, Dropped}, declared.timer.TimerRef.TimerRef}
+use Rattle.ert_judge.specs.{Wheels.{same_status, moved_one, moved}, Indexes.{IsUnknown, StandsAt}, declared.state.wheels.Timer.Timer}
 use Rattle.ert_judge.proofs.PlaceLaws.{map_same, map_at}
 
 -- a timer of another reference doesn't move

@@ -1,33 +1,12 @@
 -- What a judge knows of a timer that a legal entry arms: its slot is free for it, and it is a new use of that.
 
 use Rattle.std.proofs.Common.{◌≡◌, ◌∙◌, refl, sym, ap, subst, ℕ, ◌<◌, ◌≤◌, true, false, List, length, Option, Some, None, eq-eqb}
-use Rattle.std.proofs.lemmas.List.{length-map}
-use Rattle.std.proofs.lemmas.List.Elements.{All-get_or}
-use Rattle.std.proofs.lemmas.Option.{slice_get_within, get_or_from_slice_get}
-use Rattle.ert_defs.proofs.ExpiredTimers.{same_timer_self}
-use Rattle.ert_defs.proofs.Settlings.{armed_first}
-use Rattle.ert_defs.proofs.Slots.{ordered, same_timer-true}
-use Rattle.ert_defs.specs.Clocks.{Clock}
-use Rattle.ert_defs.specs.Legal.{Can, CanArm, Known}
-use Rattle.ert_defs.specs.Milliseconds.{natural, down, deadline_of}
-use Rattle.ert_defs.specs.States.{State, state, uses_at}
-use Rattle.ert_defs.specs.Timers.{Uses, IsNextUse, is_taken, same_timer}
-use Rattle.ert_defs.specs.declared.entry.Actor.{Actor}
-use Rattle.ert_defs.specs.declared.entry.Entry.{Entry}
-use Rattle.ert_defs.specs.declared.entry.Event.{Event}
-use Rattle.ert_defs.specs.declared.entry.Event.TheVariants.{Arm}
-use Rattle.ert_defs.specs.declared.settings.Settings.{Settings}
-use Rattle.ert_defs.specs.declared.timer.Start.{Start}
-use Rattle.ert_defs.specs.declared.timer.TimerRef.{TimerRef}
-use Rattle.ert_judge.specs.Parts.{looks_in, look_of}
-use Rattle.ert_judge.specs.Uses.{uses_in, IsNewUse}
-use Rattle.ert_judge.specs.Wheels.{timers_at, rows_of, status_among, IsOwnOf, IsOwn}
-use Rattle.ert_judge.specs.declared.state.wheels.Timer.{Timer}
-use Rattle.ert_judge.specs.Breaks.{ArmBreaks, UseBreaks, IsUse, last_status_of, looked_at}
-use Rattle.ert_judge.specs.Shown.{shown, last_status, HasFollowed}
-use Rattle.ert_judge.specs.declared.judge.Judge.{Judge}
-use Rattle.ert_judge.specs.declared.reasons.Reason.{Reason}
-use Rattle.ert_judge.specs.declared.reasons.Reason.TheVariants.{SlotTaken, WheelUsed}
+use Rattle.std.proofs.lemmas.{List.length-map, List.Elements.All-get_or, Option.{slice_get_within, get_or_from_slice_get}}
+use Rattle.ert_defs.proofs.{ExpiredTimers.same_timer_self, Settlings.armed_first, Slots.{ordered, same_timer-true}}
+use Rattle.ert_defs.specs.{Clocks.Clock, Legal.{Can, CanArm, Known}, Milliseconds.{natural, down, deadline_of}, States.{State, state, uses_at}, Timers.{Uses, IsNextUse, is_taken, same_timer}, declared.entry.Actor.Actor}
+use Rattle.ert_defs.specs.{declared.entry.Entry.Entry, declared.entry.Event.Event, declared.entry.Event.TheVariants.Arm, declared.settings.Settings.Settings, declared.timer.Start.Start, declared.timer.TimerRef.TimerRef}
+use Rattle.ert_judge.specs.{Parts.{looks_in, look_of}, Uses.{uses_in, IsNewUse}, Wheels.{timers_at, rows_of, status_among, IsOwnOf, IsOwn}, declared.state.wheels.Timer.Timer, Breaks.{ArmBreaks, UseBreaks, IsUse, last_status_of, looked_at}}
+use Rattle.ert_judge.specs.{Shown.{shown, last_status, HasFollowed}, declared.judge.Judge.Judge, declared.reasons.Reason.Reason, declared.reasons.Reason.TheVariants.{SlotTaken, WheelUsed}}
 use Rattle.ert_judge.proofs.TimerLaws.{ArmsNext}
 
 -- a timer of which the use is the next of a free slot can be armed

@@ -3,18 +3,9 @@
 use Rattle.std.proofs.Common.{arith, ◌≡◌, [], ℕ, zero, suc, refl, sym, ap, ◌∙◌, List, length}
 use Rattle.std.specs.Prelude.{get_or, replicate}
 use Rattle.std.proofs.lemmas.List.{length-replicate}
-use Rattle.ert_defs.specs.Clocks.{first_clock}
-use Rattle.ert_defs.specs.Mails.{idle_sched}
-use Rattle.ert_defs.specs.States.{opening}
-use Rattle.ert_defs.specs.declared.entry.Actor.{Actor}
-use Rattle.ert_defs.specs.declared.entry.Actor.TheVariants.{Keeper, Wheel, Inbox, Sched, MailOf, Caller}
-use Rattle.ert_defs.specs.declared.settings.Settings.{Settings}
-use Rattle.ert_judge.specs.Parts.{LastLooks, no_looks, look_of, inbox_at, sched_at}
-use Rattle.ert_judge.specs.Shown.{shown, IsOpening, HasFollowed}
-use Rattle.ert_judge.specs.Uses.{uses_in}
-use Rattle.ert_judge.specs.Wheels.{timers_at, rows_of, status_among, IsOwn}
-use Rattle.ert_judge.specs.declared.judge.Judge.{Judge}
-use Rattle.ert_judge.specs.declared.state.wheels.Timer.{Timer}
+use Rattle.ert_defs.specs.{Clocks.first_clock, Mails.idle_sched, States.opening, declared.entry.Actor.Actor, declared.entry.Actor.TheVariants.{Keeper, Wheel, Inbox, Sched, MailOf, Caller}, declared.settings.Settings.Settings}
+use Rattle.ert_judge.specs.{Parts.{LastLooks, no_looks, look_of, inbox_at, sched_at}, Shown.{shown, IsOpening, HasFollowed}, Uses.uses_in, Wheels.{timers_at, rows_of, status_among, IsOwn}, declared.judge.Judge.Judge}
+use Rattle.ert_judge.specs.{declared.state.wheels.Timer.Timer}
 use Rattle.ert_judge.proofs.Stands.{same_states}
 
 -- each cell is as at the opening

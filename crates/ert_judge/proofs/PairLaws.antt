@@ -2,9 +2,7 @@
 
 use Rattle.std.proofs.Common.{arith, ◌≡◌, refl, inl, inr, ℕ, ◌<◌, ◌≤◌, false, ◌&&◌, nat_eq, ◌⊎◌, eq-eqb, ne_eqb}
 use Rattle.std.proofs.lemmas.Bool.{cases_order, lt-ltb, le-ltb}
-use Rattle.std.specs.Ordering.{is_eq, is_gt, nat_cmp}
-use Rattle.std.specs.declared.cmp.Ordering.TheVariants.{Less, Equal, Greater}
-use Rattle.std.specs.BTreeMap.{is_at}
+use Rattle.std.specs.{Ordering.{is_eq, is_gt, nat_cmp}, declared.cmp.Ordering.TheVariants.{Less, Equal, Greater}, BTreeMap.is_at}
 use Rattle.ert_judge.specs.Indexes.{pair_cmp}
 
 less : (a b : ℕ) → a < b → nat_cmp a b ≡ Less

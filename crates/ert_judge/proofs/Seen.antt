@@ -3,32 +3,11 @@
 use Rattle.std.proofs.Common.{◌≡◌, ℕ, ℤ, refl, sym, ap, ◌∙◌, subst, Bool, false, true, List, Option, Some, None}
 use Rattle.std.specs.Prelude.{◌↔◌, IsTrue, IfSome, IfNone}
 use Rattle.ert_clock.specs.Faces.{face_of}
-use Rattle.ert_defs.specs.Clocks.{Clock, face}
-use Rattle.ert_defs.specs.Legal.{Can, CanTick, Known, Found, IsNext}
-use Rattle.ert_defs.specs.Lines.{Face, Due}
-use Rattle.ert_defs.specs.Mails.{MailState}
-use Rattle.ert_defs.specs.Milliseconds.{down}
-use Rattle.ert_defs.specs.States.{State, state}
-use Rattle.ert_defs.specs.declared.entry.Act.{Act}
-use Rattle.ert_defs.specs.declared.entry.Actor.{Actor}
-use Rattle.ert_defs.specs.declared.entry.Entry.{Entry}
-use Rattle.ert_defs.specs.declared.settings.OffsetState.{OffsetState}
-use Rattle.ert_defs.specs.declared.settings.Reading.{Reading}
-use Rattle.ert_defs.specs.declared.settings.Settings.{Settings}
-use Rattle.ert_defs.specs.declared.timer.TimerRef.{TimerRef}
-use Rattle.ert_judge.proofs.EventsExclude.{excludes}
-use Rattle.ert_judge.proofs.InRange.{in_range_keeps}
-use Rattle.ert_judge.proofs.Knows.{next_known}
-use Rattle.ert_judge.specs.Shown.{ClockIs, OwnTimers, HasFollowed, shown}
-use Rattle.ert_judge.specs.declared.judge.Judge.{Judge}
-use Rattle.ert_judge.specs.Breaks.{Breaks, TickBreaks, ShiftBreaks, LookBreaks, OffBreaks, WatchBreaks, TellBreaks}
-use Rattle.ert_judge.specs.Ranges.{MayBeInRange}
-use Rattle.ert_judge.specs.Reasons.{IsFirstReason, BreaksRange}
-use Rattle.ert_judge.specs.Reasons.IsFirstReason.{out_of_range, breaks}
-use Rattle.ert_judge.specs.declared.reasons.Reason.{Reason}
-use Rattle.ert_judge.specs.Parts.{looks_in, look_of}
-use Rattle.ert_judge.specs.Wheels.{timers_at, IsFirstDue}
-use Rattle.ert_judge.specs.declared.state.clock.Clock.{Clock as KeptClock}
+use Rattle.ert_defs.specs.{Clocks.{Clock, face}, Legal.{Can, CanTick, Known, Found, IsNext}, Lines.{Face, Due}, Mails.MailState, Milliseconds.down, States.{State, state}, declared.entry.Act.Act, declared.entry.Actor.Actor}
+use Rattle.ert_defs.specs.{declared.entry.Entry.Entry, declared.settings.OffsetState.OffsetState, declared.settings.Reading.Reading, declared.settings.Settings.Settings, declared.timer.TimerRef.TimerRef}
+use Rattle.ert_judge.proofs.{EventsExclude.excludes, InRange.in_range_keeps, Knows.next_known}
+use Rattle.ert_judge.specs.{Shown.{ClockIs, OwnTimers, HasFollowed, shown}, declared.judge.Judge.Judge, Breaks.{Breaks, TickBreaks, ShiftBreaks, LookBreaks, OffBreaks, WatchBreaks, TellBreaks}, Ranges.MayBeInRange, Reasons.IsFirstReason}
+use Rattle.ert_judge.specs.{Reasons.BreaksRange, Reasons.IsFirstReason.{out_of_range, breaks}, declared.reasons.Reason.Reason, Parts.{looks_in, look_of}, Wheels.{timers_at, IsFirstDue}, declared.state.clock.Clock.Clock as KeptClock}
 
 -- what was found false isn't so
 pub refuted : (P : Type 0) (b : Bool) → IsTrue b ↔ P → b ≡ false → P → ⊥

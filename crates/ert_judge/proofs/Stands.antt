@@ -2,19 +2,11 @@
 
 use Rattle.std.proofs.Common.{◌≡◌, ℕ, refl, sym, ap, ◌∙◌, subst, Bool, true, false, cond, Option}
 use Rattle.std.specs.Prelude.{◌||◌}
-use Rattle.ert_defs.specs.Actors.{same_actor, is_with}
-use Rattle.ert_defs.specs.Clocks.{Clock, face, clock_after}
-use Rattle.ert_defs.specs.Legal.{Keeps}
-use Rattle.ert_defs.specs.States.{State, uses_at}
-use Rattle.ert_defs.specs.declared.entry.Actor.{Actor}
-use Rattle.ert_defs.specs.declared.entry.Actor.TheVariants.{Keeper}
-use Rattle.ert_defs.specs.declared.entry.Event.{Event}
-use Rattle.ert_defs.specs.declared.entry.Event.TheVariants.{Tick, Shift, Look, Off, Arm, Probe, Peek, Cancel, Expire, Orphan, Deliver, Drop, Mark, Advanced, Ask, Pick, Answer, Take, Unwatch, Watch, Tell}
-use Rattle.ert_defs.specs.declared.settings.Settings.{Settings}
-use Rattle.ert_defs.specs.declared.timer.TimerRef.{TimerRef}
+use Rattle.ert_defs.specs.{Actors.{same_actor, is_with}, Clocks.{Clock, face, clock_after}, Legal.Keeps, States.{State, uses_at}, declared.entry.Actor.Actor, declared.entry.Actor.TheVariants.Keeper, declared.entry.Event.Event}
+use Rattle.ert_defs.specs.{declared.entry.Event.TheVariants.{Tick, Shift, Look, Off, Arm, Probe, Peek, Cancel, Expire, Orphan, Deliver, Drop, Mark, Advanced, Ask, Pick, Answer, Take, Unwatch, Watch, Tell}}
+use Rattle.ert_defs.specs.{declared.settings.Settings.Settings, declared.timer.TimerRef.TimerRef}
 use Rattle.ert_clock.specs.Faces.{face_of}
-use Rattle.ert_judge.specs.Shown.{ClockIs, ClockFollows, face_moved, due_moved}
-use Rattle.ert_judge.specs.declared.state.clock.Clock.{Clock as KeptClock}
+use Rattle.ert_judge.specs.{Shown.{ClockIs, ClockFollows, face_moved, due_moved}, declared.state.clock.Clock.Clock as KeptClock}
 
 -- states of the same parts are one
 pub same_states : (s t : State) → s.clock ≡ t.clock → ((a : Actor) → s.looked a ≡ t.looked a)

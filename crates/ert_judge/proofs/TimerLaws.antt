@@ -1,32 +1,15 @@
 -- The laws of all timers: the wheels go on by an event as the model's rows, uses and statuses do.
 
 use Rattle.std.proofs.Common.{◌≡◌, ◌≢◌, ◌∙◌, refl, sym, ap, subst, arith, inl, inr, ℕ, suc, ℤ, ◌<◌, Bool, true, false, cond, ◌&&◌, nat_eq, List, [], ◌∷◌, ◌++◌, length, Option, Some, None, eqb-true}
-use Rattle.std.proofs.lemmas.Bool.{cases_Bool, cond_both}
-use Rattle.std.proofs.lemmas.List.{length-set, map-append}
+use Rattle.std.proofs.lemmas.{Bool.{cases_Bool, cond_both}, List.{length-set, map-append}}
 use Rattle.std.specs.Prelude.{map}
-use Rattle.ert_defs.proofs.ExpiredTimers.{cond_same}
-use Rattle.ert_defs.proofs.Slots.{same_timer-true, uses_after}
-use Rattle.ert_defs.specs.Actors.{is_with}
-use Rattle.ert_defs.specs.Legal.{IsSlot, Keeps}
-use Rattle.ert_defs.specs.Milliseconds.{deadline_of}
-use Rattle.ert_defs.specs.Timers.{Row, Uses, same_timer, turned, deadline_told, row_from, rows_after, above_with, status_after, settled_as, handed_as}
-use Rattle.ert_defs.specs.declared.entry.Actor.{Actor}
-use Rattle.ert_defs.specs.declared.entry.Actor.TheVariants.{Wheel}
-use Rattle.ert_defs.specs.declared.entry.Event.{Event}
-use Rattle.ert_defs.specs.declared.entry.Event.TheVariants.{Arm, Cancel, Expire, Orphan, Deliver, Drop}
-use Rattle.ert_defs.specs.declared.settings.Settings.{Settings}
-use Rattle.ert_defs.specs.declared.timer.Start.{Start}
-use Rattle.ert_defs.specs.declared.timer.Status.{Status}
-use Rattle.ert_defs.specs.declared.timer.Status.TheVariants.{Armed, Expired, Delivered, Cancelled, Orphaned, Dropped}
-use Rattle.ert_defs.specs.declared.timer.TimerRef.{TimerRef}
-use Rattle.ert_judge.specs.Parts.{rows_in, status_at, with_moved, armed_timer, with_armed, timers_after, ArmsNew}
-use Rattle.ert_judge.specs.Shown.{deadline_by}
-use Rattle.ert_judge.specs.Uses.{uses_of, none_kept, used_by, uses_in, IsNewUse}
-use Rattle.ert_judge.specs.Wheels.{timers_at, timer_in, rows_of, status_among, moved, IsOwn}
-use Rattle.ert_judge.specs.declared.state.wheels.Timer.{Timer}
-use Rattle.ert_judge.proofs.CellLaws.{cell_after}
-use Rattle.ert_judge.proofs.UseLaws.{uses_push, uses_moved}
-use Rattle.ert_judge.proofs.WheelLaws.{rows_moved, status_settled, status_handed, own_moved, status_armed, own_armed}
+use Rattle.ert_defs.proofs.{ExpiredTimers.cond_same, Slots.{same_timer-true, uses_after}}
+use Rattle.ert_defs.specs.{Actors.is_with, Legal.{IsSlot, Keeps}, Milliseconds.deadline_of, Timers.{Row, Uses, same_timer, turned, deadline_told, row_from, rows_after, above_with, status_after, settled_as, handed_as}}
+use Rattle.ert_defs.specs.{declared.entry.Actor.Actor, declared.entry.Actor.TheVariants.Wheel, declared.entry.Event.Event, declared.entry.Event.TheVariants.{Arm, Cancel, Expire, Orphan, Deliver, Drop}, declared.settings.Settings.Settings}
+use Rattle.ert_defs.specs.{declared.timer.Start.Start, declared.timer.Status.Status, declared.timer.Status.TheVariants.{Armed, Expired, Delivered, Cancelled, Orphaned, Dropped}, declared.timer.TimerRef.TimerRef}
+use Rattle.ert_judge.specs.{Parts.{rows_in, status_at, with_moved, armed_timer, with_armed, timers_after, ArmsNew}, Shown.deadline_by, Uses.{uses_of, none_kept, used_by, uses_in, IsNewUse}, Wheels.{timers_at, timer_in, rows_of}}
+use Rattle.ert_judge.specs.{Wheels.{status_among, moved, IsOwn}, declared.state.wheels.Timer.Timer}
+use Rattle.ert_judge.proofs.{CellLaws.cell_after, UseLaws.{uses_push, uses_moved}, WheelLaws.{rows_moved, status_settled, status_handed, own_moved, status_armed, own_armed}}
 
 -- no timer of its slot has the generation of a timer, and its start has a deadline
 pub record IsNew (ws : List (List Timer)) (timer : TimerRef) (deadline : Option ℕ) : Type 0 where

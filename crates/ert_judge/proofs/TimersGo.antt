@@ -2,17 +2,9 @@
 
 use Rattle.std.proofs.Common.{◌≡◌, sym, ap, ◌∙◌, subst, List}
 use Rattle.std.specs.Prelude.{ℤ}
-use Rattle.ert_defs.specs.Legal.{Can}
-use Rattle.ert_defs.specs.States.{State, state}
-use Rattle.ert_defs.specs.declared.entry.Entry.{Entry}
-use Rattle.ert_defs.specs.declared.settings.Settings.{Settings}
-use Rattle.ert_judge.specs.Parts.{looks_in, look_of, timers_after}
-use Rattle.ert_judge.specs.Shown.{HasFollowed, Follows, deadline_by}
-use Rattle.ert_judge.specs.declared.judge.Judge.{Judge}
-use Rattle.ert_judge.specs.declared.state.wheels.Timer.{Timer}
-use Rattle.ert_judge.proofs.Goes.{TimersGo}
-use Rattle.ert_judge.proofs.NewTimers.{arms_next}
-use Rattle.ert_judge.proofs.TimerLaws.{ArmsNext, rows_follow, uses_follow, status_follows, own_follows, length_follows}
+use Rattle.ert_defs.specs.{Legal.Can, States.{State, state}, declared.entry.Entry.Entry, declared.settings.Settings.Settings}
+use Rattle.ert_judge.specs.{Parts.{looks_in, look_of, timers_after}, Shown.{HasFollowed, Follows, deadline_by}, declared.judge.Judge.Judge, declared.state.wheels.Timer.Timer}
+use Rattle.ert_judge.proofs.{Goes.TimersGo, NewTimers.arms_next, TimerLaws.{ArmsNext, rows_follow, uses_follow, status_follows, own_follows, length_follows}}
 
 -- a judge that stands for a history has gone on so by a legal entry
 pub timers_go : (g : Settings) (h : List Entry) (old new : Judge) (e : Entry) → HasFollowed g h old → Can g (state g h) e

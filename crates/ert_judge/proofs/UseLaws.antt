@@ -1,12 +1,8 @@
 -- The laws of the uses of slots: what arming and moving make of them.
 
 use Rattle.std.proofs.Common.{◌≡◌, ◌∙◌, refl, ap, ℕ, cond, nat_eq, List, [], ◌∷◌, ◌++◌}
-use Rattle.ert_defs.specs.Timers.{Row, Uses}
-use Rattle.ert_defs.specs.declared.timer.Status.{Status}
-use Rattle.ert_defs.specs.declared.timer.TimerRef.{TimerRef}
-use Rattle.ert_judge.specs.Uses.{used_by, uses_from}
-use Rattle.ert_judge.specs.Wheels.{moved}
-use Rattle.ert_judge.specs.declared.state.wheels.Timer.{Timer}
+use Rattle.ert_defs.specs.{Timers.{Row, Uses}, declared.timer.Status.Status, declared.timer.TimerRef.TimerRef}
+use Rattle.ert_judge.specs.{Uses.{used_by, uses_from}, Wheels.moved, declared.state.wheels.Timer.Timer}
 use Rattle.ert_judge.proofs.WheelLaws.{moved_row}
 
 -- the uses of each slot where there is one more timer

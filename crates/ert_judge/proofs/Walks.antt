@@ -2,24 +2,11 @@
 
 use Rattle.std.proofs.Common.{◌≡◌, ◌<◌, ◌+◌, ◌++◌, ◌∷◌, [], ℕ, sym, subst, List, length, take, Option, None}
 use Rattle.std.specs.Prelude.{get_or, ◌↔◌}
-use Rattle.std.proofs.lemmas.Option.{slice_get-get_or}
-use Rattle.std.proofs.lemmas.List.{take_more}
-use Rattle.ert_defs.specs.Legal.{Can, Legal}
-use Rattle.ert_defs.specs.States.{state}
-use Rattle.ert_defs.specs.declared.entry.Entry.{Entry}
-use Rattle.ert_defs.specs.declared.settings.Settings.{Settings}
+use Rattle.std.proofs.lemmas.{Option.slice_get-get_or, List.take_more}
+use Rattle.ert_defs.specs.{Legal.{Can, Legal}, States.state, declared.entry.Entry.Entry, declared.settings.Settings.Settings}
 use Rattle.ert_defs.proofs.Runs.{legal_one_more}
-use Rattle.ert_judge.specs.Shown.{HasFollowed, Follows}
-use Rattle.ert_judge.specs.Reasons.{IsFirstReason}
-use Rattle.ert_judge.specs.Verdicts.{StopsAtIllegal}
-use Rattle.ert_judge.specs.declared.reasons.Reason.{Reason}
-use Rattle.ert_judge.proofs.EventsExclude.{excludes}
-use Rattle.ert_judge.specs.declared.judge.Judge.{Judge}
-use Rattle.ert_judge.specs.Parts.{ArmsNew}
-use Rattle.ert_judge.proofs.Goes.{stands_on}
-use Rattle.ert_judge.proofs.NewTimers.{arms_next}
-use Rattle.ert_judge.proofs.TimerLaws.{new_of_next}
-use Rattle.ert_judge.proofs.TimersGo.{timers_go}
+use Rattle.ert_judge.specs.{Shown.{HasFollowed, Follows}, Reasons.IsFirstReason, Verdicts.StopsAtIllegal, declared.reasons.Reason.Reason, declared.judge.Judge.Judge, Parts.ArmsNew}
+use Rattle.ert_judge.proofs.{EventsExclude.excludes, Goes.stands_on, NewTimers.arms_next, TimerLaws.new_of_next, TimersGo.timers_go}
 
 -- a judge told whether there is a reason against an entry
 abbrev pub Tells : Judge → Entry → Option Reason → Type 0

@@ -1,18 +1,11 @@
 -- The laws of a wheel's timers: what arming and moving make of its rows and statuses.
 
 use Rattle.std.proofs.Common.{◌≡◌, ◌≢◌, ◌∙◌, refl, sym, ap, inl, inr, ℕ, Bool, true, false, cond, not, ◌&&◌, nat_eq, List, [], ◌∷◌, ◌++◌, Option, Some, None, eq-eqb, ne_eqb}
-use Rattle.std.proofs.lemmas.Bool.{cases_Bool, cases_eq}
-use Rattle.std.proofs.lemmas.List.{map_push}
-use Rattle.std.proofs.lemmas.List.Elements.{All-map, All-push, All-weaker}
+use Rattle.std.proofs.lemmas.{Bool.{cases_Bool, cases_eq}, List.map_push, List.Elements.{All-map, All-push, All-weaker}}
 use Rattle.std.specs.Prelude.{option_map}
-use Rattle.ert_defs.proofs.ExpiredTimers.{same_timer_self, same_timer-false}
-use Rattle.ert_defs.proofs.Slots.{same_timer-true}
-use Rattle.ert_defs.specs.Timers.{row_of, same_timer, settled_as, handed_as}
-use Rattle.ert_defs.specs.declared.timer.Status.{Status}
-use Rattle.ert_defs.specs.declared.timer.Status.TheVariants.{Armed, Expired, Delivered, Cancelled, Orphaned, Dropped}
-use Rattle.ert_defs.specs.declared.timer.TimerRef.{TimerRef}
-use Rattle.ert_judge.specs.Wheels.{timer_in, rows_of, status_among, same_status, moved_one, moved, AreShown, IsOwnOf, IsOwn}
-use Rattle.ert_judge.specs.declared.state.wheels.Timer.{Timer}
+use Rattle.ert_defs.proofs.{ExpiredTimers.{same_timer_self, same_timer-false}, Slots.same_timer-true}
+use Rattle.ert_defs.specs.{Timers.{row_of, same_timer, settled_as, handed_as}, declared.timer.Status.Status, declared.timer.Status.TheVariants.{Armed, Expired, Delivered, Cancelled, Orphaned, Dropped}, declared.timer.TimerRef.TimerRef}
+use Rattle.ert_judge.specs.{Wheels.{timer_in, rows_of, status_among, same_status, moved_one, moved, AreShown, IsOwnOf, IsOwn}, declared.state.wheels.Timer.Timer}
 
 -- a function of a choice is the choice of its values
 through_cond : {X Y : Type 0} (f : X → Y) (b : Bool) (x y : X) → f (cond b x y) ≡ cond b (f x) (f y)

@@ -1,25 +1,13 @@
 -- The tests of a wheel's timers are those of the model.
 
 use Rattle.std.proofs.Common.{◌≡◌, ◌≢◌, ◌↔◌, ◌∙◌, refl, sym, ap, subst, arith, ℕ, ℤ, pos, ◌+◌, ◌<◌, ◌≤ℤ◌, Bool, true, false, not, ◌&&◌, nat_le, nat_lt, List, [], ◌∷◌, ◌++◌, length, take, drop, Option, Some, None}
-use Rattle.std.proofs.lemmas.Bool.{and_parts, and_from, and_right}
-use Rattle.std.proofs.lemmas.List.{map-append, take-append-drop, drop_more, take-map, drop-map, take_at, get_or_at, length-map, length-append}
-use Rattle.std.proofs.lemmas.List.Elements.{All-head, All-tail, All-take, All-drop}
-use Rattle.std.proofs.lemmas.Option.{slice_get-map, slice_get_within, slice_get-get_or, get_or_from_slice_get}
-use Rattle.std.proofs.Math.Seq.{drop-append-add}
+use Rattle.std.proofs.{lemmas.Bool.{and_parts, and_from, and_right}, lemmas.List.{map-append, take-append-drop, drop_more, take-map, drop-map, take_at, get_or_at, length-map, length-append}, lemmas.List.Elements.{All-head, All-tail}}
+use Rattle.std.proofs.{lemmas.List.Elements.{All-take, All-drop}, lemmas.Option.{slice_get-map, slice_get_within, slice_get-get_or, get_or_from_slice_get}, Math.Seq.drop-append-add}
 use Rattle.std.specs.Prelude.{option_map, slice_get}
 use Rattle.ert_defs.proofs.Runs.{carry}
-use Rattle.ert_defs.specs.Laws.{is_armed}
-use Rattle.ert_defs.specs.Legal.{AllSettled, IsNext}
-use Rattle.ert_defs.specs.Milliseconds.{down}
-use Rattle.ert_defs.specs.States.{State}
-use Rattle.ert_defs.specs.Timers.{Row}
-use Rattle.ert_defs.specs.declared.entry.Actor.{Actor}
-use Rattle.ert_defs.specs.declared.settings.Settings.{Settings}
-use Rattle.ert_defs.specs.declared.timer.Status.{Status}
-use Rattle.ert_defs.specs.declared.timer.Status.TheVariants.{Armed, Expired, Delivered, Cancelled, Orphaned, Dropped}
-use Rattle.ert_defs.specs.declared.timer.TimerRef.{TimerRef}
-use Rattle.ert_judge.specs.Wheels.{rows_of, is_settled, IsFirstDue, AreShown}
-use Rattle.ert_judge.specs.declared.state.wheels.Timer.{Timer}
+use Rattle.ert_defs.specs.{Laws.is_armed, Legal.{AllSettled, IsNext}, Milliseconds.down, States.State, Timers.Row, declared.entry.Actor.Actor, declared.settings.Settings.Settings, declared.timer.Status.Status}
+use Rattle.ert_defs.specs.{declared.timer.Status.TheVariants.{Armed, Expired, Delivered, Cancelled, Orphaned, Dropped}, declared.timer.TimerRef.TimerRef}
+use Rattle.ert_judge.specs.{Wheels.{rows_of, is_settled, IsFirstDue, AreShown}, declared.state.wheels.Timer.Timer}
 
 -- a timer's status by the test of the model
 one_settled : (b : Bool) (status : Status) (x : Option Status) → x ≡ Some status

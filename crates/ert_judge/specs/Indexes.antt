@@ -2,17 +2,9 @@
 -- and the armed ones by deadline and then by place.
 
 use Rattle.std.specs.Prelude.{◌≡◌, ℕ, ◌+◌, unwrap_or, slice_get, Bool, true, false, cond, ◌&&◌, nat_eq, nat_le, nat_lt, List, take, drop, Option, Some, None}
-use Rattle.std.specs.BTreeMap.{BTreeMap, get, is_at}
-use Rattle.std.specs.BTreeSet.{BTreeSet, contains}
-use Rattle.std.specs.Ordering.{nat_cmp, ordering_then}
-use Rattle.std.specs.declared.cmp.Ordering.{Ordering}
-use Rattle.ert_defs.specs.Laws.{is_armed}
-use Rattle.ert_defs.specs.declared.timer.Status.TheVariants.{Armed}
-use Rattle.ert_defs.specs.declared.timer.TimerRef.{TimerRef}
-use Rattle.ert_judge.specs.Uses.{uses_of, none_kept, uses_in}
-use Rattle.ert_judge.specs.Wheels.{timer_in, is_settled}
-use Rattle.ert_judge.specs.declared.state.uses.Uses.{Uses as KeptUses}
-use Rattle.ert_judge.specs.declared.state.wheels.Timer.{Timer}
+use Rattle.std.specs.{BTreeMap.{BTreeMap, get, is_at}, BTreeSet.{BTreeSet, contains}, Ordering.{nat_cmp, ordering_then}, declared.cmp.Ordering.Ordering}
+use Rattle.ert_defs.specs.{Laws.is_armed, declared.timer.Status.TheVariants.Armed, declared.timer.TimerRef.TimerRef}
+use Rattle.ert_judge.specs.{Uses.{uses_of, none_kept, uses_in}, Wheels.{timer_in, is_settled}, declared.state.uses.Uses.Uses as KeptUses, declared.state.wheels.Timer.Timer}
 
 -- the order of pairs of numbers: by the first, then by the second
 abbrev pub pair_cmp : ℕ × ℕ → ℕ × ℕ → Ordering

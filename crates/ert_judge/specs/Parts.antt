@@ -1,29 +1,14 @@
 -- The parts that a judge keeps, and how each goes on by an event. A part is a cell for each number. Those of callers
 -- and of schedulers are a list, and a cell past its end is as at the opening.
 
-use Rattle.std.specs.BTreeMap.{get}
-use Rattle.std.specs.BTreeSet.{contains}
-use Rattle.std.specs.Ordering.{nat_cmp}
+use Rattle.std.specs.{BTreeMap.get, BTreeSet.contains, Ordering.nat_cmp}
 use Rattle.std.specs.Prelude.{ℕ, ℤ, unwrap_or, Bool, cond, List, [], ◌∷◌, ◌++◌, ◌+◌, get_or, set, map, replicate, Option, Some, None}
-use Rattle.ert_defs.specs.Actors.{is_with}
-use Rattle.ert_defs.specs.Mails.{MailState, SchedState, no_mail, idle_sched, mail_after, inbox_after, sched_after, is_about, with_row, message_in, answer_in, without, changes_of, told_of}
-use Rattle.ert_defs.specs.Timers.{Row, row_from}
-use Rattle.ert_defs.specs.declared.entry.Actor.{Actor}
-use Rattle.ert_defs.specs.declared.entry.Actor.TheVariants.{Inbox, Sched, MailOf, Caller}
-use Rattle.ert_defs.specs.declared.entry.Event.{Event}
-use Rattle.ert_defs.specs.declared.entry.Event.TheVariants.{Look, Arm, Cancel, Expire, Orphan, Deliver, Drop}
-use Rattle.ert_defs.specs.declared.mail.Request.{Request}
-use Rattle.ert_defs.specs.declared.settings.Settings.{Settings}
-use Rattle.ert_defs.specs.declared.timer.Start.{Start}
-use Rattle.ert_defs.specs.declared.timer.Status.{Status}
-use Rattle.ert_defs.specs.declared.timer.Status.TheVariants.{Armed, Expired, Delivered, Cancelled, Orphaned, Dropped}
-use Rattle.ert_defs.specs.declared.timer.TimerRef.{TimerRef}
-use Rattle.ert_judge.specs.Uses.{IsNewUse}
-use Rattle.ert_judge.specs.Wheels.{timers_at, rows_of, status_among, moved}
-use Rattle.ert_judge.specs.declared.state.exits.Exits.{Exits}
-use Rattle.ert_judge.specs.declared.state.looks.Looks.{Looks}
-use Rattle.ert_judge.specs.declared.state.mailboxes.Mailboxes.{Mailboxes}
-use Rattle.ert_judge.specs.declared.state.wheels.Timer.{Timer}
+use Rattle.ert_defs.specs.{Actors.is_with, Mails.{MailState, SchedState, no_mail, idle_sched, mail_after, inbox_after, sched_after, is_about, with_row, message_in, answer_in, without, changes_of, told_of}, Timers.{Row, row_from}}
+use Rattle.ert_defs.specs.{declared.entry.Actor.Actor, declared.entry.Actor.TheVariants.{Inbox, Sched, MailOf, Caller}, declared.entry.Event.Event, declared.entry.Event.TheVariants.{Look, Arm, Cancel, Expire, Orphan, Deliver, Drop}}
+use Rattle.ert_defs.specs.{declared.mail.Request.Request, declared.settings.Settings.Settings, declared.timer.Start.Start, declared.timer.Status.Status, declared.timer.Status.TheVariants.{Armed, Expired, Delivered, Cancelled, Orphaned}}
+use Rattle.ert_defs.specs.{declared.timer.Status.TheVariants.Dropped, declared.timer.TimerRef.TimerRef}
+use Rattle.ert_judge.specs.{Uses.IsNewUse, Wheels.{timers_at, rows_of, status_among, moved}, declared.state.exits.Exits.Exits, declared.state.looks.Looks.Looks, declared.state.mailboxes.Mailboxes.Mailboxes}
+use Rattle.ert_judge.specs.{declared.state.wheels.Timer.Timer}
 
 -- whether a process has exited
 abbrev pub exited_at : Exits → ℕ → Bool

@@ -2,20 +2,10 @@
 
 use Rattle.std.specs.Prelude.{◌≡◌, ℕ, nat_le, Option, Some, None, if◌then◌else◌}
 use Rattle.std.specs.Option.{option_or}
-use Rattle.ert_defs.specs.declared.entry.Actor.{Actor}
-use Rattle.ert_defs.specs.declared.entry.Actor.TheVariants.{Keeper, Wheel, Inbox, Sched, MailOf, Caller}
-use Rattle.ert_defs.specs.declared.entry.Entry.{Entry}
-use Rattle.ert_defs.specs.declared.entry.Event.{Event}
-use Rattle.ert_defs.specs.declared.entry.Event.TheVariants.{Tick, Shift, Look, Off, Arm, Probe, Peek, Cancel, Expire, Orphan, Deliver, Drop, Mark, Advanced, Ask, Pick, Answer, Take, Unwatch, Watch, Tell}
-use Rattle.ert_defs.specs.declared.settings.Settings.{Settings}
-use Rattle.ert_judge.specs.declared.reasons.Counted.{Counted}
-use Rattle.ert_judge.specs.declared.reasons.Counted.TheVariants.{Callers, Schedulers, Processes, Slots}
-use Rattle.ert_judge.specs.declared.reasons.Maker.{Maker}
-use Rattle.ert_judge.specs.declared.reasons.Maker.TheVariants.{Clock, Scheduler, AnyCaller, User, CallerOr, Reader}
-use Rattle.ert_judge.specs.declared.reasons.Partner.{Partner}
-use Rattle.ert_judge.specs.declared.reasons.Partner.TheVariants.{Nobody, Exactly, SomeCaller, SomeMailbox}
-use Rattle.ert_judge.specs.declared.reasons.Reason.{Reason}
-use Rattle.ert_judge.specs.declared.reasons.Reason.TheVariants.{TooHigh}
+use Rattle.ert_defs.specs.declared.{entry.Actor.Actor, entry.Actor.TheVariants.{Keeper, Wheel, Inbox, Sched, MailOf, Caller}, entry.Entry.Entry, entry.Event.Event, entry.Event.TheVariants.{Tick, Shift, Look, Off, Arm, Probe, Peek, Cancel}}
+use Rattle.ert_defs.specs.declared.{entry.Event.TheVariants.{Expire, Orphan, Deliver, Drop, Mark, Advanced, Ask, Pick, Answer, Take, Unwatch, Watch, Tell}, settings.Settings.Settings}
+use Rattle.ert_judge.specs.declared.reasons.{Counted.Counted, Counted.TheVariants.{Callers, Schedulers, Processes, Slots}, Maker.Maker, Maker.TheVariants.{Clock, Scheduler, AnyCaller, User, CallerOr, Reader}, Partner.Partner}
+use Rattle.ert_judge.specs.declared.reasons.{Partner.TheVariants.{Nobody, Exactly, SomeCaller, SomeMailbox}, Reason.Reason, Reason.TheVariants.TooHigh}
 
 -- who makes an event
 abbrev pub maker_of : Event → Maker

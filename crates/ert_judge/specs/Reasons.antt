@@ -1,13 +1,8 @@
 -- What a reason says of an entry and the state before it.
 
 use Rattle.std.specs.Prelude.{◌≡◌, Some}
-use Rattle.ert_defs.specs.States.{State}
-use Rattle.ert_defs.specs.declared.entry.Entry.{Entry}
-use Rattle.ert_defs.specs.declared.settings.Settings.{Settings}
-use Rattle.ert_judge.specs.Breaks.{Breaks}
-use Rattle.ert_judge.specs.Ranges.{maker_of, partner_of, IsMadeBy, IsMadeWith, MayBeInRange, too_high}
-use Rattle.ert_judge.specs.declared.reasons.Reason.{Reason}
-use Rattle.ert_judge.specs.declared.reasons.Reason.TheVariants.{NotBy, NotWith, TooHigh}
+use Rattle.ert_defs.specs.{States.State, declared.entry.Entry.Entry, declared.settings.Settings.Settings}
+use Rattle.ert_judge.specs.{Breaks.Breaks, Ranges.{maker_of, partner_of, IsMadeBy, IsMadeWith, MayBeInRange, too_high}, declared.reasons.Reason.Reason, declared.reasons.Reason.TheVariants.{NotBy, NotWith, TooHigh}}
 
 -- the entry isn't in range: its event is made by others, or with others, or one of its numbers is too high, in this order
 abbrev pub BreaksRange : Settings → Entry → Reason → Type 0

@@ -1,25 +1,12 @@
 -- The model's state that a judge keeps, and how it goes on by an entry.
 
 use Rattle.std.specs.Prelude.{◌≡◌, ℕ, ℤ, [], List, length, Option, Some, None, replicate, false}
-use Rattle.ert_defs.specs.Clocks.{Clock, face, first_clock}
-use Rattle.ert_defs.specs.Legal.{CanTick, Legal}
-use Rattle.ert_defs.specs.Lines.{Face, Due, due_after, ticked, shifted}
-use Rattle.ert_defs.specs.Mails.{no_mail, idle_sched}
-use Rattle.ert_defs.specs.Milliseconds.{deadline_of}
-use Rattle.ert_defs.specs.States.{State, exited_after, state}
-use Rattle.ert_defs.specs.Timers.{timer_at}
-use Rattle.ert_defs.specs.declared.entry.Actor.{Actor}
-use Rattle.ert_defs.specs.declared.entry.Entry.{Entry}
-use Rattle.ert_defs.specs.declared.entry.Event.{Event}
-use Rattle.ert_defs.specs.declared.entry.Event.TheVariants.{Tick, Shift, Arm}
-use Rattle.ert_defs.specs.declared.settings.Settings.{Settings}
-use Rattle.ert_defs.specs.declared.timer.Status.{Status}
+use Rattle.ert_defs.specs.{Clocks.{Clock, face, first_clock}, Legal.{CanTick, Legal}, Lines.{Face, Due, due_after, ticked, shifted}, Mails.{no_mail, idle_sched}, Milliseconds.deadline_of, States.{State, exited_after, state}}
+use Rattle.ert_defs.specs.{Timers.timer_at, declared.entry.Actor.Actor, declared.entry.Entry.Entry, declared.entry.Event.Event, declared.entry.Event.TheVariants.{Tick, Shift, Arm}, declared.settings.Settings.Settings}
+use Rattle.ert_defs.specs.{declared.timer.Status.Status}
 use Rattle.ert_clock.specs.Faces.{face_of}
-use Rattle.ert_judge.specs.Parts.{looks_in, no_looks, look_of, looks_after, rows_in, status_at, timers_after, exited_at, mail_at, mail_after_with, inbox_at, inboxes_after, sched_at, scheds_in, scheds_after}
-use Rattle.ert_judge.specs.Uses.{uses_in}
-use Rattle.ert_judge.specs.Wheels.{timers_at, IsOwn}
-use Rattle.ert_judge.specs.declared.state.clock.Clock.{Clock as KeptClock}
-use Rattle.ert_judge.specs.declared.judge.Judge.{Judge}
+use Rattle.ert_judge.specs.{Parts.{looks_in, no_looks, look_of, looks_after, rows_in, status_at, timers_after, exited_at, mail_at, mail_after_with, inbox_at, inboxes_after, sched_at, scheds_in, scheds_after}, Uses.uses_in, Wheels.timers_at}
+use Rattle.ert_judge.specs.{Wheels.IsOwn, declared.state.clock.Clock.Clock as KeptClock, declared.judge.Judge.Judge}
 
 -- the numbers of a judge's clock are those of a clock
 pub record ClockIs (g : Settings) (c : Clock) (k : KeptClock) : Type 0 where

@@ -2,26 +2,14 @@
 
 use Rattle.std.specs.Prelude.{ℕ, ℤ, Bool, true, false, List, ◌++◌, codes, Option, Some, None}
 use Rattle.std.specs.Fmt.{decimal, signed_decimal}
-use Rattle.ert_defs.specs.declared.entry.Actor.{Actor}
-use Rattle.ert_defs.specs.declared.entry.Actor.TheVariants.{Keeper, Wheel, Inbox, Sched, MailOf, Caller}
-use Rattle.ert_defs.specs.declared.mail.Mail.{Mail}
-use Rattle.ert_defs.specs.declared.mail.Mail.TheVariants.{Timeout, Bare, CancelDone, ReadDone, Change}
-use Rattle.ert_defs.specs.declared.mail.Request.{Request}
-use Rattle.ert_defs.specs.declared.mail.RequestKind.{RequestKind}
-use Rattle.ert_defs.specs.declared.mail.RequestKind.TheVariants.{Cancel, Read}
-use Rattle.ert_defs.specs.declared.settings.OffsetState.{OffsetState}
-use Rattle.ert_defs.specs.declared.settings.OffsetState.TheVariants.{Preliminary, Final, Volatile}
-use Rattle.ert_defs.specs.declared.timer.Status.{Status}
-use Rattle.ert_defs.specs.declared.timer.Status.TheVariants.{Armed, Expired, Delivered, Cancelled, Orphaned, Dropped}
-use Rattle.ert_defs.specs.declared.timer.TimerRef.{TimerRef}
-use Rattle.ert_judge.specs.declared.reasons.Counted.{Counted}
-use Rattle.ert_judge.specs.declared.reasons.Counted.TheVariants.{Callers, Schedulers, Processes, Slots}
-use Rattle.ert_judge.specs.declared.reasons.Maker.{Maker}
-use Rattle.ert_judge.specs.declared.reasons.Maker.TheVariants.{Clock, Scheduler, AnyCaller, User, CallerOr, Reader}
-use Rattle.ert_judge.specs.declared.reasons.Partner.{Partner}
-use Rattle.ert_judge.specs.declared.reasons.Partner.TheVariants.{Nobody, Exactly, SomeCaller, SomeMailbox}
-use Rattle.ert_judge.specs.declared.reasons.Reason.{Reason}
-use Rattle.ert_judge.specs.declared.reasons.Reason.TheVariants.{NotBy, NotWith, TooHigh, ShiftFirst, BadReading, NotPreliminary, OtherTick, OffsetPast, OtherShift, OtherTime, OtherOffset, OtherState, SlotTaken, OtherGeneration, Rests, NoDeadline, WheelUsed, OtherStatus, OtherLeft, NotArmed, NotDue, Later, NotNext, NotExited, NoneWaits, OtherWaits, OtherDest, OtherMilliseconds, StillArmed, OtherExit, HandFull, OtherRequest, HandEmpty, OtherAsker, OtherOutcome, NothingLeft, OtherMail, OtherMonitor, OtherNumber, TooMany}
+use Rattle.ert_defs.specs.declared.{entry.Actor.Actor, entry.Actor.TheVariants.{Keeper, Wheel, Inbox, Sched, MailOf, Caller}, mail.Mail.Mail, mail.Mail.TheVariants.{Timeout, Bare, CancelDone, ReadDone, Change}, mail.Request.Request}
+use Rattle.ert_defs.specs.declared.{mail.RequestKind.RequestKind, mail.RequestKind.TheVariants.{Cancel, Read}, settings.OffsetState.OffsetState, settings.OffsetState.TheVariants.{Preliminary, Final, Volatile}, timer.Status.Status}
+use Rattle.ert_defs.specs.declared.{timer.Status.TheVariants.{Armed, Expired, Delivered, Cancelled, Orphaned, Dropped}, timer.TimerRef.TimerRef}
+use Rattle.ert_judge.specs.declared.reasons.{Counted.Counted, Counted.TheVariants.{Callers, Schedulers, Processes, Slots}, Maker.Maker, Maker.TheVariants.{Clock, Scheduler, AnyCaller, User, CallerOr, Reader}, Partner.Partner}
+use Rattle.ert_judge.specs.declared.reasons.{Partner.TheVariants.{Nobody, Exactly, SomeCaller, SomeMailbox}, Reason.Reason, Reason.TheVariants.{NotBy, NotWith, TooHigh, ShiftFirst, BadReading, NotPreliminary, OtherTick, OffsetPast}}
+use Rattle.ert_judge.specs.declared.reasons.{Reason.TheVariants.{OtherShift, OtherTime, OtherOffset, OtherState, SlotTaken, OtherGeneration, Rests, NoDeadline, WheelUsed, OtherStatus, OtherLeft, NotArmed, NotDue, Later, NotNext, NotExited}}
+use Rattle.ert_judge.specs.declared.reasons.{Reason.TheVariants.{NoneWaits, OtherWaits, OtherDest, OtherMilliseconds, StillArmed, OtherExit, HandFull, OtherRequest, HandEmpty, OtherAsker, OtherOutcome, NothingLeft, OtherMail, OtherMonitor}}
+use Rattle.ert_judge.specs.declared.reasons.{Reason.TheVariants.{OtherNumber, TooMany}}
 
 -- one text, and then another
 infixr 20 ◌⋅◌

@@ -2,8 +2,7 @@
 
 use Rattle.std.specs.Prelude.{◌≡◌, ◌≢◌, ℕ, ◌+◌, cond, nat_eq, max, slice_get, List, [], ◌∷◌, Some}
 use Rattle.ert_defs.specs.Timers.{Row, Uses, turned}
-use Rattle.ert_judge.specs.declared.state.uses.Uses.{Uses as KeptUses}
-use Rattle.ert_judge.specs.declared.state.wheels.Timer.{Timer}
+use Rattle.ert_judge.specs.declared.state.{uses.Uses.Uses as KeptUses, wheels.Timer.Timer}
 
 -- the uses that are kept
 abbrev pub uses_of : KeptUses → Uses

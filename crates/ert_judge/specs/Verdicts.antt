@@ -1,12 +1,8 @@
 -- What a judge says of a history.
 
 use Rattle.std.specs.Prelude.{◌≡◌, ℕ, ◌<◌, ◌+◌, List, length, take, slice_get, Some}
-use Rattle.ert_defs.specs.Legal.{Legal}
-use Rattle.ert_defs.specs.States.{state}
-use Rattle.ert_defs.specs.declared.entry.Entry.{Entry}
-use Rattle.ert_defs.specs.declared.settings.Settings.{Settings}
-use Rattle.ert_judge.specs.Reasons.{IsFirstReason}
-use Rattle.ert_judge.specs.declared.stops.Stop.{Stop}
+use Rattle.ert_defs.specs.{Legal.Legal, States.state, declared.entry.Entry.Entry, declared.settings.Settings.Settings}
+use Rattle.ert_judge.specs.{Reasons.IsFirstReason, declared.stops.Stop.Stop}
 
 -- the entries before a place are legal, and with that at the place they aren't
 pub record IsFirstIllegal (g : Settings) (h : List Entry) (place : ℕ) : Type 0 where

@@ -1,11 +1,7 @@
 -- The timers that a judge keeps, and the part of the model's state that they are.
 
 use Rattle.std.specs.Prelude.{◌≡◌, ℕ, ℤ, pos, ◌<◌, ◌≤ℤ◌, ◌+◌, slice_get, Bool, true, false, cond, not, ◌&&◌, nat_le, nat_lt, All, List, [], ◌∷◌, map, get_or, length, take, drop, Option, Some, None, option_map}
-use Rattle.ert_defs.specs.Laws.{is_armed}
-use Rattle.ert_defs.specs.Timers.{Row, same_timer}
-use Rattle.ert_defs.specs.declared.timer.Status.{Status}
-use Rattle.ert_defs.specs.declared.timer.Status.TheVariants.{Armed, Expired, Delivered, Cancelled, Orphaned, Dropped}
-use Rattle.ert_defs.specs.declared.timer.TimerRef.{TimerRef}
+use Rattle.ert_defs.specs.{Laws.is_armed, Timers.{Row, same_timer}, declared.timer.Status.Status, declared.timer.Status.TheVariants.{Armed, Expired, Delivered, Cancelled, Orphaned, Dropped}, declared.timer.TimerRef.TimerRef}
 use Rattle.ert_judge.specs.declared.state.wheels.Timer.{Timer}
 
 -- the first timer of a reference

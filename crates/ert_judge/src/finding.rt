@@ -1,12 +1,9 @@
 ghost use Rattle.std.specs.Prelude.{◌≡◌, ◌↔◌, IfSome, IfNone, List, None};
 ghost use Rattle.ert_defs.specs.Clocks as of_clocks;
-ghost use Rattle.ert_defs.specs.Legal.{Can, Known, Found};
-ghost use Rattle.ert_defs.specs.States.{state};
+ghost use Rattle.ert_defs.specs.{Legal.{Can, Known, Found}, States.state};
 ghost use Rattle.ert_defs.specs.declared.entry.Entry as entries;
 ghost use Rattle.ert_defs.specs.declared.settings.Settings as settings;
-ghost use Rattle.ert_judge.specs.Shown.{ClockIs, OwnTimers, HasFollowed, shown};
-ghost use Rattle.ert_judge.specs.Breaks.{Breaks};
-ghost use Rattle.ert_judge.specs.Reasons.{IsFirstReason};
+ghost use Rattle.ert_judge.specs.{Shown.{ClockIs, OwnTimers, HasFollowed, shown}, Breaks.Breaks, Reasons.IsFirstReason};
 
 use crate::clocks::{of_look, of_off, of_shift, of_tell, of_tick};
 use crate::hands::{of_answer, of_deliver, of_drop, of_pick};

@@ -1,12 +1,8 @@
 //! Why a scheduler can't hand over an expired timer, or take or answer a request.
 
 ghost use Rattle.std.specs.Prelude.{◌≡◌, IfSome, IfNone, Some, None, true};
-ghost use Rattle.ert_defs.specs.Clocks.{Clock};
-ghost use Rattle.ert_defs.specs.Legal.{IsFirst, CanAnswer};
-ghost use Rattle.ert_defs.specs.Mails.{first_of};
-ghost use Rattle.ert_judge.specs.Breaks.{DeliverBreaks, DropBreaks, PickBreaks, AnswerBreaks};
-ghost use Rattle.ert_judge.specs.Shown.{shown};
-ghost use Rattle.ert_judge.specs.Parts.{sched_at, exited_at, inbox_at};
+ghost use Rattle.ert_defs.specs.{Clocks.Clock, Legal.{IsFirst, CanAnswer}, Mails.first_of};
+ghost use Rattle.ert_judge.specs.{Breaks.{DeliverBreaks, DropBreaks, PickBreaks, AnswerBreaks}, Shown.shown, Parts.{sched_at, exited_at, inbox_at}};
 
 use crate::judge::Judge;
 use crate::reasons::Reason;

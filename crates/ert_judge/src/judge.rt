@@ -21,13 +21,10 @@ pub struct Judge {
 impl Judge {
     ghost use Rattle.std.specs.Prelude.{◌↔◌, IsTrue, IfOk, OnOk};
     ghost use Rattle.ert_defs.specs.Clocks as clocks;
-    ghost use Rattle.ert_defs.specs.Legal.{left_of};
+    ghost use Rattle.ert_defs.specs.{Legal.left_of, Settings.IsChecked};
     ghost use Rattle.ert_defs.specs.Milliseconds as milliseconds;
-    ghost use Rattle.ert_defs.specs.Settings.{IsChecked};
     ghost use Rattle.ert_clock.specs.Faces.{face_of};
-    ghost use Rattle.ert_judge.specs.Parts.{ArmsNew};
-    ghost use Rattle.ert_judge.specs.Wheels.{timers_at, IsFirstDue};
-    ghost use Rattle.ert_judge.specs.Shown.{IsOpening, MayFollow, ClockFollows, deadline_by, Follows, last_look, last_status, shown};
+    ghost use Rattle.ert_judge.specs.{Parts.ArmsNew, Wheels.{timers_at, IsFirstDue}, Shown.{IsOpening, MayFollow, ClockFollows, deadline_by, Follows, last_look, last_status, shown}};
 
     /// The state at the opening.
     pub(crate) fn open(alloc: Global, settings: &Settings) -> Result<Judge, NoMemory>

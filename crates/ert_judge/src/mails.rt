@@ -1,10 +1,8 @@
 //! Why an event of a mailbox can't follow.
 
 ghost use Rattle.std.specs.Prelude.{◌≡◌, ◌<◌, IfSome, IfNone, length};
-ghost use Rattle.ert_defs.specs.Legal.{stands_in};
-ghost use Rattle.ert_defs.specs.Mails.{first_of};
-ghost use Rattle.ert_judge.specs.Breaks.{TakeBreaks, UnwatchBreaks, WatchBreaks};
-ghost use Rattle.ert_judge.specs.Parts.{mail_at};
+ghost use Rattle.ert_defs.specs.{Legal.stands_in, Mails.first_of};
+ghost use Rattle.ert_judge.specs.{Breaks.{TakeBreaks, UnwatchBreaks, WatchBreaks}, Parts.mail_at};
 
 use crate::judge::Judge;
 use crate::reasons::Reason;

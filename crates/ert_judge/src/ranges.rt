@@ -2,9 +2,7 @@
 //! number isn't below their count.
 
 ghost use Rattle.std.specs.Prelude.{◌≡◌, ◌↔◌, IsTrue, IfSome, IfNone};
-ghost use Rattle.ert_judge.specs.Ranges.{maker_of, partner_of, reads_with, wheel_of_event, slot_of_event, process_of, count_of_kind, high, high_by, high_with, too_high};
-ghost use Rattle.ert_judge.specs.Ranges.{IsMadeBy, IsMadeWith, MayBeInRange};
-ghost use Rattle.ert_judge.specs.Reasons.{BreaksRange};
+ghost use Rattle.ert_judge.specs.{Ranges.{maker_of, partner_of, reads_with, wheel_of_event, slot_of_event, process_of, count_of_kind, high, high_by, high_with, too_high, IsMadeBy, IsMadeWith, MayBeInRange}, Reasons.BreaksRange};
 
 use crate::reasons::{Counted, Maker, Partner, Reason};
 use ert_defs::{Actor, Entry, Event, Settings};

@@ -1,8 +1,7 @@
 //! Where a history stops being legal.
 
 ghost use Rattle.std.specs.Prelude.{◌≡◌, IfOk, IfSome, Ok, None};
-ghost use Rattle.ert_defs.specs.Legal.{Legal};
-ghost use Rattle.ert_defs.specs.Settings.{IsChecked};
+ghost use Rattle.ert_defs.specs.{Legal.Legal, Settings.IsChecked};
 ghost use Rattle.ert_judge.specs.Verdicts.{StopsAtIllegal};
 
 use crate::finding::reason;

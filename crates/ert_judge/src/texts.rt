@@ -1,8 +1,7 @@
 //! The texts of reasons.
 
 ghost use Rattle.std.specs.Prelude.{◌≡◌, ◌++◌, OnOk, string_bytes};
-ghost use Rattle.ert_judge.specs.Texts.{maker_text, actor_text, partner_text, due_text, slot_text, ms_text, unarmed_text};
-ghost use Rattle.ert_judge.specs.Texts.{waiting_text, outcome_text, first_text, exit_text, monitor_text, reason_text, IsPastClock, IsPastTimers};
+ghost use Rattle.ert_judge.specs.Texts.{maker_text, actor_text, partner_text, due_text, slot_text, ms_text, unarmed_text, waiting_text, outcome_text, first_text, exit_text, monitor_text, reason_text, IsPastClock, IsPastTimers};
 
 use crate::reasons::{Maker, Partner, Reason};
 use crate::words::{state_word, status_word, thing_word, write_left, write_mail, write_request};

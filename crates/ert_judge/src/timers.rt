@@ -1,16 +1,11 @@
 //! Why an event of the timers can't follow.
 
 ghost use Rattle.std.specs.Prelude.{◌≡◌, ◌↔◌, ◌≤◌, ◌+◌, ◌<ℤ◌, ◌≤ℤ◌, pos, nat_le, true, IsTrue, IfSome, IfNone, Some, false};
-ghost use Rattle.ert_defs.specs.Clocks.{Clock};
+ghost use Rattle.ert_defs.specs.{Clocks.Clock, Legal.{CanArm, IsNext, HasDestExited, AllSettled, left_of}, Timers.{turned, is_taken}};
 ghost use Rattle.ert_defs.specs.Milliseconds as milliseconds;
-ghost use Rattle.ert_judge.specs.Shown.{shown, last_look, last_status, OwnTimers};
-ghost use Rattle.ert_judge.specs.Breaks.{ArmBreaks, UseBreaks, ProbeBreaks, LeftBreaks, ExpireBreaks, OrphanBreaks, AdvancedBreaks, MarkBreaks, IsUse};
-ghost use Rattle.ert_judge.specs.Parts.{status_at, rows_in, exited_at};
-ghost use Rattle.ert_defs.specs.Legal.{CanArm, IsNext, HasDestExited, AllSettled, left_of};
-ghost use Rattle.ert_defs.specs.Timers.{turned, is_taken};
+ghost use Rattle.ert_judge.specs.{Shown.{shown, last_look, last_status, OwnTimers}, Breaks.{ArmBreaks, UseBreaks, ProbeBreaks, LeftBreaks, ExpireBreaks, OrphanBreaks, AdvancedBreaks, MarkBreaks, IsUse}, Parts.{status_at, rows_in}};
+ghost use Rattle.ert_judge.specs.{Parts.exited_at, Uses.uses_of, Wheels.{timers_at, timer_in, IsFirstDue}};
 ghost use Rattle.ert_defs.specs.Timers as timers;
-ghost use Rattle.ert_judge.specs.Uses.{uses_of};
-ghost use Rattle.ert_judge.specs.Wheels.{timers_at, timer_in, IsFirstDue};
 
 use crate::judge::Judge;
 use crate::reasons::Reason;

@@ -1,33 +1,13 @@
 -- How one more legal entry changes the number of a wheel's timers whose status passes a test.
 
 use Rattle.std.proofs.Common.{◌≡◌, ◌≢◌, ℕ, ◌+◌, Bool, true, false, cond, nat_eq, List, [], ◌∷◌, ◌++◌, All, get_or, Option, Some, None, refl, sym, ap, subst, ◌∙◌, arith}
-use Rattle.std.proofs.Math.Bool.{or-true}
-use Rattle.std.proofs.lemmas.List.Elements.{All-weaker, Contains-get_or}
-use Rattle.ert_defs.proofs.ExpiredLists.{made, kept_after}
-use Rattle.ert_defs.proofs.ExpiredTimers.{cond_same, same_timer-false}
-use Rattle.ert_defs.proofs.Rows.{IsRow, AreRows, rows_hold}
-use Rattle.ert_defs.proofs.Runs.{carry}
-use Rattle.ert_defs.proofs.Settlings.{row_was_armed}
-use Rattle.ert_defs.proofs.Standing.{all_stand}
-use Rattle.ert_defs.specs.Actors.{has_actor, is_with, same_actor}
-use Rattle.ert_defs.specs.Legal.{Can, Legal}
-use Rattle.ert_defs.specs.Milliseconds.{deadline_of}
-use Rattle.ert_defs.specs.States.{State, uses_at, next, state}
-use Rattle.ert_defs.specs.Timers.{Row, Stands, deadline_told, row_from}
-use Rattle.ert_defs.specs.declared.entry.Actor.{Actor}
-use Rattle.ert_defs.specs.declared.entry.Actor.TheVariants.{Wheel}
-use Rattle.ert_defs.specs.declared.entry.Entry.{Entry}
-use Rattle.ert_defs.specs.declared.entry.Event.{Event}
-use Rattle.ert_defs.specs.declared.entry.Event.TheVariants.{Arm, Cancel, Expire, Orphan, Deliver, Drop}
-use Rattle.ert_defs.specs.declared.settings.Settings.{Settings}
-use Rattle.ert_defs.specs.declared.timer.Start.{Start}
-use Rattle.ert_defs.specs.declared.timer.Status.{Status}
-use Rattle.ert_defs.specs.declared.timer.Status.TheVariants.{Armed, Expired, Delivered, Cancelled, Orphaned, Dropped}
-use Rattle.ert_defs.specs.declared.timer.TimerRef.{TimerRef}
-use Rattle.ert_laws.proofs.Counted.{one_if, one_in, Gives, count_armed, count_given, count_same, gives_stay, given_own}
-use Rattle.ert_laws.proofs.TimerLives.{moved_next}
-use Rattle.ert_laws.specs.Counts.{count_of}
-use Rattle.ert_laws.specs.Lives.{status_before}
+use Rattle.std.proofs.{Math.Bool.or-true, lemmas.List.Elements.{All-weaker, Contains-get_or}}
+use Rattle.ert_defs.proofs.{ExpiredLists.{made, kept_after}, ExpiredTimers.{cond_same, same_timer-false}, Rows.{IsRow, AreRows, rows_hold}, Runs.carry, Settlings.row_was_armed, Standing.all_stand}
+use Rattle.ert_defs.specs.{Actors.{has_actor, is_with, same_actor}, Legal.{Can, Legal}, Milliseconds.deadline_of, States.{State, uses_at, next, state}, Timers.{Row, Stands, deadline_told, row_from}, declared.entry.Actor.Actor}
+use Rattle.ert_defs.specs.{declared.entry.Actor.TheVariants.Wheel, declared.entry.Entry.Entry, declared.entry.Event.Event, declared.entry.Event.TheVariants.{Arm, Cancel, Expire, Orphan, Deliver, Drop}, declared.settings.Settings.Settings}
+use Rattle.ert_defs.specs.{declared.timer.Start.Start, declared.timer.Status.Status, declared.timer.Status.TheVariants.{Armed, Expired, Delivered, Cancelled, Orphaned, Dropped}, declared.timer.TimerRef.TimerRef}
+use Rattle.ert_laws.proofs.{Counted.{one_if, one_in, Gives, count_armed, count_given, count_same, gives_stay, given_own}, TimerLives.moved_next}
+use Rattle.ert_laws.specs.{Counts.count_of, Lives.status_before}
 
 -- how many timers of a wheel an event gives a status that passes a test
 abbrev pub come : (Option Status → Bool) → ℕ → Event → ℕ

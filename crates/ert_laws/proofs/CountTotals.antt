@@ -1,27 +1,12 @@
 -- How many timers of a service have which status, by the entries of a history.
 
 use Rattle.std.proofs.Common.{◌≡◌, ℕ, ◌+◌, Bool, true, false, cond, ◌&&◌, nat_eq, List, [], ◌∷◌, ◌++◌, length, filter, Option, Some, refl, sym, ap, ◌∙◌, arith}
-use Rattle.std.proofs.Math.Bool.{and-false, and-true}
-use Rattle.std.proofs.lemmas.List.{length-append}
-use Rattle.std.proofs.lemmas.List.Elements.{filter-append}
+use Rattle.std.proofs.{Math.Bool.{and-false, and-true}, lemmas.List.length-append, lemmas.List.Elements.filter-append}
 use Rattle.ert_defs.proofs.ExpiredLists.{made}
-use Rattle.ert_defs.specs.Actors.{is_with}
-use Rattle.ert_defs.specs.Legal.{Can, IsWithMail, Keeps, Legal}
-use Rattle.ert_defs.specs.States.{State, next, state}
-use Rattle.ert_defs.specs.declared.entry.Actor.{Actor}
-use Rattle.ert_defs.specs.declared.entry.Actor.TheVariants.{MailOf}
-use Rattle.ert_defs.specs.declared.entry.Entry.{Entry}
-use Rattle.ert_defs.specs.declared.entry.Event.{Event}
-use Rattle.ert_defs.specs.declared.entry.Event.TheVariants.{Cancel, Deliver}
-use Rattle.ert_defs.specs.declared.settings.Settings.{Settings}
-use Rattle.ert_defs.specs.declared.timer.Status.{Status}
-use Rattle.ert_defs.specs.declared.timer.Status.TheVariants.{Armed, Expired, Delivered, Cancelled, Orphaned, Dropped}
-use Rattle.ert_laws.proofs.Counted.{one_if}
-use Rattle.ert_laws.proofs.CountSteps.{come, gone, counted, count_step}
-use Rattle.ert_laws.proofs.Counting.{arms_counted, expiries_counted, orphans_counted, six_statuses}
-use Rattle.ert_laws.proofs.ExpiredCounts.{expired_wait}
-use Rattle.ert_laws.proofs.Histories.{by_entries, state-more}
-use Rattle.ert_laws.proofs.Totals.{only, total_only, total_same, total_sum, total_zero}
+use Rattle.ert_defs.specs.{Actors.is_with, Legal.{Can, IsWithMail, Keeps, Legal}, States.{State, next, state}, declared.entry.Actor.Actor, declared.entry.Actor.TheVariants.MailOf, declared.entry.Entry.Entry, declared.entry.Event.Event}
+use Rattle.ert_defs.specs.{declared.entry.Event.TheVariants.{Cancel, Deliver}, declared.settings.Settings.Settings, declared.timer.Status.Status, declared.timer.Status.TheVariants.{Armed, Expired, Delivered, Cancelled, Orphaned, Dropped}}
+use Rattle.ert_laws.proofs.{Counted.one_if, CountSteps.{come, gone, counted, count_step}, Counting.{arms_counted, expiries_counted, orphans_counted, six_statuses}, ExpiredCounts.expired_wait, Histories.{by_entries, state-more}, Totals.only}
+use Rattle.ert_laws.proofs.{Totals.{total_only, total_same, total_sum, total_zero}}
 use Rattle.ert_laws.specs.Counts.{total, has_status, count_at, count_in, Counts, counts_of, is_arm, is_expire, is_orphan, entries_of, delivers_to, deliveries, Agrees, LawOfDeliveries, LawOfCounts, LawOfOneCount}
 
 kept_length : (b : Bool) (e : Entry) → length (cond b (e ∷ []) []) ≡ one_if b

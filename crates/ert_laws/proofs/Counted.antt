@@ -2,15 +2,9 @@
 
 use Rattle.std.proofs.Common.{◌≡◌, ◌≢◌, ℕ, ◌+◌, Bool, true, false, cond, nat_eq, List, [], ◌∷◌, ◌++◌, length, All, AllPairs, get_or, Option, Some, None, refl, sym, ap, subst, ◌∙◌, arith, eqb-true, eq-eqb}
 use Rattle.std.proofs.lemmas.List.Elements.{All-head, All-tail}
-use Rattle.ert_defs.proofs.ExpiredTimers.{cond_same, same_timer_self, same_timer-false}
-use Rattle.ert_defs.proofs.Lists.{pairs_head, pairs_tail}
-use Rattle.ert_defs.proofs.Rows.{Differ}
-use Rattle.ert_defs.proofs.Slots.{same_timer-true}
-use Rattle.ert_defs.specs.Timers.{Row, Stands, same_timer, row_of}
-use Rattle.ert_defs.specs.declared.timer.Status.{Status}
-use Rattle.ert_defs.specs.declared.timer.TimerRef.{TimerRef}
-use Rattle.ert_laws.specs.Counts.{count_of}
-use Rattle.ert_laws.specs.Lives.{status_before, Moved}
+use Rattle.ert_defs.proofs.{ExpiredTimers.{cond_same, same_timer_self, same_timer-false}, Lists.{pairs_head, pairs_tail}, Rows.Differ, Slots.same_timer-true}
+use Rattle.ert_defs.specs.{Timers.{Row, Stands, same_timer, row_of}, declared.timer.Status.Status, declared.timer.TimerRef.TimerRef}
+use Rattle.ert_laws.specs.{Counts.count_of, Lives.{status_before, Moved}}
 
 -- 1 where a test passes, and where both of two do
 abbrev pub one_if : Bool → ℕ

@@ -1,27 +1,12 @@
 -- How many timers of a wheel there are, and how many have which status, by the entries of a history.
 
 use Rattle.std.proofs.Common.{◌≡◌, ◌≢◌, ℕ, ◌+◌, Bool, true, false, cond, ◌&&◌, nat_eq, List, [], ◌∷◌, ◌++◌, length, All, get_or, Option, Some, None, refl, ap, ◌∙◌, arith}
-use Rattle.std.proofs.Math.Bool.{and-false, and-true}
-use Rattle.std.proofs.lemmas.List.Elements.{All-head, All-tail, Contains-get_or}
-use Rattle.std.proofs.lemmas.List.Sums.{sum_by_push}
-use Rattle.ert_defs.proofs.ExpiredLists.{made}
-use Rattle.ert_defs.proofs.Settlings.{row_was_armed}
-use Rattle.ert_defs.specs.Actors.{has_actor, same_actor, IsCaller}
-use Rattle.ert_defs.specs.Legal.{Can, Keeps, Legal}
-use Rattle.ert_defs.specs.States.{next, state}
-use Rattle.ert_defs.specs.Timers.{Row}
-use Rattle.ert_defs.specs.declared.entry.Actor.{Actor}
-use Rattle.ert_defs.specs.declared.entry.Actor.TheVariants.{Wheel, Caller}
-use Rattle.ert_defs.specs.declared.entry.Entry.{Entry}
-use Rattle.ert_defs.specs.declared.entry.Event.{Event}
-use Rattle.ert_defs.specs.declared.entry.Event.TheVariants.{Arm, Cancel, Expire, Orphan}
-use Rattle.ert_defs.specs.declared.settings.Settings.{Settings}
-use Rattle.ert_defs.specs.declared.timer.Status.{Status}
-use Rattle.ert_defs.specs.declared.timer.Status.TheVariants.{Armed, Expired, Delivered, Cancelled, Orphaned, Dropped}
-use Rattle.ert_defs.specs.declared.timer.TimerRef.{TimerRef}
-use Rattle.ert_laws.proofs.Counted.{one_if, count_all}
-use Rattle.ert_laws.proofs.CountSteps.{come, gone, counted, count_step}
-use Rattle.ert_laws.proofs.Histories.{by_entries, state-more}
+use Rattle.std.proofs.{Math.Bool.{and-false, and-true}, lemmas.List.Elements.{All-head, All-tail, Contains-get_or}, lemmas.List.Sums.sum_by_push}
+use Rattle.ert_defs.proofs.{ExpiredLists.made, Settlings.row_was_armed}
+use Rattle.ert_defs.specs.{Actors.{has_actor, same_actor, IsCaller}, Legal.{Can, Keeps, Legal}, States.{next, state}, Timers.Row, declared.entry.Actor.Actor, declared.entry.Actor.TheVariants.{Wheel, Caller}, declared.entry.Entry.Entry}
+use Rattle.ert_defs.specs.{declared.entry.Event.Event, declared.entry.Event.TheVariants.{Arm, Cancel, Expire, Orphan}, declared.settings.Settings.Settings, declared.timer.Status.Status, declared.timer.Status.TheVariants.{Armed, Expired}}
+use Rattle.ert_defs.specs.{declared.timer.Status.TheVariants.{Delivered, Cancelled, Orphaned, Dropped}, declared.timer.TimerRef.TimerRef}
+use Rattle.ert_laws.proofs.{Counted.{one_if, count_all}, CountSteps.{come, gone, counted, count_step}, Histories.{by_entries, state-more}}
 use Rattle.ert_laws.specs.Counts.{has_status, count_of, is_arm, is_expire, is_orphan, entries_of, LawOfArms, LawOfExpiries, LawOfOrphans, LawOfSix}
 
 -- no caller is a wheel

@@ -1,40 +1,18 @@
 -- The message of a timer that is due is put once, in order of deadline.
 
 use Rattle.std.proofs.Common.{◌≡◌, ◌≢◌, ◌⊎◌, inl, inr, ℕ, ◌<◌, ◌≤◌, Bool, true, false, cond, ◌&&◌, ◌||◌, nat_eq, nat_lt, nat_le, List, [], ◌∷◌, ◌++◌, All, AllPairs, filter, map, get_or, Option, Some, None, refl, sym, ap, ◌∙◌, subst, arith, append_assoc, eq-eqb, ne_eqb}
-use Rattle.std.proofs.lemmas.Bool.Decides.{nat_tests}
-use Rattle.std.proofs.lemmas.List.{map-append}
-use Rattle.std.proofs.lemmas.List.Elements.{Contains-get_or}
+use Rattle.std.proofs.lemmas.{Bool.Decides.nat_tests, List.map-append, List.Elements.Contains-get_or}
 use Rattle.std.specs.Option.{option_to_list}
-use Rattle.ert_defs.specs.Actors.{has_actor}
-use Rattle.ert_defs.specs.Laws.{MayMove, has_settled}
-use Rattle.ert_defs.specs.Legal.{AllSettled, Can, IsNext, Known, LegalFrom, Legal}
-use Rattle.ert_defs.specs.States.{State, opening, next, run, state}
-use Rattle.ert_defs.specs.Timers.{Row, row_of, same_timer, status_after, settled_as, handed_as}
-use Rattle.ert_defs.proofs.ExpiredLists.{IsKept, kept_after, made}
-use Rattle.ert_defs.proofs.ExpiredTimers.{row_kept, row_named}
-use Rattle.ert_defs.proofs.Lists.{pairs_head, pairs_tail}
-use Rattle.ert_defs.proofs.Rows.{Differ, rows_hold}
-use Rattle.ert_defs.proofs.Runs.{carry, exit_stays, legal_first, legal_then, state-append}
-use Rattle.ert_defs.proofs.Settlings.{moves_next, row_was_armed, settled_timers_stay}
-use Rattle.ert_defs.proofs.Slots.{IsOrdered, ordered, ordered_next, same_timer-true}
-use Rattle.ert_defs.proofs.Standing.{all_stand, of_row}
-use Rattle.ert_defs.specs.declared.entry.Actor.{Actor}
-use Rattle.ert_defs.specs.declared.entry.Actor.TheVariants.{Wheel}
-use Rattle.ert_defs.specs.declared.entry.Entry.{Entry}
-use Rattle.ert_defs.specs.declared.entry.Event.{Event}
-use Rattle.ert_defs.specs.declared.entry.Event.TheVariants.{Arm, Cancel, Expire, Orphan, Deliver, Drop}
-use Rattle.ert_defs.specs.declared.settings.Settings.{Settings}
-use Rattle.ert_defs.specs.declared.timer.Status.{Status}
-use Rattle.ert_defs.specs.declared.timer.Status.TheVariants.{Armed, Expired, Delivered, Cancelled, Orphaned, Dropped}
-use Rattle.ert_defs.specs.declared.timer.TimerRef.{TimerRef}
+use Rattle.ert_defs.specs.{Actors.has_actor, Laws.{MayMove, has_settled}, Legal.{AllSettled, Can, IsNext, Known, LegalFrom, Legal}, States.{State, opening, next, run, state}, Timers.{Row, row_of, same_timer, status_after, settled_as}}
+use Rattle.ert_defs.specs.{Timers.handed_as, declared.entry.Actor.Actor, declared.entry.Actor.TheVariants.Wheel, declared.entry.Entry.Entry, declared.entry.Event.Event, declared.entry.Event.TheVariants.{Arm, Cancel, Expire, Orphan}}
+use Rattle.ert_defs.specs.{declared.entry.Event.TheVariants.{Deliver, Drop}, declared.settings.Settings.Settings, declared.timer.Status.Status, declared.timer.Status.TheVariants.{Armed, Expired, Delivered, Cancelled, Orphaned, Dropped}}
+use Rattle.ert_defs.specs.{declared.timer.TimerRef.TimerRef}
+use Rattle.ert_defs.proofs.{ExpiredLists.{IsKept, kept_after, made}, ExpiredTimers.{row_kept, row_named}, Lists.{pairs_head, pairs_tail}, Rows.{Differ, rows_hold}, Runs.{carry, exit_stays, legal_first, legal_then, state-append}}
+use Rattle.ert_defs.proofs.{Settlings.{moves_next, row_was_armed, settled_timers_stay}, Slots.{IsOrdered, ordered, ordered_next, same_timer-true}, Standing.{all_stand, of_row}}
 use Rattle.ert_laws.specs.MailOrder.{Sent, sent_by_row, sent_to, gathered_from, expired_in, expired_of, is_delivered, is_of_wheel, is_from, is_delivered_to}
 use Rattle.ert_laws.specs.Punctual.{is_timer, is_sent_by, StandsAmong, IsEarlier, LawOfPutMessages, LawOfDueTimers, LawOfPutOrder}
-use Rattle.ert_laws.proofs.Expiries.{in_order}
-use Rattle.ert_laws.proofs.ExpiredOnce.{has_expired, NoneOf, EachExpired, AreSingle, have_expired}
-use Rattle.ert_laws.proofs.Histories.{by_entries, gathered-append, gathered-more, state-more}
-use Rattle.ert_laws.proofs.Mailboxes.{first_row}
-use Rattle.ert_laws.proofs.StandingRows.{differs_from, row_stands}
-use Rattle.ert_laws.proofs.Waiting.{all_wait, waits_in}
+use Rattle.ert_laws.proofs.{Expiries.in_order, ExpiredOnce.{has_expired, NoneOf, EachExpired, AreSingle, have_expired}, Histories.{by_entries, gathered-append, gathered-more, state-more}, Mailboxes.first_row, StandingRows.differs_from}
+use Rattle.ert_laws.proofs.{StandingRows.row_stands, Waiting.{all_wait, waits_in}}
 
 -- one message of those of a wheel
 

@@ -1,27 +1,12 @@
 -- As many timers wait at a scheduler as are expired on its wheel.
 
 use Rattle.std.proofs.Common.{◌≡◌, ℕ, ◌+◌, Bool, true, false, cond, nat_eq, List, [], ◌∷◌, ◌++◌, length, Option, Some, None, refl, sym, ap, subst, ◌∙◌, arith, eqb-true}
-use Rattle.std.proofs.Math.Bool.{or-false}
-use Rattle.std.proofs.lemmas.List.{length-append}
-use Rattle.ert_defs.proofs.ExpiredLists.{made}
-use Rattle.ert_defs.proofs.Runs.{carry}
-use Rattle.ert_defs.proofs.Standing.{all_stand}
-use Rattle.ert_defs.specs.Actors.{has_actor, is_with}
-use Rattle.ert_defs.specs.Legal.{Can, IsFirst, IsWithMail, Legal}
-use Rattle.ert_defs.specs.Mails.{SchedState, first_of, others_of, sched_after, with_row}
-use Rattle.ert_defs.specs.States.{State, next, state}
-use Rattle.ert_defs.specs.Timers.{Row, Stands, row_of}
-use Rattle.ert_defs.specs.declared.entry.Actor.{Actor}
-use Rattle.ert_defs.specs.declared.entry.Actor.TheVariants.{Sched, MailOf}
-use Rattle.ert_defs.specs.declared.entry.Entry.{Entry}
-use Rattle.ert_defs.specs.declared.entry.Event.{Event}
-use Rattle.ert_defs.specs.declared.entry.Event.TheVariants.{Cancel, Expire, Deliver, Drop}
-use Rattle.ert_defs.specs.declared.settings.Settings.{Settings}
-use Rattle.ert_defs.specs.declared.timer.Status.TheVariants.{Armed, Expired}
-use Rattle.ert_defs.specs.declared.timer.TimerRef.{TimerRef}
-use Rattle.ert_laws.proofs.Counted.{one_if}
-use Rattle.ert_laws.proofs.CountSteps.{come, gone, counted, count_step}
-use Rattle.ert_laws.proofs.Histories.{by_entries, state-more}
+use Rattle.std.proofs.{Math.Bool.or-false, lemmas.List.length-append}
+use Rattle.ert_defs.proofs.{ExpiredLists.made, Runs.carry, Standing.all_stand}
+use Rattle.ert_defs.specs.{Actors.{has_actor, is_with}, Legal.{Can, IsFirst, IsWithMail, Legal}, Mails.{SchedState, first_of, others_of, sched_after, with_row}, States.{State, next, state}, Timers.{Row, Stands, row_of}}
+use Rattle.ert_defs.specs.{declared.entry.Actor.Actor, declared.entry.Actor.TheVariants.{Sched, MailOf}, declared.entry.Entry.Entry, declared.entry.Event.Event, declared.entry.Event.TheVariants.{Cancel, Expire, Deliver, Drop}}
+use Rattle.ert_defs.specs.{declared.settings.Settings.Settings, declared.timer.Status.TheVariants.{Armed, Expired}, declared.timer.TimerRef.TimerRef}
+use Rattle.ert_laws.proofs.{Counted.one_if, CountSteps.{come, gone, counted, count_step}, Histories.{by_entries, state-more}}
 use Rattle.ert_laws.specs.Counts.{has_status, LawOfWaits}
 
 -- an event by one scheduler, with no other, has that alone

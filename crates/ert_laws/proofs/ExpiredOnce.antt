@@ -2,28 +2,12 @@
 
 use Rattle.std.proofs.Common.{◌≡◌, ◌≢◌, ◌⊎◌, inl, inr, ℕ, Bool, true, false, cond, ◌||◌, nat_eq, List, [], ◌∷◌, ◌++◌, Option, Some, None, refl, sym, ap, ◌∙◌, subst, append-nil, eqb-true, eq-eqb}
 use Rattle.std.specs.Option.{option_to_list}
-use Rattle.ert_defs.specs.Actors.{has_actor}
-use Rattle.ert_defs.specs.Laws.{MayMove}
-use Rattle.ert_defs.specs.Legal.{Can, Legal}
-use Rattle.ert_defs.specs.States.{State, next, state}
-use Rattle.ert_defs.specs.Timers.{Row, row_of, same_timer, settled_as}
-use Rattle.ert_defs.proofs.ExpiredLists.{made}
-use Rattle.ert_defs.proofs.ExpiredTimers.{row_kept, row_named, same_timer_self}
-use Rattle.ert_defs.proofs.Runs.{carry}
-use Rattle.ert_defs.proofs.Settlings.{moves_next}
-use Rattle.ert_defs.proofs.Slots.{IsOrdered, ordered, same_timer-true}
-use Rattle.ert_defs.specs.declared.entry.Actor.{Actor}
-use Rattle.ert_defs.specs.declared.entry.Actor.TheVariants.{Wheel}
-use Rattle.ert_defs.specs.declared.entry.Entry.{Entry}
-use Rattle.ert_defs.specs.declared.entry.Event.{Event}
-use Rattle.ert_defs.specs.declared.entry.Event.TheVariants.{Expire}
-use Rattle.ert_defs.specs.declared.settings.Settings.{Settings}
-use Rattle.ert_defs.specs.declared.timer.Status.{Status}
-use Rattle.ert_defs.specs.declared.timer.Status.TheVariants.{Armed, Expired, Delivered, Cancelled, Orphaned, Dropped}
-use Rattle.ert_defs.specs.declared.timer.TimerRef.{TimerRef}
+use Rattle.ert_defs.specs.{Actors.has_actor, Laws.MayMove, Legal.{Can, Legal}, States.{State, next, state}, Timers.{Row, row_of, same_timer, settled_as}, declared.entry.Actor.Actor, declared.entry.Actor.TheVariants.Wheel}
+use Rattle.ert_defs.specs.{declared.entry.Entry.Entry, declared.entry.Event.Event, declared.entry.Event.TheVariants.Expire, declared.settings.Settings.Settings, declared.timer.Status.Status, declared.timer.Status.TheVariants.Armed}
+use Rattle.ert_defs.specs.{declared.timer.Status.TheVariants.{Expired, Delivered, Cancelled, Orphaned, Dropped}, declared.timer.TimerRef.TimerRef}
+use Rattle.ert_defs.proofs.{ExpiredLists.made, ExpiredTimers.{row_kept, row_named, same_timer_self}, Runs.carry, Settlings.moves_next, Slots.{IsOrdered, ordered, same_timer-true}}
 use Rattle.ert_laws.specs.MailOrder.{expired_in, expired_of}
-use Rattle.ert_laws.proofs.Histories.{by_entries, state-more, gathered-more}
-use Rattle.ert_laws.proofs.Waiting.{expires, next_has_row, waits_in, waits-append, was_expired}
+use Rattle.ert_laws.proofs.{Histories.{by_entries, state-more, gathered-more}, Waiting.{expires, next_has_row, waits_in, waits-append, was_expired}}
 
 -- whether a timer has expired, whatever became of it then
 abbrev pub has_expired : Option Status → Bool

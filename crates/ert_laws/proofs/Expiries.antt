@@ -1,30 +1,14 @@
 -- A scheduler hands its timers over in order of expiry, and so puts their messages into mailboxes.
 
 use Rattle.std.proofs.Common.{◌≡◌, ℕ, Bool, true, false, cond, ◌||◌, ◌&&◌, nat_eq, List, [], ◌∷◌, ◌++◌, All, filter, map, get_or, Option, Some, None, refl, sym, ap, subst, ◌∙◌, append-nil, eqb-true}
-use Rattle.std.proofs.Math.Bool.{or-false}
-use Rattle.std.proofs.lemmas.List.Elements.{All-nil, filter-append}
+use Rattle.std.proofs.{Math.Bool.or-false, lemmas.List.Elements.{All-nil, filter-append}}
 use Rattle.std.specs.Option.{option_to_list}
-use Rattle.ert_defs.specs.Actors.{has_actor, is_with, same_actor}
-use Rattle.ert_defs.specs.Legal.{Can, IsFirst, Legal}
-use Rattle.ert_defs.specs.Mails.{SchedState, first_of, others_of, answer_in, changes_of, sched_after, with_row}
-use Rattle.ert_defs.specs.States.{State, next, state}
-use Rattle.ert_defs.specs.Timers.{Row, row_of}
-use Rattle.ert_defs.proofs.ExpiredLists.{IsKept, first_has_expired, made, kept_after}
-use Rattle.ert_defs.proofs.ExpiredTimers.{same_timer_self}
-use Rattle.ert_defs.proofs.Runs.{carry}
-use Rattle.ert_defs.specs.declared.entry.Actor.{Actor}
-use Rattle.ert_defs.specs.declared.entry.Actor.TheVariants.{Sched, MailOf}
-use Rattle.ert_defs.specs.declared.entry.Entry.{Entry}
-use Rattle.ert_defs.specs.declared.entry.Event.{Event}
-use Rattle.ert_defs.specs.declared.entry.Event.TheVariants.{Expire, Deliver, Drop, Answer, Tell}
-use Rattle.ert_defs.specs.declared.mail.Mail.{Mail}
-use Rattle.ert_defs.specs.declared.settings.Settings.{Settings}
-use Rattle.ert_defs.specs.declared.timer.Status.TheVariants.{Expired, Delivered, Dropped}
-use Rattle.ert_defs.specs.declared.timer.TimerRef.{TimerRef}
+use Rattle.ert_defs.specs.{Actors.{has_actor, is_with, same_actor}, Legal.{Can, IsFirst, Legal}, Mails.{SchedState, first_of, others_of, answer_in, changes_of, sched_after, with_row}, States.{State, next, state}, Timers.{Row, row_of}}
+use Rattle.ert_defs.specs.{declared.entry.Actor.Actor, declared.entry.Actor.TheVariants.{Sched, MailOf}, declared.entry.Entry.Entry, declared.entry.Event.Event, declared.entry.Event.TheVariants.{Expire, Deliver, Drop, Answer, Tell}}
+use Rattle.ert_defs.specs.{declared.mail.Mail.Mail, declared.settings.Settings.Settings, declared.timer.Status.TheVariants.{Expired, Delivered, Dropped}, declared.timer.TimerRef.TimerRef}
+use Rattle.ert_defs.proofs.{ExpiredLists.{IsKept, first_has_expired, made, kept_after}, ExpiredTimers.same_timer_self, Runs.carry}
 use Rattle.ert_laws.specs.MailOrder.{Sent, sent_by_row, sent_by_none, sent_at, sent_to, expired_in, expired_of, is_delivered, is_handed_over, is_from, is_delivered_to, LawOfExpiryOrder, LawOfOrder}
-use Rattle.ert_laws.proofs.Histories.{by_entries, state-more, gathered-more}
-use Rattle.ert_laws.proofs.Mailboxes.{mail_has, first_row}
-use Rattle.ert_laws.proofs.Handing.{HandsOver, none_pass, none_handed, one_handed}
+use Rattle.ert_laws.proofs.{Histories.{by_entries, state-more, gathered-more}, Mailboxes.{mail_has, first_row}, Handing.{HandsOver, none_pass, none_handed, one_handed}}
 
 -- an entry by a scheduler, with another actor or none, has just that scheduler
 pub sched_has : (e : Entry) (v w : ℕ) → e.by ≡ Sched v → is_with e.with (Sched w) ≡ false → has_actor e (Sched w) ≡ nat_eq v w

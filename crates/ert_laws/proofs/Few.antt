@@ -1,16 +1,9 @@
 -- The expired timers of a scheduler have slots that differ, so there are at most as many as slots.
 
 use Rattle.std.proofs.Common.{◌≡◌, ◌≢◌, ℕ, ◌<◌, ◌≤◌, true, nat_eq, List, [], ◌∷◌, length, map, All, AllPairs, get_or, sym, ap, ◌∙◌, subst, arith, eqb-true}
-use Rattle.std.proofs.lemmas.Bool.Decides.{Decides-eqb}
-use Rattle.std.proofs.lemmas.List.{get_or-map, length-map}
-use Rattle.std.proofs.lemmas.List.Elements.{All-map}
-use Rattle.std.proofs.lemmas.List.Folds.{Any-from_list_any}
-use Rattle.std.proofs.lemmas.Map.Made.{IsDistinct-from_AllPairs}
-use Rattle.std.proofs.lemmas.Map.Steps.{length-le_from_distinct_below}
+use Rattle.std.proofs.lemmas.{Bool.Decides.Decides-eqb, List.{get_or-map, length-map}, List.Elements.All-map, List.Folds.Any-from_list_any, Map.Made.IsDistinct-from_AllPairs, Map.Steps.length-le_from_distinct_below}
 use Rattle.std.specs.List.{list_any}
-use Rattle.ert_defs.specs.Laws.{IsExpired, AreExpired}
-use Rattle.ert_defs.specs.States.{State, state}
-use Rattle.ert_defs.specs.Timers.{Row, timer_at}
+use Rattle.ert_defs.specs.{Laws.{IsExpired, AreExpired}, States.{State, state}, Timers.{Row, timer_at}}
 use Rattle.ert_defs.proofs.ExpiredLists.{expired_timers}
 use Rattle.ert_laws.specs.Ranges.{LawOfFew}
 use Rattle.ert_laws.proofs.RowRanges.{expired_placed}

@@ -2,20 +2,10 @@
 -- or the first of those that wait.
 
 use Rattle.std.proofs.Common.{◌≡◌, ℕ, Bool, true, false, ◌&&◌, nat_eq, List, [], ◌∷◌, ◌++◌, All, filter, map, get_or, Option, Some, None, refl, sym, ap, ◌∙◌, append-nil, append_assoc}
-use Rattle.std.proofs.lemmas.List.{map-append}
-use Rattle.std.proofs.lemmas.List.Elements.{All-push, All-head, All-tail, filter-append}
-use Rattle.ert_defs.specs.Laws.{MayMove}
-use Rattle.ert_defs.specs.Legal.{Can}
-use Rattle.ert_defs.specs.Mails.{first_of, others_of}
-use Rattle.ert_defs.specs.States.{State, next}
-use Rattle.ert_defs.specs.Timers.{Row}
-use Rattle.ert_defs.proofs.ExpiredLists.{IsKept}
-use Rattle.ert_defs.proofs.Runs.{carry}
-use Rattle.ert_defs.proofs.Settlings.{moves_next}
-use Rattle.ert_defs.specs.declared.entry.Entry.{Entry}
-use Rattle.ert_defs.specs.declared.settings.Settings.{Settings}
-use Rattle.ert_defs.specs.declared.timer.Status.{Status}
-use Rattle.ert_defs.specs.declared.timer.Status.TheVariants.{Armed, Expired, Delivered, Cancelled, Orphaned, Dropped}
+use Rattle.std.proofs.lemmas.List.{map-append, Elements.{All-push, All-head, All-tail, filter-append}}
+use Rattle.ert_defs.specs.{Laws.MayMove, Legal.Can, Mails.{first_of, others_of}, States.{State, next}, Timers.Row, declared.entry.Entry.Entry, declared.settings.Settings.Settings, declared.timer.Status.Status}
+use Rattle.ert_defs.specs.{declared.timer.Status.TheVariants.{Armed, Expired, Delivered, Cancelled, Orphaned, Dropped}}
+use Rattle.ert_defs.proofs.{ExpiredLists.IsKept, Runs.carry, Settlings.moves_next}
 use Rattle.ert_laws.specs.MailOrder.{Sent, sent_by_row, is_delivered, is_handed_over, is_from, is_delivered_to}
 
 -- tests that agree at each element of a list keep the same of them

@@ -2,11 +2,8 @@
 -- it, holds of each legal history.
 
 use Rattle.std.proofs.Common.{◌≡◌, List, [], ◌∷◌, ◌++◌, refl, sym, ap, subst, ◌∙◌, append-nil, append_assoc}
-use Rattle.ert_defs.specs.Legal.{Can, LegalFrom, Legal}
-use Rattle.ert_defs.specs.States.{State, opening, next, run, state}
+use Rattle.ert_defs.specs.{Legal.{Can, LegalFrom, Legal}, States.{State, opening, next, run, state}, declared.entry.Entry.Entry, declared.settings.Settings.Settings}
 use Rattle.ert_defs.proofs.Runs.{carry, legal_more, state-append}
-use Rattle.ert_defs.specs.declared.entry.Entry.{Entry}
-use Rattle.ert_defs.specs.declared.settings.Settings.{Settings}
 use Rattle.ert_laws.specs.MailOrder.{gathered_from, gathered}
 
 -- the state after one more entry

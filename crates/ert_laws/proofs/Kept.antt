@@ -1,17 +1,9 @@
 -- Every legal history keeps the laws.
 
 use Rattle.std.proofs.Common.{◌≤ℤ◌, List, [], ◌∷◌, ◌++◌, sym, subst}
-use Rattle.ert_defs.proofs.Runs.{legal_first}
-use Rattle.ert_defs.proofs.Times.{time_rises}
-use Rattle.ert_defs.specs.Legal.{Legal}
-use Rattle.ert_defs.specs.States.{opening, state}
-use Rattle.ert_defs.specs.declared.entry.Entry.{Entry}
-use Rattle.ert_laws.proofs.Expiries.{in_order}
-use Rattle.ert_laws.proofs.Looks.{due_by_now}
-use Rattle.ert_laws.proofs.Mailboxes.{mailboxes}
-use Rattle.ert_laws.proofs.OwnTells.{messages_are_told}
-use Rattle.ert_laws.proofs.Permissions.{permitted}
-use Rattle.ert_laws.proofs.TimerLives.{lives}
+use Rattle.ert_defs.proofs.{Runs.legal_first, Times.time_rises}
+use Rattle.ert_defs.specs.{Legal.Legal, States.{opening, state}, declared.entry.Entry.Entry}
+use Rattle.ert_laws.proofs.{Expiries.in_order, Looks.due_by_now, Mailboxes.mailboxes, OwnTells.messages_are_told, Permissions.permitted, TimerLives.lives}
 use Rattle.ert_laws.specs.KeptLaws.{LawOfHistories}
 
 pub keeps_laws : LawOfHistories

@@ -3,9 +3,7 @@
 use Rattle.std.proofs.Common.{◌≡◌, ◌⊎◌, inl, inr, refl, ap, Bool, true, false, cond, List, [], ◌∷◌}
 use Rattle.std.proofs.lemmas.List.{append-nil}
 use Rattle.ert_laws.specs.ClockLaws.{was_base, HasBase, HasNoBase}
-use Rattle.ert_defs.specs.Clocks.{Ticked, last_mono, last_base}
-use Rattle.ert_defs.specs.Lines.{base_from}
-use Rattle.ert_defs.specs.declared.settings.Settings.{Settings}
+use Rattle.ert_defs.specs.{Clocks.{Ticked, last_mono, last_base}, Lines.base_from, declared.settings.Settings.Settings}
 
 -- the base after one more tick
 pub base_with : (g : Settings) (t : Ticked) (ts : List Ticked) (b : Bool) → was_base g t ts ≡ b

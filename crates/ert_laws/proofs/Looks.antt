@@ -1,23 +1,11 @@
 -- No look is of a time to come, and no timer expires early.
 
 use Rattle.std.proofs.Common.{◌≡◌, refl, arith, cond, Bool, true, false, subst, List, [], ◌∷◌, ◌++◌}
-use Rattle.std.proofs.lemmas.Int.{ints}
-use Rattle.std.proofs.lemmas.List.Elements.{Contains-append_right}
+use Rattle.std.proofs.lemmas.{Int.ints, List.Elements.Contains-append_right}
 use Rattle.std.specs.Prelude.{ℤ, ◌-ℤ◌, ◌≤ℤ◌}
-use Rattle.ert_defs.specs.Actors.{same_actor}
-use Rattle.ert_defs.specs.Legal.{Can, Known, Found, LegalFrom, Legal, IsNext}
-use Rattle.ert_defs.specs.Milliseconds.{down}
-use Rattle.ert_defs.specs.Settings.{IsChecked}
-use Rattle.ert_defs.specs.States.{State, look_after, opening, next, run, state}
-use Rattle.ert_defs.specs.declared.entry.Actor.{Actor}
-use Rattle.ert_defs.specs.declared.entry.Entry.{Entry}
-use Rattle.ert_defs.specs.declared.entry.Event.{Event}
-use Rattle.ert_defs.specs.declared.entry.Event.TheVariants.{Look, Expire}
-use Rattle.ert_defs.specs.declared.settings.Settings.{Settings}
-use Rattle.ert_defs.specs.declared.timer.TimerRef.{TimerRef}
-use Rattle.ert_defs.proofs.Numbers.{floor_rises}
-use Rattle.ert_defs.proofs.Runs.{legal_first, legal_then}
-use Rattle.ert_defs.proofs.Times.{KeepsBounds, kept_opening, kept_next, time_next}
+use Rattle.ert_defs.specs.{Actors.same_actor, Legal.{Can, Known, Found, LegalFrom, Legal, IsNext}, Milliseconds.down, Settings.IsChecked, States.{State, look_after, opening, next, run, state}, declared.entry.Actor.Actor}
+use Rattle.ert_defs.specs.{declared.entry.Entry.Entry, declared.entry.Event.Event, declared.entry.Event.TheVariants.{Look, Expire}, declared.settings.Settings.Settings, declared.timer.TimerRef.TimerRef}
+use Rattle.ert_defs.proofs.{Numbers.floor_rises, Runs.{legal_first, legal_then}, Times.{KeepsBounds, kept_opening, kept_next, time_next}}
 use Rattle.ert_laws.specs.ClockLaws.{HasDeadlineCome}
 
 -- a look is of no time to come, and of none before the start time

@@ -1,25 +1,12 @@
 -- What was put into a mailbox is what was taken from it, and then what stands in it.
 
 use Rattle.std.proofs.Common.{◌≡◌, ℕ, Bool, true, false, cond, ◌||◌, nat_eq, List, [], ◌∷◌, ◌++◌, map, Option, Some, refl, sym, ap, subst, ◌∙◌, append-nil, append_assoc, eqb-true}
-use Rattle.std.proofs.lemmas.List.{map-append}
-use Rattle.std.proofs.lemmas.List.Elements.{filter_map-append}
-use Rattle.std.specs.List.{filter_map}
-use Rattle.std.specs.Option.{option_to_list}
-use Rattle.ert_defs.specs.Actors.{IsCaller, has_actor, is_with, same_actor}
-use Rattle.ert_defs.specs.Legal.{Can, IsFirst}
-use Rattle.ert_defs.specs.Mails.{first_of, others_of, message_in, message_of, mail_after, answer_in, changes_of}
-use Rattle.ert_defs.specs.States.{State, next, state}
-use Rattle.ert_defs.specs.Timers.{Row, row_of}
-use Rattle.ert_defs.proofs.ExpiredLists.{IsKept, first_is_expired, made, kept_after}
-use Rattle.ert_defs.proofs.Runs.{carry}
-use Rattle.ert_defs.specs.declared.entry.Actor.{Actor}
-use Rattle.ert_defs.specs.declared.entry.Actor.TheVariants.{MailOf, Caller}
-use Rattle.ert_defs.specs.declared.entry.Entry.{Entry}
-use Rattle.ert_defs.specs.declared.entry.Event.{Event}
-use Rattle.ert_defs.specs.declared.entry.Event.TheVariants.{Deliver, Answer, Take, Tell}
-use Rattle.ert_defs.specs.declared.mail.Mail.{Mail}
-use Rattle.ert_defs.specs.declared.settings.Settings.{Settings}
-use Rattle.ert_defs.specs.declared.timer.TimerRef.{TimerRef}
+use Rattle.std.proofs.lemmas.List.{map-append, Elements.filter_map-append}
+use Rattle.std.specs.{List.filter_map, Option.option_to_list}
+use Rattle.ert_defs.specs.{Actors.{IsCaller, has_actor, is_with, same_actor}, Legal.{Can, IsFirst}, Mails.{first_of, others_of, message_in, message_of, mail_after, answer_in, changes_of}, States.{State, next, state}, Timers.{Row, row_of}}
+use Rattle.ert_defs.specs.{declared.entry.Actor.Actor, declared.entry.Actor.TheVariants.{MailOf, Caller}, declared.entry.Entry.Entry, declared.entry.Event.Event, declared.entry.Event.TheVariants.{Deliver, Answer, Take, Tell}}
+use Rattle.ert_defs.specs.{declared.mail.Mail.Mail, declared.settings.Settings.Settings, declared.timer.TimerRef.TimerRef}
+use Rattle.ert_defs.proofs.{ExpiredLists.{IsKept, first_is_expired, made, kept_after}, Runs.carry}
 use Rattle.ert_laws.specs.MailOrder.{Sent, sent_by_row, sent_by_none, sent_in, sent_at, sent_to, taken_in, taken_from, LawOfMailboxes}
 use Rattle.ert_laws.proofs.Histories.{by_entries, state-more, gathered-more}
 

@@ -1,38 +1,15 @@
 -- Each message of a change comes from a Tell of its own.
 
 use Rattle.std.proofs.Common.{◌≡◌, ℕ, ℤ, true, List, [], ◌∷◌, ◌++◌, All, filter, map, get_or, Option, Some, None, refl, sym, ap, subst, ◌∙◌, append_assoc, eqb-true}
-use Rattle.std.proofs.lemmas.Bool.{cond_both}
-use Rattle.std.proofs.lemmas.Bool.Decides.{Decides-int_eq, Decides-not}
-use Rattle.std.proofs.lemmas.List.Elements.{All-nil, All-append, All-cons, All-filter, All-map, All-weaker, filter_passes}
-use Rattle.std.specs.Option.{option_to_list}
-use Rattle.std.specs.Ordering.{int_eq}
-use Rattle.ert_defs.specs.Actors.{has_actor}
-use Rattle.ert_defs.specs.Legal.{Can, Legal}
-use Rattle.ert_defs.specs.Mails.{answer_by, answer_in, changes_of, is_news, message_by}
-use Rattle.ert_defs.specs.States.{state}
-use Rattle.ert_defs.specs.Timers.{Row, row_of}
-use Rattle.ert_defs.proofs.ExpiredLists.{made}
-use Rattle.ert_defs.proofs.Runs.{carry, legal_more, legal_one_more}
-use Rattle.ert_defs.specs.declared.entry.Actor.{Actor}
-use Rattle.ert_defs.specs.declared.entry.Actor.TheVariants.{MailOf}
-use Rattle.ert_defs.specs.declared.entry.Entry.{Entry}
-use Rattle.ert_defs.specs.declared.entry.Event.{Event}
-use Rattle.ert_defs.specs.declared.entry.Event.TheVariants.{Deliver, Answer, Tell}
-use Rattle.ert_defs.specs.declared.mail.Mail.{Mail}
-use Rattle.ert_defs.specs.declared.mail.Mail.TheVariants.{Change}
-use Rattle.ert_defs.specs.declared.mail.Monitor.{Monitor}
-use Rattle.ert_defs.specs.declared.mail.Request.{Request}
-use Rattle.ert_defs.specs.declared.mail.RequestKind.{RequestKind}
-use Rattle.ert_defs.specs.declared.mail.RequestKind.TheVariants.{Cancel as ToCancel, Read as ToRead}
-use Rattle.ert_defs.specs.declared.settings.Settings.{Settings}
-use Rattle.ert_defs.specs.declared.timer.Kind.{Kind}
-use Rattle.ert_defs.specs.declared.timer.Kind.TheVariants.{Wrapped, Bare}
-use Rattle.ert_defs.specs.declared.timer.TimerRef.{TimerRef}
-use Rattle.ert_laws.specs.Changes.{LastTold, TellsTruly, IsTold, LawOfChanges, LawOfChangesTold}
-use Rattle.ert_laws.specs.MailOrder.{Sent, sent_by_row, sent_by_none, sent_in, sent_at, sent_to}
-use Rattle.ert_laws.proofs.Histories.{by_entries, gathered-more}
-use Rattle.ert_laws.proofs.Mailboxes.{mail_has, caller_no_mail, mail_in, mailboxes}
-use Rattle.ert_laws.proofs.Told.{monitors_told}
+use Rattle.std.proofs.lemmas.{Bool.cond_both, Bool.Decides.{Decides-int_eq, Decides-not}, List.Elements.{All-nil, All-append, All-cons, All-filter, All-map, All-weaker, filter_passes}}
+use Rattle.std.specs.{Option.option_to_list, Ordering.int_eq}
+use Rattle.ert_defs.specs.{Actors.has_actor, Legal.{Can, Legal}, Mails.{answer_by, answer_in, changes_of, is_news, message_by}, States.state, Timers.{Row, row_of}, declared.entry.Actor.Actor, declared.entry.Actor.TheVariants.MailOf}
+use Rattle.ert_defs.specs.{declared.entry.Entry.Entry, declared.entry.Event.Event, declared.entry.Event.TheVariants.{Deliver, Answer, Tell}, declared.mail.Mail.Mail, declared.mail.Mail.TheVariants.Change, declared.mail.Monitor.Monitor}
+use Rattle.ert_defs.specs.{declared.mail.Request.Request, declared.mail.RequestKind.RequestKind, declared.mail.RequestKind.TheVariants.{Cancel as ToCancel, Read as ToRead}, declared.settings.Settings.Settings, declared.timer.Kind.Kind}
+use Rattle.ert_defs.specs.{declared.timer.Kind.TheVariants.{Wrapped, Bare}, declared.timer.TimerRef.TimerRef}
+use Rattle.ert_defs.proofs.{ExpiredLists.made, Runs.{carry, legal_more, legal_one_more}}
+use Rattle.ert_laws.specs.{Changes.{LastTold, TellsTruly, IsTold, LawOfChanges, LawOfChangesTold}, MailOrder.{Sent, sent_by_row, sent_by_none, sent_in, sent_at, sent_to}}
+use Rattle.ert_laws.proofs.{Histories.{by_entries, gathered-more}, Mailboxes.{mail_has, caller_no_mail, mail_in, mailboxes}, Told.monitors_told}
 
 -- a message of a timer is no Change
 timer_message : (g : Settings) (h : List Entry) (e : Entry) (p : ℕ) (kind : Kind) (timer : TimerRef) (msg : ℕ)

@@ -3,29 +3,11 @@
 use Rattle.std.proofs.Common.{◌≡◌, ◌⊎◌, inl, inr, ℕ, ◌+◌, ◌≤◌, refl, sym, le_trans, arith, cond, Bool, true, false, ◌||◌, Option, subst, List, [], ◌∷◌}
 use Rattle.std.proofs.lemmas.Int.{ints}
 use Rattle.std.specs.Prelude.{ℤ, ◌-ℤ◌, int_lt}
-use Rattle.ert_defs.specs.Actors.{same_actor, is_with, has_actor}
-use Rattle.ert_defs.specs.ClockMoves.{ShiftIs, OfLastTick}
-use Rattle.ert_defs.specs.Clocks.{Clock, Ticked, face, clock_after}
-use Rattle.ert_defs.specs.Legal.{Keeps, Known, LegalFrom, Legal}
-use Rattle.ert_defs.specs.Lines.{first_state}
-use Rattle.ert_defs.specs.Settings.{IsChecked}
-use Rattle.ert_defs.specs.Sound.{Sound, Reaches}
-use Rattle.ert_defs.specs.States.{State, opening, next, state}
-use Rattle.ert_defs.specs.declared.entry.Act.{Act}
-use Rattle.ert_defs.specs.declared.entry.Actor.{Actor}
-use Rattle.ert_defs.specs.declared.entry.Actor.TheVariants.{Keeper}
-use Rattle.ert_defs.specs.declared.entry.Entry.{Entry}
-use Rattle.ert_defs.specs.declared.entry.Event.{Event}
-use Rattle.ert_defs.specs.declared.entry.Event.TheVariants.{Tick, Shift}
-use Rattle.ert_defs.specs.declared.settings.Mode.{Mode}
-use Rattle.ert_defs.specs.declared.settings.Mode.TheVariants.{No, Single, Multi}
-use Rattle.ert_defs.specs.declared.settings.OffsetState.{OffsetState}
-use Rattle.ert_defs.specs.declared.settings.OffsetState.TheVariants.{Preliminary, Final, Volatile}
-use Rattle.ert_defs.specs.declared.settings.Reading.{Reading}
-use Rattle.ert_defs.specs.declared.settings.Settings.{Settings}
-use Rattle.ert_defs.proofs.Bounds.{time_with, line_moves, no_fall}
-use Rattle.ert_defs.proofs.Modes.{KeepsMode, MayFollow, mode_opening, mode_when}
-use Rattle.ert_defs.proofs.Times.{KeepsBounds, kept_opening, kept_next}
+use Rattle.ert_defs.specs.{Actors.{same_actor, is_with, has_actor}, ClockMoves.{ShiftIs, OfLastTick}, Clocks.{Clock, Ticked, face, clock_after}, Legal.{Keeps, Known, LegalFrom, Legal}, Lines.first_state, Settings.IsChecked, Sound.Sound}
+use Rattle.ert_defs.specs.{Sound.Reaches, States.{State, opening, next, state}, declared.entry.Act.Act, declared.entry.Actor.Actor, declared.entry.Actor.TheVariants.Keeper, declared.entry.Entry.Entry, declared.entry.Event.Event}
+use Rattle.ert_defs.specs.{declared.entry.Event.TheVariants.{Tick, Shift}, declared.settings.Mode.Mode, declared.settings.Mode.TheVariants.{No, Single, Multi}, declared.settings.OffsetState.OffsetState}
+use Rattle.ert_defs.specs.{declared.settings.OffsetState.TheVariants.{Preliminary, Final, Volatile}, declared.settings.Reading.Reading, declared.settings.Settings.Settings}
+use Rattle.ert_defs.proofs.{Bounds.{time_with, line_moves, no_fall}, Modes.{KeepsMode, MayFollow, mode_opening, mode_when}, Times.{KeepsBounds, kept_opening, kept_next}}
 use Rattle.ert_laws.specs.Permitted.{TimeMoves, Moves, PermittedFrom, Permitted, shift_count, shifts}
 
 -- a choice is one of two

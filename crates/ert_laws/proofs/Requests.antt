@@ -1,20 +1,11 @@
 -- The requests in inboxes and hands after a legal history name processes in range.
 
 use Rattle.std.proofs.Common.{ℕ, List, [], ◌∷◌, All, Option, Some, None, subst}
-use Rattle.std.proofs.lemmas.Bool.{cond_both}
-use Rattle.std.proofs.lemmas.List.Elements.{All-nil, All-push, All-head, All-tail}
-use Rattle.ert_defs.specs.Actors.{has_actor}
-use Rattle.ert_defs.specs.Legal.{Can, Keeps, Known, Legal}
-use Rattle.ert_defs.specs.Mails.{SchedState, first_of, others_of, inbox_after, sched_after}
-use Rattle.ert_defs.specs.States.{State, opening, next, state}
+use Rattle.std.proofs.lemmas.{Bool.cond_both, List.Elements.{All-nil, All-push, All-head, All-tail}}
+use Rattle.ert_defs.specs.{Actors.has_actor, Legal.{Can, Keeps, Known, Legal}, Mails.{SchedState, first_of, others_of, inbox_after, sched_after}, States.{State, opening, next, state}, declared.entry.Actor.Actor}
+use Rattle.ert_defs.specs.{declared.entry.Actor.TheVariants.{Inbox, Sched}, declared.entry.Entry.Entry, declared.entry.Event.Event, declared.entry.Event.TheVariants.{Ask, Pick, Answer}, declared.mail.Request.Request}
+use Rattle.ert_defs.specs.{declared.settings.Settings.Settings}
 use Rattle.ert_defs.proofs.Runs.{carry, kept_from}
-use Rattle.ert_defs.specs.declared.entry.Actor.{Actor}
-use Rattle.ert_defs.specs.declared.entry.Actor.TheVariants.{Inbox, Sched}
-use Rattle.ert_defs.specs.declared.entry.Entry.{Entry}
-use Rattle.ert_defs.specs.declared.entry.Event.{Event}
-use Rattle.ert_defs.specs.declared.entry.Event.TheVariants.{Ask, Pick, Answer}
-use Rattle.ert_defs.specs.declared.mail.Request.{Request}
-use Rattle.ert_defs.specs.declared.settings.Settings.{Settings}
 use Rattle.ert_laws.specs.Ranges.{HasAsker, LawOfInboxes, LawOfHands}
 
 -- a request that may be in a hand names a process in range

@@ -1,25 +1,11 @@
 -- The rows of each wheel and the expired timers of each scheduler after a legal history are in range.
 
 use Rattle.std.proofs.Common.{◌≡◌, ℕ, ℤ, ◌<◌, nat_eq, List, ◌++◌, All, Option, Some, None, append-nil, eqb-true}
-use Rattle.std.proofs.lemmas.Bool.{cond_both}
-use Rattle.std.proofs.lemmas.List.Elements.{All-nil, All-push, All-weaker}
-use Rattle.ert_defs.specs.Actors.{has_actor}
-use Rattle.ert_defs.specs.Laws.{IsExpired}
-use Rattle.ert_defs.specs.Legal.{Can, IsSlot, Keeps}
-use Rattle.ert_defs.specs.Milliseconds.{deadline_of}
-use Rattle.ert_defs.specs.States.{State, opening, next, state}
-use Rattle.ert_defs.specs.Timers.{Row, deadline_told, row_from, rows_after}
-use Rattle.ert_defs.proofs.ExpiredLists.{first_at, expired_timers}
-use Rattle.ert_defs.proofs.Runs.{kept_from}
-use Rattle.ert_defs.proofs.Standing.{of_row}
-use Rattle.ert_defs.specs.declared.entry.Actor.{Actor}
-use Rattle.ert_defs.specs.declared.entry.Actor.TheVariants.{Wheel}
-use Rattle.ert_defs.specs.declared.entry.Entry.{Entry}
-use Rattle.ert_defs.specs.declared.entry.Event.{Event}
-use Rattle.ert_defs.specs.declared.entry.Event.TheVariants.{Arm}
-use Rattle.ert_defs.specs.declared.settings.Settings.{Settings}
-use Rattle.ert_defs.specs.declared.timer.Start.{Start}
-use Rattle.ert_defs.specs.declared.timer.TimerRef.{TimerRef}
+use Rattle.std.proofs.lemmas.{Bool.cond_both, List.Elements.{All-nil, All-push, All-weaker}}
+use Rattle.ert_defs.specs.{Actors.has_actor, Laws.IsExpired, Legal.{Can, IsSlot, Keeps}, Milliseconds.deadline_of, States.{State, opening, next, state}, Timers.{Row, deadline_told, row_from, rows_after}, declared.entry.Actor.Actor}
+use Rattle.ert_defs.specs.{declared.entry.Actor.TheVariants.Wheel, declared.entry.Entry.Entry, declared.entry.Event.Event, declared.entry.Event.TheVariants.Arm, declared.settings.Settings.Settings, declared.timer.Start.Start}
+use Rattle.ert_defs.specs.{declared.timer.TimerRef.TimerRef}
+use Rattle.ert_defs.proofs.{ExpiredLists.{first_at, expired_timers}, Runs.kept_from, Standing.of_row}
 use Rattle.ert_laws.specs.Ranges.{IsPlaced, LawOfRowRanges, LawOfExpiredRanges, LawOfFirstRanges}
 
 -- all rows are in range

@@ -1,24 +1,11 @@
 -- The round of each slot has begun by the clock's time.
 
 use Rattle.std.proofs.Common.{◌≡◌, ℕ, ℤ, pos, negsuc, ◌≤◌, Bool, true, false, cond, ◌&&◌, nat_eq, Option, refl, subst₂, arith, eqb-true}
-use Rattle.std.proofs.lemmas.Bool.{and_parts}
-use Rattle.std.proofs.lemmas.Int.{ints}
+use Rattle.std.proofs.lemmas.{Bool.and_parts, Int.ints}
 use Rattle.std.specs.Prelude.{◌-ℤ◌, ◌≤ℤ◌}
-use Rattle.ert_defs.specs.Actors.{has_actor}
-use Rattle.ert_defs.specs.Legal.{Can, CanArm, Known}
-use Rattle.ert_defs.specs.Milliseconds.{natural, down, deadline_of}
-use Rattle.ert_defs.specs.States.{State, uses_at, opening, next}
-use Rattle.ert_defs.specs.Timers.{since_after, turned}
-use Rattle.ert_defs.specs.declared.entry.Actor.{Actor}
-use Rattle.ert_defs.specs.declared.entry.Actor.TheVariants.{Wheel}
-use Rattle.ert_defs.specs.declared.entry.Entry.{Entry}
-use Rattle.ert_defs.specs.declared.entry.Event.{Event}
-use Rattle.ert_defs.specs.declared.entry.Event.TheVariants.{Arm}
-use Rattle.ert_defs.specs.declared.settings.Settings.{Settings}
-use Rattle.ert_defs.specs.declared.timer.TimerRef.{TimerRef}
-use Rattle.ert_defs.proofs.Numbers.{floor_rises}
-use Rattle.ert_defs.proofs.Runs.{kept_from}
-use Rattle.ert_defs.proofs.Times.{KeepsBounds, kept_opening, kept_next, time_next}
+use Rattle.ert_defs.specs.{Actors.has_actor, Legal.{Can, CanArm, Known}, Milliseconds.{natural, down, deadline_of}, States.{State, uses_at, opening, next}, Timers.{since_after, turned}, declared.entry.Actor.Actor}
+use Rattle.ert_defs.specs.{declared.entry.Actor.TheVariants.Wheel, declared.entry.Entry.Entry, declared.entry.Event.Event, declared.entry.Event.TheVariants.Arm, declared.settings.Settings.Settings, declared.timer.TimerRef.TimerRef}
+use Rattle.ert_defs.proofs.{Numbers.floor_rises, Runs.kept_from, Times.{KeepsBounds, kept_opening, kept_next, time_next}}
 use Rattle.ert_laws.proofs.Looks.{IsLook, looks_next}
 use Rattle.ert_laws.specs.ClockLaws.{LawOfRounds}
 

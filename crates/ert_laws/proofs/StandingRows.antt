@@ -2,9 +2,7 @@
 
 use Rattle.std.proofs.Common.{◌≡◌, ◌≢◌, Bool, cond, List, [], ◌∷◌, ◌++◌, All, AllPairs, Some, ap, ◌∙◌}
 use Rattle.std.proofs.lemmas.List.Elements.{All-head, All-tail}
-use Rattle.ert_defs.proofs.ExpiredTimers.{same_timer_self, same_timer-false}
-use Rattle.ert_defs.proofs.Lists.{pairs_head, pairs_tail}
-use Rattle.ert_defs.proofs.Rows.{Differ}
+use Rattle.ert_defs.proofs.{ExpiredTimers.{same_timer_self, same_timer-false}, Lists.{pairs_head, pairs_tail}, Rows.Differ}
 use Rattle.ert_defs.specs.Timers.{Row, row_of}
 
 pub differs_from : (x : Row) (before : List Row) (row : Row) (behind : List Row) → All (Differ x) (before ++ (row ∷ behind)) → x.timer ≢ row.timer

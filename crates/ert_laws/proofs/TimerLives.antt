@@ -1,27 +1,12 @@
 -- The entries of a timer's life move its status, and no others do.
 
 use Rattle.std.proofs.Common.{◌≡◌, ◌≢◌, ℕ, ℤ, Bool, true, false, cond, ◌&&◌, List, [], ◌∷◌, ◌++◌, Option, Some, None, refl, sym, ap, subst, ◌∙◌, append-nil, eq-eqb}
-use Rattle.std.proofs.Math.Bool.{and-false, or-true}
-use Rattle.std.proofs.lemmas.List.Elements.{filter_map-append}
+use Rattle.std.proofs.{Math.Bool.{and-false, or-true}, lemmas.List.Elements.filter_map-append}
 use Rattle.std.specs.List.{filter_map}
-use Rattle.ert_defs.specs.Actors.{has_actor, is_with, same_actor}
-use Rattle.ert_defs.specs.Legal.{Can, Legal, left_by}
-use Rattle.ert_defs.specs.States.{State, next, state}
-use Rattle.ert_defs.specs.Timers.{Row, Stands, row_of, same_timer, settled_as, handed_as, status_after}
-use Rattle.ert_defs.proofs.ExpiredLists.{IsKept, first_has_expired, made, kept_after}
-use Rattle.ert_defs.proofs.Runs.{carry, legal_one_more}
-use Rattle.ert_defs.proofs.Settlings.{armed_first}
-use Rattle.ert_defs.proofs.Slots.{same_timer-true}
-use Rattle.ert_defs.proofs.Standing.{AllStand, all_stand}
-use Rattle.ert_defs.specs.declared.entry.Actor.{Actor}
-use Rattle.ert_defs.specs.declared.entry.Actor.TheVariants.{Wheel}
-use Rattle.ert_defs.specs.declared.entry.Entry.{Entry}
-use Rattle.ert_defs.specs.declared.entry.Event.{Event}
-use Rattle.ert_defs.specs.declared.entry.Event.TheVariants.{Arm, Cancel, Expire, Orphan, Deliver, Drop}
-use Rattle.ert_defs.specs.declared.settings.Settings.{Settings}
-use Rattle.ert_defs.specs.declared.timer.Status.{Status}
-use Rattle.ert_defs.specs.declared.timer.Status.TheVariants.{Armed, Expired, Delivered, Cancelled, Orphaned, Dropped}
-use Rattle.ert_defs.specs.declared.timer.TimerRef.{TimerRef}
+use Rattle.ert_defs.specs.{Actors.{has_actor, is_with, same_actor}, Legal.{Can, Legal, left_by}, States.{State, next, state}, Timers.{Row, Stands, row_of, same_timer, settled_as, handed_as, status_after}, declared.entry.Actor.Actor}
+use Rattle.ert_defs.specs.{declared.entry.Actor.TheVariants.Wheel, declared.entry.Entry.Entry, declared.entry.Event.Event, declared.entry.Event.TheVariants.{Arm, Cancel, Expire, Orphan, Deliver, Drop}, declared.settings.Settings.Settings}
+use Rattle.ert_defs.specs.{declared.timer.Status.Status, declared.timer.Status.TheVariants.{Armed, Expired, Delivered, Cancelled, Orphaned, Dropped}, declared.timer.TimerRef.TimerRef}
+use Rattle.ert_defs.proofs.{ExpiredLists.{IsKept, first_has_expired, made, kept_after}, Runs.{carry, legal_one_more}, Settlings.armed_first, Slots.same_timer-true, Standing.{AllStand, all_stand}}
 use Rattle.ert_laws.specs.Lives.{status_given, life, life_to, status_before, Moved, LawOfLives, LawOfMovers}
 use Rattle.ert_laws.proofs.Histories.{by_entries, state-more}
 

@@ -2,23 +2,11 @@
 
 use Rattle.std.proofs.Common.{◌≡◌, ℕ, ℤ, ◌+◌, ◌<◌, Bool, true, false, cond, not, nat_eq, List, [], ◌∷◌, ◌++◌, All, get_or, Option, Some, None, refl, sym, ap, ◌∙◌, arith, append_assoc, eqb-true, eq-eqb, ne_eqb}
 use Rattle.std.proofs.lemmas.List.Elements.{All-nil, All-push, All-filter, All-map}
-use Rattle.ert_defs.specs.Actors.{has_actor}
-use Rattle.ert_defs.specs.Legal.{Can, Legal}
-use Rattle.ert_defs.specs.Mails.{MailState, changes_of, mail_after, told_of, without}
-use Rattle.ert_defs.specs.States.{State, next, state}
-use Rattle.ert_defs.proofs.ExpiredLists.{made}
-use Rattle.ert_defs.proofs.Runs.{carry}
-use Rattle.ert_defs.specs.declared.entry.Actor.{Actor}
-use Rattle.ert_defs.specs.declared.entry.Actor.TheVariants.{MailOf}
-use Rattle.ert_defs.specs.declared.entry.Entry.{Entry}
-use Rattle.ert_defs.specs.declared.entry.Event.{Event}
-use Rattle.ert_defs.specs.declared.entry.Event.TheVariants.{Watch, Unwatch, Tell}
-use Rattle.ert_defs.specs.declared.mail.Mail.{Mail}
-use Rattle.ert_defs.specs.declared.mail.Monitor.{Monitor}
-use Rattle.ert_defs.specs.declared.settings.Settings.{Settings}
+use Rattle.ert_defs.specs.{Actors.has_actor, Legal.{Can, Legal}, Mails.{MailState, changes_of, mail_after, told_of, without}, States.{State, next, state}, declared.entry.Actor.Actor, declared.entry.Actor.TheVariants.MailOf}
+use Rattle.ert_defs.specs.{declared.entry.Entry.Entry, declared.entry.Event.Event, declared.entry.Event.TheVariants.{Watch, Unwatch, Tell}, declared.mail.Mail.Mail, declared.mail.Monitor.Monitor, declared.settings.Settings.Settings}
+use Rattle.ert_defs.proofs.{ExpiredLists.made, Runs.carry}
 use Rattle.ert_laws.specs.Changes.{told_by, LastTold}
-use Rattle.ert_laws.proofs.Histories.{by_entries, state-more}
-use Rattle.ert_laws.proofs.Mailboxes.{mail_has, caller_no_mail}
+use Rattle.ert_laws.proofs.{Histories.{by_entries, state-more}, Mailboxes.{mail_has, caller_no_mail}}
 
 -- the monitors of a process: each has a number below the next one, and was last told its offset
 pub record AreTold (g : Settings) (h : List Entry) (p : ℕ) (m : MailState) : Type 0 where

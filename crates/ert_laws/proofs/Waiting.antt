@@ -1,27 +1,13 @@
 -- Each expired timer waits at the scheduler of its wheel.
 
 use Rattle.std.proofs.Common.{◌≡◌, ◌≢◌, ℕ, Bool, true, false, cond, ◌&&◌, List, [], ◌∷◌, ◌++◌, Option, Some, None, refl, sym, ap, ◌∙◌, ◌⊎◌, inl, inr, subst}
-use Rattle.std.proofs.Math.Bool.{or-true}
-use Rattle.std.proofs.lemmas.List.Folds.{list_any-append, Any-from_list_any}
+use Rattle.std.proofs.{Math.Bool.or-true, lemmas.List.Folds.{list_any-append, Any-from_list_any}}
 use Rattle.std.specs.List.{list_any}
-use Rattle.ert_defs.specs.Actors.{has_actor, is_with}
-use Rattle.ert_defs.specs.Legal.{Can, IsFirst, IsNext, IsWithMail, Legal}
-use Rattle.ert_defs.specs.Mails.{others_of, first_of, sched_after, with_row}
-use Rattle.ert_defs.specs.States.{State, opening, next, state}
-use Rattle.ert_defs.specs.Timers.{Row, row_of, same_timer, status_after, settled_as, handed_as}
-use Rattle.ert_defs.proofs.ExpiredLists.{made, has_sched, sched_of}
-use Rattle.ert_defs.proofs.ExpiredTimers.{row_named, same_timer_self}
-use Rattle.ert_defs.proofs.Runs.{carry, kept_from}
-use Rattle.ert_defs.proofs.Slots.{same_timer-true}
-use Rattle.ert_defs.specs.declared.entry.Actor.{Actor}
-use Rattle.ert_defs.specs.declared.entry.Actor.TheVariants.{Wheel, Sched, MailOf}
-use Rattle.ert_defs.specs.declared.entry.Entry.{Entry}
-use Rattle.ert_defs.specs.declared.entry.Event.{Event}
-use Rattle.ert_defs.specs.declared.entry.Event.TheVariants.{Arm, Cancel, Expire, Orphan, Deliver, Drop}
-use Rattle.ert_defs.specs.declared.settings.Settings.{Settings}
-use Rattle.ert_defs.specs.declared.timer.Status.{Status}
-use Rattle.ert_defs.specs.declared.timer.Status.TheVariants.{Armed, Expired, Delivered, Cancelled, Orphaned, Dropped}
-use Rattle.ert_defs.specs.declared.timer.TimerRef.{TimerRef}
+use Rattle.ert_defs.specs.{Actors.{has_actor, is_with}, Legal.{Can, IsFirst, IsNext, IsWithMail, Legal}, Mails.{others_of, first_of, sched_after, with_row}, States.{State, opening, next, state}, Timers.{Row, row_of, same_timer}}
+use Rattle.ert_defs.specs.{Timers.{status_after, settled_as, handed_as}, declared.entry.Actor.Actor, declared.entry.Actor.TheVariants.{Wheel, Sched, MailOf}, declared.entry.Entry.Entry, declared.entry.Event.Event}
+use Rattle.ert_defs.specs.{declared.entry.Event.TheVariants.{Arm, Cancel, Expire, Orphan, Deliver, Drop}, declared.settings.Settings.Settings, declared.timer.Status.Status, declared.timer.Status.TheVariants.{Armed, Expired, Delivered}}
+use Rattle.ert_defs.specs.{declared.timer.Status.TheVariants.{Cancelled, Orphaned, Dropped}, declared.timer.TimerRef.TimerRef}
+use Rattle.ert_defs.proofs.{ExpiredLists.{made, has_sched, sched_of}, ExpiredTimers.{row_named, same_timer_self}, Runs.{carry, kept_from}, Slots.same_timer-true}
 use Rattle.ert_laws.specs.Lives.{LawOfWaiting}
 
 -- whether a timer stands in a list of rows

@@ -2,14 +2,8 @@
 -- `time_offset`). The function of src/changes.rt carries the laws as its contract, so that they are proved.
 
 use Rattle.std.specs.Prelude.{◌≡◌, ◌≢◌, ℕ, ℤ, cond, ◌&&◌, nat_eq, All, List, [], ◌∷◌, ◌++◌, Option, Some, None}
-use Rattle.ert_defs.specs.Legal.{Legal}
-use Rattle.ert_defs.specs.States.{state}
-use Rattle.ert_defs.specs.declared.entry.Entry.{Entry}
-use Rattle.ert_defs.specs.declared.entry.Event.{Event}
-use Rattle.ert_defs.specs.declared.entry.Event.TheVariants.{Watch, Tell}
-use Rattle.ert_defs.specs.declared.mail.Mail.{Mail}
-use Rattle.ert_defs.specs.declared.mail.Mail.TheVariants.{Change}
-use Rattle.ert_defs.specs.declared.settings.Settings.{Settings}
+use Rattle.ert_defs.specs.{Legal.Legal, States.state, declared.entry.Entry.Entry, declared.entry.Event.Event, declared.entry.Event.TheVariants.{Watch, Tell}, declared.mail.Mail.Mail, declared.mail.Mail.TheVariants.Change}
+use Rattle.ert_defs.specs.{declared.settings.Settings.Settings}
 use Rattle.ert_laws.specs.MailOrder.{sent_at, taken_from}
 
 -- the offset that an event tells a monitor of a process: the monitor is made with one, and a Tell is for all

@@ -3,19 +3,9 @@
 
 use Rattle.std.specs.Prelude.{ℕ, ◌≤◌, ◌≡◌, ◌⊎◌, ℤ, pos, ◌+ℤ◌, ◌≤ℤ◌, ◌<ℤ◌, Bool, true, false, List, [], ◌∷◌, ◌++◌, Contains, FitsSigned}
 use Rattle.std.specs.Int.{w64}
-use Rattle.ert_defs.specs.Clocks.{Ticked, last_mono, last_base}
-use Rattle.ert_defs.specs.Legal.{Legal}
-use Rattle.ert_defs.specs.Lines.{end_time, first_base, is_base, is_due, base_from}
+use Rattle.ert_defs.specs.{Clocks.{Ticked, last_mono, last_base}, Legal.Legal, Lines.{end_time, first_base, is_base, is_due, base_from}, Settings.IsChecked, Milliseconds.{natural, down}, States.state, Timers.Row, declared.entry.Actor.Actor}
+use Rattle.ert_defs.specs.{declared.entry.Entry.Entry, declared.entry.Event.TheVariants.Expire, declared.settings.Settings.Settings, declared.timer.TimerRef.TimerRef}
 use Rattle.ert_laws.specs.Permitted.{Permitted}
-use Rattle.ert_defs.specs.Settings.{IsChecked}
-use Rattle.ert_defs.specs.Milliseconds.{natural, down}
-use Rattle.ert_defs.specs.States.{state}
-use Rattle.ert_defs.specs.Timers.{Row}
-use Rattle.ert_defs.specs.declared.entry.Actor.{Actor}
-use Rattle.ert_defs.specs.declared.entry.Entry.{Entry}
-use Rattle.ert_defs.specs.declared.entry.Event.TheVariants.{Expire}
-use Rattle.ert_defs.specs.declared.settings.Settings.{Settings}
-use Rattle.ert_defs.specs.declared.timer.TimerRef.{TimerRef}
 
 -- monotonic time never falls (ERTS User's Guide, "Erlang Monotonic Time")
 abbrev pub LawOfTime : Type 0

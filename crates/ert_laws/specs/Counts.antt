@@ -2,18 +2,9 @@
 -- src/counts.rt carry the laws as contracts, so that they are proved.
 
 use Rattle.std.specs.Prelude.{◌≡◌, ℕ, zero, suc, ◌+◌, ◌*◌, ◌≤◌, Bool, true, false, cond, ◌&&◌, List, [], ◌∷◌, length, filter, count_by, Option, Some}
-use Rattle.ert_defs.specs.Actors.{is_with, has_actor}
-use Rattle.ert_defs.specs.Legal.{Legal}
-use Rattle.ert_defs.specs.States.{State, state}
-use Rattle.ert_defs.specs.Timers.{Row}
-use Rattle.ert_defs.specs.declared.entry.Actor.TheVariants.{Wheel, MailOf}
-use Rattle.ert_defs.specs.declared.entry.Entry.{Entry}
-use Rattle.ert_defs.specs.declared.entry.Event.{Event}
-use Rattle.ert_defs.specs.declared.entry.Event.TheVariants.{Arm, Expire, Orphan, Deliver}
-use Rattle.ert_defs.specs.declared.settings.Settings.{Settings}
-use Rattle.ert_defs.specs.declared.timer.Status.{Status}
-use Rattle.ert_defs.specs.declared.timer.Status.TheVariants.{Armed, Expired, Delivered, Cancelled, Orphaned, Dropped}
-use Rattle.ert_defs.specs.declared.timer.TimerRef.{TimerRef}
+use Rattle.ert_defs.specs.{Actors.{is_with, has_actor}, Legal.Legal, States.{State, state}, Timers.Row, declared.entry.Actor.TheVariants.{Wheel, MailOf}, declared.entry.Entry.Entry, declared.entry.Event.Event}
+use Rattle.ert_defs.specs.{declared.entry.Event.TheVariants.{Arm, Expire, Orphan, Deliver}, declared.settings.Settings.Settings, declared.timer.Status.Status, declared.timer.Status.TheVariants.{Armed, Expired, Delivered, Cancelled}}
+use Rattle.ert_defs.specs.{declared.timer.Status.TheVariants.{Orphaned, Dropped}, declared.timer.TimerRef.TimerRef}
 
 -- the sum of what each of the first so many numbers gives
 abbrev pub total : (ℕ → ℕ) → ℕ → ℕ

@@ -2,17 +2,9 @@
 -- the statements as a contract, so that they are proved.
 
 use Rattle.std.specs.Prelude.{◌≡◌, negsuc, List, [], ◌∷◌, ◌++◌, Option, Some, None}
-use Rattle.ert_defs.specs.Legal.{Legal}
-use Rattle.ert_defs.specs.States.{state}
-use Rattle.ert_defs.specs.Worked.{small, timer, by_caller, by_sched, begun, started, delivered, read, cancelled, orphaned, asked, answered, told, told_twice, taken}
-use Rattle.ert_defs.specs.declared.entry.Actor.TheVariants.{Wheel, MailOf}
-use Rattle.ert_defs.specs.declared.entry.Entry.{Entry}
-use Rattle.ert_defs.specs.declared.entry.Event.TheVariants.{Cancel, Expire, Orphan, Advanced, Answer}
-use Rattle.ert_defs.specs.declared.mail.Mail.{Mail}
-use Rattle.ert_defs.specs.declared.mail.Mail.TheVariants.{Change}
-use Rattle.ert_defs.specs.declared.settings.Mode.TheVariants.{No, Multi}
-use Rattle.ert_defs.specs.declared.timer.Status.{Status}
-use Rattle.ert_defs.specs.declared.timer.Status.TheVariants.{Delivered, Cancelled, Orphaned}
+use Rattle.ert_defs.specs.{Legal.Legal, States.state, Worked.{small, timer, by_caller, by_sched, begun, started, delivered, read, cancelled, orphaned, asked, answered, told, told_twice, taken}, declared.entry.Actor.TheVariants.Wheel}
+use Rattle.ert_defs.specs.{declared.entry.Actor.TheVariants.MailOf, declared.entry.Entry.Entry, declared.entry.Event.TheVariants.{Cancel, Expire, Orphan, Advanced, Answer}, declared.mail.Mail.Mail, declared.mail.Mail.TheVariants.Change}
+use Rattle.ert_defs.specs.{declared.settings.Mode.TheVariants.{No, Multi}, declared.timer.Status.Status, declared.timer.Status.TheVariants.{Delivered, Cancelled, Orphaned}}
 
 -- an entry isn't legal after a history that is
 abbrev pub Refuses : List Entry → Entry → Type 0

@@ -1,18 +1,8 @@
 -- What is so of every legal history, in one record.
 
 use Rattle.std.specs.Prelude.{◌≡◌, ℕ, ◌≤ℤ◌, All, List, [], ◌∷◌, ◌++◌, map, filter}
-use Rattle.ert_defs.specs.Legal.{Legal}
-use Rattle.ert_defs.specs.Settings.{IsChecked}
-use Rattle.ert_defs.specs.States.{state}
-use Rattle.ert_defs.specs.declared.entry.Entry.{Entry}
-use Rattle.ert_defs.specs.declared.entry.Event.TheVariants.{Expire}
-use Rattle.ert_defs.specs.declared.settings.Settings.{Settings}
-use Rattle.ert_defs.specs.declared.timer.TimerRef.{TimerRef}
-use Rattle.ert_laws.specs.Changes.{IsTold}
-use Rattle.ert_laws.specs.ClockLaws.{HasDeadlineCome}
-use Rattle.ert_laws.specs.Lives.{life, life_to}
-use Rattle.ert_laws.specs.MailOrder.{sent_to, taken_from, is_from, is_delivered_to, expired_of, sent_by_row}
-use Rattle.ert_laws.specs.Permitted.{Permitted}
+use Rattle.ert_defs.specs.{Legal.Legal, Settings.IsChecked, States.state, declared.entry.Entry.Entry, declared.entry.Event.TheVariants.Expire, declared.settings.Settings.Settings, declared.timer.TimerRef.TimerRef}
+use Rattle.ert_laws.specs.{Changes.IsTold, ClockLaws.HasDeadlineCome, Lives.{life, life_to}, MailOrder.{sent_to, taken_from, is_from, is_delivered_to, expired_of, sent_by_row}, Permitted.Permitted}
 
 -- a history is legal, and keeps the laws of time, of timers and of mail
 pub record KeepsLaws (g : Settings) (h : List Entry) : Type 0 where

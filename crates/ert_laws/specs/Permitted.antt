@@ -1,15 +1,8 @@
 -- What a clock is permitted to do, as a statement on a history (ERTS User's Guide, "Time Warp Modes").
 
 use Rattle.std.specs.Prelude.{◌≡◌, ◌⊎◌, ℕ, ◌+◌, ◌≤◌, ◌-ℤ◌, ◌≤ℤ◌, Bool, true, false, List, [], ◌∷◌}
-use Rattle.ert_defs.specs.ClockMoves.{GrowsWithinPercent, ShiftIs, OfLastTick}
-use Rattle.ert_defs.specs.Clocks.{Clock, last_mono}
-use Rattle.ert_defs.specs.States.{State, opening, next}
-use Rattle.ert_defs.specs.declared.entry.Entry.{Entry}
-use Rattle.ert_defs.specs.declared.entry.Event.{Event}
-use Rattle.ert_defs.specs.declared.entry.Event.TheVariants.{Tick, Shift}
-use Rattle.ert_defs.specs.declared.settings.Mode.TheVariants.{Single}
-use Rattle.ert_defs.specs.declared.settings.Reading.{Reading}
-use Rattle.ert_defs.specs.declared.settings.Settings.{Settings}
+use Rattle.ert_defs.specs.{ClockMoves.{GrowsWithinPercent, ShiftIs, OfLastTick}, Clocks.{Clock, last_mono}, States.{State, opening, next}, declared.entry.Entry.Entry, declared.entry.Event.Event, declared.entry.Event.TheVariants.Tick}
+use Rattle.ert_defs.specs.{declared.entry.Event.TheVariants.Shift, declared.settings.Mode.TheVariants.Single, declared.settings.Reading.Reading, declared.settings.Settings.Settings}
 
 -- how a tick may move the time, with correction and without
 abbrev pub TimeMoves : Bool → Settings → Clock → Clock → Reading → Type 0

@@ -2,14 +2,8 @@
 -- the laws as contracts, so that they are proved.
 
 use Rattle.std.specs.Prelude.{◌≡◌, ◌≢◌, ◌⊎◌, ℕ, ◌<◌, ◌≤◌, Bool, false, List, [], ◌∷◌, ◌++◌, filter, Option, Some, None}
-use Rattle.ert_defs.specs.Legal.{Legal}
-use Rattle.ert_defs.specs.States.{state}
-use Rattle.ert_defs.specs.Timers.{Row, row_of, same_timer}
-use Rattle.ert_defs.specs.declared.entry.Entry.{Entry}
-use Rattle.ert_defs.specs.declared.entry.Event.TheVariants.{Expire, Advanced}
-use Rattle.ert_defs.specs.declared.settings.Settings.{Settings}
-use Rattle.ert_defs.specs.declared.timer.Status.TheVariants.{Delivered, Cancelled, Orphaned}
-use Rattle.ert_defs.specs.declared.timer.TimerRef.{TimerRef}
+use Rattle.ert_defs.specs.{Legal.Legal, States.state, Timers.{Row, row_of, same_timer}, declared.entry.Entry.Entry, declared.entry.Event.TheVariants.{Expire, Advanced}, declared.settings.Settings.Settings}
+use Rattle.ert_defs.specs.{declared.timer.Status.TheVariants.{Delivered, Cancelled, Orphaned}, declared.timer.TimerRef.TimerRef}
 use Rattle.ert_laws.specs.MailOrder.{Sent, sent_by_row, sent_to, is_from}
 
 -- a timer, where there is one, is this one

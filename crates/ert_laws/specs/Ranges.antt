@@ -2,14 +2,7 @@
 -- The functions of src/ranges.rt carry the laws as contracts, so that they are proved.
 
 use Rattle.std.specs.Prelude.{◌≡◌, ◌≢◌, ℕ, ◌<◌, ◌≤◌, All, List, length, Some, None}
-use Rattle.ert_defs.specs.Legal.{IsSlot, Legal}
-use Rattle.ert_defs.specs.Mails.{first_of}
-use Rattle.ert_defs.specs.States.{state}
-use Rattle.ert_defs.specs.Timers.{Row, Stands}
-use Rattle.ert_defs.specs.declared.entry.Entry.{Entry}
-use Rattle.ert_defs.specs.declared.mail.Request.{Request}
-use Rattle.ert_defs.specs.declared.settings.Settings.{Settings}
-use Rattle.ert_defs.specs.declared.timer.TimerRef.{TimerRef}
+use Rattle.ert_defs.specs.{Legal.{IsSlot, Legal}, Mails.first_of, States.state, Timers.{Row, Stands}, declared.entry.Entry.Entry, declared.mail.Request.Request, declared.settings.Settings.Settings, declared.timer.TimerRef.TimerRef}
 
 -- the process that gets the answer to a request is in range
 abbrev pub HasAsker : Settings → Request → Type 0

@@ -2,23 +2,11 @@
 -- src/worked.rt carries the statements as a contract, so that they are proved.
 
 use Rattle.std.specs.Prelude.{◌≡◌, pos, negsuc, true, false, List, [], ◌∷◌, ◌++◌, Some, None}
-use Rattle.ert_defs.specs.Legal.{Legal}
-use Rattle.ert_defs.specs.States.{state}
-use Rattle.ert_defs.specs.Timers.{Row}
-use Rattle.ert_defs.specs.Worked.{small, timer, by_caller, by_sched, tick, started, delivered, cancelled, orphaned, answered, taken}
-use Rattle.ert_defs.specs.declared.entry.Act.TheVariants.{Plain}
-use Rattle.ert_defs.specs.declared.entry.Actor.TheVariants.{Wheel, MailOf}
-use Rattle.ert_defs.specs.declared.entry.Entry.{Entry}
-use Rattle.ert_defs.specs.declared.entry.Event.TheVariants.{Look, Arm, Expire, Deliver, Drop, Mark, Advanced, Take}
-use Rattle.ert_defs.specs.declared.mail.Mail.TheVariants.{Timeout, CancelDone, Change}
-use Rattle.ert_defs.specs.declared.settings.Mode.TheVariants.{No, Multi}
-use Rattle.ert_defs.specs.declared.settings.Settings.{Settings}
-use Rattle.ert_defs.specs.declared.timer.Kind.TheVariants.{Wrapped}
-use Rattle.ert_defs.specs.declared.timer.Status.TheVariants.{Armed, Expired, Delivered, Cancelled, Orphaned, Dropped}
-use Rattle.ert_defs.specs.declared.timer.TimerRef.{TimerRef}
-use Rattle.ert_defs.specs.declared.timer.When.TheVariants.{After}
-use Rattle.ert_laws.specs.Lives.{life}
-use Rattle.ert_laws.specs.MailOrder.{Sent, sent_to, taken_from, expired_of}
+use Rattle.ert_defs.specs.{Legal.Legal, States.state, Timers.Row, Worked.{small, timer, by_caller, by_sched, tick, started, delivered, cancelled, orphaned, answered, taken}, declared.entry.Act.TheVariants.Plain}
+use Rattle.ert_defs.specs.{declared.entry.Actor.TheVariants.{Wheel, MailOf}, declared.entry.Entry.Entry, declared.entry.Event.TheVariants.{Look, Arm, Expire, Deliver, Drop, Mark, Advanced, Take}, declared.mail.Mail.TheVariants.Timeout}
+use Rattle.ert_defs.specs.{declared.mail.Mail.TheVariants.{CancelDone, Change}, declared.settings.Mode.TheVariants.{No, Multi}, declared.settings.Settings.Settings, declared.timer.Kind.TheVariants.Wrapped}
+use Rattle.ert_defs.specs.{declared.timer.Status.TheVariants.{Armed, Expired, Delivered, Cancelled, Orphaned, Dropped}, declared.timer.TimerRef.TimerRef, declared.timer.When.TheVariants.After}
+use Rattle.ert_laws.specs.{Lives.life, MailOrder.{Sent, sent_to, taken_from, expired_of}}
 
 -- the second timer of the only slot, which is never started
 abbrev pub next_timer : TimerRef

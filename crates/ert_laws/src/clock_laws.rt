@@ -1,7 +1,6 @@
 //! Laws on the clock over all legal histories, each the contract of a function that does nothing.
 
-ghost use Rattle.ert_laws.specs.ClockLaws.{LawOfTime, LawOfFirstLooks, LawOfLastLooks, LawOfExpiry};
-ghost use Rattle.ert_laws.specs.ClockLaws.{LawOfPermission, LawOfStart, LawOfEnd, LawOfSums, LawOfBases, LawOfRounds};
+ghost use Rattle.ert_laws.specs.ClockLaws.{LawOfTime, LawOfFirstLooks, LawOfLastLooks, LawOfExpiry, LawOfPermission, LawOfStart, LawOfEnd, LawOfSums, LawOfBases, LawOfRounds};
 
 /// In a legal history monotonic time never falls (ERTS User's Guide, "Erlang Monotonic Time"), and the
 /// last look of an actor is of no time before the start time and of none to come.

@@ -1,7 +1,6 @@
 //! How many timers there are.
 
-ghost use Rattle.ert_laws.specs.Counts.{LawOfArms, LawOfExpiries, LawOfOrphans, LawOfWaits, LawOfDeliveries, LawOfSix};
-ghost use Rattle.ert_laws.specs.Counts.{LawOfMany, LawOfAll, LawOfCounts, LawOfOneCount};
+ghost use Rattle.ert_laws.specs.Counts.{LawOfArms, LawOfExpiries, LawOfOrphans, LawOfWaits, LawOfDeliveries, LawOfSix, LawOfMany, LawOfAll, LawOfCounts, LawOfOneCount};
 
 /// How many timers of a wheel there are, and how many have which status, is told by the entries that arm
 /// them, let them expire, deliver them and cancel them for an exit.

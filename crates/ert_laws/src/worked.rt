@@ -1,7 +1,6 @@
 //! What the model and the definitions of lives and mail say of short histories that were judged by hand.
 
-ghost use Rattle.ert_laws.specs.Judged.{TimerWaits, EarlyExpiryIsRefused, TimerIsDelivered, TimerIsCancelled, OtherCancelIsRefused};
-ghost use Rattle.ert_laws.specs.Judged.{TimerIsOrphaned, EarlyOrphanIsRefused, RequestIsAnswered, OtherAnswerIsRefused, MonitorIsToldOnce};
+ghost use Rattle.ert_laws.specs.Judged.{TimerWaits, EarlyExpiryIsRefused, TimerIsDelivered, TimerIsCancelled, OtherCancelIsRefused, TimerIsOrphaned, EarlyOrphanIsRefused, RequestIsAnswered, OtherAnswerIsRefused, MonitorIsToldOnce};
 ghost use Rattle.ert_laws.specs.WorkedMail.{LivesAreRead, MailIsRead, ExpiryIsInOrder};
 
 /// The model judges the worked histories as they were judged by hand.

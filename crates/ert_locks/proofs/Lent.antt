@@ -4,26 +4,10 @@ use Rattle.std.proofs.Common.{◌≡◌, ℕ, Bool, true, false, cond, ◌||◌,
 use Rattle.atomic_table.specs.Seated.{TableId}
 use Rattle.ert_effects.proofs.Growing.{filter_within}
 use Rattle.ert_effects.specs.Ways.{Step, Grows, beside}
-use Rattle.ert_defs.specs.Actors.{has_actor, same_actor, of}
-use Rattle.ert_defs.specs.Entries.{is_ours}
-use Rattle.ert_defs.specs.Legal.{Legal}
-use Rattle.ert_defs.specs.States.{State, state}
-use Rattle.ert_defs.specs.declared.entry.Actor.{Actor}
-use Rattle.ert_defs.specs.declared.entry.Entry.{Entry}
-use Rattle.ert_defs.specs.declared.settings.Settings.{Settings}
-use Rattle.ert_locks.specs.Kinds.{Kind, PartFits}
-use Rattle.ert_locks.specs.Lent.{AllHave, IsLent, IsGivenBack}
-use Rattle.ert_locks.specs.Names.{IsDesk, IsPassFor}
-use Rattle.ert_locks.specs.Passes.{PartMeets}
-use Rattle.ert_table.proofs.Holders.{or_left, or_right, same_actor_self}
-use Rattle.ert_table.proofs.Parts.{free_later}
-use Rattle.ert_table.specs.Calls.{IsMade}
-use Rattle.ert_table.specs.Desks.{settings_of, front_of, view_of, actors_of, Belongs}
-use Rattle.ert_table.specs.Held.{is_held, actors_but}
-use Rattle.ert_table.specs.Views.{Begins}
-use Rattle.ert_table.specs.declared.desk.Desk.{Desk}
-use Rattle.ert_table.specs.declared.desk.Pass.{Pass}
-use Rattle.ert_table.specs.declared.view.View.{View}
+use Rattle.ert_defs.specs.{Actors.{has_actor, same_actor, of}, Entries.is_ours, Legal.Legal, States.{State, state}, declared.entry.Actor.Actor, declared.entry.Entry.Entry, declared.settings.Settings.Settings}
+use Rattle.ert_locks.specs.{Kinds.{Kind, PartFits}, Lent.{AllHave, IsLent, IsGivenBack}, Names.{IsDesk, IsPassFor}, Passes.PartMeets}
+use Rattle.ert_table.proofs.{Holders.{or_left, or_right, same_actor_self}, Parts.free_later}
+use Rattle.ert_table.specs.{Calls.IsMade, Desks.{settings_of, front_of, view_of, actors_of, Belongs}, Held.{is_held, actors_but}, Views.Begins, declared.desk.Desk.Desk, declared.desk.Pass.Pass, declared.view.View.View}
 
 all_own : (a : Actor) (es : List Entry) → AllHave a es → filter (is_ours (a ∷ [])) es ≡ es
 all_own a [] have = refl

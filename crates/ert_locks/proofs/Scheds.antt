@@ -3,39 +3,17 @@
 use Rattle.std.proofs.Common.{◌≡◌, ℕ, ◌-◌, ◌≤◌, true, List, [], ◌∷◌, ◌++◌, length, Option, Some, Result, Ok, Err, refl, sym, ap, subst, ◌∙◌}
 use Rattle.std.specs.Prelude.{IfOk}
 use Rattle.atomic_table.specs.Seated.{TableId}
-use Rattle.ert_effects.specs.Chains.{Hands}
-use Rattle.ert_effects.specs.MailCalls.{HandsOver}
-use Rattle.ert_effects.specs.WheelCalls.{Advances}
-use Rattle.ert_effects.specs.Ways.{Grows, beside}
-use Rattle.ert_effects.specs.declared.answers.Handed.{Handed}
+use Rattle.ert_effects.specs.{Chains.Hands, MailCalls.HandsOver, WheelCalls.Advances, Ways.{Grows, beside}, declared.answers.Handed.Handed}
 use Rattle.ert_defs.proofs.Runs.{state-append, exit_stays}
-use Rattle.ert_defs.specs.Legal.{Legal}
-use Rattle.ert_defs.specs.Mails.{SchedState, first_of, others_of}
-use Rattle.ert_defs.specs.States.{State, run, state}
-use Rattle.ert_defs.specs.Timers.{Row}
-use Rattle.ert_defs.specs.declared.entry.Actor.TheVariants.{MailOf, Sched}
-use Rattle.ert_defs.specs.declared.entry.Entry.{Entry}
-use Rattle.ert_defs.specs.declared.mail.Request.{Request}
-use Rattle.ert_defs.specs.declared.memory.NoMemory.{NoMemory}
-use Rattle.ert_defs.specs.declared.settings.Settings.{Settings}
+use Rattle.ert_defs.specs.{Legal.Legal, Mails.{SchedState, first_of, others_of}, States.{State, run, state}, Timers.Row, declared.entry.Actor.TheVariants.{MailOf, Sched}, declared.entry.Entry.Entry, declared.mail.Request.Request}
+use Rattle.ert_defs.specs.{declared.memory.NoMemory.NoMemory, declared.settings.Settings.Settings, declared.settings.TheConstants.MOST_SLOTS}
 use Rattle.ert_laws.proofs.RowRanges.{first_placed}
-use Rattle.ert_locks.specs.Hands.{hand_left, rows_left, counted}
-use Rattle.ert_locks.specs.Kinds.{Kind, scheds, mails}
-use Rattle.ert_locks.specs.Lent.{IsLent}
-use Rattle.ert_locks.specs.Names.{IsDesk}
+use Rattle.ert_locks.specs.{Hands.{hand_left, rows_left, counted}, Kinds.{Kind, scheds, mails}, Lent.IsLent, Names.IsDesk}
 use Rattle.ert_mail.specs.Mailboxes.{Mailbox, HoldsMailboxAndSched, handed, sched_after_answer}
 use Rattle.ert_timers.proofs.SchedParts.{advance_hand, advance_still, advance_fits, difference}
 use Rattle.ert_table.proofs.Makings.{if_ok_made}
-use Rattle.ert_timers.specs.SchedParts.{SchedStands}
-use Rattle.ert_timers.specs.declared.sched_part.SchedPart.{SchedPart}
-use Rattle.ert_table.specs.Calls.{IsMade, IsMadeIfOk}
-use Rattle.ert_table.specs.Desks.{settings_of, front_of, view_of, state_of}
-use Rattle.ert_table.specs.Held.{is_held}
-use Rattle.ert_table.specs.declared.desk.Desk.{Desk}
-use Rattle.ert_table.specs.declared.desk.Pass.{Pass}
-use Rattle.ert_table.specs.declared.view.View.{View}
-use Rattle.ert_timers.specs.Expiring.{IsAdvanced}
-use Rattle.ert_defs.specs.declared.settings.TheConstants.{MOST_SLOTS}
+use Rattle.ert_timers.specs.{SchedParts.SchedStands, declared.sched_part.SchedPart.SchedPart, Expiring.IsAdvanced}
+use Rattle.ert_table.specs.{Calls.{IsMade, IsMadeIfOk}, Desks.{settings_of, front_of, view_of, state_of}, Held.is_held, declared.desk.Desk.Desk, declared.desk.Pass.Pass, declared.view.View.View}
 
 -- an answer empties the hand, or leaves what the scheduler has
 pub answered_hand : (left : Result (Option ℕ) NoMemory) (s : SchedState) (hand : Option Request) → hand ≡ s.hand → hand_left left hand ≡ (sched_after_answer left s).hand

@@ -2,10 +2,7 @@
 
 use Rattle.std.specs.Prelude.{ℕ, List, Option, None, Result, Ok, Err}
 use Rattle.ert_effects.specs.declared.answers.Handed.{Handed}
-use Rattle.ert_defs.specs.Mails.{others_of}
-use Rattle.ert_defs.specs.Timers.{Row}
-use Rattle.ert_defs.specs.declared.mail.Request.{Request}
-use Rattle.ert_defs.specs.declared.memory.NoMemory.{NoMemory}
+use Rattle.ert_defs.specs.{Mails.others_of, Timers.Row, declared.mail.Request.Request, declared.memory.NoMemory.NoMemory}
 
 -- nothing in the hand once the request in it was answered, and the same request where there was no memory
 abbrev pub hand_left : Result (Option ℕ) NoMemory → Option Request → Option Request

@@ -1,14 +1,12 @@
 -- What is so of each kind of parts.
 
 use Rattle.std.proofs.Common.{◌≡◌, List, sym, ap, subst, ◌∙◌}
-use Rattle.std.proofs.Math.Arith.{lt-one}
-use Rattle.std.proofs.Math.Nat.{zero-lt-suc}
+use Rattle.std.proofs.Math.{Arith.lt-one, Nat.zero-lt-suc}
 use Rattle.std.specs.Prelude.{nat_eq, false}
 use Rattle.ert_locks.specs.Kinds.{IsKind, keepers, wheels, inboxes, scheds, mails, callers}
 use Rattle.ert_mail.proofs.LawsHold.{inbox_on, mail_on}
 use Rattle.ert_table.proofs.StandOn.{keeper_on}
-use Rattle.ert_timers.proofs.SchedParts.{sched_on}
-use Rattle.ert_timers.proofs.LawsHold.{stand_on as wheel_on}
+use Rattle.ert_timers.proofs.{SchedParts.sched_on, LawsHold.stand_on as wheel_on}
 
 pub keepers_are : IsKind keepers
 keepers_are = record {

@@ -1,22 +1,11 @@
 -- A part that is lent to a seat for one call: what the call finds, and what it must leave.
 
 use Rattle.std.specs.Prelude.{◌≡◌, ℕ, true, List, [], ◌∷◌}
-use Rattle.std.specs.Borrow.{MutBor}
-use Rattle.std.specs.Fn.{Once}
-use Rattle.ert_defs.specs.Actors.{has_actor}
-use Rattle.ert_defs.specs.Legal.{Legal}
-use Rattle.ert_defs.specs.States.{State}
-use Rattle.ert_defs.specs.declared.entry.Actor.{Actor}
-use Rattle.ert_defs.specs.declared.entry.Entry.{Entry}
-use Rattle.ert_defs.specs.declared.settings.Settings.{Settings}
+use Rattle.std.specs.{Borrow.MutBor, Fn.Once}
+use Rattle.ert_defs.specs.{Actors.has_actor, Legal.Legal, States.State, declared.entry.Actor.Actor, declared.entry.Entry.Entry, declared.settings.Settings.Settings}
 use Rattle.ert_effects.specs.Ways.{Step}
 use Rattle.ert_locks.specs.Kinds.{Kind}
-use Rattle.ert_table.specs.Calls.{IsMade}
-use Rattle.ert_table.specs.Desks.{settings_of, view_of, front_of, actors_of, Belongs}
-use Rattle.ert_table.specs.Held.{is_held}
-use Rattle.ert_table.specs.Views.{Begins}
-use Rattle.ert_table.specs.declared.desk.Desk.{Desk}
-use Rattle.ert_table.specs.declared.desk.Pass.{Pass}
+use Rattle.ert_table.specs.{Calls.IsMade, Desks.{settings_of, view_of, front_of, actors_of, Belongs}, Held.is_held, Views.Begins, declared.desk.Desk.Desk, declared.desk.Pass.Pass}
 
 -- each of these entries has the actor
 abbrev pub AllHave : Actor → List Entry → Type 0

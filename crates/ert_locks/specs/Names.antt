@@ -2,11 +2,8 @@
 
 use Rattle.std.specs.Prelude.{◌≡◌, [], ◌∷◌, Some}
 use Rattle.atomic_table.specs.Seated.{TableId}
-use Rattle.ert_defs.specs.declared.entry.Actor.{Actor}
-use Rattle.ert_defs.specs.declared.settings.Settings.{Settings}
-use Rattle.ert_table.specs.Desks.{settings_of}
-use Rattle.ert_table.specs.declared.desk.Desk.{Desk}
-use Rattle.ert_table.specs.declared.desk.Pass.{Pass}
+use Rattle.ert_defs.specs.declared.{entry.Actor.Actor, settings.Settings.Settings}
+use Rattle.ert_table.specs.{Desks.settings_of, declared.desk.Desk.Desk, declared.desk.Pass.Pass}
 
 -- a table that nobody uses
 abbrev pub any_table : TableId

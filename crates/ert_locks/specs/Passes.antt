@@ -2,13 +2,8 @@
 
 use Rattle.std.specs.Prelude.{◌≡◌, [], ◌∷◌}
 use Rattle.ert_effects.specs.Ways.{Step, Growth, Grows, beside}
-use Rattle.ert_defs.specs.Legal.{Legal}
-use Rattle.ert_defs.specs.declared.entry.Actor.{Actor}
-use Rattle.ert_defs.specs.declared.settings.Settings.{Settings}
-use Rattle.ert_table.specs.Desks.{front_of}
-use Rattle.ert_table.specs.Views.{Joined, meeting}
-use Rattle.ert_table.specs.declared.desk.Pass.{Pass}
-use Rattle.ert_table.specs.declared.view.View.{View}
+use Rattle.ert_defs.specs.{Legal.Legal, declared.entry.Actor.Actor, declared.settings.Settings.Settings}
+use Rattle.ert_table.specs.{Desks.front_of, Views.{Joined, meeting}, declared.desk.Pass.Pass, declared.view.View.View}
 
 -- the front of a pass has grown by a call
 abbrev pub FrontGrows : Growth → Pass → Pass → Type 0

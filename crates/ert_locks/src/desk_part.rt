@@ -24,8 +24,7 @@ pub trait DeskPart {
 }
 
 impl DeskPart for KeeperPart {
-    ghost use Rattle.ert_locks.specs.KindLaws.{keepers_are};
-    ghost use Rattle.ert_locks.specs.Kinds.{keepers};
+    ghost use Rattle.ert_locks.specs.{KindLaws.keepers_are, Kinds.keepers};
 
     ghost kind = { keepers };
 
@@ -41,8 +40,7 @@ impl DeskPart for KeeperPart {
 }
 
 impl DeskPart for WheelPart {
-    ghost use Rattle.ert_locks.specs.KindLaws.{wheels_are};
-    ghost use Rattle.ert_locks.specs.Kinds.{wheels};
+    ghost use Rattle.ert_locks.specs.{KindLaws.wheels_are, Kinds.wheels};
 
     ghost kind = { wheels };
 
@@ -58,8 +56,7 @@ impl DeskPart for WheelPart {
 }
 
 impl DeskPart for InboxPart {
-    ghost use Rattle.ert_locks.specs.KindLaws.{inboxes_are};
-    ghost use Rattle.ert_locks.specs.Kinds.{inboxes};
+    ghost use Rattle.ert_locks.specs.{KindLaws.inboxes_are, Kinds.inboxes};
 
     ghost kind = { inboxes };
 
@@ -75,8 +72,7 @@ impl DeskPart for InboxPart {
 }
 
 impl DeskPart for MailPart {
-    ghost use Rattle.ert_locks.specs.KindLaws.{mails_are};
-    ghost use Rattle.ert_locks.specs.Kinds.{mails};
+    ghost use Rattle.ert_locks.specs.{KindLaws.mails_are, Kinds.mails};
 
     ghost kind = { mails };
 
@@ -93,8 +89,7 @@ impl DeskPart for MailPart {
 
 /// A scheduler has its own part.
 impl DeskPart for SchedPart {
-    ghost use Rattle.ert_locks.specs.KindLaws.{scheds_are};
-    ghost use Rattle.ert_locks.specs.Kinds.{scheds};
+    ghost use Rattle.ert_locks.specs.{KindLaws.scheds_are, Kinds.scheds};
 
     ghost kind = { scheds };
 
@@ -111,8 +106,7 @@ impl DeskPart for SchedPart {
 
 /// A caller has its number alone.
 impl DeskPart for u32 {
-    ghost use Rattle.ert_locks.specs.KindLaws.{callers_are};
-    ghost use Rattle.ert_locks.specs.Kinds.{callers};
+    ghost use Rattle.ert_locks.specs.{KindLaws.callers_are, Kinds.callers};
 
     ghost kind = { callers };
 

@@ -11,8 +11,7 @@ impl<L: DeskName> Locked<InboxPart, L> {
     ghost use Rattle.std.specs.Prelude.{◌≡◌, ◌<◌, None};
     ghost use Rattle.ert_effects.specs.RequestCalls.{Asks, Picks};
     ghost use Rattle.ert_defs.specs.declared.entry.Actor.TheVariants.{Inbox, Sched, Caller};
-    ghost use Rattle.ert_locks.specs.Names.{IsDesk};
-    ghost use Rattle.ert_locks.specs.Passes.{StepsWith};
+    ghost use Rattle.ert_locks.specs.{Names.IsDesk, Passes.StepsWith};
 
     /// Puts a request last, for a caller (`cancel_timer` and `read_timer`, option `async`).
     ///

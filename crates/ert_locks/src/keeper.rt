@@ -11,8 +11,7 @@ impl<L: DeskName> Locked<KeeperPart, L> {
     ghost use Rattle.std.specs.Prelude.{◌≡◌};
     ghost use Rattle.ert_effects.specs.ClockCalls.{Ticks, Finalizes};
     ghost use Rattle.ert_defs.specs.declared.entry.Actor.TheVariants.{Keeper, Caller};
-    ghost use Rattle.ert_locks.specs.Names.{IsDesk};
-    ghost use Rattle.ert_locks.specs.Passes.{StepsWith};
+    ghost use Rattle.ert_locks.specs.{Names.IsDesk, Passes.StepsWith};
 
     /// Takes one reading of the OS clocks for a caller. `force` asks for a check of the clock.
     ///

@@ -8,10 +8,7 @@ use ert_table::{Desk, Pass};
 impl<P: DeskPart + Drop, L: DeskName> Locked<P, L> {
     ghost use Rattle.std.specs.Prelude.{◌≡◌, ℕ, false};
     ghost use Rattle.ert_defs.specs.Actors.{same_actor};
-    ghost use Rattle.ert_locks.specs.Kinds.{PartFits};
-    ghost use Rattle.ert_locks.specs.Lent.{MayCall, CallLeaves, IsCalled, HasActor};
-    ghost use Rattle.ert_locks.specs.Names.{IsDesk};
-    ghost use Rattle.ert_locks.specs.Passes.{StepsWith};
+    ghost use Rattle.ert_locks.specs.{Kinds.PartFits, Lent.{MayCall, CallLeaves, IsCalled, HasActor}, Names.IsDesk, Passes.StepsWith};
     ghost use Rattle.ert_table.specs.Desks.{front_of};
 
     /// Makes a call of the part for the holder of a seat. The pass of the seat meets that of the part, the call

@@ -1,8 +1,6 @@
 //! A part behind its lock.
 ghost use Rattle.ert_defs.specs.Legal.{Legal};
-ghost use Rattle.ert_locks.specs.Kinds.{PartFits};
-ghost use Rattle.ert_locks.specs.Names.{IsDesk};
-ghost use Rattle.ert_locks.specs.Passes.{PartMeets};
+ghost use Rattle.ert_locks.specs.{Kinds.PartFits, Names.IsDesk, Passes.PartMeets};
 ghost use Rattle.ert_table.specs.Desks.{settings_of, view_of, front_of, Belongs};
 
 use crate::desk_part::DeskPart;

@@ -13,8 +13,7 @@ impl<L: DeskName> Locked<MailPart, L> {
     ghost use Rattle.std.specs.Prelude.{◌≡◌};
     ghost use Rattle.ert_effects.specs.MailCalls.{Takes, Monitors, Demonitors, Notifies};
     ghost use Rattle.ert_defs.specs.declared.entry.Actor.TheVariants.{MailOf, Caller};
-    ghost use Rattle.ert_locks.specs.Names.{IsDesk};
-    ghost use Rattle.ert_locks.specs.Passes.{StepsWith};
+    ghost use Rattle.ert_locks.specs.{Names.IsDesk, Passes.StepsWith};
 
     /// Takes the first message for a caller (`receive`): Exited where the process has exited, whatever it
     /// has, and Empty where it has none.

@@ -1,6 +1,5 @@
 ghost use Rattle.atomic_table.specs.Seated.{TableId};
-ghost use Rattle.ert_defs.specs.Settings.{any_settings};
-ghost use Rattle.ert_defs.specs.declared.settings.Settings.{Settings};
+ghost use Rattle.ert_defs.specs.{Settings.any_settings, declared.settings.Settings.Settings};
 ghost use Rattle.ert_locks.specs.Names.{any_table};
 
 use std::marker::Brand;

@@ -1,8 +1,7 @@
 //! What a thread holds: the seat of a caller or of a scheduler.
 ghost use Rattle.std.specs.Prelude.{◌≡◌, ◌<◌};
 ghost use Rattle.ert_defs.specs.declared.entry.Actor.TheVariants.{Caller};
-ghost use Rattle.ert_locks.specs.Kinds.{PartFits, scheds};
-ghost use Rattle.ert_locks.specs.Names.{IsPassFor};
+ghost use Rattle.ert_locks.specs.{Kinds.{PartFits, scheds}, Names.IsPassFor};
 
 use crate::names::DeskName;
 use ert_table::Pass;

@@ -1,12 +1,9 @@
 //! A wheel behind its lock.
 ghost use Rattle.std.specs.Prelude.{◌≡◌, ◌≤◌, ◌-◌, IfOk};
 ghost use Rattle.ert_effects.specs.WheelCalls.{Advances};
-ghost use Rattle.ert_locks.specs.Hands.{counted};
-ghost use Rattle.ert_locks.specs.Kinds.{scheds, wheels};
-ghost use Rattle.ert_locks.specs.Lent.{IsGivenBack};
+ghost use Rattle.ert_locks.specs.{Hands.counted, Kinds.{scheds, wheels}, Lent.IsGivenBack};
 ghost use Rattle.ert_table.specs.Desks.{Belongs, front_of, settings_of, view_of};
-ghost use Rattle.ert_timers.specs.Parts.{HoldsSched, PartStands};
-ghost use Rattle.ert_timers.specs.SchedParts.{SchedStands};
+ghost use Rattle.ert_timers.specs.{Parts.{HoldsSched, PartStands}, SchedParts.SchedStands};
 ghost use Rattle.ert_defs.specs.declared.settings.TheConstants.{MOST_SLOTS};
 
 use crate::locked::Locked;
@@ -20,14 +17,9 @@ use std::marker::Brand;
 
 impl<L: DeskName> Locked<WheelPart, L> {
     ghost use Rattle.std.specs.Prelude.{◌≡◌, ◌≢◌, ◌<◌, true, Err};
-    ghost use Rattle.ert_effects.specs.Chains.{AdvancesWheel, SweepsWheel};
-    ghost use Rattle.ert_effects.specs.TimerCalls.{Starts};
-    ghost use Rattle.ert_effects.specs.Ways.{beside};
-    ghost use Rattle.ert_effects.specs.declared.answers.StartErr.TheVariants.{NoMemory as OutOfMemory};
-    ghost use Rattle.ert_defs.specs.States.{state};
-    ghost use Rattle.ert_defs.specs.declared.entry.Actor.TheVariants.{Wheel, Sched, Caller};
-    ghost use Rattle.ert_locks.specs.Names.{IsDesk};
-    ghost use Rattle.ert_locks.specs.Passes.{FrontGrows, StepsWith};
+    ghost use Rattle.ert_effects.specs.{Chains.{AdvancesWheel, SweepsWheel}, TimerCalls.Starts, Ways.beside, declared.answers.StartErr.TheVariants.NoMemory as OutOfMemory};
+    ghost use Rattle.ert_defs.specs.{States.state, declared.entry.Actor.TheVariants.{Wheel, Sched, Caller}};
+    ghost use Rattle.ert_locks.specs.{Names.IsDesk, Passes.{FrontGrows, StepsWith}};
     ghost use Rattle.ert_table.specs.Desks.{front_of};
 
     /// Starts a timer for a caller (`erlang` module reference, `start_timer` and `send_after`).

@@ -1,31 +1,16 @@
 -- The steps by which an asynchronous request is answered.
 
 use Rattle.std.proofs.Common.{◌≡◌, ◌⊎◌, ℕ, ◌+◌, ◌<◌, ℤ, Bool, true, false, cond, List, [], ◌∷◌, ◌++◌, Option, Some, None, Ok, inl, inr, refl, sym, ap, subst, ◌∙◌, eq-eqb, add-zero}
-use Rattle.ert_defs.specs.Entries.{look_entry, peek_entry, cancel_entry, answer_entry}
-use Rattle.ert_defs.specs.Legal.{IsResult, names_timer}
-use Rattle.ert_defs.specs.Mails.{SchedState, answer_in, is_about}
-use Rattle.ert_defs.specs.States.{State, next, run, state}
+use Rattle.ert_defs.specs.{Entries.{look_entry, peek_entry, cancel_entry, answer_entry}, Legal.{IsResult, names_timer}, Mails.{SchedState, answer_in, is_about}, States.{State, next, run, state}, declared.entry.Actor.TheVariants.Sched}
+use Rattle.ert_defs.specs.{declared.entry.Actor.TheVariants.MailOf, declared.entry.Entry.Entry, declared.mail.Request.Request, declared.mail.RequestKind.RequestKind, declared.mail.RequestKind.TheVariants.{Cancel, Read}}
+use Rattle.ert_defs.specs.{declared.settings.Settings.Settings, declared.timer.TimerRef.TimerRef}
 use Rattle.ert_defs.proofs.ExpiredTimers.{same_timer_self}
-use Rattle.ert_defs.specs.declared.entry.Actor.TheVariants.{Sched, MailOf}
-use Rattle.ert_defs.specs.declared.entry.Entry.{Entry}
-use Rattle.ert_defs.specs.declared.mail.Request.{Request}
-use Rattle.ert_defs.specs.declared.mail.RequestKind.{RequestKind}
-use Rattle.ert_defs.specs.declared.mail.RequestKind.TheVariants.{Cancel, Read}
-use Rattle.ert_defs.specs.declared.settings.Settings.{Settings}
-use Rattle.ert_defs.specs.declared.timer.TimerRef.{TimerRef}
-use Rattle.ert_effects.specs.RequestCalls.{DoesAsked}
-use Rattle.ert_effects.specs.TimerCalls.{Reads, Cancels, read_entries, cancel_entries}
-use Rattle.ert_table.specs.Held.{is_held}
-use Rattle.ert_table.specs.Calls.{IsMade}
-use Rattle.ert_table.specs.Takes.{MayStep, Appends}
-use Rattle.ert_table.proofs.Calls.{step_takes_place, takes_place_then}
-use Rattle.ert_table.proofs.Parts.{AreByThemselves, mail_own, sched_own, own_after, stepped}
-use Rattle.ert_table.specs.declared.view.View.{View}
+use Rattle.ert_effects.specs.{RequestCalls.DoesAsked, TimerCalls.{Reads, Cancels, read_entries, cancel_entries}}
+use Rattle.ert_table.specs.{Held.is_held, Calls.IsMade, Takes.{MayStep, Appends}, declared.view.View.View}
+use Rattle.ert_table.proofs.{Calls.{step_takes_place, takes_place_then}, Parts.{AreByThemselves, mail_own, sched_own, own_after, stepped}}
 use Rattle.ert_laws.specs.Counts.{deliveries}
-use Rattle.ert_mail.specs.Mailboxes.{HoldsMailboxAndSched, sched_after_answer}
-use Rattle.ert_mail.specs.Steps.{IsReplied, with_answer}
-use Rattle.ert_mail.proofs.Standing.{deliveries_after, mails_before}
-use Rattle.ert_mail.proofs.Handings.{scheds_before}
+use Rattle.ert_mail.specs.{Mailboxes.{HoldsMailboxAndSched, sched_after_answer}, Steps.{IsReplied, with_answer}}
+use Rattle.ert_mail.proofs.{Standing.{deliveries_after, mails_before}, Handings.scheds_before}
 
 -- the entries of what a scheduler does for a request: it looks, and no more where the reference is out of
 -- range; or it reads the timer; or it reads and cancels it

@@ -3,16 +3,8 @@
 
 use Rattle.std.proofs.Common.{◌^◌, ◌≡◌, ℕ, zero, suc, ◌<◌, ◌≤◌, List, arith, inl, inr, ap}
 use Rattle.std.proofs.lemmas.Bool.{cases_eq}
-use Rattle.ert_defs.specs.Legal.{Legal}
-use Rattle.ert_defs.specs.Settings.{IsChecked}
-use Rattle.ert_defs.specs.States.{State, state}
-use Rattle.ert_defs.specs.declared.entry.Entry.{Entry}
-use Rattle.ert_defs.specs.declared.settings.Settings.{Settings}
-use Rattle.ert_defs.specs.declared.timer.Status.TheVariants.{Delivered}
-use Rattle.ert_laws.proofs.CountTotals.{deliveries_counted}
-use Rattle.ert_laws.proofs.Counting.{six_statuses}
-use Rattle.ert_laws.proofs.SlotUses.{timers_few}
-use Rattle.ert_laws.proofs.Totals.{total_most}
+use Rattle.ert_defs.specs.{Legal.Legal, Settings.IsChecked, States.{State, state}, declared.entry.Entry.Entry, declared.settings.Settings.Settings, declared.timer.Status.TheVariants.Delivered}
+use Rattle.ert_laws.proofs.{CountTotals.deliveries_counted, Counting.six_statuses, SlotUses.timers_few, Totals.total_most}
 use Rattle.ert_laws.specs.Counts.{total, count_at, deliveries}
 
 -- what one place gives is at most the sum

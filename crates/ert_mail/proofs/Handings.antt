@@ -1,35 +1,16 @@
 -- The steps by which an expired timer is handed over.
 
 use Rattle.std.proofs.Common.{◌^◌, ◌≡◌, ℕ, Bool, true, false, ◌||◌, ◌+◌, ◌<◌, ◌≤◌, List, [], ◌∷◌, ◌++◌, Some, Ok, refl, sym, ap, subst, ◌∙◌, eq-eqb, arith}
-use Rattle.ert_defs.specs.Entries.{mark_entry, deliver_entry, drop_entry}
-use Rattle.ert_defs.specs.Laws.{IsExpired}
-use Rattle.ert_defs.specs.Legal.{Can, Legal, IsSlot}
-use Rattle.ert_defs.specs.Mails.{SchedState, first_of, message_of, message_in}
-use Rattle.ert_defs.specs.Settings.{IsChecked}
-use Rattle.ert_defs.specs.States.{State, next, state}
-use Rattle.ert_defs.specs.Timers.{Row}
-use Rattle.ert_defs.proofs.ExpiredLists.{first_at, expired_timers}
-use Rattle.ert_defs.proofs.Runs.{legal_one_more}
-use Rattle.ert_defs.specs.declared.entry.Actor.{Actor}
-use Rattle.ert_defs.specs.declared.entry.Actor.TheVariants.{Sched, MailOf}
-use Rattle.ert_defs.specs.declared.entry.Entry.{Entry}
-use Rattle.ert_defs.specs.declared.entry.Event.TheVariants.{Deliver}
-use Rattle.ert_defs.specs.declared.settings.Settings.{Settings}
-use Rattle.ert_effects.specs.MailCalls.{handed_entries}
-use Rattle.ert_effects.specs.declared.answers.Handed.{Handed}
-use Rattle.ert_effects.specs.declared.answers.Handed.TheVariants.{Put, Dropped}
+use Rattle.ert_defs.specs.{Entries.{mark_entry, deliver_entry, drop_entry}, Laws.IsExpired, Legal.{Can, Legal, IsSlot}, Mails.{SchedState, first_of, message_of, message_in}, Settings.IsChecked, States.{State, next, state}, Timers.Row}
+use Rattle.ert_defs.specs.{declared.entry.Actor.Actor, declared.entry.Actor.TheVariants.{Sched, MailOf}, declared.entry.Entry.Entry, declared.entry.Event.TheVariants.Deliver, declared.settings.Settings.Settings}
+use Rattle.ert_defs.proofs.{ExpiredLists.{first_at, expired_timers}, Runs.legal_one_more}
+use Rattle.ert_effects.specs.{MailCalls.handed_entries, declared.answers.Handed.Handed, declared.answers.Handed.TheVariants.{Put, Dropped}}
 use Rattle.ert_laws.proofs.RowRanges.{first_placed}
-use Rattle.ert_table.specs.Held.{is_held}
-use Rattle.ert_table.specs.Settlings.{HasRow, hit_entry, mailbox_actor, Settles}
-use Rattle.ert_table.specs.Takes.{MayStep, Appends}
+use Rattle.ert_table.specs.{Held.is_held, Settlings.{HasRow, hit_entry, mailbox_actor, Settles}, Takes.{MayStep, Appends}, declared.carry.Settle.TheVariants.{Deliver as ToDeliver, Drop as ToDrop}, declared.view.View.View}
 use Rattle.ert_table.proofs.Parts.{part_before, stepped, two_steps, held_on}
-use Rattle.ert_table.specs.declared.carry.Settle.TheVariants.{Deliver as ToDeliver, Drop as ToDrop}
-use Rattle.ert_table.specs.declared.view.View.{View}
 use Rattle.ert_laws.specs.Counts.{deliveries}
-use Rattle.ert_mail.specs.Mailboxes.{Mailbox, MailboxStands, HoldsMailboxAndSched, handed}
-use Rattle.ert_mail.specs.Steps.{IsHanded, with_expired}
-use Rattle.ert_mail.proofs.Counts.{deliveries_few}
-use Rattle.ert_mail.proofs.Standing.{deliveries_after, mails_before}
+use Rattle.ert_mail.specs.{Mailboxes.{Mailbox, MailboxStands, HoldsMailboxAndSched, handed}, Steps.{IsHanded, with_expired}}
+use Rattle.ert_mail.proofs.{Counts.deliveries_few, Standing.{deliveries_after, mails_before}}
 
 pub scheds_before : (g : Settings) (v : View) (e : Entry) (w : View) (n : ℕ) → is_held v.actors (Sched n) ≡ true → (step : Appends g v e w)
     → (state g (v.front ++ step.between)).scheds n ≡ (state g v.front).scheds n

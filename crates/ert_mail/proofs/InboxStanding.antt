@@ -1,20 +1,11 @@
 -- An inbox stands on after a step of the pass that holds it.
 
 use Rattle.std.proofs.Common.{◌≡◌, ℕ, true, List, [], ◌∷◌, ◌++◌, Option, Ok, refl, sym, ap, ◌∙◌, eq-eqb}
-use Rattle.ert_defs.specs.Entries.{ask_entry, pick_entry}
-use Rattle.ert_defs.specs.Mails.{others_of}
-use Rattle.ert_defs.specs.States.{State, next, state}
-use Rattle.ert_defs.specs.declared.entry.Actor.TheVariants.{Inbox, Sched}
-use Rattle.ert_defs.specs.declared.entry.Entry.{Entry}
-use Rattle.ert_defs.specs.declared.mail.Request.{Request}
-use Rattle.ert_defs.specs.declared.settings.Settings.{Settings}
+use Rattle.ert_defs.specs.{Entries.{ask_entry, pick_entry}, Mails.others_of, States.{State, next, state}, declared.entry.Actor.TheVariants.{Inbox, Sched}, declared.entry.Entry.Entry, declared.mail.Request.Request}
+use Rattle.ert_defs.specs.{declared.settings.Settings.Settings}
 use Rattle.ert_effects.specs.RequestCalls.{Asks, Picks}
-use Rattle.ert_table.specs.Calls.{IsMade}
-use Rattle.ert_table.specs.Held.{is_held}
-use Rattle.ert_table.specs.Takes.{Appends}
-use Rattle.ert_table.proofs.Makings.{step_made}
-use Rattle.ert_table.proofs.Parts.{part_before, stepped}
-use Rattle.ert_table.specs.declared.view.View.{View}
+use Rattle.ert_table.specs.{Calls.IsMade, Held.is_held, Takes.Appends, declared.view.View.View}
+use Rattle.ert_table.proofs.{Makings.step_made, Parts.{part_before, stepped}}
 use Rattle.ert_mail.specs.Inboxes.{Waiting, InboxStands, sched_after_pick}
 
 -- an entry makes this of the requests that wait for a scheduler

@@ -2,23 +2,15 @@
 
 use Rattle.std.proofs.Common.{◌≡◌, ℕ, false, List, [], ◌∷◌, ◌++◌, length, filter, Option, Ok, Err, inl, inr, refl, sym, ap, subst, ◌∙◌, append-nil}
 use Rattle.std.proofs.lemmas.List.Elements.{filter-append}
-use Rattle.ert_defs.specs.Actors.{IsFree}
-use Rattle.ert_defs.specs.States.{State, state}
+use Rattle.ert_defs.specs.{Actors.IsFree, States.{State, state}, declared.entry.Actor.Actor, declared.entry.Actor.TheVariants.{Sched, MailOf, Inbox, Caller}, declared.entry.Entry.Entry, declared.settings.Settings.Settings}
+use Rattle.ert_defs.specs.{declared.timer.TimerRef.TimerRef}
 use Rattle.ert_defs.proofs.Runs.{state-append, inbox_stays, mail_stays, free_first, free_rest}
-use Rattle.ert_defs.specs.declared.entry.Actor.{Actor}
-use Rattle.ert_defs.specs.declared.entry.Actor.TheVariants.{Sched, MailOf, Inbox, Caller}
-use Rattle.ert_defs.specs.declared.entry.Entry.{Entry}
-use Rattle.ert_defs.specs.declared.settings.Settings.{Settings}
-use Rattle.ert_defs.specs.declared.timer.TimerRef.{TimerRef}
-use Rattle.ert_effects.specs.declared.answers.Handed.TheVariants.{Put, Dropped}
-use Rattle.ert_effects.specs.declared.answers.MonitorErr.TheVariants.{Full, NoMemory}
-use Rattle.ert_effects.specs.declared.answers.Taken.TheVariants.{Mail, Empty, Exited}
+use Rattle.ert_effects.specs.declared.answers.{Handed.TheVariants.{Put, Dropped}, MonitorErr.TheVariants.{Full, NoMemory}, Taken.TheVariants.{Mail, Empty, Exited}}
 use Rattle.ert_table.specs.Calls.{AreOnlyOf}
 use Rattle.ert_table.proofs.Parts.{free_later, of_one, of_both}
 use Rattle.ert_mail.specs.Laws.{AreWithMail, LawOfStandingMailboxes, LawOfStandingInboxes, LawOfTakes, LawOfMonitorEntries, LawOfDemonitorEntries, LawOfTells, LawOfHandingOver, LawOfAnswerEntries, LawOfAsks, LawOfPickEntries}
 use Rattle.ert_laws.specs.Counts.{delivers_to, deliveries}
-use Rattle.ert_mail.proofs.AnswerSteps.{AreAsked, asked}
-use Rattle.ert_mail.proofs.Standing.{undelivered}
+use Rattle.ert_mail.proofs.{AnswerSteps.{AreAsked, asked}, Standing.undelivered}
 
 none_delivered : (p : ℕ) (m : List Entry) → IsFree m (MailOf p) → filter (delivers_to p) m ≡ []
 none_delivered p [] free = refl

@@ -2,14 +2,11 @@
 
 use Rattle.std.proofs.Common.{◌≡◌, ◌≢◌, ℕ, ◌<◌, Bool, true, false, not, ◌&&◌, ◌||◌, nat_eq, List, [], ◌∷◌, ◌++◌, length, Some, None, refl, sym, ap, subst, ◌∙◌, eqb-true, eq-eqb, if◌then◌else◌}
 use Rattle.std.specs.Prelude.{slice_set, slice_index_or}
-use Rattle.std.proofs.lemmas.Grind.{get_or-set_at}
-use Rattle.std.proofs.lemmas.List.{get_or-set_other, get_or_default, length-set}
+use Rattle.std.proofs.lemmas.{Grind.get_or-set_at, List.{get_or-set_other, get_or_default, length-set}}
 use Rattle.std.specs.List.{list_any}
 use Rattle.ert_defs.specs.declared.mail.Mail.{Mail}
-use Rattle.ert_mail.specs.Lists.{IsRow, AreListed, IsNextIn, with_listed}
-use Rattle.ert_mail.specs.Mailboxes.{Mailbox}
+use Rattle.ert_mail.specs.{Lists.{IsRow, AreListed, IsNextIn, with_listed}, Mailboxes.Mailbox, Turns.{TurnRow, is_listed}}
 use Rattle.ert_mail.proofs.Rows.{list_any-push}
-use Rattle.ert_mail.specs.Turns.{TurnRow, is_listed}
 
 no_length : (queue : List Mail) → length queue ≡ 0 → queue ≡ []
 no_length [] none = refl

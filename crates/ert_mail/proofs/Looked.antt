@@ -1,25 +1,13 @@
 -- A process with mail is looked for.
 
 use Rattle.std.proofs.Common.{◌≡◌, ◌≢◌, ℕ, ◌+◌, ◌<◌, Bool, true, false, cond, ◌&&◌, ◌||◌, List, [], ◌∷◌, ◌++◌, length, filter, slice_index_or, Some, None, refl, sym, ap, ◌∙◌, append-nil, append_assoc}
-use Rattle.std.proofs.lemmas.List.{map-append}
-use Rattle.std.proofs.lemmas.List.Elements.{filter-append}
-use Rattle.ert_table.proofs.Looks.{can_step}
+use Rattle.std.proofs.lemmas.List.{map-append, Elements.filter-append}
+use Rattle.ert_table.proofs.{Looks.can_step, Calls.{step_takes_place, takes_place_then}, Parts.stepped}
 use Rattle.ert_defs.proofs.Runs.{state-append, exit_stays}
-use Rattle.ert_defs.specs.Entries.{mark_entry}
-use Rattle.ert_defs.specs.States.{State, state}
-use Rattle.ert_defs.specs.declared.entry.Actor.TheVariants.{Caller}
-use Rattle.ert_defs.specs.declared.entry.Entry.{Entry}
-use Rattle.ert_defs.specs.declared.mail.Mail.{Mail}
-use Rattle.ert_defs.specs.declared.settings.Settings.{Settings}
-use Rattle.ert_table.proofs.Calls.{step_takes_place, takes_place_then}
-use Rattle.ert_table.proofs.Parts.{stepped}
-use Rattle.ert_table.specs.Calls.{IsMade}
-use Rattle.ert_table.specs.Takes.{Appends, TakesPlace}
-use Rattle.ert_table.specs.declared.view.View.{View}
+use Rattle.ert_defs.specs.{Entries.mark_entry, States.{State, state}, declared.entry.Actor.TheVariants.Caller, declared.entry.Entry.Entry, declared.mail.Mail.Mail, declared.settings.Settings.Settings}
+use Rattle.ert_table.specs.{Calls.IsMade, Takes.{Appends, TakesPlace}, declared.view.View.View}
 use Rattle.ert_mail.proofs.Listing.{listed_on}
-use Rattle.ert_mail.specs.Lists.{AreListed, HaveMailFrom, LooksForMail, exited_from, exits_seen, is_waiting, with_mail}
-use Rattle.ert_mail.specs.Mailboxes.{Mailbox}
-use Rattle.ert_mail.specs.Turns.{TurnRow}
+use Rattle.ert_mail.specs.{Lists.{AreListed, HaveMailFrom, LooksForMail, exited_from, exits_seen, is_waiting, with_mail}, Mailboxes.Mailbox, Turns.TurnRow}
 
 -- a row is gone through up to here: some processes are passed, and of these those with mail are found exited
 pub record Passes (first by : ℕ) (row later : List ℕ) (s : State) (es : List Entry) : Type 0 where

@@ -1,13 +1,9 @@
 -- Numbers in a row: each stands once, and all are below a bound.
 
 use Rattle.std.proofs.Common.{◌↔◌, Option, Some, None, IsNone, IsSome, IfNone, IfSome, option_to_list, subst, ◌≡◌, ℕ, ◌+◌, ◌<◌, ◌≤◌, true, false, Bool, ◌||◌, ◌&&◌, List, [], ◌∷◌, ◌++◌, length, nat_eq, nat_lt, nat_le, refl, sym, ap, ◌∙◌, arith, zero, suc, inl, inr, length-append}
-use Rattle.std.proofs.lemmas.Bool.{ltb-true, true≢false}
-use Rattle.std.proofs.lemmas.Bool.Decides.{eqb_tells, nat_tests}
-use Rattle.std.proofs.lemmas.List.FromFn.{get_or-range_with_len, length-range_with_len}
-use Rattle.std.proofs.lemmas.Map.Keys.{IsDistinct-from_apart, IsDistinct-head, IsDistinct-push, IsDistinct-tail}
-use Rattle.std.proofs.lemmas.Map.Steps.{length-le_from_distinct_below}
-use Rattle.std.specs.Cmp.{nat_eq_equiv}
-use Rattle.std.specs.List.{AllByRecursion, list_any, range_with_len}
+use Rattle.std.proofs.lemmas.{Bool.{ltb-true, true≢false}, Bool.Decides.{eqb_tells, nat_tests}, List.FromFn.{get_or-range_with_len, length-range_with_len}, Map.Keys.{IsDistinct-from_apart, IsDistinct-head, IsDistinct-push, IsDistinct-tail}}
+use Rattle.std.proofs.lemmas.{Map.Steps.length-le_from_distinct_below}
+use Rattle.std.specs.{Cmp.nat_eq_equiv, List.{AllByRecursion, list_any, range_with_len}}
 use Rattle.ert_mail.specs.Turns.{AreTurns, TurnRow, is_listed}
 
 abbrev pub row_of : ℕ → List ℕ → TurnRow

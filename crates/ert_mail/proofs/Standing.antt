@@ -1,18 +1,9 @@
 -- A mailbox stands on after a step of the pass that holds it.
 
 use Rattle.std.proofs.Common.{◌≡◌, ℕ, ◌+◌, ◌<◌, true, false, List, [], ◌∷◌, ◌++◌, length, filter, refl, sym, ap, subst, ◌∙◌, length-append, add-zero}
-use Rattle.ert_defs.specs.Actors.{has_actor, is_with, same_actor}
-use Rattle.ert_defs.specs.Mails.{MailState}
-use Rattle.ert_defs.specs.States.{State, next, state}
-use Rattle.ert_defs.specs.declared.entry.Actor.TheVariants.{MailOf}
-use Rattle.ert_defs.specs.declared.entry.Entry.{Entry}
-use Rattle.ert_defs.specs.declared.settings.Settings.{Settings}
-use Rattle.ert_table.specs.Held.{is_held}
-use Rattle.ert_table.specs.Takes.{Appends, TakesPlace}
-use Rattle.ert_table.proofs.Calls.{step_takes_place}
-use Rattle.ert_table.proofs.Holders.{or_false}
-use Rattle.ert_table.proofs.Parts.{not_of, entries_after, part_before, stepped}
-use Rattle.ert_table.specs.declared.view.View.{View}
+use Rattle.ert_defs.specs.{Actors.{has_actor, is_with, same_actor}, Mails.MailState, States.{State, next, state}, declared.entry.Actor.TheVariants.MailOf, declared.entry.Entry.Entry, declared.settings.Settings.Settings}
+use Rattle.ert_table.specs.{Held.is_held, Takes.{Appends, TakesPlace}, declared.view.View.View}
+use Rattle.ert_table.proofs.{Calls.step_takes_place, Holders.or_false, Parts.{not_of, entries_after, part_before, stepped}}
 use Rattle.ert_laws.specs.Counts.{deliveries, delivers_to}
 use Rattle.ert_mail.specs.Mailboxes.{Mailbox, IsSame, MailboxStands}
 

@@ -1,20 +1,11 @@
 -- The steps of a take.
 
 use Rattle.std.proofs.Common.{◌≡◌, ℕ, Bool, true, false, [], ◌∷◌, Option, Some, None, refl, sym, ap, subst, ◌∙◌, eq-eqb}
-use Rattle.ert_defs.specs.Entries.{mark_entry, take_entry}
-use Rattle.ert_defs.specs.Mails.{MailState, first_of, others_of}
-use Rattle.ert_defs.specs.declared.entry.Actor.TheVariants.{MailOf, Caller}
-use Rattle.ert_defs.specs.declared.entry.Entry.{Entry}
-use Rattle.ert_defs.specs.declared.mail.Mail.{Mail}
-use Rattle.ert_defs.specs.declared.settings.Settings.{Settings}
-use Rattle.ert_effects.specs.MailCalls.{Takes}
-use Rattle.ert_effects.specs.declared.answers.Taken.{Taken}
-use Rattle.ert_effects.specs.declared.answers.Taken.TheVariants.{Mail as First, Empty, Exited}
-use Rattle.ert_table.specs.Calls.{IsMade}
-use Rattle.ert_table.specs.Takes.{MayStep, Appends}
-use Rattle.ert_table.proofs.Makings.{step_made}
-use Rattle.ert_table.proofs.Parts.{two_steps, held_on}
-use Rattle.ert_table.specs.declared.view.View.{View}
+use Rattle.ert_defs.specs.{Entries.{mark_entry, take_entry}, Mails.{MailState, first_of, others_of}, declared.entry.Actor.TheVariants.{MailOf, Caller}, declared.entry.Entry.Entry, declared.mail.Mail.Mail}
+use Rattle.ert_defs.specs.{declared.settings.Settings.Settings}
+use Rattle.ert_effects.specs.{MailCalls.Takes, declared.answers.Taken.Taken, declared.answers.Taken.TheVariants.{Mail as First, Empty, Exited}}
+use Rattle.ert_table.specs.{Calls.IsMade, Takes.{MayStep, Appends}, declared.view.View.View}
+use Rattle.ert_table.proofs.{Makings.step_made, Parts.{two_steps, held_on}}
 use Rattle.ert_mail.specs.Mailboxes.{Mailbox, MailboxStands, IsCallers}
 use Rattle.ert_mail.proofs.Standing.{stands_step, stands_apart}
 

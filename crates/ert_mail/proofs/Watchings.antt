@@ -2,21 +2,11 @@
 
 use Rattle.std.proofs.Common.{◌≡◌, ℕ, ◌+◌, ◌≤◌, ℤ, Bool, true, [], ◌∷◌, ◌++◌, length, Result, Ok, Err, inl, inr, refl, ap, subst, ◌∙◌, eq-eqb}
 use Rattle.std.proofs.lemmas.Bool.{cases_lt}
-use Rattle.ert_defs.specs.Entries.{off_entry, watch_entry, unwatch_entry, tell_entry}
-use Rattle.ert_defs.specs.Legal.{Legal}
-use Rattle.ert_defs.specs.Mails.{MailState, changes_of, told_of, without}
-use Rattle.ert_defs.specs.declared.entry.Actor.TheVariants.{MailOf, Caller}
-use Rattle.ert_defs.specs.declared.mail.Monitor.{Monitor}
-use Rattle.ert_defs.specs.declared.settings.OffsetState.{OffsetState}
-use Rattle.ert_defs.specs.declared.settings.Settings.{Settings}
-use Rattle.ert_effects.specs.MailCalls.{Monitors, Demonitors, Notifies}
-use Rattle.ert_effects.specs.declared.answers.MonitorErr.{MonitorErr}
-use Rattle.ert_effects.specs.declared.answers.MonitorErr.TheVariants.{Full, NoMemory as WantOfRoom}
-use Rattle.ert_table.specs.Calls.{IsMade}
-use Rattle.ert_table.specs.Held.{is_held}
-use Rattle.ert_table.specs.Takes.{Appends}
+use Rattle.ert_defs.specs.{Entries.{off_entry, watch_entry, unwatch_entry, tell_entry}, Legal.Legal, Mails.{MailState, changes_of, told_of, without}, declared.entry.Actor.TheVariants.{MailOf, Caller}, declared.mail.Monitor.Monitor}
+use Rattle.ert_defs.specs.{declared.settings.OffsetState.OffsetState, declared.settings.Settings.Settings}
+use Rattle.ert_effects.specs.{MailCalls.{Monitors, Demonitors, Notifies}, declared.answers.MonitorErr.MonitorErr, declared.answers.MonitorErr.TheVariants.{Full, NoMemory as WantOfRoom}}
+use Rattle.ert_table.specs.{Calls.IsMade, Held.is_held, Takes.Appends, declared.view.View.View}
 use Rattle.ert_table.proofs.Makings.{none_made, step_made}
-use Rattle.ert_table.specs.declared.view.View.{View}
 use Rattle.ert_mail.specs.Mailboxes.{Mailbox, MailboxStands, AreMany, IsMonitor}
 use Rattle.ert_mail.proofs.Standing.{stands_step, stands_apart}
 

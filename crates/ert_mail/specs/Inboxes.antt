@@ -1,14 +1,8 @@
 -- The inbox of a scheduler, as callers see it, and when it stands for a history.
 
 use Rattle.std.specs.Prelude.{◌≡◌, ℕ, ◌<◌, true, List, Option, None}
-use Rattle.ert_defs.specs.Mails.{SchedState}
-use Rattle.ert_defs.specs.States.{state}
-use Rattle.ert_defs.specs.declared.entry.Actor.TheVariants.{Inbox, Sched, Caller}
-use Rattle.ert_defs.specs.declared.entry.Entry.{Entry}
-use Rattle.ert_defs.specs.declared.mail.Request.{Request}
-use Rattle.ert_defs.specs.declared.settings.Settings.{Settings}
-use Rattle.ert_table.specs.Held.{is_held}
-use Rattle.ert_table.specs.declared.view.View.{View}
+use Rattle.ert_defs.specs.{Mails.SchedState, States.state, declared.entry.Actor.TheVariants.{Inbox, Sched, Caller}, declared.entry.Entry.Entry, declared.mail.Request.Request, declared.settings.Settings.Settings}
+use Rattle.ert_table.specs.{Held.is_held, declared.view.View.View}
 
 -- the inbox of a scheduler: the requests that wait for it
 pub record Waiting : Type 0 where

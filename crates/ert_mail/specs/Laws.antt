@@ -1,24 +1,11 @@
 -- Laws of mailboxes and inboxes. The functions of src/laws.rt carry them as contracts, so that they are proved.
 
 use Rattle.std.specs.Prelude.{◌≡◌, ℕ, Bool, List, [], ◌∷◌, Option, Result}
-use Rattle.ert_defs.specs.Actors.{of}
-use Rattle.ert_defs.specs.States.{State}
-use Rattle.ert_defs.specs.Timers.{Row}
-use Rattle.ert_defs.specs.declared.entry.Actor.{Actor}
-use Rattle.ert_defs.specs.declared.entry.Actor.TheVariants.{Sched, MailOf, Inbox, Caller}
-use Rattle.ert_defs.specs.declared.entry.Entry.{Entry}
-use Rattle.ert_defs.specs.declared.mail.Request.{Request}
-use Rattle.ert_defs.specs.declared.memory.NoMemory.{NoMemory}
-use Rattle.ert_defs.specs.declared.settings.Settings.{Settings}
-use Rattle.ert_effects.specs.MailCalls.{HandsOver, Takes, Monitors, Demonitors, Notifies}
-use Rattle.ert_effects.specs.RequestCalls.{Answers, Asks, Picks}
-use Rattle.ert_effects.specs.declared.answers.Handed.{Handed}
-use Rattle.ert_effects.specs.declared.answers.MonitorErr.{MonitorErr}
-use Rattle.ert_effects.specs.declared.answers.Taken.{Taken}
-use Rattle.ert_table.specs.Calls.{AreOnlyOf}
-use Rattle.ert_table.specs.Views.{Begins}
-use Rattle.ert_mail.specs.Inboxes.{Waiting, InboxStands}
-use Rattle.ert_mail.specs.Mailboxes.{Mailbox, MailboxStands}
+use Rattle.ert_defs.specs.{Actors.of, States.State, Timers.Row, declared.entry.Actor.Actor, declared.entry.Actor.TheVariants.{Sched, MailOf, Inbox, Caller}, declared.entry.Entry.Entry, declared.mail.Request.Request}
+use Rattle.ert_defs.specs.{declared.memory.NoMemory.NoMemory, declared.settings.Settings.Settings}
+use Rattle.ert_effects.specs.{MailCalls.{HandsOver, Takes, Monitors, Demonitors, Notifies}, RequestCalls.{Answers, Asks, Picks}, declared.answers.Handed.Handed, declared.answers.MonitorErr.MonitorErr, declared.answers.Taken.Taken}
+use Rattle.ert_table.specs.{Calls.AreOnlyOf, Views.Begins}
+use Rattle.ert_mail.specs.{Inboxes.{Waiting, InboxStands}, Mailboxes.{Mailbox, MailboxStands}}
 
 -- a mailbox that stands for a history stands for each longer one that has no more entries of the mailbox:
 -- where others have made theirs, and where a pass that holds it was joined to another

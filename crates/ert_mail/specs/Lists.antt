@@ -1,16 +1,9 @@
 -- The processes that are listed since their mailboxes may have mail, in a row.
 
 use Rattle.std.specs.Prelude.{◌≡◌, ◌≢◌, ℕ, ◌+◌, ◌<◌, ◌≤◌, Bool, true, false, map, filter, List, [], ◌∷◌, ◌++◌, length, Option, Some, None, slice_index_or, if◌then◌else◌}
-use Rattle.ert_defs.specs.Entries.{mark_entry}
-use Rattle.ert_defs.specs.States.{State}
-use Rattle.ert_defs.specs.declared.entry.Actor.TheVariants.{Caller}
-use Rattle.ert_defs.specs.declared.entry.Entry.{Entry}
-use Rattle.ert_defs.specs.declared.mail.Mail.{Mail}
-use Rattle.ert_defs.specs.declared.settings.Settings.{Settings}
-use Rattle.ert_table.specs.Held.{is_held}
-use Rattle.ert_table.specs.declared.view.View.{View}
-use Rattle.ert_mail.specs.Mailboxes.{Mailbox}
-use Rattle.ert_mail.specs.Turns.{TurnRow, is_listed}
+use Rattle.ert_defs.specs.{Entries.mark_entry, States.State, declared.entry.Actor.TheVariants.Caller, declared.entry.Entry.Entry, declared.mail.Mail.Mail, declared.settings.Settings.Settings}
+use Rattle.ert_table.specs.{Held.is_held, declared.view.View.View}
+use Rattle.ert_mail.specs.{Mailboxes.Mailbox, Turns.{TurnRow, is_listed}}
 
 -- a row has those that are listed
 pub record IsRow (row : TurnRow) (listed : List Bool) : Type 0 where

@@ -1,24 +1,12 @@
 -- The mailbox of a process, as callers see it, and when it stands for a history.
 
 use Rattle.std.specs.Prelude.{◌≡◌, ◌⊎◌, ℕ, ◌<◌, ◌≤◌, true, List, [], ◌∷◌, length, Option, None, Result, Ok, Err}
-use Rattle.ert_defs.specs.Mails.{MailState, SchedState, no_mail, others_of}
-use Rattle.ert_defs.specs.States.{state}
-use Rattle.ert_defs.specs.declared.entry.Actor.TheVariants.{Sched, MailOf, Caller}
-use Rattle.ert_defs.specs.declared.entry.Entry.{Entry}
-use Rattle.ert_defs.specs.declared.mail.Mail.{Mail}
-use Rattle.ert_defs.specs.declared.mail.Monitor.{Monitor}
-use Rattle.ert_defs.specs.declared.memory.NoMemory.{NoMemory}
-use Rattle.ert_defs.specs.declared.settings.Settings.{Settings}
+use Rattle.ert_defs.specs.{Mails.{MailState, SchedState, no_mail, others_of}, States.state, declared.entry.Actor.TheVariants.{Sched, MailOf, Caller}, declared.entry.Entry.Entry, declared.mail.Mail.Mail, declared.mail.Monitor.Monitor}
+use Rattle.ert_defs.specs.{declared.memory.NoMemory.NoMemory, declared.settings.Settings.Settings}
 use Rattle.ert_laws.specs.Counts.{deliveries}
-use Rattle.ert_effects.specs.MailCalls.{Monitors}
-use Rattle.ert_effects.specs.declared.answers.Handed.{Handed}
-use Rattle.ert_effects.specs.declared.answers.MonitorErr.{MonitorErr}
-use Rattle.ert_effects.specs.declared.answers.MonitorErr.TheVariants.{Full, NoMemory as OutOfMemory}
-use Rattle.ert_effects.specs.declared.answers.Taken.{Taken}
-use Rattle.ert_effects.specs.declared.answers.Taken.TheVariants.{Mail as First, Empty, Exited}
-use Rattle.ert_table.specs.Calls.{IsMade, IsOmitted}
-use Rattle.ert_table.specs.Held.{is_held}
-use Rattle.ert_table.specs.declared.view.View.{View}
+use Rattle.ert_effects.specs.{MailCalls.Monitors, declared.answers.Handed.Handed, declared.answers.MonitorErr.MonitorErr, declared.answers.MonitorErr.TheVariants.{Full, NoMemory as OutOfMemory}, declared.answers.Taken.Taken}
+use Rattle.ert_effects.specs.{declared.answers.Taken.TheVariants.{Mail as First, Empty, Exited}}
+use Rattle.ert_table.specs.{Calls.{IsMade, IsOmitted}, Held.is_held, declared.view.View.View}
 
 -- the mailbox of a process: what the process has, how many messages of expired timers were ever put into
 -- it, and for how many more messages it has room

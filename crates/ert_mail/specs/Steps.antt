@@ -1,18 +1,9 @@
 -- What the steps of the calls of a scheduler make of what it has and of a mailbox.
 
 use Rattle.std.specs.Prelude.{◌≡◌, ℕ, [], ◌∷◌, ◌++◌, Option, Ok}
-use Rattle.ert_defs.specs.Mails.{MailState, message_of, answer_of}
-use Rattle.ert_defs.specs.States.{state}
-use Rattle.ert_defs.specs.Timers.{Row}
-use Rattle.ert_defs.specs.declared.mail.Request.{Request}
-use Rattle.ert_defs.specs.declared.settings.Settings.{Settings}
-use Rattle.ert_effects.specs.MailCalls.{handed_entries}
-use Rattle.ert_effects.specs.RequestCalls.{HasAnswered}
-use Rattle.ert_effects.specs.declared.answers.Handed.{Handed}
-use Rattle.ert_effects.specs.declared.answers.Handed.TheVariants.{Put, Dropped}
-use Rattle.ert_table.specs.Calls.{IsMade}
-use Rattle.ert_table.specs.Takes.{TakesPlace}
-use Rattle.ert_table.specs.declared.view.View.{View}
+use Rattle.ert_defs.specs.{Mails.{MailState, message_of, answer_of}, States.state, Timers.Row, declared.mail.Request.Request, declared.settings.Settings.Settings}
+use Rattle.ert_effects.specs.{MailCalls.handed_entries, RequestCalls.HasAnswered, declared.answers.Handed.Handed, declared.answers.Handed.TheVariants.{Put, Dropped}}
+use Rattle.ert_table.specs.{Calls.IsMade, Takes.TakesPlace, declared.view.View.View}
 use Rattle.ert_laws.specs.Counts.{deliveries}
 use Rattle.ert_mail.specs.Mailboxes.{handed, sched_after_answer}
 

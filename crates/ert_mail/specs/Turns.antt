@@ -1,8 +1,7 @@
 -- Numbers that wait for their turn.
 
 use Rattle.std.specs.Prelude.{◌≡◌, ℕ, ◌<◌, ◌≤◌, Bool, true, List, nat_eq, refl}
-use Rattle.std.specs.Coded.{Coded, code_by, coded×, coded_ℕ, coded_list}
-use Rattle.std.specs.List.{IsDistinct, list_any}
+use Rattle.std.specs.{Coded.{Coded, code_by, coded×, coded_ℕ, coded_list}, List.{IsDistinct, list_any}}
 
 -- the numbers of a row: all are below a bound, and they are held from the first to the last
 pub record TurnRow : Type 0 where

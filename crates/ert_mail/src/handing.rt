@@ -2,8 +2,7 @@
 ghost use Rattle.std.specs.Prelude.{◌≡◌, ◌<◌, Some};
 ghost use Rattle.ert_defs.specs.Mails.{first_of};
 ghost use Rattle.ert_table.specs.Desks.{settings_of, view_of, state_of, Belongs};
-ghost use Rattle.ert_mail.specs.Mailboxes.{HoldsMailboxAndSched};
-ghost use Rattle.ert_mail.specs.Steps.{IsHanded};
+ghost use Rattle.ert_mail.specs.{Mailboxes.HoldsMailboxAndSched, Steps.IsHanded};
 
 use ert_defs::{Actor, TimerRow};
 use ert_effects::Handed;

@@ -25,8 +25,7 @@ impl InboxPart {
     ghost use Rattle.std.specs.Prelude.{◌<◌, [], ◌∷◌, ◌++◌, None, OnOk, OnErr};
     ghost use Rattle.ert_effects.specs.RequestCalls.{Asks, Picks};
     ghost use Rattle.ert_defs.specs.Mails.{first_of, others_of};
-    ghost use Rattle.ert_table.specs.Calls.{IsMade, IsMadeIfOk};
-    ghost use Rattle.ert_table.specs.Desks.{settings_of, view_of, front_of, state_of, Belongs};
+    ghost use Rattle.ert_table.specs.{Calls.{IsMade, IsMadeIfOk}, Desks.{settings_of, view_of, front_of, state_of, Belongs}};
     ghost use Rattle.ert_mail.specs.Inboxes.{IsAskers, HoldsInboxAndSched, InboxStands, sched_after_pick};
 
     /// The inbox of a scheduler on a desk that has just been opened. It is empty.

@@ -1,7 +1,6 @@
 //! Laws of mailboxes and inboxes, each the contract of a function that does nothing.
 
-ghost use Rattle.ert_mail.specs.Laws.{LawOfStandingMailboxes, LawOfStandingInboxes, LawOfTakes, LawOfMonitorEntries, LawOfDemonitorEntries, LawOfTells};
-ghost use Rattle.ert_mail.specs.Laws.{LawOfHandingOver, LawOfAnswerEntries, LawOfAsks, LawOfPickEntries};
+ghost use Rattle.ert_mail.specs.Laws.{LawOfStandingMailboxes, LawOfStandingInboxes, LawOfTakes, LawOfMonitorEntries, LawOfDemonitorEntries, LawOfTells, LawOfHandingOver, LawOfAnswerEntries, LawOfAsks, LawOfPickEntries};
 
 /// A mailbox stands on while its process's mailbox has no more entries, whatever others do meanwhile.
 pub fn mailboxes_stand_on()

@@ -19,8 +19,7 @@ pub struct MailList {
 }
 
 impl Model for MailList {
-    ghost use Rattle.ert_mail.specs.Lists.{IsRow};
-    ghost use Rattle.ert_mail.specs.Turns.{TurnRow, row_code};
+    ghost use Rattle.ert_mail.specs.{Lists.IsRow, Turns.{TurnRow, row_code}};
 
     ghost Value = { TurnRow };
 
@@ -35,10 +34,8 @@ impl MailList {
     ghost use Rattle.std.specs.Prelude.{◌≡◌, ◌<◌, ◌∷◌, [], false, IfOk, IfSome, IfNone, length};
     ghost use Rattle.std.specs.List.{range_with_len};
     ghost use Rattle.ert_defs.specs.Legal.{Legal};
-    ghost use Rattle.ert_table.specs.Calls.{IsMade};
-    ghost use Rattle.ert_table.specs.Desks.{settings_of, view_of, front_of, state_of, Belongs};
-    ghost use Rattle.ert_mail.specs.Turns.{is_listed};
-    ghost use Rattle.ert_mail.specs.Lists.{AreListed, CanLook, HaveMailFrom, IsNextIn, LooksForMail, exited_from, with_listed};
+    ghost use Rattle.ert_table.specs.{Calls.IsMade, Desks.{settings_of, view_of, front_of, state_of, Belongs}};
+    ghost use Rattle.ert_mail.specs.{Turns.is_listed, Lists.{AreListed, CanLook, HaveMailFrom, IsNextIn, LooksForMail, exited_from, with_listed}};
 
     /// A list with every process below a number, in order.
     pub fn all(alloc: Global, processes: u32) -> Result<MailList, NoMemory>

@@ -38,10 +38,8 @@ impl Model for MailPart {
 impl MailPart {
     ghost use Rattle.std.specs.Prelude.{◌≢◌, ◌+◌, ◌<◌, ◌≤◌, [], Some, OnOk, OnErr, length};
     ghost use Rattle.ert_defs.specs.Mails.{first_of};
-    ghost use Rattle.ert_effects.specs.MailCalls.{HandsOver, Takes};
-    ghost use Rattle.ert_effects.specs.RequestCalls.{Answers};
-    ghost use Rattle.ert_table.specs.Calls.{IsMade, IsMadeIfOk};
-    ghost use Rattle.ert_table.specs.Desks.{settings_of, view_of, front_of, state_of, Belongs};
+    ghost use Rattle.ert_effects.specs.{MailCalls.{HandsOver, Takes}, RequestCalls.Answers};
+    ghost use Rattle.ert_table.specs.{Calls.{IsMade, IsMadeIfOk}, Desks.{settings_of, view_of, front_of, state_of, Belongs}};
     ghost use Rattle.ert_mail.specs.Mailboxes.{IsEmpty, IsSame, IsCallers, HoldsMailboxAndSched, IsTaken, MailboxStands, handed, sched_after_answer};
 
     /// The mailbox of a process on a desk that has just been opened. It is empty.

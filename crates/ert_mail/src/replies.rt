@@ -2,13 +2,9 @@
 ghost use Rattle.std.specs.Prelude.{◌≡◌, ◌+◌, ◌<◌, ◌≤◌, ◌++◌, true, Some};
 ghost use Rattle.std.specs.VecDeque.{deque_len, deque_capacity};
 ghost use Rattle.ert_effects.specs.RequestCalls.{DoesAsked};
-ghost use Rattle.ert_defs.specs.Mails.{answer_of};
-ghost use Rattle.ert_defs.specs.declared.entry.Actor.TheVariants.{Sched};
-ghost use Rattle.ert_table.specs.Desks.{settings_of, view_of, actors_of, state_of, Belongs};
-ghost use Rattle.ert_table.specs.Held.{is_held};
-ghost use Rattle.ert_table.specs.Calls.{IsMade};
-ghost use Rattle.ert_mail.specs.Mailboxes.{HoldsMailboxAndSched};
-ghost use Rattle.ert_mail.specs.Steps.{IsReplied};
+ghost use Rattle.ert_defs.specs.{Mails.answer_of, declared.entry.Actor.TheVariants.Sched};
+ghost use Rattle.ert_table.specs.{Desks.{settings_of, view_of, actors_of, state_of, Belongs}, Held.is_held, Calls.IsMade};
+ghost use Rattle.ert_mail.specs.{Mailboxes.HoldsMailboxAndSched, Steps.IsReplied};
 
 use ert_defs::{Actor, Mail, Request, RequestKind};
 use ert_table::{Desk, Pass, TimeCarry};

@@ -12,10 +12,8 @@ const MOST_MONITORS: usize = 64;
 impl MailPart {
     ghost use Rattle.std.specs.Prelude.{◌↔◌, IsTrue, IfOk, OnErr, Err};
     ghost use Rattle.ert_defs.specs.Legal.{stands_in};
-    ghost use Rattle.ert_effects.specs.MailCalls.{Demonitors, Notifies};
-    ghost use Rattle.ert_effects.specs.declared.answers.MonitorErr.TheVariants.{Full};
-    ghost use Rattle.ert_table.specs.Calls.{IsMade, IsMadeIfOk};
-    ghost use Rattle.ert_table.specs.Desks.{settings_of, view_of, front_of, Belongs};
+    ghost use Rattle.ert_effects.specs.{MailCalls.{Demonitors, Notifies}, declared.answers.MonitorErr.TheVariants.Full};
+    ghost use Rattle.ert_table.specs.{Calls.{IsMade, IsMadeIfOk}, Desks.{settings_of, view_of, front_of, Belongs}};
     ghost use Rattle.ert_mail.specs.Mailboxes.{AreMany, IsCallers, IsMonitor, IsSame, MailboxStands};
 
     /// Makes a monitor of the time offset, which counts the offset of now as told, and answers its number.

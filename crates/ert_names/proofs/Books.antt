@@ -2,18 +2,10 @@
 
 use Rattle.std.proofs.Common.{◌≡◌, ℕ, Bool, true, false, cond, nat_eq, List, [], ◌∷◌, map, Option, Some, None, String, string_bytes, refl, sym, ap, ◌∙◌}
 use Rattle.std.specs.BTreeMap as tree
-use Rattle.std.specs.BTreeMap.{BTreeMap, is_at}
-use Rattle.std.specs.Cmp.{nat_cmp_total, eq_by_cmp_equiv, Equal-is}
-use Rattle.std.specs.Cmp.Lexicographic.{slice_cmp, nat_list_cmp_total}
+use Rattle.std.specs.{BTreeMap.{BTreeMap, is_at}, Cmp.{nat_cmp_total, eq_by_cmp_equiv, Equal-is}, Cmp.Lexicographic.{slice_cmp, nat_list_cmp_total}, Map.lookup, Option.{is_some, option_map}, Ordering.{nat_cmp, eq_by_cmp}, Str.bytes_eq}
+use Rattle.std.specs.{String.string_cmp, declared.alloc.Global.Global}
 use Rattle.std.specs.FinMap as finite
-use Rattle.std.specs.Map.{lookup}
-use Rattle.std.specs.Option.{is_some, option_map}
-use Rattle.std.specs.Ordering.{nat_cmp, eq_by_cmp}
-use Rattle.std.specs.Str.{bytes_eq}
-use Rattle.std.specs.String.{string_cmp}
-use Rattle.std.specs.declared.alloc.Global.{Global}
-use Rattle.std.proofs.lemmas.Bool.{eqb-true, eq-eqb}
-use Rattle.std.proofs.lemmas.Map.Text.{btree_map_updates_text, is_eq-slice_cmp}
+use Rattle.std.proofs.lemmas.{Bool.{eqb-true, eq-eqb}, Map.Text.{btree_map_updates_text, is_eq-slice_cmp}}
 use Rattle.ert_names.specs.Names.{Names, Named, AreInverse, Unnamed, IsWithout, other_than, processes_of, names_of}
 
 abbrev by_bytes : List ℕ → List ℕ → Bool

@@ -1,44 +1,17 @@
 -- What the calls of a world of names record fits its rows.
 
 use Rattle.std.proofs.Common.{◌≡◌, ◌≢◌, ℕ, zero, suc, ℤ, ◌<◌, ◌≤◌, Bool, true, false, cond, nat_lt, List, [], ◌∷◌, ◌++◌, Option, Some, None, Result, Ok, Err, inl, inr, refl, sym, subst, ◌∙◌, arith}
-use Rattle.ert_effects.specs.Chains.{HoldsBy, HoldsRequest, Serves, ServesMany, ServesAll, units, AdvancesWheel, Hands, HandsMany, Delivers, Turns, SweepsWheel, SweepsWheels, Exits}
-use Rattle.ert_effects.specs.ClockCalls.{RefusesTick, ActsOnReading}
-use Rattle.ert_effects.specs.MailCalls.{HandsOver, Takes}
-use Rattle.ert_effects.specs.RequestCalls.{Answers, DoesAsked}
+use Rattle.ert_effects.specs.{Chains.{HoldsBy, HoldsRequest, Serves, ServesMany, ServesAll, units, AdvancesWheel, Hands, HandsMany, Delivers, Turns, SweepsWheel, SweepsWheels, Exits}, ClockCalls.{RefusesTick, ActsOnReading}}
+use Rattle.ert_effects.specs.{MailCalls.{HandsOver, Takes}, RequestCalls.{Answers, DoesAsked}, TimerCalls.{Reads, read_entries, Cancels, cancel_entries, Starts, AreProbes, Closes}, Ways.{Growth, Way, Then, Many, Grows, alone}}
+use Rattle.ert_effects.specs.{WheelCalls.{Try, expires_by, expiry_entries, orphans_by, orphan_entries, TellsAlive, MarksExit}, declared.answers.Handed.Handed, declared.answers.Handed.TheVariants.{Put, Dropped}}
+use Rattle.ert_effects.specs.{declared.answers.StartErr.StartErr, declared.answers.Taken.Taken, declared.answers.Taken.TheVariants.{Mail, Empty, Exited}, declared.answers.Turned.Turned}
 use Rattle.ert_effects.proofs.Told.{round_probes}
-use Rattle.ert_effects.specs.TimerCalls.{Reads, read_entries, Cancels, cancel_entries, Starts, AreProbes, Closes}
-use Rattle.ert_effects.specs.Ways.{Growth, Way, Then, Many, Grows, alone}
-use Rattle.ert_effects.specs.WheelCalls.{Try, expires_by, expiry_entries, orphans_by, orphan_entries, TellsAlive, MarksExit}
-use Rattle.ert_effects.specs.declared.answers.Handed.{Handed}
-use Rattle.ert_effects.specs.declared.answers.Handed.TheVariants.{Put, Dropped}
-use Rattle.ert_effects.specs.declared.answers.StartErr.{StartErr}
 use Rattle.ert_effects.specs.declared.answers.StartErr.TheVariants as starts
-use Rattle.ert_effects.specs.declared.answers.Taken.{Taken}
-use Rattle.ert_effects.specs.declared.answers.Taken.TheVariants.{Mail, Empty, Exited}
-use Rattle.ert_effects.specs.declared.answers.Turned.{Turned}
-use Rattle.ert_clock.specs.Ticks.{tick_entries}
-use Rattle.ert_clock.specs.declared.clock.ClockErr.{ClockErr}
-use Rattle.ert_clock.specs.declared.clock.ClockErr.TheVariants.{BadReading, OffsetWide}
-use Rattle.ert_clock.specs.declared.clock.Moved.{Moved}
-use Rattle.ert_defs.specs.Legal.{names_timer}
-use Rattle.ert_defs.specs.States.{State, state}
-use Rattle.ert_defs.specs.Timers.{Row}
-use Rattle.ert_defs.specs.declared.entry.Act.{Act}
-use Rattle.ert_defs.specs.declared.entry.Actor.{Actor}
-use Rattle.ert_defs.specs.declared.entry.Actor.TheVariants.{Caller, Sched}
-use Rattle.ert_defs.specs.declared.entry.Entry.{Entry}
-use Rattle.ert_defs.specs.declared.entry.Event.{Event}
-use Rattle.ert_defs.specs.declared.entry.Event.TheVariants.{Arm, Ask, Mark, Tell, Watch}
-use Rattle.ert_defs.specs.declared.mail.Request.{Request}
-use Rattle.ert_defs.specs.declared.mail.RequestKind.{RequestKind}
-use Rattle.ert_defs.specs.declared.mail.RequestKind.TheVariants.{Cancel as ToCancel, Read as ToRead}
-use Rattle.ert_defs.specs.declared.memory.NoMemory.{NoMemory as OutOfMemory}
-use Rattle.ert_defs.specs.declared.settings.Reading.{Reading}
-use Rattle.ert_defs.specs.declared.settings.Settings.{Settings}
-use Rattle.ert_defs.specs.declared.timer.Kind.TheVariants.{Wrapped}
-use Rattle.ert_defs.specs.declared.timer.Start.{Start}
-use Rattle.ert_defs.specs.declared.timer.Status.{Status}
-use Rattle.ert_defs.specs.declared.timer.TimerRef.{TimerRef}
+use Rattle.ert_clock.specs.{Ticks.tick_entries, declared.clock.ClockErr.ClockErr, declared.clock.ClockErr.TheVariants.{BadReading, OffsetWide}, declared.clock.Moved.Moved}
+use Rattle.ert_defs.specs.{Legal.names_timer, States.{State, state}, Timers.Row, declared.entry.Act.Act, declared.entry.Actor.Actor, declared.entry.Actor.TheVariants.{Caller, Sched}, declared.entry.Entry.Entry, declared.entry.Event.Event}
+use Rattle.ert_defs.specs.{declared.entry.Event.TheVariants.{Arm, Ask, Mark, Tell, Watch}, declared.mail.Request.Request, declared.mail.RequestKind.RequestKind, declared.mail.RequestKind.TheVariants.{Cancel as ToCancel, Read as ToRead}}
+use Rattle.ert_defs.specs.{declared.memory.NoMemory.NoMemory as OutOfMemory, declared.settings.Reading.Reading, declared.settings.Settings.Settings, declared.timer.Kind.TheVariants.Wrapped, declared.timer.Start.Start}
+use Rattle.ert_defs.specs.{declared.timer.Status.Status, declared.timer.TimerRef.TimerRef}
 use Rattle.ert_names.specs.Fits.{EventFits, AllFit, FitsRows}
 use Rattle.ert_world.specs.Worlds.{Seen, Goes, By}
 

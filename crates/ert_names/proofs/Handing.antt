@@ -1,27 +1,15 @@
 -- Messages that are handed over one after the other, and the mail of a process among all that waits.
 
 use Rattle.std.proofs.Common.{◌^◌, ◌≡◌, ◌≢◌, Result, Ok, Err, ℕ, zero, suc, ◌+◌, ◌<◌, ◌≤◌, Bool, true, false, cond, nat_eq, List, [], ◌∷◌, ◌++◌, All, length, map, slice_index_or, Option, Some, None, string_bytes, refl, sym, ap, subst, ◌∙◌, arith, append-nil, append_assoc}
-use Rattle.std.proofs.lemmas.List.{length-map, length_push}
-use Rattle.std.proofs.lemmas.List.Elements.{All-nil, All-push, filter_map-append}
+use Rattle.std.proofs.lemmas.List.{length-map, length_push, Elements.{All-nil, All-push, filter_map-append}}
 use Rattle.std.specs.FinMap as finite
-use Rattle.std.specs.List.{cons_option, filter_map, remove}
-use Rattle.std.specs.Option.{is_some, option_map}
-use Rattle.ert_effects.specs.Chains.{Turns}
-use Rattle.ert_effects.specs.Ways.{Growth, Way, Then}
-use Rattle.ert_effects.specs.declared.answers.StartErr.{StartErr}
+use Rattle.std.specs.{List.{cons_option, filter_map, remove}, Option.{is_some, option_map}}
+use Rattle.ert_effects.specs.{Chains.Turns, Ways.{Growth, Way, Then}, declared.answers.StartErr.StartErr, declared.answers.Turned.Turned}
 use Rattle.ert_effects.specs.declared.answers.StartErr.TheVariants as starts
-use Rattle.ert_effects.specs.declared.answers.Turned.{Turned}
-use Rattle.ert_defs.specs.Legal.{Legal}
-use Rattle.ert_defs.specs.declared.memory.NoMemory.{NoMemory}
-use Rattle.ert_defs.specs.declared.settings.Settings.{Settings}
-use Rattle.ert_defs.specs.declared.timer.When.{When}
-use Rattle.ert_defs.specs.declared.timer.TimerRef.{TimerRef}
-use Rattle.ert_names.specs.Calls.{HandsMessagesOver, AreCounted, Message, TakesFirst, TakesMany, FindsNoMessage, GoesAlone, HasTurnedAndHanded, HasTurnedInPart, StartsAt, StartsNamed, posted, posted_by, row_at_place, named_mail_of, ArePast, first_for, others_for}
-use Rattle.ert_names.specs.Handing.{waiting, HasTakenFirst, HandsOne, HandsNone, HandsThem, HandsSome}
-use Rattle.ert_names.specs.Names.{Names}
-use Rattle.ert_names.specs.Registered.{Registered, RowSeen, row_seen}
-use Rattle.ert_names.specs.declared.named.NamedMail.{NamedMail}
-use Rattle.ert_names.specs.declared.named.NamedRow.{NamedRow}
+use Rattle.ert_defs.specs.{Legal.Legal, declared.memory.NoMemory.NoMemory, declared.settings.Settings.Settings, declared.timer.When.When, declared.timer.TimerRef.TimerRef}
+use Rattle.ert_names.specs.{Calls.{HandsMessagesOver, AreCounted, Message, TakesFirst, TakesMany, FindsNoMessage, GoesAlone, HasTurnedAndHanded, HasTurnedInPart, StartsAt, StartsNamed, posted, posted_by, row_at_place, named_mail_of}}
+use Rattle.ert_names.specs.{Calls.{ArePast, first_for, others_for}, Handing.{waiting, HasTakenFirst, HandsOne, HandsNone, HandsThem, HandsSome}, Names.Names, Registered.{Registered, RowSeen, row_seen}, declared.named.NamedMail.NamedMail}
+use Rattle.ert_names.specs.{declared.named.NamedRow.NamedRow}
 use Rattle.ert_world.proofs.Composed.{goes_then, goes_more, goes_nothing}
 use Rattle.ert_world.specs.Worlds.{Goes}
 

@@ -2,31 +2,14 @@
 
 use Rattle.std.proofs.Common.{◌≡◌, ◌≢◌, ℕ, ◌≤◌, Bool, true, false, cond, nat_eq, List, [], ◌∷◌, ◌++◌, Option, Some, None, IfSome, Result, Ok, Err, OnOk, OnErr, refl, sym, ap, subst, ◌∙◌}
 use Rattle.std.proofs.lemmas.Bool.{eq-eqb}
-use Rattle.std.specs.Cmp.Lexicographic.{slice_cmp, nat_list_cmp_total}
+use Rattle.std.specs.{Cmp.Lexicographic.{slice_cmp, nat_list_cmp_total}, Ordering.{nat_cmp, eq_by_cmp}}
 use Rattle.std.specs.FinMap as finite
-use Rattle.std.specs.Ordering.{nat_cmp, eq_by_cmp}
-use Rattle.ert_effects.specs.Chains.{Exits}
-use Rattle.ert_effects.specs.MailCalls.{Takes}
-use Rattle.ert_effects.specs.WheelCalls.{TellsAlive}
-use Rattle.ert_effects.specs.Ways.{Growth, Way, Grows, alone}
-use Rattle.ert_effects.specs.declared.answers.Taken.TheVariants.{Mail, Empty}
+use Rattle.ert_effects.specs.{Chains.Exits, MailCalls.Takes, WheelCalls.TellsAlive, Ways.{Growth, Way, Grows, alone}, declared.answers.Taken.TheVariants.{Mail, Empty}}
 use Rattle.ert_defs.proofs.Runs.{legal_then, state-append}
-use Rattle.ert_defs.specs.Entries.{mark_entry}
-use Rattle.ert_defs.specs.Legal.{Legal, LegalFrom}
-use Rattle.ert_defs.specs.States.{State, opening, next, run, state}
-use Rattle.ert_defs.specs.declared.entry.Actor.TheVariants.{Caller}
-use Rattle.ert_defs.specs.declared.entry.Entry.{Entry}
-use Rattle.ert_defs.specs.declared.mail.Mail.TheVariants.{Timeout}
-use Rattle.ert_defs.specs.declared.memory.NoMemory.{NoMemory}
-use Rattle.ert_defs.specs.declared.settings.Settings.{Settings}
-use Rattle.ert_names.specs.Calls.{Message}
-use Rattle.ert_names.specs.Fits.{AllFit, FitsNames}
-use Rattle.ert_names.specs.Handing.{TakesNext}
-use Rattle.ert_names.specs.Living.{Lives, AreLiving}
-use Rattle.ert_names.specs.Names.{Names, Unnamed, IsWithout, other_than}
-use Rattle.ert_names.proofs.Books.{some_is}
-use Rattle.ert_names.proofs.Fitting.{AreFitting, fits_on, fits_more, takes_fit, alive_fits, exits_fit}
-use Rattle.ert_names.proofs.Registrars.{lives_event}
+use Rattle.ert_defs.specs.{Entries.mark_entry, Legal.{Legal, LegalFrom}, States.{State, opening, next, run, state}, declared.entry.Actor.TheVariants.Caller, declared.entry.Entry.Entry, declared.mail.Mail.TheVariants.Timeout}
+use Rattle.ert_defs.specs.{declared.memory.NoMemory.NoMemory, declared.settings.Settings.Settings}
+use Rattle.ert_names.specs.{Calls.Message, Fits.{AllFit, FitsNames}, Handing.TakesNext, Living.{Lives, AreLiving}, Names.{Names, Unnamed, IsWithout, other_than}}
+use Rattle.ert_names.proofs.{Books.some_is, Fitting.{AreFitting, fits_on, fits_more, takes_fit, alive_fits, exits_fit}, Registrars.lives_event}
 use Rattle.ert_world.specs.Worlds.{Seen, Goes, By}
 
 -- a process that entries spare lives on

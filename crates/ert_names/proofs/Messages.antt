@@ -2,24 +2,12 @@
 
 use Rattle.std.proofs.Common.{◌≡◌, ℕ, true, false, List, [], ◌∷◌, ◌++◌, All, Some, None, sym, ap, subst, ◌∙◌}
 use Rattle.std.proofs.lemmas.List.Elements.{All-head}
-use Rattle.ert_effects.specs.MailCalls.{Takes}
-use Rattle.ert_effects.specs.Ways.{Grows, alone}
-use Rattle.ert_effects.specs.declared.answers.Taken.{Taken}
-use Rattle.ert_effects.specs.declared.answers.Taken.TheVariants.{Mail, Empty, Exited}
+use Rattle.ert_effects.specs.{MailCalls.Takes, Ways.{Grows, alone}, declared.answers.Taken.Taken, declared.answers.Taken.TheVariants.{Mail, Empty, Exited}}
 use Rattle.ert_defs.proofs.Runs.{legal_first, legal_then, state-append}
-use Rattle.ert_defs.specs.Entries.{mark_entry, take_entry}
-use Rattle.ert_defs.specs.Legal.{Legal, LegalFrom}
-use Rattle.ert_defs.specs.Mails.{first_of, others_of}
-use Rattle.ert_defs.specs.States.{State, opening, run, state}
-use Rattle.ert_defs.specs.declared.entry.Actor.TheVariants.{Caller}
-use Rattle.ert_defs.specs.declared.entry.Entry.{Entry}
-use Rattle.ert_defs.specs.declared.mail.Mail.TheVariants.{Timeout, Bare, CancelDone, ReadDone, Change}
-use Rattle.ert_defs.specs.declared.settings.Settings.{Settings}
-use Rattle.ert_names.proofs.Fitting.{fits_by, takes_fit}
-use Rattle.ert_names.proofs.Registrars.{IsKept, kept_run, kept_opening}
-use Rattle.ert_names.specs.Promised.{IsNamed}
-use Rattle.ert_names.specs.Fits.{FitsRows}
-use Rattle.ert_names.specs.Handing.{timeout_of, TakesNext}
+use Rattle.ert_defs.specs.{Entries.{mark_entry, take_entry}, Legal.{Legal, LegalFrom}, Mails.{first_of, others_of}, States.{State, opening, run, state}, declared.entry.Actor.TheVariants.Caller, declared.entry.Entry.Entry}
+use Rattle.ert_defs.specs.{declared.mail.Mail.TheVariants.{Timeout, Bare, CancelDone, ReadDone, Change}, declared.settings.Settings.Settings}
+use Rattle.ert_names.proofs.{Fitting.{fits_by, takes_fit}, Registrars.{IsKept, kept_run, kept_opening}}
+use Rattle.ert_names.specs.{Promised.IsNamed, Fits.FitsRows, Handing.{timeout_of, TakesNext}}
 use Rattle.ert_world.proofs.Composed.{none_first}
 use Rattle.ert_world.specs.Worlds.{Seen, Goes, By}
 

@@ -2,17 +2,10 @@
 
 use Rattle.std.proofs.Common.{◌≡◌, ◌≢◌, ℕ, true, false, List, [], ◌∷◌, ◌++◌, refl, sym, ap, subst, ◌∙◌}
 use Rattle.ert_defs.proofs.Runs.{legal_first, legal_then}
-use Rattle.ert_defs.specs.Legal.{Can, Known, Legal, LegalFrom}
-use Rattle.ert_defs.specs.States.{State, opening, state}
-use Rattle.ert_defs.specs.declared.entry.Entry.{Entry}
-use Rattle.ert_defs.specs.declared.entry.Event.{Event}
-use Rattle.ert_defs.specs.declared.entry.Event.TheVariants.{Orphan, Drop}
-use Rattle.ert_defs.specs.declared.settings.Settings.{Settings}
+use Rattle.ert_defs.specs.{Legal.{Can, Known, Legal, LegalFrom}, States.{State, opening, state}, declared.entry.Entry.Entry, declared.entry.Event.Event, declared.entry.Event.TheVariants.{Orphan, Drop}, declared.settings.Settings.Settings}
 use Rattle.ert_laws.proofs.Kept.{keeps_laws}
-use Rattle.ert_names.proofs.Messages.{kept_world}
-use Rattle.ert_names.proofs.Registrars.{IsKept, kept_run, kept_opening}
-use Rattle.ert_names.specs.Fits.{AllFit, FitsRows}
-use Rattle.ert_names.specs.Promised.{SparesNamed, IsPromised}
+use Rattle.ert_names.proofs.{Messages.kept_world, Registrars.{IsKept, kept_run, kept_opening}}
+use Rattle.ert_names.specs.{Fits.{AllFit, FitsRows}, Promised.{SparesNamed, IsPromised}}
 use Rattle.ert_world.specs.Worlds.{Seen, StandsFor}
 
 -- what exits isn't the registrar

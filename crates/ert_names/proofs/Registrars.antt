@@ -1,28 +1,13 @@
 -- What the registrar has after a legal history that fits some rows: messages of these rows alone, and few.
 
 use Rattle.std.proofs.Common.{◌≡◌, ℕ, ◌<◌, Bool, true, false, ◌&&◌, nat_eq, List, [], ◌∷◌, ◌++◌, All, Option, Some, None, refl, sym, ap, subst, ◌∙◌, append-nil, eqb-true}
-use Rattle.std.proofs.lemmas.Bool.{cond_both}
-use Rattle.std.proofs.lemmas.List.Elements.{All-nil, All-cons, All-push, All-append, All-head, All-tail}
+use Rattle.std.proofs.lemmas.{Bool.cond_both, List.Elements.{All-nil, All-cons, All-push, All-append, All-head, All-tail}}
 use Rattle.ert_defs.proofs.Standing.{of_row}
-use Rattle.ert_defs.specs.Actors.{has_actor}
-use Rattle.ert_defs.specs.Legal.{Can, Keeps, Known, LegalFrom}
-use Rattle.ert_defs.specs.Mails.{MailState, SchedState, first_of, others_of, message_by, message_of, message_in, mail_after, inbox_after, sched_after, with_row}
-use Rattle.ert_defs.specs.Milliseconds.{deadline_of}
-use Rattle.ert_defs.specs.States.{State, opening, next, run, exited_after}
-use Rattle.ert_defs.specs.Timers.{Row, deadline_told, row_from, row_of, rows_after}
-use Rattle.ert_defs.specs.declared.entry.Actor.{Actor}
-use Rattle.ert_defs.specs.declared.entry.Actor.TheVariants.{Wheel, Inbox, Sched, MailOf}
-use Rattle.ert_defs.specs.declared.entry.Entry.{Entry}
-use Rattle.ert_defs.specs.declared.entry.Event.{Event}
-use Rattle.ert_defs.specs.declared.entry.Event.TheVariants.{Arm, Expire, Deliver, Drop, Mark, Ask, Pick, Answer, Take, Tell}
-use Rattle.ert_defs.specs.declared.mail.Request.{Request}
-use Rattle.ert_defs.specs.declared.settings.Settings.{Settings}
-use Rattle.ert_defs.specs.declared.timer.Kind.{Kind}
-use Rattle.ert_defs.specs.declared.timer.Kind.TheVariants.{Wrapped}
-use Rattle.ert_defs.specs.declared.timer.Start.{Start}
-use Rattle.ert_defs.specs.declared.timer.TimerRef.{TimerRef}
-use Rattle.ert_names.specs.Fits.{EventFits, AllFit}
-use Rattle.ert_names.specs.Promised.{IsForName, IsNamed}
+use Rattle.ert_defs.specs.{Actors.has_actor, Legal.{Can, Keeps, Known, LegalFrom}, Mails.{MailState, SchedState, first_of, others_of, message_by, message_of, message_in, mail_after, inbox_after, sched_after, with_row}}
+use Rattle.ert_defs.specs.{Milliseconds.deadline_of, States.{State, opening, next, run, exited_after}, Timers.{Row, deadline_told, row_from, row_of, rows_after}, declared.entry.Actor.Actor, declared.entry.Actor.TheVariants.{Wheel, Inbox}}
+use Rattle.ert_defs.specs.{declared.entry.Actor.TheVariants.{Sched, MailOf}, declared.entry.Entry.Entry, declared.entry.Event.Event, declared.entry.Event.TheVariants.{Arm, Expire, Deliver, Drop, Mark, Ask, Pick, Answer, Take, Tell}}
+use Rattle.ert_defs.specs.{declared.mail.Request.Request, declared.settings.Settings.Settings, declared.timer.Kind.Kind, declared.timer.Kind.TheVariants.Wrapped, declared.timer.Start.Start, declared.timer.TimerRef.TimerRef}
+use Rattle.ert_names.specs.{Fits.{EventFits, AllFit}, Promised.{IsForName, IsNamed}}
 
 -- what a state has whose history fits so many rows
 pub record IsKept (n : ℕ) (s : State) : Type 0 where

@@ -2,21 +2,11 @@
 
 use Rattle.std.proofs.Common.{◌^◌, ◌≡◌, ℕ, ◌+◌, ◌≤◌, Bool, true, false, cond, List, [], ◌∷◌, length, filter, Option, refl, arith, append-nil}
 use Rattle.std.proofs.lemmas.List.{length-append}
-use Rattle.ert_defs.specs.Actors.{is_with, has_actor}
-use Rattle.ert_defs.specs.Legal.{Can, Keeps, LegalFrom}
-use Rattle.ert_defs.specs.Mails.{MailState, others_of, message_in, mail_after}
-use Rattle.ert_defs.specs.States.{State, opening, next, run}
-use Rattle.ert_defs.specs.Timers.{Row}
-use Rattle.ert_defs.specs.declared.entry.Actor.{Actor}
-use Rattle.ert_defs.specs.declared.entry.Actor.TheVariants.{Sched, MailOf}
-use Rattle.ert_defs.specs.declared.entry.Entry.{Entry}
-use Rattle.ert_defs.specs.declared.entry.Event.{Event}
-use Rattle.ert_defs.specs.declared.entry.Event.TheVariants.{Deliver, Answer, Take, Tell}
-use Rattle.ert_defs.specs.declared.settings.Settings.{Settings}
+use Rattle.ert_defs.specs.{Actors.{is_with, has_actor}, Legal.{Can, Keeps, LegalFrom}, Mails.{MailState, others_of, message_in, mail_after}, States.{State, opening, next, run}, Timers.Row, declared.entry.Actor.Actor}
+use Rattle.ert_defs.specs.{declared.entry.Actor.TheVariants.{Sched, MailOf}, declared.entry.Entry.Entry, declared.entry.Event.Event, declared.entry.Event.TheVariants.{Deliver, Answer, Take, Tell}, declared.settings.Settings.Settings}
 use Rattle.ert_laws.specs.Counts.{delivers_to, deliveries}
 use Rattle.ert_names.proofs.Registrars.{IsKept, kept_next, kept_opening}
-use Rattle.ert_names.specs.Fits.{EventFits, AllFit, FitsRows}
-use Rattle.ert_names.specs.Handing.{waiting}
+use Rattle.ert_names.specs.{Fits.{EventFits, AllFit, FitsRows}, Handing.waiting}
 use Rattle.ert_world.proofs.Totals.{delivered_few}
 use Rattle.ert_world.specs.Worlds.{Seen, StandsFor}
 

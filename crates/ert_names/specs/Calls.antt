@@ -3,32 +3,13 @@
 use Rattle.std.specs.Prelude.{◌≡◌, ◌≢◌, ◌⊎◌, ℕ, zero, suc, ◌+◌, All, Bool, ◌<◌, ◌≤◌, true, false, cond, nat_eq, List, [], ◌∷◌, ◌++◌, length, slice_index_or, filter_map, Option, Some, None, option_map, Result, Ok, Err, codes}
 use Rattle.std.specs.FinMap as map
 use Rattle.std.specs.List.{remove}
-use Rattle.ert_effects.specs.Chains.{Turns}
-use Rattle.ert_effects.specs.MailCalls.{Takes}
-use Rattle.ert_effects.specs.TimerCalls.{Starts}
-use Rattle.ert_effects.specs.WheelCalls.{TellsAlive}
-use Rattle.ert_effects.specs.Ways.{Growth, Way, Then, Many}
-use Rattle.ert_effects.specs.declared.answers.StartErr.{StartErr}
+use Rattle.ert_effects.specs.{Chains.Turns, MailCalls.Takes, TimerCalls.Starts, WheelCalls.TellsAlive, Ways.{Growth, Way, Then, Many}, declared.answers.StartErr.StartErr, declared.answers.Taken.TheVariants.Mail as OneMail}
+use Rattle.ert_effects.specs.{declared.answers.Taken.TheVariants.Empty as NoMail, declared.answers.Turned.Turned}
 use Rattle.ert_effects.specs.declared.answers.StartErr.TheVariants as starts
-use Rattle.ert_effects.specs.declared.answers.Taken.TheVariants.{Mail as OneMail, Empty as NoMail}
-use Rattle.ert_effects.specs.declared.answers.Turned.{Turned}
-use Rattle.ert_defs.specs.States.{state}
-use Rattle.ert_defs.specs.declared.entry.Actor.TheVariants.{Caller}
-use Rattle.ert_defs.specs.declared.mail.Mail.TheVariants.{Timeout}
-use Rattle.ert_defs.specs.declared.memory.NoMemory.{NoMemory as OutOfMemory}
-use Rattle.ert_defs.specs.declared.settings.Settings.{Settings}
-use Rattle.ert_defs.specs.declared.timer.Kind.TheVariants.{Wrapped}
-use Rattle.ert_defs.specs.declared.timer.Start.{Start}
-use Rattle.ert_defs.specs.declared.timer.TimerRef.{TimerRef}
-use Rattle.ert_defs.specs.declared.timer.When.{When}
-use Rattle.ert_names.specs.Names.{Names, IsWithout, Unnamed}
-use Rattle.ert_names.specs.Registered.{Registered, RowSeen}
-use Rattle.ert_names.specs.declared.named.NameErr.{NameErr}
-use Rattle.ert_names.specs.declared.named.NameErr.TheVariants.{BadArg, NoMemory}
-use Rattle.ert_names.specs.declared.named.NamedMail.{NamedMail}
-use Rattle.ert_names.specs.declared.named.NamedTaken.{NamedTaken}
-use Rattle.ert_names.specs.declared.named.NamedTaken.TheVariants.{Mail, Empty, Exited}
-use Rattle.ert_names.specs.declared.named.NamedTurn.{NamedTurn}
+use Rattle.ert_defs.specs.{States.state, declared.entry.Actor.TheVariants.Caller, declared.mail.Mail.TheVariants.Timeout, declared.memory.NoMemory.NoMemory as OutOfMemory, declared.settings.Settings.Settings}
+use Rattle.ert_defs.specs.{declared.timer.Kind.TheVariants.Wrapped, declared.timer.Start.Start, declared.timer.TimerRef.TimerRef, declared.timer.When.When}
+use Rattle.ert_names.specs.{Names.{Names, IsWithout, Unnamed}, Registered.{Registered, RowSeen}, declared.named.NameErr.NameErr, declared.named.NameErr.TheVariants.{BadArg, NoMemory}, declared.named.NamedMail.NamedMail}
+use Rattle.ert_names.specs.{declared.named.NamedTaken.NamedTaken, declared.named.NamedTaken.TheVariants.{Mail, Empty, Exited}, declared.named.NamedTurn.NamedTurn}
 use Rattle.ert_world.specs.Worlds.{Seen, Goes, By}
 
 -- a world that gave out no seat makes a call: so its history grows as that of one thread

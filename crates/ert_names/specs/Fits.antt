@@ -2,12 +2,8 @@
 -- name lives.
 
 use Rattle.std.specs.Prelude.{◌≡◌, ℕ, ◌<◌, ◌≤◌, false, List, [], ◌∷◌}
-use Rattle.ert_defs.specs.declared.entry.Entry.{Entry}
-use Rattle.ert_defs.specs.declared.entry.Event.{Event}
-use Rattle.ert_defs.specs.declared.entry.Event.TheVariants.{Arm, Ask, Mark, Tell, Watch}
-use Rattle.ert_defs.specs.declared.timer.Kind.TheVariants.{Wrapped}
-use Rattle.ert_names.specs.Living.{AreLiving}
-use Rattle.ert_names.specs.Names.{Names}
+use Rattle.ert_defs.specs.declared.{entry.Entry.Entry, entry.Event.Event, entry.Event.TheVariants.{Arm, Ask, Mark, Tell, Watch}, timer.Kind.TheVariants.Wrapped}
+use Rattle.ert_names.specs.{Living.AreLiving, Names.Names}
 use Rattle.ert_world.specs.Worlds.{Seen}
 
 -- an event where so many rows were made, and by which a process doesn't exit: a timer for the registrar is wrapped

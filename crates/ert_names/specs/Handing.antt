@@ -1,16 +1,9 @@
 -- How the messages of the registrar are handed over, one after the other.
 
 use Rattle.std.specs.Prelude.{◌≡◌, ℕ, ◌+◌, ◌<◌, Bool, List, [], ◌∷◌, length, Option, Some, None, is_some, Result, Ok, Err}
-use Rattle.ert_effects.specs.Ways.{Then}
-use Rattle.ert_effects.specs.declared.answers.Taken.{Taken}
-use Rattle.ert_effects.specs.declared.answers.Taken.TheVariants.{Mail as OneMail}
-use Rattle.ert_defs.specs.States.{state}
-use Rattle.ert_defs.specs.declared.mail.Mail.{Mail}
-use Rattle.ert_defs.specs.declared.mail.Mail.TheVariants.{Timeout}
-use Rattle.ert_defs.specs.declared.memory.NoMemory.{NoMemory}
-use Rattle.ert_names.specs.Calls.{GoesLone, GoesAlone, HandsMessagesOver, AreCounted, Message, TakesFirst, TakesMany, FindsNoMessage, posted}
-use Rattle.ert_names.specs.Fits.{FitsRows}
-use Rattle.ert_names.specs.Registered.{Registered}
+use Rattle.ert_effects.specs.{Ways.Then, declared.answers.Taken.Taken, declared.answers.Taken.TheVariants.Mail as OneMail}
+use Rattle.ert_defs.specs.{States.state, declared.mail.Mail.Mail, declared.mail.Mail.TheVariants.Timeout, declared.memory.NoMemory.NoMemory}
+use Rattle.ert_names.specs.{Calls.{GoesLone, GoesAlone, HandsMessagesOver, AreCounted, Message, TakesFirst, TakesMany, FindsNoMessage, posted}, Fits.FitsRows, Registered.Registered}
 use Rattle.ert_world.specs.Worlds.{Seen}
 
 -- the messages that wait for the registrar

@@ -1,10 +1,8 @@
 -- Names of processes.
 
 use Rattle.std.specs.Prelude.{◌≡◌, ◌≢◌, ℕ, cond, nat_eq, List, map, Option, Some, None, String, string_bytes}
-use Rattle.std.specs.Cmp.Lexicographic.{slice_cmp}
+use Rattle.std.specs.{Cmp.Lexicographic.slice_cmp, Ordering.nat_cmp, declared.alloc.Global.Global}
 use Rattle.std.specs.FinMap as finite
-use Rattle.std.specs.Ordering.{nat_cmp}
-use Rattle.std.specs.declared.alloc.Global.{Global}
 
 -- the process of each registered name, by the name's bytes
 abbrev pub Names : Type 0

@@ -2,16 +2,8 @@
 -- alone, which no exit settles.
 
 use Rattle.std.specs.Prelude.{◌≡◌, ◌≢◌, ℕ, ◌<◌, false, All, List, ◌∷◌, ◌++◌, Some}
-use Rattle.ert_defs.specs.Legal.{IsFirst}
-use Rattle.ert_defs.specs.States.{state}
-use Rattle.ert_defs.specs.Timers.{Row, row_of}
-use Rattle.ert_defs.specs.declared.entry.Entry.{Entry}
-use Rattle.ert_defs.specs.declared.entry.Event.{Event}
-use Rattle.ert_defs.specs.declared.entry.Event.TheVariants.{Orphan, Drop}
-use Rattle.ert_defs.specs.declared.mail.Mail.{Mail}
-use Rattle.ert_defs.specs.declared.mail.Mail.TheVariants.{Timeout}
-use Rattle.ert_defs.specs.declared.settings.Settings.{Settings}
-use Rattle.ert_defs.specs.declared.timer.Kind.TheVariants.{Wrapped}
+use Rattle.ert_defs.specs.{Legal.IsFirst, States.state, Timers.{Row, row_of}, declared.entry.Entry.Entry, declared.entry.Event.Event, declared.entry.Event.TheVariants.{Orphan, Drop}, declared.mail.Mail.Mail}
+use Rattle.ert_defs.specs.{declared.mail.Mail.TheVariants.Timeout, declared.settings.Settings.Settings, declared.timer.Kind.TheVariants.Wrapped}
 use Rattle.ert_laws.specs.KeptLaws.{KeepsLaws}
 use Rattle.ert_world.specs.Worlds.{Seen}
 

@@ -2,9 +2,7 @@
 
 use Rattle.std.specs.Prelude.{ℕ, List, map, string_bytes}
 use Rattle.ert_defs.specs.declared.timer.Kind.{Kind}
-use Rattle.ert_names.specs.Names.{Names}
-use Rattle.ert_names.specs.declared.named.NamedMail.{NamedMail}
-use Rattle.ert_names.specs.declared.named.NamedRow.{NamedRow}
+use Rattle.ert_names.specs.{Names.Names, declared.named.NamedMail.NamedMail, declared.named.NamedRow.NamedRow}
 use Rattle.ert_world.specs.Worlds.{Seen}
 
 -- what stays of a start for a name: the name's bytes, the message and the kind

@@ -12,8 +12,7 @@ const LONGEST_NAME: usize = 255;
 impl NameWorld {
     ghost use Rattle.std.specs.Prelude.{◌<◌, is_some, IfSome};
     ghost use Rattle.std.specs.FinMap as map;
-    ghost use Rattle.ert_names.specs.Calls.{Registers, AreFree};
-    ghost use Rattle.ert_names.specs.Living.{Lives};
+    ghost use Rattle.ert_names.specs.{Calls.{Registers, AreFree}, Living.Lives};
 
     /// Gives a name to a process that has none.
     ///

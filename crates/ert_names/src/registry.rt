@@ -16,9 +16,7 @@ pub(crate) struct Registry {
 
 impl Model for Registry {
     ghost use Rattle.std.specs.Prelude.{ℕ};
-    ghost use Rattle.std.specs.Ordering.{nat_cmp};
-    ghost use Rattle.std.specs.Cmp.Lexicographic.{slice_cmp};
-    ghost use Rattle.std.specs.Coded.{coded_ℕ, coded_list};
+    ghost use Rattle.std.specs.{Ordering.nat_cmp, Cmp.Lexicographic.slice_cmp, Coded.{coded_ℕ, coded_list}};
     ghost use Rattle.std.specs.FinMap as map;
     ghost use Rattle.ert_names.specs.Names.{processes_of, names_of, AreInverse};
 

@@ -1,7 +1,6 @@
 //! Turns: what the scheduler of a wheel does, and then the messages for names are handed over.
 ghost use Rattle.std.specs.Prelude.{◌≡◌, ℕ};
-ghost use Rattle.ert_names.specs.Fits.{FitsRows};
-ghost use Rattle.ert_names.specs.Handing.{TakesNext, timeout_of};
+ghost use Rattle.ert_names.specs.{Fits.FitsRows, Handing.{TakesNext, timeout_of}};
 
 use crate::named::{NamedMail, NamedTurn};
 use crate::world::{NameWorld, REGISTRAR};
@@ -11,8 +10,7 @@ use ert_world::World;
 
 impl NameWorld {
     ghost use Rattle.std.specs.Prelude.{◌<◌};
-    ghost use Rattle.ert_names.specs.Calls.{TurnsNamed};
-    ghost use Rattle.ert_names.specs.Handing.{HandsAll, HandsNext};
+    ghost use Rattle.ert_names.specs.{Calls.TurnsNamed, Handing.{HandsAll, HandsNext}};
 
     /// A turn of a scheduler, as `World::turn`, and then every message for a name goes to the named mail of
     /// the process that has the name now, in order. It is lost where no process has it.

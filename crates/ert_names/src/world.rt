@@ -21,13 +21,10 @@ pub struct NameWorld {
 }
 
 impl Model for NameWorld {
-    ghost use Rattle.std.specs.Coded.{codes, coded_ℕ, coded_list};
-    ghost use Rattle.std.specs.Cmp.Lexicographic.{slice_cmp};
+    ghost use Rattle.std.specs.{Coded.{codes, coded_ℕ, coded_list}, Cmp.Lexicographic.slice_cmp, Ordering.nat_cmp};
     ghost use Rattle.std.specs.FinMap as map;
-    ghost use Rattle.std.specs.Ordering.{nat_cmp};
     ghost use Rattle.std.specs.Prelude.{length};
-    ghost use Rattle.ert_names.specs.Fits.{FitsNames};
-    ghost use Rattle.ert_names.specs.Registered.{Registered, seen_with_names};
+    ghost use Rattle.ert_names.specs.{Fits.FitsNames, Registered.{Registered, seen_with_names}};
     ghost use Rattle.ert_timers.specs.Parts.{part_code};
 
     ghost Value = { Registered };
@@ -43,9 +40,7 @@ impl NameWorld {
     ghost use Rattle.std.specs.Prelude.{◌≡◌, ◌≤◌, [], length, IfOk};
     ghost use Rattle.std.specs.FinMap as map;
     ghost use Rattle.ert_defs.specs.Settings.{IsChecked};
-    ghost use Rattle.ert_names.specs.Living.{AreLiving};
-    ghost use Rattle.ert_names.specs.Openings.{IsOpenedWithoutNames};
-    ghost use Rattle.ert_names.specs.Promised.{IsPromised};
+    ghost use Rattle.ert_names.specs.{Living.AreLiving, Openings.IsOpenedWithoutNames, Promised.IsPromised};
 
     /// Opens a service without names.
     pub fn open(alloc: Global, settings: &Settings) -> Result<NameWorld, NoMemory>

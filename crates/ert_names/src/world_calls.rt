@@ -7,17 +7,11 @@ use ert_timers::StartErr;
 
 impl NameWorld {
     ghost use Rattle.std.specs.Prelude.{◌≡◌, ◌≢◌, ◌<◌, Err};
-    ghost use Rattle.ert_effects.specs.Chains.{Exits};
-    ghost use Rattle.ert_effects.specs.ClockCalls.{Ticks};
-    ghost use Rattle.ert_effects.specs.MailCalls.{Takes};
-    ghost use Rattle.ert_effects.specs.TimerCalls.{Reads, Cancels, Starts};
-    ghost use Rattle.ert_effects.specs.declared.answers.StartErr.TheVariants.{Full, NoMemory};
+    ghost use Rattle.ert_effects.specs.{Chains.Exits, ClockCalls.Ticks, MailCalls.Takes, TimerCalls.{Reads, Cancels, Starts}, declared.answers.StartErr.TheVariants.{Full, NoMemory}};
     ghost use Rattle.ert_clock.specs.Ticks.{act_of, Gives};
     ghost use Rattle.ert_defs.specs.declared.entry.Actor.TheVariants.{Caller};
-    ghost use Rattle.ert_names.specs.Calls.{GoesAlone, GoesAloneOnClock, ExitDropsName};
-    ghost use Rattle.ert_names.specs.Names.{Unnamed};
-    ghost use Rattle.ert_world.specs.Frees.{IsUsedUpAt};
-    ghost use Rattle.ert_world.specs.Worlds.{By};
+    ghost use Rattle.ert_names.specs.{Calls.{GoesAlone, GoesAloneOnClock, ExitDropsName}, Names.Unnamed};
+    ghost use Rattle.ert_world.specs.{Frees.IsUsedUpAt, Worlds.By};
 
     /// Takes one reading of the OS clocks, as `World::tick`.
     pub fn tick(&mut self, reading: Reading, force: bool) -> Result<Moved, ClockErr>

@@ -2,35 +2,15 @@
 -- else was tried.
 
 use Rattle.std.proofs.Common.{◌≡◌, ◌≢◌, ℕ, ℤ, pos, ◌≤◌, ◌≤ℤ◌, Bool, true, false, cond, ◌&&◌, nat_eq, nat_le, List, [], ◌∷◌, ◌++◌, All, AllPairs, length, Option, Some, None, refl, sym, ap, ◌∙◌, subst, arith, eq-eqb}
-use Rattle.std.proofs.lemmas.Int.{ints}
-use Rattle.std.proofs.lemmas.Bool.Decides.{nat_tests}
-use Rattle.std.proofs.lemmas.List.Elements.{All-head, All-tail}
+use Rattle.std.proofs.lemmas.{Int.ints, Bool.Decides.nat_tests, List.Elements.{All-head, All-tail}}
 use Rattle.ert_effects.specs.WheelCalls.{Try, expires_by, expiry_entries, hits, HasAdvanced}
-use Rattle.ert_defs.proofs.ExpiredTimers.{cond_same, same_timer_self, same_timer-false}
-use Rattle.ert_defs.proofs.Lists.{pairs_head, pairs_tail}
-use Rattle.ert_defs.proofs.Rows.{Differ}
-use Rattle.ert_defs.specs.Actors.{has_actor}
-use Rattle.ert_defs.specs.Clocks.{Clock}
-use Rattle.ert_defs.specs.Entries.{look_entry, expire_entry, probe_entry, advanced_entry}
-use Rattle.ert_defs.specs.Laws.{is_armed}
-use Rattle.ert_defs.specs.Legal.{Can, IsNext, LegalFrom}
-use Rattle.ert_defs.specs.Milliseconds.{down, natural}
-use Rattle.ert_defs.specs.States.{State, next, run}
-use Rattle.ert_defs.specs.Timers.{Row, same_timer, settled_as}
-use Rattle.ert_defs.specs.declared.entry.Actor.TheVariants.{Wheel, Sched}
-use Rattle.ert_defs.specs.declared.entry.Entry.{Entry}
-use Rattle.ert_defs.specs.declared.settings.Settings.{Settings}
-use Rattle.ert_defs.specs.declared.timer.Status.{Status}
-use Rattle.ert_defs.specs.declared.timer.Status.TheVariants.{Expired}
-use Rattle.ert_defs.specs.declared.timer.TimerRef.{TimerRef}
+use Rattle.ert_defs.proofs.{ExpiredTimers.{cond_same, same_timer_self, same_timer-false}, Lists.{pairs_head, pairs_tail}, Rows.Differ}
+use Rattle.ert_defs.specs.{Actors.has_actor, Clocks.Clock, Entries.{look_entry, expire_entry, probe_entry, advanced_entry}, Laws.is_armed, Legal.{Can, IsNext, LegalFrom}, Milliseconds.{down, natural}, States.{State, next, run}, Timers.Row}
+use Rattle.ert_defs.specs.{Timers.{same_timer, settled_as}, declared.entry.Actor.TheVariants.{Wheel, Sched}, declared.entry.Entry.Entry, declared.settings.Settings.Settings, declared.timer.Status.Status}
+use Rattle.ert_defs.specs.{declared.timer.Status.TheVariants.Expired, declared.timer.TimerRef.TimerRef}
 use Rattle.ert_laws.proofs.StandingRows.{differs_from}
-use Rattle.ert_ops.proofs.Bound.{IsName}
-use Rattle.ert_ops.proofs.Due.{IsFirstDue, SameArmed, due_first, due_none, due_pairs}
-use Rattle.ert_ops.proofs.Meets.{IsKept, Meets, meets_next, meets_probed}
-use Rattle.ert_ops.proofs.Shown.{Pairs, SameRow}
-use Rattle.ert_ops.proofs.Steps.{as_look, as_expire, as_advanced}
-use Rattle.ert_ops.specs.Labels.{Labels}
-use Rattle.ert_ops.specs.PlainTurns.{due_rows, expiries, advance_now}
+use Rattle.ert_ops.proofs.{Bound.IsName, Due.{IsFirstDue, SameArmed, due_first, due_none, due_pairs}, Meets.{IsKept, Meets, meets_next, meets_probed}, Shown.{Pairs, SameRow}, Steps.{as_look, as_expire, as_advanced}}
+use Rattle.ert_ops.specs.{Labels.Labels, PlainTurns.{due_rows, expiries, advance_now}}
 
 -- the milliseconds of the record are those of the look
 

@@ -1,26 +1,12 @@
 -- A timer is armed: both services then differ in names alone, by the labels with one more.
 
 use Rattle.std.proofs.Common.{◌≡◌, ◌≢◌, ℕ, ℤ, suc, ◌+◌, ◌<◌, ◌≤◌, Bool, true, false, cond, ◌&&◌, nat_eq, List, [], ◌∷◌, ◌++◌, length, length-append, append-nil, Option, Some, None, refl, sym, ap, ◌∙◌, subst, subst₂, arith, eq-eqb, eqb-true}
-use Rattle.std.proofs.lemmas.Bool.{and_parts}
-use Rattle.std.proofs.lemmas.Bool.Decides.{nat_tests}
-use Rattle.ert_defs.proofs.ExpiredTimers.{same_timer_self}
-use Rattle.ert_defs.proofs.Slots.{same_timer-true}
-use Rattle.ert_defs.proofs.Uses.{told_low}
-use Rattle.ert_defs.specs.Actors.{same_actor, has_actor}
-use Rattle.ert_defs.specs.Entries.{arm_entry}
-use Rattle.ert_defs.specs.Legal.{Can, IsSlot, names_timer}
-use Rattle.ert_defs.specs.Milliseconds.{deadline_of}
-use Rattle.ert_defs.specs.States.{State, uses_at, next}
-use Rattle.ert_defs.specs.Timers.{Row, same_timer, row_from, timer_at}
-use Rattle.ert_defs.specs.declared.entry.Actor.TheVariants.{Wheel, Caller}
-use Rattle.ert_defs.specs.declared.settings.Settings.{Settings}
-use Rattle.ert_defs.specs.declared.timer.Start.{Start}
-use Rattle.ert_defs.specs.declared.timer.Status.TheVariants.{Armed}
-use Rattle.ert_defs.specs.declared.timer.TimerRef.{TimerRef}
-use Rattle.ert_ops.proofs.Bound.{IsName, names_are, names_grow, new_name, name_before, name_is, IsFreeLabel, IsNewTimer}
-use Rattle.ert_ops.proofs.FirstRounds.{first_round, one_more}
-use Rattle.ert_ops.proofs.Meets.{AreUsed, IsUsed, Meets, kept_next, used_later}
-use Rattle.ert_ops.proofs.Shown.{Names, Grows, Pairs, SameRow, Shows, both_if, pairs-append, rows_grow, requests_grow, mails_grow, sched_grows}
+use Rattle.std.proofs.lemmas.Bool.{and_parts, Decides.nat_tests}
+use Rattle.ert_defs.proofs.{ExpiredTimers.same_timer_self, Slots.same_timer-true, Uses.told_low}
+use Rattle.ert_defs.specs.{Actors.{same_actor, has_actor}, Entries.arm_entry, Legal.{Can, IsSlot, names_timer}, Milliseconds.deadline_of, States.{State, uses_at, next}, Timers.{Row, same_timer, row_from, timer_at}}
+use Rattle.ert_defs.specs.{declared.entry.Actor.TheVariants.{Wheel, Caller}, declared.settings.Settings.Settings, declared.timer.Start.Start, declared.timer.Status.TheVariants.Armed, declared.timer.TimerRef.TimerRef}
+use Rattle.ert_ops.proofs.{Bound.{IsName, names_are, names_grow, new_name, name_before, name_is, IsFreeLabel, IsNewTimer}, FirstRounds.{first_round, one_more}, Meets.{AreUsed, IsUsed, Meets, kept_next, used_later}, Shown.{Names, Grows}}
+use Rattle.ert_ops.proofs.{Shown.{Pairs, SameRow, Shows, both_if, pairs-append, rows_grow, requests_grow, mails_grow, sched_grows}}
 use Rattle.ert_ops.specs.Labels.{Labels, bind}
 
 -- the rows with one more

@@ -3,12 +3,8 @@
 
 use Rattle.std.proofs.Common.{◌≡◌, ◌≢◌, ℕ, zero, suc, Bool, true, false, cond, nat_eq, [], ◌∷◌, ◌++◌, refl, sym, ap, ◌∙◌, subst, inl, inr, arith, eqb-true, eq-eqb, ne_eqb}
 use Rattle.std.proofs.lemmas.Bool.{cases_eq}
-use Rattle.ert_defs.proofs.ExpiredTimers.{same_timer_self, same_timer-false}
-use Rattle.ert_defs.proofs.Slots.{same_timer-true}
-use Rattle.ert_defs.specs.Legal.{names_timer}
-use Rattle.ert_defs.specs.Timers.{same_timer, timer_at}
-use Rattle.ert_defs.specs.declared.settings.Settings.{Settings}
-use Rattle.ert_defs.specs.declared.timer.TimerRef.{TimerRef}
+use Rattle.ert_defs.proofs.{ExpiredTimers.{same_timer_self, same_timer-false}, Slots.same_timer-true}
+use Rattle.ert_defs.specs.{Legal.names_timer, Timers.{same_timer, timer_at}, declared.settings.Settings.Settings, declared.timer.TimerRef.TimerRef}
 use Rattle.ert_ops.proofs.Shown.{AreNames, Grows}
 use Rattle.ert_ops.specs.Labels.{Labels, ref_of, label_in, label_of, bind}
 

@@ -4,31 +4,11 @@ use Rattle.std.proofs.Common.{◌≡◌, ℕ, ℤ, Bool, true, false, cond, ◌&
 use Rattle.std.proofs.lemmas.Bool.{cases_eq}
 use Rattle.ert_effects.specs.TimerCalls.{read_entries, cancel_entries, Reads, Cancels}
 use Rattle.ert_defs.proofs.ExpiredTimers.{cond_same}
-use Rattle.ert_defs.specs.Actors.{same_actor, has_actor}
-use Rattle.ert_defs.specs.Clocks.{Clock}
-use Rattle.ert_defs.specs.Entries.{look_entry, peek_entry}
-use Rattle.ert_defs.specs.Legal.{LegalFrom, is_generation, names_timer, left_by, left_of}
-use Rattle.ert_defs.specs.States.{State, next, run}
-use Rattle.ert_defs.specs.Timers.{Row, row_of}
-use Rattle.ert_defs.specs.Milliseconds.{left}
-use Rattle.ert_defs.specs.declared.entry.Actor.{Actor}
-use Rattle.ert_defs.specs.declared.entry.Actor.TheVariants.{Keeper, Wheel, Inbox, Sched, MailOf, Caller}
-use Rattle.ert_defs.specs.declared.entry.Entry.{Entry}
-use Rattle.ert_defs.specs.declared.settings.Settings.{Settings}
-use Rattle.ert_defs.specs.declared.timer.Status.{Status}
-use Rattle.ert_defs.specs.declared.timer.Status.TheVariants.{Armed}
-use Rattle.ert_defs.specs.declared.timer.TimerRef.{TimerRef}
-use Rattle.ert_ops.proofs.Bound.{IsName, names_are, sign, sign_some}
-use Rattle.ert_ops.proofs.Clocks.{IsDone}
-use Rattle.ert_ops.proofs.Meets.{Meets, meets_next}
-use Rattle.ert_ops.proofs.Shown.{Names, AreNames, Both, SameRow, Shows, Pairs, row_both}
-use Rattle.ert_ops.proofs.Steps.{as_look, as_peek, as_cancel}
-use Rattle.ert_ops.specs.Labels.{Labels, label_of}
-use Rattle.ert_ops.specs.Lines.{line_of}
-use Rattle.ert_ops.specs.Plain.{slot_of}
-use Rattle.ert_ops.specs.PlainTimers.{is_bound, left_now, left_if, cancel_now, read_now}
-use Rattle.ert_ops.specs.declared.reply.Reply.{Reply}
-use Rattle.ert_ops.specs.declared.reply.Reply.TheVariants.{Read}
+use Rattle.ert_defs.specs.{Actors.{same_actor, has_actor}, Clocks.Clock, Entries.{look_entry, peek_entry}, Legal.{LegalFrom, is_generation, names_timer, left_by, left_of}, States.{State, next, run}, Timers.{Row, row_of}, Milliseconds.left}
+use Rattle.ert_defs.specs.{declared.entry.Actor.Actor, declared.entry.Actor.TheVariants.{Keeper, Wheel, Inbox, Sched, MailOf, Caller}, declared.entry.Entry.Entry, declared.settings.Settings.Settings, declared.timer.Status.Status}
+use Rattle.ert_defs.specs.{declared.timer.Status.TheVariants.Armed, declared.timer.TimerRef.TimerRef}
+use Rattle.ert_ops.proofs.{Bound.{IsName, names_are, sign, sign_some}, Clocks.IsDone, Meets.{Meets, meets_next}, Shown.{Names, AreNames, Both, SameRow, Shows, Pairs, row_both}, Steps.{as_look, as_peek, as_cancel}}
+use Rattle.ert_ops.specs.{Labels.{Labels, label_of}, Lines.line_of, Plain.slot_of, PlainTimers.{is_bound, left_now, left_if, cancel_now, read_now}, declared.reply.Reply.Reply, declared.reply.Reply.TheVariants.Read}
 
 same_actor_self : (a : Actor) → same_actor a a ≡ true
 same_actor_self Keeper = refl

@@ -1,31 +1,13 @@
 -- The ops of several steps: serving, advancing, delivering, turns and exits print the same.
 
 use Rattle.std.proofs.Common.{◌≡◌, ℕ, zero, suc, Bool, true, false, List, [], ◌∷◌, ◌++◌, None, Ok, refl, sym, ap, ◌∙◌, subst}
-use Rattle.ert_effects.specs.Chains.{Serves, HasDelivered, HasTurned, Exits, SweepsWheels, puts, drops}
-use Rattle.ert_effects.specs.Ways.{alone}
-use Rattle.ert_effects.specs.WheelCalls.{HasAdvanced, IsSwept}
-use Rattle.ert_effects.specs.declared.answers.Turned.{Turned}
+use Rattle.ert_effects.specs.{Chains.{Serves, HasDelivered, HasTurned, Exits, SweepsWheels, puts, drops}, Ways.alone, WheelCalls.{HasAdvanced, IsSwept}, declared.answers.Turned.Turned}
 use Rattle.ert_defs.proofs.Runs.{run-append, state-append}
-use Rattle.ert_defs.specs.Entries.{mark_entry}
-use Rattle.ert_defs.specs.Legal.{LegalFrom}
-use Rattle.ert_defs.specs.States.{State, run, state}
-use Rattle.ert_defs.specs.declared.entry.Actor.TheVariants.{Caller}
-use Rattle.ert_defs.specs.declared.entry.Entry.{Entry}
-use Rattle.ert_defs.specs.declared.settings.Settings.{Settings}
-use Rattle.ert_ops.proofs.Advances.{advance_meets}
-use Rattle.ert_ops.proofs.Clocks.{IsDone, done_as}
-use Rattle.ert_ops.proofs.Hands.{deliver_meets}
-use Rattle.ert_ops.proofs.Many.{legal_before, legal_after, meets_after, all_served}
-use Rattle.ert_ops.proofs.Meets.{Meets, meets_next}
-use Rattle.ert_ops.proofs.Serves.{serves_meet, tells_served}
-use Rattle.ert_ops.proofs.Steps.{as_mark}
-use Rattle.ert_ops.proofs.Sweeps.{sweep_meets}
-use Rattle.ert_ops.specs.Labels.{Labels, label_of}
-use Rattle.ert_ops.specs.Lines.{line_of, turn_line}
-use Rattle.ert_ops.specs.Plain.{slot_of}
-use Rattle.ert_ops.specs.PlainMail.{orphans, sweeps, exit_piece}
-use Rattle.ert_ops.specs.PlainTurns.{Served, serve_one, has_served, serve_many, advance_now, handing, hows_of, serve_op, advance_op, deliver_op, turn_op}
-use Rattle.ert_ops.specs.declared.reply.Reply.TheVariants.{Serve, Advance, Deliver, Turn, Exit}
+use Rattle.ert_defs.specs.{Entries.mark_entry, Legal.LegalFrom, States.{State, run, state}, declared.entry.Actor.TheVariants.Caller, declared.entry.Entry.Entry, declared.settings.Settings.Settings}
+use Rattle.ert_ops.proofs.{Advances.advance_meets, Clocks.{IsDone, done_as}, Hands.deliver_meets, Many.{legal_before, legal_after, meets_after, all_served}, Meets.{Meets, meets_next}, Serves.{serves_meet, tells_served}, Steps.as_mark}
+use Rattle.ert_ops.proofs.{Sweeps.sweep_meets}
+use Rattle.ert_ops.specs.{Labels.{Labels, label_of}, Lines.{line_of, turn_line}, Plain.slot_of, PlainMail.{orphans, sweeps, exit_piece}, PlainTurns.{Served, serve_one, has_served, serve_many, advance_now, handing, hows_of, serve_op}}
+use Rattle.ert_ops.specs.{PlainTurns.{advance_op, deliver_op, turn_op}, declared.reply.Reply.TheVariants.{Serve, Advance, Deliver, Turn, Exit}}
 
 serve_prints : (ls : Labels) (a b : Bool) → a ≡ b → line_of (label_of ls) (Serve a) ≡ line_of slot_of (Serve b)
 serve_prints ls true b is = ap (λ (x : Bool). line_of slot_of (Serve x)) is

@@ -1,29 +1,14 @@
 -- The ops of the clock: the service answers and does as the plain one.
 
 use Rattle.std.proofs.Common.{◌≡◌, ℕ, ℤ, ◌≤ℤ◌, ◌<ℤ◌, Bool, true, false, cond, int_lt, int_le, List, [], Option, Some, None, refl, sym, ap, ◌∙◌, subst, arith}
-use Rattle.std.proofs.lemmas.Int.{ints}
+use Rattle.std.proofs.lemmas.{Int.ints, Bool.Decides.{Decides-and, Decides-like}}
 use Rattle.std.specs.Bool.{Decides}
-use Rattle.std.proofs.lemmas.Bool.Decides.{Decides-and, Decides-like}
 use Rattle.ert_effects.specs.ClockCalls.{MovesClock, IsTooWide}
-use Rattle.ert_clock.specs.Ticks.{tick_entries, shift_entries, offset_of, IsWide, state_by}
-use Rattle.ert_clock.specs.declared.clock.Moved.{Moved}
-use Rattle.ert_defs.specs.Clocks.{Clock, face}
-use Rattle.ert_defs.specs.Legal.{LegalFrom}
-use Rattle.ert_defs.specs.Lines.{Due, IsOffset, IsInRange, time_after, due_after}
-use Rattle.ert_defs.specs.States.{State, run}
-use Rattle.ert_defs.specs.declared.entry.Act.{Act}
-use Rattle.ert_defs.specs.declared.entry.Actor.TheVariants.{Keeper, Caller}
-use Rattle.ert_defs.specs.declared.entry.Entry.{Entry}
-use Rattle.ert_defs.specs.declared.settings.Reading.{Reading}
-use Rattle.ert_defs.specs.declared.settings.Settings.{Settings}
-use Rattle.ert_ops.proofs.Meets.{Meets, meets_next}
-use Rattle.ert_ops.proofs.Steps.{as_tick, as_shift}
-use Rattle.ert_ops.specs.Labels.{Labels, label_of}
-use Rattle.ert_ops.specs.Lines.{line_of}
-use Rattle.ert_ops.specs.Pieces.{Piece}
-use Rattle.ert_ops.specs.Plain.{slot_of}
-use Rattle.ert_ops.specs.PlainClock.{is_within, clock_piece, clocked}
-use Rattle.ert_ops.specs.declared.reply.Reply.{Reply}
+use Rattle.ert_clock.specs.{Ticks.{tick_entries, shift_entries, offset_of, IsWide, state_by}, declared.clock.Moved.Moved}
+use Rattle.ert_defs.specs.{Clocks.{Clock, face}, Legal.LegalFrom, Lines.{Due, IsOffset, IsInRange, time_after, due_after}, States.{State, run}, declared.entry.Act.Act, declared.entry.Actor.TheVariants.{Keeper, Caller}}
+use Rattle.ert_defs.specs.{declared.entry.Entry.Entry, declared.settings.Reading.Reading, declared.settings.Settings.Settings}
+use Rattle.ert_ops.proofs.{Meets.{Meets, meets_next}, Steps.{as_tick, as_shift}}
+use Rattle.ert_ops.specs.{Labels.{Labels, label_of}, Lines.line_of, Pieces.Piece, Plain.slot_of, PlainClock.{is_within, clock_piece, clocked}, declared.reply.Reply.Reply}
 
 -- what an op does is what the plain service does: it prints the same, and both meet again
 pub record IsDone (g : Settings) (n : ℕ) (ls : Labels) (s c : State) (reply : Reply) (es : List Entry) (piece : Piece) : Type 0 where

@@ -2,11 +2,7 @@
 
 use Rattle.std.proofs.Common.{◌≡◌, List, [], ◌++◌, None, refl, sym, ap, ◌∙◌, subst, append_assoc, append-nil}
 use Rattle.ert_defs.proofs.Runs.{legal-append, state-append}
-use Rattle.ert_defs.specs.Legal.{LegalFrom, Legal}
-use Rattle.ert_defs.specs.States.{State, opening, state}
-use Rattle.ert_defs.specs.declared.entry.Actor.{Actor}
-use Rattle.ert_defs.specs.declared.entry.Entry.{Entry}
-use Rattle.ert_defs.specs.declared.settings.Settings.{Settings}
+use Rattle.ert_defs.specs.{Legal.{LegalFrom, Legal}, States.{State, opening, state}, declared.entry.Actor.Actor, declared.entry.Entry.Entry, declared.settings.Settings.Settings}
 use Rattle.ert_effects.specs.Ways.{Step, Growth, Then, alone}
 use Rattle.ert_ops.specs.Existence.{IsPossible, CanFollow}
 

@@ -3,19 +3,10 @@
 use Rattle.std.proofs.Common.{◌≡◌, ◌≤◌, ◌+◌, ℕ, get_or, length-append, zero, suc, List, [], ◌∷◌, ◌++◌, take, length, arith, refl, sym, ap, ◌∙◌, append_assoc, subst}
 use Rattle.std.specs.Prelude.{◌≢◌}
 use Rattle.std.proofs.lemmas.List.{append_cancel_right, get_or_append_left}
-use Rattle.ert_defs.specs.Clocks.{Clock}
-use Rattle.ert_defs.specs.States.{State, opening, run, state}
-use Rattle.ert_defs.specs.declared.settings.Settings.{Settings}
-use Rattle.ert_ops.specs.Labels.{labels_in, AreOps, Labels}
-use Rattle.ert_ops.specs.declared.op.Op.{Op}
+use Rattle.ert_defs.specs.{Clocks.Clock, States.{State, opening, run, state}, declared.settings.Settings.Settings}
+use Rattle.ert_ops.specs.{Labels.{labels_in, AreOps, Labels}, declared.op.Op.Op, PlainCounts.plain_after, Laws.LawOfFronts, Lines.line_of, Plain.{op_piece, slot_of, plain_lines}, Scripts.{labels_after, lines_of}, Texts.end_line}
 use Rattle.ert_ops.specs.declared.op.Op.TheVariants as ops
 use Rattle.ert_ops.proofs.Runs.{AreDone, done, Apart}
-use Rattle.ert_ops.specs.PlainCounts.{plain_after}
-use Rattle.ert_ops.specs.Laws.{LawOfFronts}
-use Rattle.ert_ops.specs.Lines.{line_of}
-use Rattle.ert_ops.specs.Plain.{op_piece, slot_of, plain_lines}
-use Rattle.ert_ops.specs.Scripts.{labels_after, lines_of}
-use Rattle.ert_ops.specs.Texts.{end_line}
 
 -- what the plain service prints of some first ops: a first part of what it prints of all, and the end line
 record HasFront (g : Settings) (s : State) (ls : Labels) (list : List Op) (n : ℕ) : Type 0 where

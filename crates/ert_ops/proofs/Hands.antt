@@ -1,29 +1,12 @@
 -- Delivering: both services put and drop the same messages, in the order of expiry.
 
 use Rattle.std.proofs.Common.{◌≡◌, ℕ, Bool, true, false, cond, ◌&&◌, ◌||◌, nat_eq, List, [], ◌∷◌, ◌++◌, Some, None, refl, sym, ap, ◌∙◌, subst, eq-eqb, append_assoc, append-nil}
-use Rattle.ert_effects.specs.Chains.{HandsMany, HasDelivered, puts, drops}
-use Rattle.ert_effects.specs.MailCalls.{handed_entries}
-use Rattle.ert_effects.specs.Ways.{alone}
-use Rattle.ert_effects.specs.declared.answers.Handed.{Handed}
-use Rattle.ert_effects.specs.declared.answers.Handed.TheVariants.{Put, Dropped}
-use Rattle.ert_defs.proofs.ExpiredTimers.{cond_same}
-use Rattle.ert_defs.proofs.Runs.{run-append, state-append}
-use Rattle.ert_defs.specs.Actors.{has_actor}
-use Rattle.ert_defs.specs.Entries.{mark_entry, deliver_entry, drop_entry}
-use Rattle.ert_defs.specs.Legal.{LegalFrom}
-use Rattle.ert_defs.specs.Mails.{SchedState, first_of, others_of}
-use Rattle.ert_defs.specs.States.{State, next, run, state}
-use Rattle.ert_defs.specs.Timers.{Row}
-use Rattle.ert_defs.specs.declared.entry.Actor.TheVariants.{Sched, MailOf}
-use Rattle.ert_defs.specs.declared.entry.Entry.{Entry}
-use Rattle.ert_defs.specs.declared.settings.Settings.{Settings}
-use Rattle.ert_ops.proofs.Bound.{IsName}
-use Rattle.ert_ops.proofs.Many.{legal_before, legal_after, meets_after}
-use Rattle.ert_ops.proofs.Meets.{Meets, meets_next}
-use Rattle.ert_ops.proofs.Shown.{Pairs, SameRow}
-use Rattle.ert_ops.proofs.Steps.{as_mark, as_deliver, as_drop}
-use Rattle.ert_ops.specs.Labels.{Labels}
-use Rattle.ert_ops.specs.PlainTurns.{how_by, hows_of, hand_entries, handing}
+use Rattle.ert_effects.specs.{Chains.{HandsMany, HasDelivered, puts, drops}, MailCalls.handed_entries, Ways.alone, declared.answers.Handed.Handed, declared.answers.Handed.TheVariants.{Put, Dropped}}
+use Rattle.ert_defs.proofs.{ExpiredTimers.cond_same, Runs.{run-append, state-append}}
+use Rattle.ert_defs.specs.{Actors.has_actor, Entries.{mark_entry, deliver_entry, drop_entry}, Legal.LegalFrom, Mails.{SchedState, first_of, others_of}, States.{State, next, run, state}, Timers.Row, declared.entry.Actor.TheVariants.Sched}
+use Rattle.ert_defs.specs.{declared.entry.Actor.TheVariants.MailOf, declared.entry.Entry.Entry, declared.settings.Settings.Settings}
+use Rattle.ert_ops.proofs.{Bound.IsName, Many.{legal_before, legal_after, meets_after}, Meets.{Meets, meets_next}, Shown.{Pairs, SameRow}, Steps.{as_mark, as_deliver, as_drop}}
+use Rattle.ert_ops.specs.{Labels.Labels, PlainTurns.{how_by, hows_of, hand_entries, handing}}
 
 -- one that is handed over
 

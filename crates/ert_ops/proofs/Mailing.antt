@@ -2,33 +2,13 @@
 
 use Rattle.std.proofs.Common.{◌≡◌, ◌⊎◌, ℕ, ℤ, ◌<◌, ◌≤◌, Bool, true, false, cond, not, ◌&&◌, nat_lt, nat_le, List, [], ◌∷◌, length, Option, Some, None, refl, sym, ap, ◌∙◌, subst, inl, inr, arith}
 use Rattle.std.proofs.lemmas.Bool.Decides.{nat_tests}
-use Rattle.ert_effects.specs.MailCalls.{HasTold, IsMonitored, AreMonitorsFull}
-use Rattle.ert_effects.specs.RequestCalls.{inbox_for}
-use Rattle.ert_defs.specs.Clocks.{Clock}
-use Rattle.ert_defs.specs.Entries.{off_entry, mark_entry, ask_entry, take_entry, watch_entry, unwatch_entry, tell_entry}
-use Rattle.ert_defs.specs.Legal.{LegalFrom, stands_in}
-use Rattle.ert_defs.specs.Mails.{first_of, changes_of}
-use Rattle.ert_defs.specs.States.{State, next}
-use Rattle.ert_defs.specs.declared.entry.Actor.TheVariants.{Inbox, MailOf, Caller}
-use Rattle.ert_defs.specs.declared.entry.Entry.{Entry}
-use Rattle.ert_defs.specs.declared.mail.Mail.{Mail}
-use Rattle.ert_defs.specs.declared.mail.Mail.TheVariants.{Timeout, Bare, CancelDone, ReadDone, Change}
-use Rattle.ert_defs.specs.declared.mail.Monitor.{Monitor}
-use Rattle.ert_defs.specs.declared.mail.Request.{Request}
-use Rattle.ert_defs.specs.declared.settings.OffsetState.{OffsetState}
-use Rattle.ert_defs.specs.declared.settings.Settings.{Settings}
-use Rattle.ert_ops.proofs.Bound.{IsName}
-use Rattle.ert_ops.proofs.Clocks.{IsDone, done_as}
-use Rattle.ert_ops.proofs.Meets.{Meets, meets_next}
-use Rattle.ert_ops.proofs.Shown.{Both, SameMail, SameRequest, pairs_first}
-use Rattle.ert_ops.proofs.Steps.{as_off, as_mark, as_ask, as_take, as_unwatch, as_watch, as_tell}
-use Rattle.ert_ops.specs.Labels.{Labels, label_of}
-use Rattle.ert_ops.specs.Lines.{line_of, mail_line}
-use Rattle.ert_ops.specs.Plain.{slot_of}
-use Rattle.ert_ops.specs.PlainMail.{receive_reply, receive_piece, alive_piece, may_watch, monitor_piece, demonitor_piece, notify_piece}
-use Rattle.ert_ops.specs.PlainTurns.{ask_piece}
-use Rattle.ert_ops.specs.declared.reply.Reply.{Reply}
-use Rattle.ert_ops.specs.declared.reply.Reply.TheVariants.{ReceivedExited, Alive, Monitor as Monitored, MonitorFull, Demonitor, Notify}
+use Rattle.ert_effects.specs.{MailCalls.{HasTold, IsMonitored, AreMonitorsFull}, RequestCalls.inbox_for}
+use Rattle.ert_defs.specs.{Clocks.Clock, Entries.{off_entry, mark_entry, ask_entry, take_entry, watch_entry, unwatch_entry, tell_entry}, Legal.{LegalFrom, stands_in}, Mails.{first_of, changes_of}, States.{State, next}}
+use Rattle.ert_defs.specs.{declared.entry.Actor.TheVariants.{Inbox, MailOf, Caller}, declared.entry.Entry.Entry, declared.mail.Mail.Mail, declared.mail.Mail.TheVariants.{Timeout, Bare, CancelDone, ReadDone, Change}}
+use Rattle.ert_defs.specs.{declared.mail.Monitor.Monitor, declared.mail.Request.Request, declared.settings.OffsetState.OffsetState, declared.settings.Settings.Settings}
+use Rattle.ert_ops.proofs.{Bound.IsName, Clocks.{IsDone, done_as}, Meets.{Meets, meets_next}, Shown.{Both, SameMail, SameRequest, pairs_first}, Steps.{as_off, as_mark, as_ask, as_take, as_unwatch, as_watch, as_tell}}
+use Rattle.ert_ops.specs.{Labels.{Labels, label_of}, Lines.{line_of, mail_line}, Plain.slot_of, PlainMail.{receive_reply, receive_piece, alive_piece, may_watch, monitor_piece, demonitor_piece, notify_piece}, PlainTurns.ask_piece}
+use Rattle.ert_ops.specs.{declared.reply.Reply.Reply, declared.reply.Reply.TheVariants.{ReceivedExited, Alive, Monitor as Monitored, MonitorFull, Demonitor, Notify}}
 
 pub notify_done : (g : Settings) (n : ℕ) (ls : Labels) (s c : State) (p put : ℕ) (es : List Entry) → Meets g n ls s c
     → LegalFrom g s es → HasTold 0 p (s.mails p) put es → IsDone g n ls s c (Notify put) es (notify_piece c p)

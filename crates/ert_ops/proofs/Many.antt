@@ -2,17 +2,11 @@
 
 use Rattle.std.proofs.Common.{◌≡◌, ℕ, zero, suc, ◌≤◌, Bool, true, false, cond, nat_lt, List, [], ◌++◌, Ok, refl, sym, ap, ◌∙◌, subst, arith, append-nil, append_assoc}
 use Rattle.std.proofs.lemmas.Bool.Decides.{nat_tests}
-use Rattle.ert_effects.specs.Chains.{Serves, ServesMany, ServesAll}
-use Rattle.ert_effects.specs.Ways.{Then, alone}
+use Rattle.ert_effects.specs.{Chains.{Serves, ServesMany, ServesAll}, Ways.{Then, alone}}
 use Rattle.ert_defs.proofs.Runs.{run-append, state-append, legal_first, legal_then}
-use Rattle.ert_defs.specs.Legal.{LegalFrom}
-use Rattle.ert_defs.specs.States.{State, run, state}
-use Rattle.ert_defs.specs.declared.entry.Entry.{Entry}
-use Rattle.ert_defs.specs.declared.settings.Settings.{Settings}
-use Rattle.ert_ops.proofs.Meets.{Meets}
-use Rattle.ert_ops.proofs.Serves.{AreServed, serves_meet, tells_served}
-use Rattle.ert_ops.specs.Labels.{Labels}
-use Rattle.ert_ops.specs.PlainTurns.{Served, serve_one, has_served, and_then, serve_many}
+use Rattle.ert_defs.specs.{Legal.LegalFrom, States.{State, run, state}, declared.entry.Entry.Entry, declared.settings.Settings.Settings}
+use Rattle.ert_ops.proofs.{Meets.Meets, Serves.{AreServed, serves_meet, tells_served}}
+use Rattle.ert_ops.specs.{Labels.Labels, PlainTurns.{Served, serve_one, has_served, and_then, serve_many}}
 
 -- n requests are served of at most so many, and where there could be more, none waits
 abbrev ServesUpTo : Settings → ℕ → ℕ → ℕ → List Entry → List Entry → Type 0

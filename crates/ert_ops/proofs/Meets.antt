@@ -2,25 +2,11 @@
 -- by the labels that are bound.
 
 use Rattle.std.proofs.Common.{◌≡◌, ℕ, ℤ, ◌≤◌, cond, List, [], ◌∷◌, length, Option, refl, sym, ap, ◌∙◌, subst, arith}
-use Rattle.ert_defs.proofs.ExpiredTimers.{cond_same}
-use Rattle.ert_defs.proofs.Rows.{AreRows, rows_next}
-use Rattle.ert_defs.proofs.Slots.{IsOrdered, ordered_next}
-use Rattle.ert_defs.proofs.Standing.{AllStand, stands_next}
-use Rattle.ert_defs.specs.Actors.{has_actor}
-use Rattle.ert_defs.specs.Entries.{entry_by, probe_entry}
-use Rattle.ert_defs.specs.Legal.{Can, LegalFrom}
-use Rattle.ert_defs.specs.States.{State, uses_at, next, run}
-use Rattle.ert_defs.specs.Timers.{Row, rows_after, last_after}
-use Rattle.ert_defs.specs.declared.entry.Actor.{Actor}
-use Rattle.ert_defs.specs.declared.entry.Actor.TheVariants.{Wheel}
-use Rattle.ert_defs.specs.declared.entry.Entry.{Entry}
-use Rattle.ert_defs.specs.declared.settings.Settings.{Settings}
-use Rattle.ert_defs.specs.declared.timer.Status.{Status}
-use Rattle.ert_defs.specs.declared.timer.TimerRef.{TimerRef}
+use Rattle.ert_defs.proofs.{ExpiredTimers.cond_same, Rows.{AreRows, rows_next}, Slots.{IsOrdered, ordered_next}, Standing.{AllStand, stands_next}}
+use Rattle.ert_defs.specs.{Actors.has_actor, Entries.{entry_by, probe_entry}, Legal.{Can, LegalFrom}, States.{State, uses_at, next, run}, Timers.{Row, rows_after, last_after}, declared.entry.Actor.Actor}
+use Rattle.ert_defs.specs.{declared.entry.Actor.TheVariants.Wheel, declared.entry.Entry.Entry, declared.settings.Settings.Settings, declared.timer.Status.Status, declared.timer.TimerRef.TimerRef}
 use Rattle.ert_effects.specs.TimerCalls.{AreProbes}
-use Rattle.ert_ops.proofs.Bound.{IsName, names_are}
-use Rattle.ert_ops.proofs.Shown.{Names, Shows}
-use Rattle.ert_ops.proofs.Steps.{Step, as_tick, first, second, shows_next, shows_probed}
+use Rattle.ert_ops.proofs.{Bound.{IsName, names_are}, Shown.{Names, Shows}, Steps.{Step, as_tick, first, second, shows_next, shows_probed}}
 use Rattle.ert_ops.specs.Labels.{Labels, ref_of}
 
 -- what each legal history keeps of its timers

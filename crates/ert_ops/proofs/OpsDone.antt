@@ -2,28 +2,15 @@
 
 use Rattle.std.proofs.Common.{ℕ, ℤ, Bool, List, Some, None, refl}
 use Rattle.ert_effects.specs.Ways.{alone}
-use Rattle.ert_defs.specs.Legal.{LegalFrom}
-use Rattle.ert_defs.specs.States.{State, state}
-use Rattle.ert_defs.specs.declared.entry.Act.TheVariants.{Plain, Force}
-use Rattle.ert_defs.specs.declared.entry.Entry.{Entry}
-use Rattle.ert_defs.specs.declared.mail.RequestKind.TheVariants.{Cancel as ToCancel, Read as ToRead}
-use Rattle.ert_defs.specs.declared.settings.Settings.{Settings}
-use Rattle.ert_ops.proofs.Bound.{IsName}
-use Rattle.ert_ops.proofs.Cancels.{cancel_done, read_done}
-use Rattle.ert_ops.proofs.Chains.{serve_done, advance_done, deliver_done, turn_done, exit_done}
-use Rattle.ert_ops.proofs.Clocks.{IsDone, moves_done, refuses_done}
-use Rattle.ert_ops.proofs.Mailing.{notify_done, exited_done, receive_done, alive_done, monitor_done, no_monitor_done, demonitor_done, ask_done}
-use Rattle.ert_ops.proofs.Meets.{Meets}
-use Rattle.ert_ops.proofs.Readings.{finalizes_done, final_refused, time_done, offset_done, system_done, info_done}
-use Rattle.ert_ops.specs.Calls.{Calls, reading_of, request_for_op}
-use Rattle.ert_ops.specs.Labels.{Labels, ref_of}
-use Rattle.ert_ops.specs.PlainClock.{tick_piece, check_piece, finalize_piece, time_piece, system_piece, offset_piece, info_piece}
-use Rattle.ert_ops.specs.PlainMail.{receive_piece, alive_piece, exit_piece, may_watch, monitor_piece, demonitor_piece, notify_piece}
-use Rattle.ert_ops.specs.PlainTimers.{cancel_now, read_now}
-use Rattle.ert_ops.specs.PlainTurns.{ask_piece, serve_op, advance_op, deliver_op, turn_op}
+use Rattle.ert_defs.specs.{Legal.LegalFrom, States.{State, state}, declared.entry.Act.TheVariants.{Plain, Force}, declared.entry.Entry.Entry, declared.mail.RequestKind.TheVariants.{Cancel as ToCancel, Read as ToRead}}
+use Rattle.ert_defs.specs.{declared.settings.Settings.Settings}
+use Rattle.ert_ops.proofs.{Bound.IsName, Cancels.{cancel_done, read_done}, Chains.{serve_done, advance_done, deliver_done, turn_done, exit_done}, Clocks.{IsDone, moves_done, refuses_done}, Mailing.{notify_done, exited_done, receive_done}}
+use Rattle.ert_ops.proofs.{Mailing.{alive_done, monitor_done, no_monitor_done, demonitor_done, ask_done}, Meets.Meets, Readings.{finalizes_done, final_refused, time_done, offset_done, system_done, info_done}}
+use Rattle.ert_ops.specs.{Calls.{Calls, reading_of, request_for_op}, Labels.{Labels, ref_of}, PlainClock.{tick_piece, check_piece, finalize_piece, time_piece, system_piece, offset_piece, info_piece}, PlainMail.{receive_piece, alive_piece}}
+use Rattle.ert_ops.specs.{PlainMail.{exit_piece, may_watch, monitor_piece, demonitor_piece, notify_piece}, PlainTimers.{cancel_now, read_now}, PlainTurns.{ask_piece, serve_op, advance_op, deliver_op, turn_op}, declared.reply.Reply.Reply}
+use Rattle.ert_ops.specs.{declared.reply.Reply.TheVariants.{Tick, TickWide, Check, CheckWide, Finalize, FinalizeWide, Time, System, Offset, Info, Cancel, CancelQuiet, Read, CancelAsync, ReadAsync, Serve, Advance, Deliver, Turn, Received}}
+use Rattle.ert_ops.specs.{declared.reply.Reply.TheVariants.{ReceivedEmpty, ReceivedExited, Exit, Alive, Monitor, MonitorFull, Demonitor, Notify}}
 use Rattle.ert_ops.specs.declared.op.Op.TheVariants as ops
-use Rattle.ert_ops.specs.declared.reply.Reply.{Reply}
-use Rattle.ert_ops.specs.declared.reply.Reply.TheVariants.{Tick, TickWide, Check, CheckWide, Finalize, FinalizeWide, Time, System, Offset, Info, Cancel, CancelQuiet, Read, CancelAsync, ReadAsync, Serve, Advance, Deliver, Turn, Received, ReceivedEmpty, ReceivedExited, Exit, Alive, Monitor, MonitorFull, Demonitor, Notify}
 
 pub tick_op : (g : Settings) (n : ℕ) (ls : Labels) (h m : List Entry) (c : State) (mono sys : ℤ) (reply : Reply) → Meets g n ls (state g h) c
     → LegalFrom g (state g h) m → Calls g (alone g) 0 ls (ops.Tick mono sys) reply h m

@@ -1,33 +1,16 @@
 -- An advance is possible in each state that a legal history comes to: as long as a timer is due, the earliest one expires.
 
 use Rattle.std.proofs.Common.{◌≡◌, ◌≢◌, ◌⊎◌, inl, inr, ℕ, ℤ, pos, ◌<◌, ◌≤◌, ◌≤ℤ◌, Bool, true, false, cond, nat_lt, nat_le, List, [], ◌∷◌, ◌++◌, All, AllPairs, Option, Some, None, refl, sym, ap, ◌∙◌, subst, arith, eq-eqb}
-use Rattle.std.proofs.lemmas.Int.{ints}
-use Rattle.std.proofs.lemmas.Bool.Decides.{nat_tests}
-use Rattle.std.proofs.lemmas.List.Elements.{All-head, All-tail}
-use Rattle.ert_defs.proofs.ExpiredTimers.{cond_same, same_timer_self}
-use Rattle.ert_defs.proofs.Rows.{Differ}
-use Rattle.ert_defs.specs.Actors.{has_actor}
-use Rattle.ert_defs.specs.Entries.{look_entry, expire_entry, advanced_entry}
-use Rattle.ert_defs.specs.Laws.{is_armed}
-use Rattle.ert_defs.specs.Legal.{AllSettled, Can, LegalFrom}
-use Rattle.ert_defs.specs.Milliseconds.{natural, down}
-use Rattle.ert_defs.specs.States.{State, next, run}
-use Rattle.ert_defs.specs.Timers.{Row, row_of, same_timer, settled_as}
-use Rattle.ert_defs.specs.declared.entry.Actor.TheVariants.{Wheel, Sched}
-use Rattle.ert_defs.specs.declared.entry.Entry.{Entry}
-use Rattle.ert_defs.specs.declared.settings.Settings.{Settings}
-use Rattle.ert_defs.specs.declared.timer.Status.{Status}
-use Rattle.ert_defs.specs.declared.timer.Status.TheVariants.{Armed, Expired}
-use Rattle.ert_defs.specs.declared.timer.TimerRef.{TimerRef}
+use Rattle.std.proofs.lemmas.{Int.ints, Bool.Decides.nat_tests, List.Elements.{All-head, All-tail}}
+use Rattle.ert_defs.proofs.{ExpiredTimers.{cond_same, same_timer_self}, Rows.Differ}
+use Rattle.ert_defs.specs.{Actors.has_actor, Entries.{look_entry, expire_entry, advanced_entry}, Laws.is_armed, Legal.{AllSettled, Can, LegalFrom}, Milliseconds.{natural, down}, States.{State, next, run}, Timers.{Row, row_of, same_timer}}
+use Rattle.ert_defs.specs.{Timers.settled_as, declared.entry.Actor.TheVariants.{Wheel, Sched}, declared.entry.Entry.Entry, declared.settings.Settings.Settings, declared.timer.Status.Status, declared.timer.Status.TheVariants.Armed}
+use Rattle.ert_defs.specs.{declared.timer.Status.TheVariants.Expired, declared.timer.TimerRef.TimerRef}
 use Rattle.ert_effects.specs.WheelCalls.{Try, expiry_entries, hits, AllMissesSettled, IsDueBy, AllDue, IsUntried, AreOnce, HasAdvanced}
 use Rattle.ert_laws.proofs.StandingRows.{row_stands}
 use Rattle.ert_laws.specs.Ranges.{IsPlaced}
-use Rattle.ert_ops.proofs.Advances.{ExpiresFirst, expires_first, look_stays}
-use Rattle.ert_ops.proofs.Due.{is_armed_some}
-use Rattle.ert_ops.proofs.PossibleCalls.{can_look}
-use Rattle.ert_ops.proofs.Reached.{IsReached, milliseconds, reached_next}
-use Rattle.ert_ops.specs.Existence.{IsPossible}
-use Rattle.ert_ops.specs.PlainTurns.{due_rows}
+use Rattle.ert_ops.proofs.{Advances.{ExpiresFirst, expires_first, look_stays}, Due.is_armed_some, PossibleCalls.can_look, Reached.{IsReached, milliseconds, reached_next}}
+use Rattle.ert_ops.specs.{Existence.IsPossible, PlainTurns.due_rows}
 
 -- the earliest of the rows that are armed and due
 

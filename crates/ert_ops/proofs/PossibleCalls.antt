@@ -1,39 +1,17 @@
 -- Calls of one step, after each legal history: each has an answer.
 
 use Rattle.std.proofs.Common.{◌≡◌, ◌⊎◌, inl, inr, ℕ, ℤ, pos, negsuc, ◌<◌, Bool, true, false, cond, not, ◌&&◌, nat_lt, nat_le, int_lt, int_le, [], ◌∷◌, length, Option, Some, None, Ok, Err, refl, sym, ap, ◌∙◌, subst, arith}
-use Rattle.std.proofs.lemmas.Bool.{and_parts}
-use Rattle.std.proofs.lemmas.Bool.Decides.{nat_tests, Decides-and, Decides-like}
+use Rattle.std.proofs.lemmas.Bool.{and_parts, Decides.{nat_tests, Decides-and, Decides-like}}
 use Rattle.std.specs.Bool.{Decides}
 use Rattle.std.specs.Prelude.{◌+ℤ◌}
-use Rattle.ert_clock.specs.Ticks.{act_of, tick_entries, offset_of, IsWide, state_by}
-use Rattle.ert_clock.specs.declared.clock.ClockErr.TheVariants.{BadReading, OffsetWide}
-use Rattle.ert_clock.specs.declared.clock.Moved.{Moved}
-use Rattle.ert_defs.specs.Actors.{IsUser, has_actor}
-use Rattle.ert_defs.specs.Clocks.{Clock, face, clock_after}
-use Rattle.ert_defs.specs.Entries.{look_entry, off_entry, keeper_entry, peek_entry, cancel_entry, mark_entry, take_entry, watch_entry, unwatch_entry, tell_entry, ask_entry}
-use Rattle.ert_defs.specs.Legal.{Can, IsSlot, IsReader, LegalFrom, left_of, names_timer, is_generation, stands_in}
-use Rattle.ert_defs.specs.Lines.{Due, IsOffset, IsInRange, MayAct, time_after, due_after, due_at, shift_of, due_from}
-use Rattle.ert_defs.specs.Mails.{changes_of, first_of}
-use Rattle.ert_defs.specs.Readings.{IsValid}
-use Rattle.ert_defs.specs.States.{State, next}
-use Rattle.ert_defs.specs.declared.entry.Act.{Act}
-use Rattle.ert_defs.specs.declared.entry.Act.TheVariants.{Plain, Force, Finalize}
-use Rattle.ert_defs.specs.declared.entry.Actor.{Actor}
-use Rattle.ert_defs.specs.declared.entry.Actor.TheVariants.{Keeper, Caller, Sched}
-use Rattle.ert_defs.specs.declared.entry.Entry.{Entry}
-use Rattle.ert_defs.specs.declared.entry.Event.TheVariants.{Off}
-use Rattle.ert_defs.specs.declared.mail.Mail.{Mail}
-use Rattle.ert_defs.specs.declared.settings.OffsetState.{OffsetState}
-use Rattle.ert_defs.specs.declared.settings.OffsetState.TheVariants.{Preliminary, Final, Volatile}
-use Rattle.ert_defs.specs.declared.settings.Reading.{Reading}
-use Rattle.ert_defs.specs.declared.settings.Settings.{Settings}
-use Rattle.ert_defs.specs.declared.timer.TimerRef.{TimerRef}
-use Rattle.ert_effects.specs.ClockCalls.{ActsOnReading, Ticks, Finalizes, TellsTime, TellsOffset, TellsSystemTime}
-use Rattle.ert_effects.specs.MailCalls.{Takes, Monitors}
-use Rattle.ert_effects.specs.TimerCalls.{read_entries, cancel_entries, Reads, Cancels}
-use Rattle.ert_effects.specs.WheelCalls.{TellsAlive, MarksExit}
-use Rattle.ert_effects.specs.declared.answers.MonitorErr.TheVariants.{Full, NoMemory}
-use Rattle.ert_effects.specs.declared.answers.Taken.TheVariants.{Mail as Taking, Empty, Exited}
+use Rattle.ert_clock.specs.{Ticks.{act_of, tick_entries, offset_of, IsWide, state_by}, declared.clock.ClockErr.TheVariants.{BadReading, OffsetWide}, declared.clock.Moved.Moved}
+use Rattle.ert_defs.specs.{Actors.{IsUser, has_actor}, Clocks.{Clock, face, clock_after}, Entries.{look_entry, off_entry, keeper_entry, peek_entry, cancel_entry, mark_entry, take_entry, watch_entry, unwatch_entry, tell_entry, ask_entry}}
+use Rattle.ert_defs.specs.{Legal.{Can, IsSlot, IsReader, LegalFrom, left_of, names_timer, is_generation, stands_in}, Lines.{Due, IsOffset, IsInRange, MayAct, time_after, due_after, due_at, shift_of, due_from}, Mails.{changes_of, first_of}}
+use Rattle.ert_defs.specs.{Readings.IsValid, States.{State, next}, declared.entry.Act.Act, declared.entry.Act.TheVariants.{Plain, Force, Finalize}, declared.entry.Actor.Actor, declared.entry.Actor.TheVariants.{Keeper, Caller, Sched}}
+use Rattle.ert_defs.specs.{declared.entry.Entry.Entry, declared.entry.Event.TheVariants.Off, declared.mail.Mail.Mail, declared.settings.OffsetState.OffsetState, declared.settings.OffsetState.TheVariants.{Preliminary, Final, Volatile}}
+use Rattle.ert_defs.specs.{declared.settings.Reading.Reading, declared.settings.Settings.Settings, declared.timer.TimerRef.TimerRef}
+use Rattle.ert_effects.specs.{ClockCalls.{ActsOnReading, Ticks, Finalizes, TellsTime, TellsOffset, TellsSystemTime}, MailCalls.{Takes, Monitors}, TimerCalls.{read_entries, cancel_entries, Reads, Cancels}, WheelCalls.{TellsAlive, MarksExit}}
+use Rattle.ert_effects.specs.{declared.answers.MonitorErr.TheVariants.{Full, NoMemory}, declared.answers.Taken.TheVariants.{Mail as Taking, Empty, Exited}}
 use Rattle.ert_ops.proofs.Clocks.{Decides-int_le, Decides-int_lt, Decides-within}
 use Rattle.ert_ops.specs.Existence.{IsPossible, HasAnswer, HasAnswerBut, ClockAnswers, ProcessesAnswer}
 

@@ -6,48 +6,17 @@ use Rattle.std.proofs.lemmas.Bool.Decides.{nat_tests}
 use Rattle.std.specs.Int.{w64}
 use Rattle.std.specs.Prelude.{FitsSigned}
 use Rattle.ert_defs.proofs.Runs.{legal-append, state-append}
-use Rattle.ert_defs.specs.Legal.{LegalFrom, Legal}
-use Rattle.ert_defs.specs.Lines.{end_time}
-use Rattle.ert_defs.specs.Mails.{inbox_for}
-use Rattle.ert_defs.specs.Settings.{IsChecked}
-use Rattle.ert_defs.specs.States.{State, state}
-use Rattle.ert_defs.specs.declared.entry.Act.TheVariants.{Plain, Force}
-use Rattle.ert_defs.specs.declared.entry.Actor.TheVariants.{Caller}
-use Rattle.ert_defs.specs.declared.entry.Entry.{Entry}
-use Rattle.ert_defs.specs.declared.mail.Request.{Request}
-use Rattle.ert_defs.specs.declared.mail.RequestKind.TheVariants.{Cancel as ToCancel, Read as ToRead}
-use Rattle.ert_defs.specs.declared.settings.Settings.{Settings}
-use Rattle.ert_defs.specs.declared.timer.Kind.TheVariants.{Wrapped, Bare}
-use Rattle.ert_defs.specs.declared.timer.TimerRef.{TimerRef}
-use Rattle.ert_defs.specs.declared.timer.When.{When}
-use Rattle.ert_effects.specs.MailCalls.{Monitors, Takes}
-use Rattle.ert_effects.specs.TimerCalls.{Starts}
-use Rattle.ert_effects.specs.Ways.{Growth, Step, alone}
-use Rattle.ert_effects.specs.declared.answers.MonitorErr.{MonitorErr}
-use Rattle.ert_effects.specs.declared.answers.MonitorErr.TheVariants.{Full as NoMore, NoMemory as NoMonitorMemory}
-use Rattle.ert_effects.specs.declared.answers.StartErr.{StartErr}
-use Rattle.ert_effects.specs.declared.answers.StartErr.TheVariants.{BadArg, Full, NoMemory}
-use Rattle.ert_effects.specs.declared.answers.Taken.{Taken}
-use Rattle.ert_effects.specs.declared.answers.Taken.TheVariants.{Mail as Taking, Empty, Exited}
+use Rattle.ert_defs.specs.{Legal.{LegalFrom, Legal}, Lines.end_time, Mails.inbox_for, Settings.IsChecked, States.{State, state}, declared.entry.Act.TheVariants.{Plain, Force}, declared.entry.Actor.TheVariants.Caller}
+use Rattle.ert_defs.specs.{declared.entry.Entry.Entry, declared.mail.Request.Request, declared.mail.RequestKind.TheVariants.{Cancel as ToCancel, Read as ToRead}, declared.settings.Settings.Settings, declared.timer.Kind.TheVariants.Wrapped}
+use Rattle.ert_defs.specs.{declared.timer.Kind.TheVariants.Bare, declared.timer.TimerRef.TimerRef, declared.timer.When.When}
+use Rattle.ert_effects.specs.{MailCalls.{Monitors, Takes}, TimerCalls.Starts, Ways.{Growth, Step, alone}, declared.answers.MonitorErr.MonitorErr, declared.answers.MonitorErr.TheVariants.{Full as NoMore, NoMemory as NoMonitorMemory}}
+use Rattle.ert_effects.specs.{declared.answers.StartErr.StartErr, declared.answers.StartErr.TheVariants.{BadArg, Full, NoMemory}, declared.answers.Taken.Taken, declared.answers.Taken.TheVariants.{Mail as Taking, Empty, Exited}}
 use Rattle.ert_laws.proofs.SlotUses.{timers_few}
-use Rattle.ert_ops.specs.Conversions.{converted}
-use Rattle.ert_ops.specs.Ranges.{IsOpInRange, AreOpsInRange}
-use Rattle.ert_ops.specs.declared.op.Op.{Op}
+use Rattle.ert_ops.specs.{Conversions.converted, Ranges.{IsOpInRange, AreOpsInRange}, declared.op.Op.Op, Existence.{IsPossible, CanFollow, LawOfExistence}, Calls.{Calls, reading_of, request_for_op, start_for_op}, Labels.{Labels, ref_of}}
+use Rattle.ert_ops.specs.{Scripts.{labels_after, Script, lines_of, IsTranscript}, Texts.end_line, declared.reply.Reply.Reply}
 use Rattle.ert_ops.specs.declared.op.Op.TheVariants as ops
-use Rattle.ert_ops.proofs.Following.{follow_none, legal_with}
-use Rattle.ert_ops.proofs.PossibleCalls.{Acting, acting_tick, acted, wide, Finalizing, finalizing, finalized, too_wide, clock_answers, processes_answer, possible_read, possible_cancel, decide}
-use Rattle.ert_ops.proofs.PossibleStarts.{possible_start}
-use Rattle.ert_ops.proofs.PossibleSweeps.{possible_exit}
-use Rattle.ert_ops.proofs.PossibleTurns.{possible_serve, can_advance, possible_deliver, possible_turn}
-use Rattle.ert_ops.proofs.Reached.{reached}
-use Rattle.ert_ops.proofs.Readings.{Decides-fits}
-use Rattle.ert_ops.proofs.Runs.{one_text}
-use Rattle.ert_ops.specs.Existence.{IsPossible, CanFollow, LawOfExistence}
-use Rattle.ert_ops.specs.Calls.{Calls, reading_of, request_for_op, start_for_op}
-use Rattle.ert_ops.specs.Labels.{Labels, ref_of}
-use Rattle.ert_ops.specs.Scripts.{labels_after, Script, lines_of, IsTranscript}
-use Rattle.ert_ops.specs.Texts.{end_line}
-use Rattle.ert_ops.specs.declared.reply.Reply.{Reply}
+use Rattle.ert_ops.proofs.{Following.{follow_none, legal_with}, PossibleCalls.{Acting, acting_tick, acted, wide, Finalizing, finalizing, finalized, too_wide, clock_answers, processes_answer, possible_read, possible_cancel, decide}}
+use Rattle.ert_ops.proofs.{PossibleStarts.possible_start, PossibleSweeps.possible_exit, PossibleTurns.{possible_serve, can_advance, possible_deliver, possible_turn}, Reached.reached, Readings.Decides-fits, Runs.one_text}
 use Rattle.ert_ops.specs.declared.reply.Reply.TheVariants as replies
 
 -- an op can be done: with some reply it allows a legal piece

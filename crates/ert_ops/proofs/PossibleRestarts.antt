@@ -1,32 +1,14 @@
 -- A look at the room of a wheel, and a restart, have an answer after each legal history.
 
 use Rattle.std.proofs.Common.{◌≡◌, inl, inr, ℕ, zero, suc, ℤ, ◌+◌, ◌<◌, ◌≤◌, Bool, true, false, cond, nat_lt, min, List, [], ◌∷◌, ◌++◌, length, Option, Some, None, Ok, Err, refl, sym, ap, ◌∙◌, subst, arith, append-nil, eq-eqb}
-use Rattle.std.proofs.lemmas.Bool.{cases_eq}
-use Rattle.std.proofs.lemmas.Bool.Decides.{nat_tests}
-use Rattle.ert_defs.proofs.ExpiredLists.{taken_last}
-use Rattle.ert_defs.proofs.ExpiredTimers.{cond_same, same_timer_self}
-use Rattle.ert_defs.specs.Actors.{same_actor}
-use Rattle.ert_defs.specs.Entries.{look_entry, probe_entry, peek_entry, cancel_entry, arm_entry, mark_entry}
-use Rattle.ert_defs.specs.Legal.{Can, LegalFrom, left_by, left_of, names_timer}
-use Rattle.ert_defs.specs.Milliseconds.{natural, down, deadline_of}
-use Rattle.ert_defs.specs.States.{State, uses_at, next, run}
-use Rattle.ert_defs.specs.Timers.{Row, Uses, turned, use_of, is_taken, row_of, same_timer, settled_as, timer_at}
-use Rattle.ert_defs.specs.declared.entry.Actor.TheVariants.{Caller}
-use Rattle.ert_defs.specs.declared.entry.Entry.{Entry}
-use Rattle.ert_defs.specs.declared.settings.Settings.{Settings}
-use Rattle.ert_defs.specs.declared.timer.Start.{Start}
-use Rattle.ert_defs.specs.declared.timer.Status.{Status}
-use Rattle.ert_defs.specs.declared.timer.Status.TheVariants.{Armed, Cancelled}
-use Rattle.ert_defs.specs.declared.timer.TimerRef.{TimerRef}
-use Rattle.ert_effects.specs.RestartCalls.{IsFullFor, NeedsSlot, RestartEnds, Restarts}
-use Rattle.ert_effects.specs.TimerCalls.{AreProbes, AreTaken}
-use Rattle.ert_defs.proofs.Runs.{legal-append, run-append}
-use Rattle.ert_effects.specs.RoomCalls.{ShowsRoom, TellsRoom, no_room, room_with, with_found}
-use Rattle.ert_effects.specs.declared.answers.RestartErr.TheVariants.{BadArg, NotArmed, Full}
-use Rattle.ert_effects.specs.declared.answers.Room.{Room}
-use Rattle.ert_ops.proofs.PossibleCalls.{can_look, slot_named}
-use Rattle.ert_ops.proofs.PossibleStarts.{IsFreeSlot, IsUnfit, Search, found, nowhere, arm_in, first_round, last_of, probe_slots, search_slots}
-use Rattle.ert_ops.proofs.Reached.{IsReached, milliseconds, reached_next}
+use Rattle.std.proofs.lemmas.Bool.{cases_eq, Decides.nat_tests}
+use Rattle.ert_defs.proofs.{ExpiredLists.taken_last, ExpiredTimers.{cond_same, same_timer_self}, Runs.{legal-append, run-append}}
+use Rattle.ert_defs.specs.{Actors.same_actor, Entries.{look_entry, probe_entry, peek_entry, cancel_entry, arm_entry, mark_entry}, Legal.{Can, LegalFrom, left_by, left_of, names_timer}, Milliseconds.{natural, down, deadline_of}}
+use Rattle.ert_defs.specs.{States.{State, uses_at, next, run}, Timers.{Row, Uses, turned, use_of, is_taken, row_of, same_timer, settled_as, timer_at}, declared.entry.Actor.TheVariants.Caller, declared.entry.Entry.Entry}
+use Rattle.ert_defs.specs.{declared.settings.Settings.Settings, declared.timer.Start.Start, declared.timer.Status.Status, declared.timer.Status.TheVariants.{Armed, Cancelled}, declared.timer.TimerRef.TimerRef}
+use Rattle.ert_effects.specs.{RestartCalls.{IsFullFor, NeedsSlot, RestartEnds, Restarts}, TimerCalls.{AreProbes, AreTaken}, RoomCalls.{ShowsRoom, TellsRoom, no_room, room_with, with_found}, declared.answers.RestartErr.TheVariants.BadArg}
+use Rattle.ert_effects.specs.{declared.answers.RestartErr.TheVariants.{NotArmed, Full}, declared.answers.Room.Room}
+use Rattle.ert_ops.proofs.{PossibleCalls.{can_look, slot_named}, PossibleStarts.{IsFreeSlot, IsUnfit, Search, found, nowhere, arm_in, first_round, last_of, probe_slots, search_slots}, Reached.{IsReached, milliseconds, reached_next}}
 use Rattle.ert_ops.specs.Existence.{HasAnswer}
 
 -- the room: each slot is looked at

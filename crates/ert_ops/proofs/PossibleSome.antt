@@ -1,28 +1,13 @@
 -- An advance that tries so many timers at most has an answer in each state that a legal history comes to.
 
 use Rattle.std.proofs.Common.{◌≡◌, ℕ, zero, suc, pos, ◌<◌, Bool, cond, List, [], ◌∷◌, ◌++◌, AllPairs, length, None, Some, inl, inr, refl, sym, ap, ◌∙◌, subst, arith, eq-eqb}
-use Rattle.ert_defs.proofs.ExpiredTimers.{cond_same, same_timer_self}
-use Rattle.ert_defs.proofs.Rows.{Differ}
-use Rattle.ert_defs.specs.Actors.{has_actor}
-use Rattle.ert_defs.specs.Entries.{look_entry, expire_entry}
-use Rattle.ert_defs.specs.Legal.{Can, LegalFrom}
-use Rattle.ert_defs.specs.Milliseconds.{natural, down}
-use Rattle.ert_defs.specs.States.{State, next, run}
-use Rattle.ert_defs.specs.Timers.{Row, row_of, settled_as}
-use Rattle.ert_defs.specs.declared.entry.Actor.TheVariants.{Wheel, Sched}
-use Rattle.ert_defs.specs.declared.entry.Entry.{Entry}
-use Rattle.ert_defs.specs.declared.settings.Settings.{Settings}
-use Rattle.ert_defs.specs.declared.timer.Status.TheVariants.{Expired}
-use Rattle.ert_defs.specs.declared.timer.TimerRef.{TimerRef}
-use Rattle.ert_effects.specs.SomeCalls.{AreTried, HasAdvancedSome, end_entries}
-use Rattle.ert_effects.specs.WheelCalls.{Try, expiry_entries, hits, AllMissesSettled, IsDueBy, AllDue, AreOnce}
-use Rattle.ert_effects.specs.declared.answers.Left.{Left}
-use Rattle.ert_effects.specs.declared.answers.Left.TheVariants.{Nothing, Due, Moving}
+use Rattle.ert_defs.proofs.{ExpiredTimers.{cond_same, same_timer_self}, Rows.Differ}
+use Rattle.ert_defs.specs.{Actors.has_actor, Entries.{look_entry, expire_entry}, Legal.{Can, LegalFrom}, Milliseconds.{natural, down}, States.{State, next, run}, Timers.{Row, row_of, settled_as}, declared.entry.Actor.TheVariants.Wheel}
+use Rattle.ert_defs.specs.{declared.entry.Actor.TheVariants.Sched, declared.entry.Entry.Entry, declared.settings.Settings.Settings, declared.timer.Status.TheVariants.Expired, declared.timer.TimerRef.TimerRef}
+use Rattle.ert_effects.specs.{SomeCalls.{AreTried, HasAdvancedSome, end_entries}, WheelCalls.{Try, expiry_entries, hits, AllMissesSettled, IsDueBy, AllDue, AreOnce}, declared.answers.Left.Left, declared.answers.Left.TheVariants.Nothing}
+use Rattle.ert_effects.specs.{declared.answers.Left.TheVariants.{Due, Moving}}
 use Rattle.ert_laws.proofs.StandingRows.{row_stands}
-use Rattle.ert_ops.proofs.Advances.{look_stays}
-use Rattle.ert_ops.proofs.PossibleAdvances.{AllArmed, IsPicked, Picks, all_armed_before, expires_can, pick, untried}
-use Rattle.ert_ops.proofs.PossibleCalls.{can_look}
-use Rattle.ert_ops.proofs.Reached.{IsReached, milliseconds, reached_next}
+use Rattle.ert_ops.proofs.{Advances.look_stays, PossibleAdvances.{AllArmed, IsPicked, Picks, all_armed_before, expires_can, pick, untried}, PossibleCalls.can_look, Reached.{IsReached, milliseconds, reached_next}}
 use Rattle.ert_ops.specs.Existence.{IsPossible}
 
 record AreSomeExpired (g : Settings) (w to most : ℕ) (z : State) : Type 0 where

@@ -1,32 +1,16 @@
 -- A start has an answer after each legal history: it arms a timer in a free slot, or finds none.
 
 use Rattle.std.proofs.Common.{◌≡◌, ◌≢◌, ◌⊎◌, inl, inr, ⊎_elim, ℕ, zero, suc, ℤ, pos, negsuc, ◌+◌, ◌<◌, ◌≤◌, Bool, true, false, cond, ◌&&◌, ◌||◌, nat_eq, nat_lt, nat_le, min, List, [], ◌∷◌, ◌++◌, All, length, Option, Some, None, Ok, Err, refl, sym, ap, ◌∙◌, subst, arith, eq-eqb, append-nil}
-use Rattle.std.proofs.lemmas.Bool.{cases_eq}
-use Rattle.std.proofs.lemmas.Bool.Decides.{nat_tests}
-use Rattle.std.proofs.lemmas.List.Elements.{All-head, All-tail}
-use Rattle.ert_defs.proofs.ExpiredTimers.{cond_same, same_timer_self, same_timer-false}
-use Rattle.ert_defs.proofs.Rows.{IsRow}
-use Rattle.ert_defs.proofs.Uses.{Use, CanUse, IsBefore, fresh}
-use Rattle.ert_defs.specs.Actors.{has_actor}
-use Rattle.ert_defs.specs.Entries.{look_entry, probe_entry, arm_entry, mark_entry, orphan_entry}
-use Rattle.ert_defs.specs.Legal.{Can, IsSlot, LegalFrom}
+use Rattle.std.proofs.lemmas.{Bool.cases_eq, Bool.Decides.nat_tests, List.Elements.{All-head, All-tail}}
+use Rattle.ert_defs.proofs.{ExpiredTimers.{cond_same, same_timer_self, same_timer-false}, Rows.IsRow, Uses.{Use, CanUse, IsBefore, fresh}}
+use Rattle.ert_defs.specs.{Actors.has_actor, Entries.{look_entry, probe_entry, arm_entry, mark_entry, orphan_entry}, Legal.{Can, IsSlot, LegalFrom}, Milliseconds.{natural, down, up, deadline_at, deadline_when, deadline_of}, States.State}
+use Rattle.ert_defs.specs.{States.{uses_at, next, run}, Timers.{Row, Uses, IsNextUse, turned, use_of, deadline_in, deadline_told, generation_in, row_from, row_of, is_taken, same_timer, timer_at}, declared.entry.Actor.TheVariants.Wheel}
+use Rattle.ert_defs.specs.{declared.entry.Actor.TheVariants.Caller, declared.entry.Entry.Entry, declared.settings.Settings.Settings, declared.timer.Start.Start, declared.timer.Status.TheVariants.Armed, declared.timer.TimerRef.TimerRef}
+use Rattle.ert_defs.specs.{declared.timer.When.When, declared.timer.When.TheVariants.{After, At}}
 use Rattle.std.specs.Int.{int_div_euclid}
 use Rattle.std.specs.Prelude.{◌+ℤ◌, ◌-ℤ◌}
-use Rattle.ert_defs.specs.Milliseconds.{natural, down, up, deadline_at, deadline_when, deadline_of}
-use Rattle.ert_defs.specs.States.{State, uses_at, next, run}
-use Rattle.ert_defs.specs.Timers.{Row, Uses, IsNextUse, turned, use_of, deadline_in, deadline_told, generation_in, row_from, row_of, is_taken, same_timer, timer_at}
-use Rattle.ert_defs.specs.declared.entry.Actor.TheVariants.{Wheel, Caller}
-use Rattle.ert_defs.specs.declared.entry.Entry.{Entry}
-use Rattle.ert_defs.specs.declared.settings.Settings.{Settings}
-use Rattle.ert_defs.specs.declared.timer.Start.{Start}
-use Rattle.ert_defs.specs.declared.timer.Status.TheVariants.{Armed}
-use Rattle.ert_defs.specs.declared.timer.TimerRef.{TimerRef}
-use Rattle.ert_defs.specs.declared.timer.When.{When}
-use Rattle.ert_defs.specs.declared.timer.When.TheVariants.{After, At}
-use Rattle.ert_effects.specs.TimerCalls.{AreTaken, Closes, Rests, Round, Starts}
-use Rattle.ert_effects.specs.declared.answers.StartErr.TheVariants.{BadArg, Full, NoMemory}
-use Rattle.ert_ops.proofs.PossibleCalls.{can_look, can_mark}
-use Rattle.ert_ops.proofs.Reached.{IsReached, milliseconds, reached_next}
+use Rattle.ert_effects.specs.{TimerCalls.{AreTaken, Closes, Rests, Round, Starts}, declared.answers.StartErr.TheVariants.{BadArg, Full, NoMemory}}
+use Rattle.ert_ops.proofs.{PossibleCalls.{can_look, can_mark}, Reached.{IsReached, milliseconds, reached_next}}
 use Rattle.ert_ops.specs.Existence.{HasAnswerBut}
 
 -- a deadline is within the limits

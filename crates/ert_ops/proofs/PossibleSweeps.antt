@@ -2,32 +2,14 @@
 
 use Rattle.std.proofs.Common.{◌≡◌, ◌≢◌, ℕ, zero, suc, ◌<◌, Bool, true, false, cond, ◌||◌, ◌&&◌, nat_eq, List, [], ◌∷◌, ◌++◌, All, AllPairs, Option, Some, None, refl, sym, ap, ◌∙◌, subst, append_assoc, eqb-true, eq-eqb}
 use Rattle.std.proofs.lemmas.List.Elements.{All-head, All-tail}
-use Rattle.ert_defs.proofs.ExpiredTimers.{cond_same, same_timer_self}
-use Rattle.ert_defs.proofs.Rows.{Differ}
-use Rattle.ert_defs.proofs.Runs.{exit_stays, state-append}
-use Rattle.ert_defs.specs.Actors.{has_actor}
-use Rattle.ert_defs.specs.Entries.{mark_entry, orphan_entry}
-use Rattle.ert_defs.specs.Laws.{is_armed}
-use Rattle.ert_defs.specs.Legal.{Can, LegalFrom, Legal}
-use Rattle.ert_defs.specs.Settings.{IsChecked}
-use Rattle.ert_defs.specs.States.{State, next, run, state}
-use Rattle.ert_defs.specs.Timers.{Row, row_of, same_timer, settled_as}
-use Rattle.ert_defs.specs.declared.entry.Actor.TheVariants.{Wheel, Caller}
-use Rattle.ert_defs.specs.declared.entry.Entry.{Entry}
-use Rattle.ert_defs.specs.declared.settings.Settings.{Settings}
-use Rattle.ert_defs.specs.declared.timer.Status.{Status}
-use Rattle.ert_defs.specs.declared.timer.Status.TheVariants.{Armed, Orphaned}
-use Rattle.ert_defs.specs.declared.timer.TimerRef.{TimerRef}
-use Rattle.ert_effects.specs.Chains.{SweepsWheel, SweepsWheels, Exits}
-use Rattle.ert_effects.specs.Ways.{alone}
-use Rattle.ert_effects.specs.WheelCalls.{Try, orphans_by, orphan_entries, AllMaySweep, IsUntried, AreOnce, AreSwept, MarksExit}
+use Rattle.ert_defs.proofs.{ExpiredTimers.{cond_same, same_timer_self}, Rows.Differ, Runs.{exit_stays, state-append}}
+use Rattle.ert_defs.specs.{Actors.has_actor, Entries.{mark_entry, orphan_entry}, Laws.is_armed, Legal.{Can, LegalFrom, Legal}, Settings.IsChecked, States.{State, next, run, state}, Timers.{Row, row_of, same_timer, settled_as}}
+use Rattle.ert_defs.specs.{declared.entry.Actor.TheVariants.{Wheel, Caller}, declared.entry.Entry.Entry, declared.settings.Settings.Settings, declared.timer.Status.Status, declared.timer.Status.TheVariants.{Armed, Orphaned}}
+use Rattle.ert_defs.specs.{declared.timer.TimerRef.TimerRef}
+use Rattle.ert_effects.specs.{Chains.{SweepsWheel, SweepsWheels, Exits}, Ways.alone, WheelCalls.{Try, orphans_by, orphan_entries, AllMaySweep, IsUntried, AreOnce, AreSwept, MarksExit}}
 use Rattle.ert_laws.proofs.StandingRows.{row_stands}
 use Rattle.ert_laws.specs.Ranges.{IsPlaced}
-use Rattle.ert_ops.proofs.Due.{is_armed_some}
-use Rattle.ert_ops.proofs.Following.{follow_none, follow_then, legal_with}
-use Rattle.ert_ops.proofs.PossibleAdvances.{AllArmed}
-use Rattle.ert_ops.proofs.PossibleCalls.{can_mark}
-use Rattle.ert_ops.proofs.Reached.{IsReached, reached}
+use Rattle.ert_ops.proofs.{Due.is_armed_some, Following.{follow_none, follow_then, legal_with}, PossibleAdvances.AllArmed, PossibleCalls.can_mark, Reached.{IsReached, reached}}
 use Rattle.ert_ops.specs.Existence.{CanFollow}
 
 -- rows that stand in a wheel

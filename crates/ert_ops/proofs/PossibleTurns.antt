@@ -2,41 +2,18 @@
 
 use Rattle.std.proofs.Common.{◌≡◌, ◌⊎◌, inl, inr, ℕ, ℤ, zero, suc, ◌<◌, Bool, true, false, cond, ◌||◌, nat_eq, nat_lt, List, [], ◌∷◌, ◌++◌, Option, Some, None, Ok, refl, sym, ap, ◌∙◌, subst, arith, append_assoc, append-nil, eq-eqb}
 use Rattle.std.proofs.lemmas.Bool.Decides.{nat_tests}
-use Rattle.ert_defs.proofs.ExpiredTimers.{cond_same, same_timer_self}
-use Rattle.ert_defs.proofs.Runs.{legal-append, run-append, state-append}
-use Rattle.ert_defs.specs.Actors.{has_actor}
-use Rattle.ert_defs.specs.Entries.{entry_by, look_entry, peek_entry, cancel_entry, pick_entry, answer_entry, mark_entry, deliver_entry, drop_entry}
-use Rattle.ert_defs.specs.Legal.{Can, LegalFrom, Legal, IsResult, names_timer}
-use Rattle.ert_defs.specs.Mails.{SchedState, first_of, others_of, is_about, sched_after}
-use Rattle.ert_defs.specs.Settings.{IsChecked}
-use Rattle.ert_defs.specs.States.{State, next, run, state}
-use Rattle.ert_defs.specs.Timers.{Row}
-use Rattle.ert_defs.specs.declared.entry.Actor.TheVariants.{Wheel, Sched, MailOf}
-use Rattle.ert_defs.specs.declared.entry.Entry.{Entry}
-use Rattle.ert_defs.specs.declared.entry.Event.{Event}
-use Rattle.ert_defs.specs.declared.entry.Event.TheVariants.{Look, Peek, Cancel}
-use Rattle.ert_defs.specs.declared.mail.Request.{Request}
-use Rattle.ert_defs.specs.declared.mail.RequestKind.{RequestKind}
-use Rattle.ert_defs.specs.declared.mail.RequestKind.TheVariants.{Cancel as ToCancel, Read as ToRead}
-use Rattle.ert_defs.specs.declared.settings.Settings.{Settings}
-use Rattle.ert_effects.specs.Chains.{HoldsRequest, HoldsBy, Serves, ServesMany, ServesAll, AdvancesWheel, Hands, HandsMany, Delivers, Turns, puts, drops}
-use Rattle.ert_effects.specs.MailCalls.{handed_entries}
-use Rattle.ert_effects.specs.RequestCalls.{DoesAsked, Answers}
-use Rattle.ert_effects.specs.TimerCalls.{read_entries, cancel_entries, Reads, Cancels}
-use Rattle.ert_effects.specs.Ways.{Then, alone}
-use Rattle.ert_effects.specs.WheelCalls.{HasAdvanced}
-use Rattle.ert_effects.specs.declared.answers.Handed.{Handed}
-use Rattle.ert_effects.specs.declared.answers.Handed.TheVariants.{Put, Dropped}
-use Rattle.ert_effects.specs.declared.answers.Turned.{Turned}
-use Rattle.ert_laws.proofs.Requests.{HeldHasAsker, have_askers}
-use Rattle.ert_laws.proofs.RowRanges.{first_placed}
+use Rattle.ert_defs.proofs.{ExpiredTimers.{cond_same, same_timer_self}, Runs.{legal-append, run-append, state-append}}
+use Rattle.ert_defs.specs.{Actors.has_actor, Entries.{entry_by, look_entry, peek_entry, cancel_entry, pick_entry, answer_entry, mark_entry, deliver_entry, drop_entry}, Legal.{Can, LegalFrom, Legal, IsResult, names_timer}, Mails.SchedState}
+use Rattle.ert_defs.specs.{Mails.{first_of, others_of, is_about, sched_after}, Settings.IsChecked, States.{State, next, run, state}, Timers.Row, declared.entry.Actor.TheVariants.{Wheel, Sched, MailOf}, declared.entry.Entry.Entry}
+use Rattle.ert_defs.specs.{declared.entry.Event.Event, declared.entry.Event.TheVariants.{Look, Peek, Cancel}, declared.mail.Request.Request, declared.mail.RequestKind.RequestKind, declared.mail.RequestKind.TheVariants.Cancel as ToCancel}
+use Rattle.ert_defs.specs.{declared.mail.RequestKind.TheVariants.Read as ToRead, declared.settings.Settings.Settings}
+use Rattle.ert_effects.specs.{Chains.{HoldsRequest, HoldsBy, Serves, ServesMany, ServesAll, AdvancesWheel, Hands, HandsMany, Delivers, Turns, puts, drops}, MailCalls.handed_entries, RequestCalls.{DoesAsked, Answers}}
+use Rattle.ert_effects.specs.{TimerCalls.{read_entries, cancel_entries, Reads, Cancels}, Ways.{Then, alone}, WheelCalls.HasAdvanced, declared.answers.Handed.Handed, declared.answers.Handed.TheVariants.{Put, Dropped}}
+use Rattle.ert_effects.specs.{declared.answers.Turned.Turned}
+use Rattle.ert_laws.proofs.{Requests.{HeldHasAsker, have_askers}, RowRanges.first_placed}
 use Rattle.ert_laws.specs.Ranges.{IsPlaced}
-use Rattle.ert_ops.proofs.Following.{follow_as, follow_none, follow_step, follow_then, legal_with, then_before}
-use Rattle.ert_ops.proofs.Hands.{expired_if, kept_others}
-use Rattle.ert_ops.proofs.PossibleAdvances.{possible_advance}
-use Rattle.ert_ops.proofs.PossibleStarts.{or_not}
-use Rattle.ert_ops.proofs.PossibleCalls.{can_mark, possible_read, possible_cancel}
-use Rattle.ert_ops.proofs.Reached.{reached}
+use Rattle.ert_ops.proofs.{Following.{follow_as, follow_none, follow_step, follow_then, legal_with, then_before}, Hands.{expired_if, kept_others}, PossibleAdvances.possible_advance, PossibleStarts.or_not, PossibleCalls.can_mark}
+use Rattle.ert_ops.proofs.{PossibleCalls.{possible_read, possible_cancel}, Reached.reached}
 use Rattle.ert_ops.specs.Existence.{IsPossible, CanFollow}
 
 -- what a scheduler does for the request in its hand leaves that there, with its result

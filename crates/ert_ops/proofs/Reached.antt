@@ -3,23 +3,10 @@
 use Rattle.std.proofs.Common.{ℤ, pos, negsuc, ◌≡◌, ◌≤◌, ◌≤ℤ◌, List, refl, arith}
 use Rattle.std.proofs.lemmas.Int.{ints}
 use Rattle.std.specs.Prelude.{◌-ℤ◌}
-use Rattle.ert_defs.proofs.ExpiredLists.{IsKept as KeepsExpired, expired_next, kept_after}
-use Rattle.ert_defs.proofs.Numbers.{floor_rises}
-use Rattle.ert_defs.proofs.Rows.{rows_hold}
-use Rattle.ert_defs.proofs.Slots.{ordered}
-use Rattle.ert_defs.proofs.Standing.{all_stand}
-use Rattle.ert_defs.proofs.Times.{KeepsBounds, kept, kept_next as bounds_next}
-use Rattle.ert_defs.specs.Legal.{Can, Legal}
-use Rattle.ert_defs.specs.Milliseconds.{natural, down}
-use Rattle.ert_defs.specs.Settings.{IsChecked}
-use Rattle.ert_defs.specs.States.{State, next, state}
-use Rattle.ert_defs.specs.declared.entry.Entry.{Entry}
-use Rattle.ert_defs.specs.declared.settings.Settings.{Settings}
-use Rattle.ert_laws.proofs.Requests.{HaveAskers, askers_next, have_askers}
-use Rattle.ert_laws.proofs.RowRanges.{AllPlaced, placed_next, rows_placed}
+use Rattle.ert_defs.proofs.{ExpiredLists.{IsKept as KeepsExpired, expired_next, kept_after}, Numbers.floor_rises, Rows.rows_hold, Slots.ordered, Standing.all_stand, Times.{KeepsBounds, kept, kept_next as bounds_next}, Bounds.in_range}
+use Rattle.ert_defs.specs.{Legal.{Can, Legal}, Milliseconds.{natural, down}, Settings.IsChecked, States.{State, next, state}, declared.entry.Entry.Entry, declared.settings.Settings.Settings, Clocks.face}
+use Rattle.ert_laws.proofs.{Requests.{HaveAskers, askers_next, have_askers}, RowRanges.{AllPlaced, placed_next, rows_placed}}
 use Rattle.ert_ops.proofs.Meets.{IsKept, kept_next}
-use Rattle.ert_defs.proofs.Bounds.{in_range}
-use Rattle.ert_defs.specs.Clocks.{face}
 
 pub record IsReached (g : Settings) (s : State) : Type 0 where
   pub checked : IsChecked g

@@ -1,39 +1,17 @@
 -- Finalizations, and the ops that read the clock: the service answers and does as the plain one.
 
 use Rattle.std.proofs.Common.{◌≡◌, ℕ, ℤ, pos, negsuc, ◌+ℤ◌, ◌≤ℤ◌, Bool, true, false, cond, List, [], ◌∷◌, Option, Some, None, refl, sym, ap, ◌∙◌, subst, arith}
-use Rattle.std.proofs.lemmas.Int.{ints}
+use Rattle.std.proofs.lemmas.{Int.ints, Bool.Decides.{Decides-and, Decides-like}}
 use Rattle.std.specs.Prelude.{FitsSigned}
-use Rattle.std.specs.Int.{w64}
-use Rattle.std.specs.Bool.{Decides}
-use Rattle.std.proofs.lemmas.Bool.Decides.{Decides-and, Decides-like}
+use Rattle.std.specs.{Int.w64, Bool.Decides}
 use Rattle.ert_effects.specs.ClockCalls.{OffsetStays, FinalizesFrom, IsTooWide, TellsSystemTime}
 use Rattle.ert_clock.specs.declared.clock.Moved.{Moved}
-use Rattle.ert_defs.specs.Clocks.{Clock}
-use Rattle.ert_defs.specs.Entries.{look_entry, off_entry, keeper_entry}
-use Rattle.ert_defs.specs.Legal.{LegalFrom}
-use Rattle.ert_defs.specs.Lines.{end_time}
-use Rattle.ert_defs.specs.States.{State}
-use Rattle.ert_defs.specs.declared.entry.Act.TheVariants.{Finalize as Finalizing}
-use Rattle.ert_defs.specs.declared.entry.Actor.TheVariants.{Keeper, Caller}
-use Rattle.ert_defs.specs.declared.entry.Entry.{Entry}
-use Rattle.ert_defs.specs.declared.entry.Event.TheVariants.{Off}
-use Rattle.ert_defs.specs.declared.settings.Mode.{Mode}
-use Rattle.ert_defs.specs.declared.settings.OffsetState.{OffsetState}
-use Rattle.ert_defs.specs.declared.settings.OffsetState.TheVariants.{Preliminary, Final, Volatile}
-use Rattle.ert_defs.specs.declared.settings.Reading.{Reading}
-use Rattle.ert_defs.specs.declared.settings.Settings.{Settings}
-use Rattle.ert_ops.proofs.Clocks.{IsDone, done_as, Decides-int_le, decided_not, moves_done, refuses_done}
-use Rattle.ert_ops.proofs.Meets.{Meets, meets_next}
-use Rattle.ert_ops.proofs.Steps.{as_look, as_off}
-use Rattle.ert_ops.specs.Calls.{Converts, TellsSettings}
-use Rattle.ert_ops.specs.Labels.{Labels, label_of}
-use Rattle.ert_ops.specs.Lines.{line_of}
-use Rattle.ert_ops.specs.Pieces.{Piece}
-use Rattle.ert_ops.specs.Plain.{slot_of}
-use Rattle.ert_ops.specs.PlainClock.{finalize_piece, time_piece, system_piece, info_piece, fits_64_bits, convert_piece}
-use Rattle.ert_ops.specs.declared.reply.Reply.{Reply}
-use Rattle.ert_ops.specs.declared.reply.Reply.TheVariants.{Finalize, FinalizeWide, Time, System, Info, Convert, ConvertTooWide}
-use Rattle.ert_ops.specs.Conversions.{converted}
+use Rattle.ert_defs.specs.{Clocks.Clock, Entries.{look_entry, off_entry, keeper_entry}, Legal.LegalFrom, Lines.end_time, States.State, declared.entry.Act.TheVariants.Finalize as Finalizing, declared.entry.Actor.TheVariants.{Keeper, Caller}}
+use Rattle.ert_defs.specs.{declared.entry.Entry.Entry, declared.entry.Event.TheVariants.Off, declared.settings.Mode.Mode, declared.settings.OffsetState.OffsetState, declared.settings.OffsetState.TheVariants.{Preliminary, Final, Volatile}}
+use Rattle.ert_defs.specs.{declared.settings.Reading.Reading, declared.settings.Settings.Settings}
+use Rattle.ert_ops.proofs.{Clocks.{IsDone, done_as, Decides-int_le, decided_not, moves_done, refuses_done}, Meets.{Meets, meets_next}, Steps.{as_look, as_off}}
+use Rattle.ert_ops.specs.{Calls.{Converts, TellsSettings}, Labels.{Labels, label_of}, Lines.line_of, Pieces.Piece, Plain.slot_of, PlainClock.{finalize_piece, time_piece, system_piece, info_piece, fits_64_bits, convert_piece}}
+use Rattle.ert_ops.specs.{declared.reply.Reply.Reply, declared.reply.Reply.TheVariants.{Finalize, FinalizeWide, Time, System, Info, Convert, ConvertTooWide}, Conversions.converted}
 
 -- a finalization of what isn't preliminary
 stays_piece : (s : State) (old : OffsetState) (now offset : ℤ) (shift : Option ℤ) → now ≡ s.clock.now → offset ≡ s.clock.offset → old ≡ s.clock.state

@@ -3,36 +3,14 @@
 -- its first round.
 
 use Rattle.std.proofs.Common.{◌≡◌, ◌≢◌, ◌⊎◌, ℕ, ℤ, zero, suc, ◌+◌, ◌<◌, ◌≤◌, Bool, true, cond, nat_le, List, [], ◌∷◌, ◌++◌, length, Option, Some, None, refl, sym, ap, ◌∙◌, subst, inl, inr, arith}
-use Rattle.std.proofs.lemmas.Bool.Decides.{nat_tests}
-use Rattle.std.proofs.lemmas.Bool.{cases_eq, cases_lt}
+use Rattle.std.proofs.lemmas.Bool.{Decides.nat_tests, cases_eq, cases_lt}
 use Rattle.ert_effects.proofs.Told.{round_probes}
 use Rattle.ert_effects.specs.TimerCalls.{AreTaken, Round, IsInRound, IsRoundTaken, Rests, IsBadArg, IsWheelFull}
 use Rattle.ert_defs.proofs.ExpiredTimers.{cond_same}
-use Rattle.ert_defs.specs.Actors.{has_actor}
-use Rattle.ert_defs.specs.Clocks.{Clock}
-use Rattle.ert_defs.specs.Entries.{look_entry, probe_entry}
-use Rattle.ert_defs.specs.Legal.{LegalFrom}
-use Rattle.ert_defs.specs.Milliseconds.{natural, down, deadline_of}
-use Rattle.ert_defs.specs.States.{State, uses_at, next}
-use Rattle.ert_defs.specs.Timers.{turned, is_taken, timer_at}
-use Rattle.ert_defs.specs.declared.entry.Actor.TheVariants.{Wheel, Caller}
-use Rattle.ert_defs.specs.declared.entry.Entry.{Entry}
-use Rattle.ert_defs.specs.declared.settings.Settings.{Settings}
-use Rattle.ert_defs.specs.declared.timer.Start.{Start}
-use Rattle.ert_defs.specs.declared.timer.Status.{Status}
-use Rattle.ert_defs.specs.declared.timer.TimerRef.{TimerRef}
-use Rattle.ert_ops.proofs.Bound.{IsName}
-use Rattle.ert_ops.proofs.Clocks.{IsDone, done_as}
-use Rattle.ert_ops.proofs.FirstRounds.{first_round, not_resting}
-use Rattle.ert_ops.proofs.Meets.{IsKept, Meets, meets_next, meets_probes}
-use Rattle.ert_ops.proofs.Steps.{as_look}
-use Rattle.ert_ops.proofs.Taken.{all_taken, as_many, count_pairs}
-use Rattle.ert_ops.specs.Labels.{Labels, label_of}
-use Rattle.ert_ops.specs.Lines.{line_of}
-use Rattle.ert_ops.specs.Pieces.{Piece}
-use Rattle.ert_ops.specs.Plain.{slot_of}
-use Rattle.ert_ops.specs.PlainTimers.{taken_slots, start_reply, bad_arg, full, looks, arm_entries, start_piece, start_now}
-use Rattle.ert_ops.specs.declared.reply.Reply.{Reply}
+use Rattle.ert_defs.specs.{Actors.has_actor, Clocks.Clock, Entries.{look_entry, probe_entry}, Legal.LegalFrom, Milliseconds.{natural, down, deadline_of}, States.{State, uses_at, next}, Timers.{turned, is_taken, timer_at}}
+use Rattle.ert_defs.specs.{declared.entry.Actor.TheVariants.{Wheel, Caller}, declared.entry.Entry.Entry, declared.settings.Settings.Settings, declared.timer.Start.Start, declared.timer.Status.Status, declared.timer.TimerRef.TimerRef}
+use Rattle.ert_ops.proofs.{Bound.IsName, Clocks.{IsDone, done_as}, FirstRounds.{first_round, not_resting}, Meets.{IsKept, Meets, meets_next, meets_probes}, Steps.as_look, Taken.{all_taken, as_many, count_pairs}}
+use Rattle.ert_ops.specs.{Labels.{Labels, label_of}, Lines.line_of, Pieces.Piece, Plain.slot_of, PlainTimers.{taken_slots, start_reply, bad_arg, full, looks, arm_entries, start_piece, start_now}, declared.reply.Reply.Reply}
 
 -- the plain service finds no deadline, or no room
 

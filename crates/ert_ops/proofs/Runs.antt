@@ -3,40 +3,16 @@
 use Rattle.std.proofs.Common.{◌≡◌, ◌≢◌, ℕ, zero, suc, ◌+◌, ◌<◌, ◌≤◌, All, AllPairs, List, [], ◌∷◌, ◌++◌, length, refl, sym, ap, ◌∙◌, subst, arith, append_assoc}
 use Rattle.std.proofs.lemmas.List.Elements.{All-head, All-tail}
 use Rattle.ert_effects.specs.Ways.{alone}
-use Rattle.ert_defs.proofs.Lists.{pairs_head, pairs_tail}
-use Rattle.ert_defs.proofs.Rows.{rows_hold}
-use Rattle.ert_defs.proofs.Runs.{state-append}
-use Rattle.ert_defs.proofs.Slots.{ordered}
-use Rattle.ert_defs.proofs.Standing.{all_stand}
-use Rattle.ert_defs.specs.Clocks.{Clock}
-use Rattle.ert_defs.specs.Legal.{LegalFrom}
-use Rattle.ert_defs.specs.States.{State, opening, run, state}
-use Rattle.ert_defs.specs.declared.entry.Entry.{Entry}
-use Rattle.ert_defs.specs.declared.settings.Settings.{Settings}
-use Rattle.ert_defs.specs.declared.timer.Status.{Status}
-use Rattle.ert_defs.specs.declared.timer.Status.TheVariants.{Armed, Expired, Delivered, Cancelled, Orphaned, Dropped}
-use Rattle.ert_defs.specs.declared.timer.TimerRef.{TimerRef}
-use Rattle.ert_defs.specs.declared.timer.When.{When}
-use Rattle.ert_ops.proofs.Bound.{IsName, IsFreeLabel, unbound_name}
-use Rattle.ert_ops.proofs.Many.{legal_before, legal_after}
-use Rattle.ert_ops.proofs.Meets.{Agrees}
-use Rattle.ert_ops.proofs.OpsDone.{tick_op, check_op, finalize_op, notify_op, time_op, system_op, offset_op, info_op, cancel_op, cancel_quiet_op, read_op, cancel_async_op, read_async_op, serve_an_op, advance_an_op, deliver_an_op, turn_an_op, receive_op, exit_op, alive_op, monitor_op, demonitor_op}
-use Rattle.ert_ops.proofs.Readings.{converts_done}
-use Rattle.ert_ops.proofs.Shown.{Names, Shows}
-use Rattle.ert_ops.proofs.Taken.{count_pairs}
-use Rattle.ert_ops.proofs.StartsAgree.{IsAgreed, agreed, start_op, send_after_op}
-use Rattle.ert_ops.specs.Calls.{Calls}
-use Rattle.ert_ops.specs.Labels.{Labels, label_of, bind, labels_in, AreOps}
+use Rattle.ert_defs.proofs.{Lists.{pairs_head, pairs_tail}, Rows.rows_hold, Runs.state-append, Slots.ordered, Standing.all_stand}
+use Rattle.ert_defs.specs.{Clocks.Clock, Legal.LegalFrom, States.{State, opening, run, state}, declared.entry.Entry.Entry, declared.settings.Settings.Settings, declared.timer.Status.Status, declared.timer.Status.TheVariants.Armed}
+use Rattle.ert_defs.specs.{declared.timer.Status.TheVariants.{Expired, Delivered, Cancelled, Orphaned, Dropped}, declared.timer.TimerRef.TimerRef, declared.timer.When.When}
+use Rattle.ert_ops.proofs.{Bound.{IsName, IsFreeLabel, unbound_name}, Many.{legal_before, legal_after}, Meets.Agrees, OpsDone.{tick_op, check_op, finalize_op, notify_op, time_op, system_op, offset_op, info_op, cancel_op, cancel_quiet_op}}
+use Rattle.ert_ops.proofs.{OpsDone.{read_op, cancel_async_op, read_async_op, serve_an_op, advance_an_op, deliver_an_op, turn_an_op, receive_op, exit_op, alive_op, monitor_op, demonitor_op}, Readings.converts_done, Shown.{Names, Shows}}
+use Rattle.ert_ops.proofs.{Taken.count_pairs, StartsAgree.{IsAgreed, agreed, start_op, send_after_op}}
+use Rattle.ert_ops.specs.{Calls.Calls, Labels.{Labels, label_of, bind, labels_in, AreOps}, PlainCounts.plain_after, Laws.{LawOfOneText, LawOfOneTranscript, LawOfPlainCounts}, Lines.line_of, Texts.end_line, Plain.{op_piece, plain_lines}}
+use Rattle.ert_ops.specs.{Scripts.{labels_after, Script, lines_of, IsTranscript}, declared.op.Op.Op, declared.reply.Reply.Reply}
 use Rattle.ert_laws.specs.Counts.{count_of, has_status, count_in, counts_of}
-use Rattle.ert_ops.specs.PlainCounts.{plain_after}
-use Rattle.ert_ops.specs.Laws.{LawOfOneText, LawOfOneTranscript, LawOfPlainCounts}
-use Rattle.ert_ops.specs.Lines.{line_of}
-use Rattle.ert_ops.specs.Texts.{end_line}
-use Rattle.ert_ops.specs.Plain.{op_piece, plain_lines}
-use Rattle.ert_ops.specs.Scripts.{labels_after, Script, lines_of, IsTranscript}
-use Rattle.ert_ops.specs.declared.op.Op.{Op}
 use Rattle.ert_ops.specs.declared.op.Op.TheVariants as ops
-use Rattle.ert_ops.specs.declared.reply.Reply.{Reply}
 use Rattle.ert_ops.specs.declared.reply.Reply.TheVariants as replies
 
 -- the label that an op starts a timer with is free

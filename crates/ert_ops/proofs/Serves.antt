@@ -1,29 +1,13 @@
 -- Serving: both services answer the same requests, and as many.
 
 use Rattle.std.proofs.Common.{◌≡◌, ℕ, Bool, true, false, cond, nat_eq, List, [], ◌∷◌, ◌++◌, Option, Some, None, Ok, refl, sym, ap, ◌∙◌, subst}
-use Rattle.ert_effects.specs.Chains.{HoldsBy, HasServed, Serves}
-use Rattle.ert_effects.specs.RequestCalls.{DoesAsked, HasAnswered}
-use Rattle.ert_effects.specs.Ways.{alone}
+use Rattle.ert_effects.specs.{Chains.{HoldsBy, HasServed, Serves}, RequestCalls.{DoesAsked, HasAnswered}, Ways.alone}
 use Rattle.ert_defs.proofs.Runs.{run-append, state-append, legal_first, legal_then}
-use Rattle.ert_defs.specs.Entries.{look_entry, pick_entry, answer_entry}
-use Rattle.ert_defs.specs.Legal.{LegalFrom}
-use Rattle.ert_defs.specs.Mails.{first_of}
-use Rattle.ert_defs.specs.States.{State, next, run, state}
-use Rattle.ert_defs.specs.declared.entry.Actor.TheVariants.{Inbox, Sched, MailOf}
-use Rattle.ert_defs.specs.declared.entry.Entry.{Entry}
-use Rattle.ert_defs.specs.declared.mail.Request.{Request}
-use Rattle.ert_defs.specs.declared.mail.RequestKind.{RequestKind}
-use Rattle.ert_defs.specs.declared.mail.RequestKind.TheVariants.{Cancel as ToCancel, Read as ToRead}
-use Rattle.ert_defs.specs.declared.settings.Settings.{Settings}
-use Rattle.ert_defs.specs.declared.timer.TimerRef.{TimerRef}
-use Rattle.ert_ops.proofs.Bound.{IsName}
-use Rattle.ert_ops.proofs.Cancels.{AreCancelled, cancels_meet, reads_meet}
-use Rattle.ert_ops.proofs.Meets.{Meets, meets_next}
-use Rattle.ert_ops.proofs.Shown.{Both, SameRequest, pairs_first}
-use Rattle.ert_ops.proofs.Steps.{as_pick, as_answer}
-use Rattle.ert_ops.specs.Labels.{Labels}
-use Rattle.ert_ops.specs.PlainTimers.{is_bound, left_now, left_if}
-use Rattle.ert_ops.specs.PlainTurns.{request_entries, answer_entries, Served, pick_piece, serve_piece, serve_one, has_served}
+use Rattle.ert_defs.specs.{Entries.{look_entry, pick_entry, answer_entry}, Legal.LegalFrom, Mails.first_of, States.{State, next, run, state}, declared.entry.Actor.TheVariants.{Inbox, Sched, MailOf}, declared.entry.Entry.Entry}
+use Rattle.ert_defs.specs.{declared.mail.Request.Request, declared.mail.RequestKind.RequestKind, declared.mail.RequestKind.TheVariants.{Cancel as ToCancel, Read as ToRead}, declared.settings.Settings.Settings}
+use Rattle.ert_defs.specs.{declared.timer.TimerRef.TimerRef}
+use Rattle.ert_ops.proofs.{Bound.IsName, Cancels.{AreCancelled, cancels_meet, reads_meet}, Meets.{Meets, meets_next}, Shown.{Both, SameRequest, pairs_first}, Steps.{as_pick, as_answer}}
+use Rattle.ert_ops.specs.{Labels.Labels, PlainTimers.{is_bound, left_now, left_if}, PlainTurns.{request_entries, answer_entries, Served, pick_piece, serve_piece, serve_one, has_served}}
 
 -- one request is answered
 

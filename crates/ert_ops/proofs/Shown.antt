@@ -2,18 +2,9 @@
 -- by a relation that is one to one and keeps the wheel.
 
 use Rattle.std.proofs.Common.{◌≡◌, ℕ, Bool, true, false, cond, List, [], ◌∷◌, ◌++◌, Option, Some, None, refl, sym, subst}
-use Rattle.ert_defs.specs.Mails.{MailState, SchedState, first_of, others_of, message_by, message_of, message_in, answer_by, answer_of, answer_in, with_row}
-use Rattle.ert_defs.specs.States.{State}
-use Rattle.ert_defs.specs.Timers.{Row, same_timer, row_of}
-use Rattle.ert_defs.specs.declared.entry.Actor.{Actor}
-use Rattle.ert_defs.specs.declared.mail.Mail.{Mail}
-use Rattle.ert_defs.specs.declared.mail.Mail.TheVariants.{Timeout, Bare as BareMail, CancelDone, ReadDone, Change}
-use Rattle.ert_defs.specs.declared.mail.Request.{Request}
-use Rattle.ert_defs.specs.declared.mail.RequestKind.{RequestKind}
-use Rattle.ert_defs.specs.declared.mail.RequestKind.TheVariants.{Cancel as ToCancel, Read as ToRead}
-use Rattle.ert_defs.specs.declared.timer.Kind.{Kind}
-use Rattle.ert_defs.specs.declared.timer.Kind.TheVariants.{Wrapped, Bare}
-use Rattle.ert_defs.specs.declared.timer.TimerRef.{TimerRef}
+use Rattle.ert_defs.specs.{Mails.{MailState, SchedState, first_of, others_of, message_by, message_of, message_in, answer_by, answer_of, answer_in, with_row}, States.State, Timers.{Row, same_timer, row_of}, declared.entry.Actor.Actor}
+use Rattle.ert_defs.specs.{declared.mail.Mail.Mail, declared.mail.Mail.TheVariants.{Timeout, Bare as BareMail, CancelDone, ReadDone, Change}, declared.mail.Request.Request, declared.mail.RequestKind.RequestKind}
+use Rattle.ert_defs.specs.{declared.mail.RequestKind.TheVariants.{Cancel as ToCancel, Read as ToRead}, declared.timer.Kind.Kind, declared.timer.Kind.TheVariants.{Wrapped, Bare}, declared.timer.TimerRef.TimerRef}
 
 -- which reference of the one state is which of the other
 abbrev pub Names : Type 1

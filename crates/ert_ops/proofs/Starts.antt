@@ -4,26 +4,10 @@ use Rattle.std.proofs.Common.{◌≡◌, ◌≢◌, ℕ, ℤ, suc, ◌<◌, ◌�
 use Rattle.std.proofs.lemmas.Bool.Decides.{nat_tests}
 use Rattle.ert_effects.specs.TimerCalls.{AreProbes, Closes, IsStarted}
 use Rattle.ert_defs.proofs.Runs.{run-append, legal_first, legal_then}
-use Rattle.ert_defs.specs.Clocks.{Clock}
-use Rattle.ert_defs.specs.Entries.{look_entry, arm_entry, mark_entry, orphan_entry}
-use Rattle.ert_defs.specs.Legal.{LegalFrom}
-use Rattle.ert_defs.specs.Milliseconds.{deadline_of}
-use Rattle.ert_defs.specs.States.{State, next, run}
-use Rattle.ert_defs.specs.Timers.{is_taken, timer_at}
-use Rattle.ert_defs.specs.declared.entry.Actor.TheVariants.{Wheel, Caller}
-use Rattle.ert_defs.specs.declared.entry.Entry.{Entry}
-use Rattle.ert_defs.specs.declared.settings.Settings.{Settings}
-use Rattle.ert_defs.specs.declared.timer.Start.{Start}
-use Rattle.ert_defs.specs.declared.timer.Status.TheVariants.{Armed}
-use Rattle.ert_defs.specs.declared.timer.TimerRef.{TimerRef}
-use Rattle.ert_ops.proofs.Arms.{IsNew, is_new, armed_status, own_last, meets_armed}
-use Rattle.ert_ops.proofs.Bound.{IsName, IsFreeLabel, new_name}
-use Rattle.ert_ops.proofs.Meets.{Meets, meets_next, meets_probes}
-use Rattle.ert_ops.proofs.Steps.{as_look, as_mark, as_orphan}
-use Rattle.ert_ops.proofs.Taken.{one_free, count_pairs}
-use Rattle.ert_ops.specs.Labels.{Labels, bind}
-use Rattle.ert_ops.specs.Pieces.{Piece}
-use Rattle.ert_ops.specs.PlainTimers.{taken_slots, start_reply, full, looks, arm_entries, start_piece, start_now}
+use Rattle.ert_defs.specs.{Clocks.Clock, Entries.{look_entry, arm_entry, mark_entry, orphan_entry}, Legal.LegalFrom, Milliseconds.deadline_of, States.{State, next, run}, Timers.{is_taken, timer_at}, declared.entry.Actor.TheVariants.Wheel}
+use Rattle.ert_defs.specs.{declared.entry.Actor.TheVariants.Caller, declared.entry.Entry.Entry, declared.settings.Settings.Settings, declared.timer.Start.Start, declared.timer.Status.TheVariants.Armed, declared.timer.TimerRef.TimerRef}
+use Rattle.ert_ops.proofs.{Arms.{IsNew, is_new, armed_status, own_last, meets_armed}, Bound.{IsName, IsFreeLabel, new_name}, Meets.{Meets, meets_next, meets_probes}, Steps.{as_look, as_mark, as_orphan}, Taken.{one_free, count_pairs}}
+use Rattle.ert_ops.specs.{Labels.{Labels, bind}, Pieces.Piece, PlainTimers.{taken_slots, start_reply, full, looks, arm_entries, start_piece, start_now}}
 
 -- what the plain service does, by the deadline and the count of what is taken
 

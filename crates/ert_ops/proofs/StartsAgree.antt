@@ -3,31 +3,12 @@
 
 use Rattle.std.proofs.Common.{◌≡◌, ℕ, suc, ◌<◌, ◌≤◌, Bool, true, false, cond, nat_eq, List, [], ◌∷◌, refl, sym, ap, ◌∙◌, subst, arith}
 use Rattle.ert_effects.specs.Ways.{alone}
-use Rattle.ert_defs.specs.Legal.{LegalFrom}
-use Rattle.ert_defs.specs.States.{State, run, state}
-use Rattle.ert_defs.specs.Timers.{timer_at}
-use Rattle.ert_defs.specs.declared.entry.Entry.{Entry}
-use Rattle.ert_defs.specs.declared.settings.Settings.{Settings}
-use Rattle.ert_defs.specs.declared.timer.Kind.TheVariants.{Wrapped, Bare}
-use Rattle.ert_defs.specs.declared.timer.Start.{Start}
-use Rattle.ert_defs.specs.declared.timer.TimerRef.{TimerRef}
-use Rattle.ert_defs.specs.declared.timer.When.{When}
-use Rattle.ert_ops.proofs.Bound.{IsName, IsFreeLabel, names_grow, new_name, ref_bound}
-use Rattle.ert_ops.proofs.Clocks.{IsDone}
-use Rattle.ert_ops.proofs.Meets.{Agrees, meets_later}
-use Rattle.ert_ops.proofs.Refusals.{bad_arg_done, full_done}
-use Rattle.ert_ops.proofs.Starts.{AreStarted, start_done}
-use Rattle.ert_ops.specs.Calls.{Calls, start_for_op}
-use Rattle.ert_ops.specs.Labels.{Labels, ref_of, label_of, bind}
-use Rattle.ert_ops.specs.Lines.{line_of}
-use Rattle.ert_ops.specs.Pieces.{Piece}
-use Rattle.ert_ops.specs.Plain.{slot_of, op_piece}
-use Rattle.ert_ops.specs.PlainTimers.{looks, arm_entries, start_now}
-use Rattle.ert_ops.specs.Scripts.{labels_after}
-use Rattle.ert_ops.specs.declared.op.Op.{Op}
+use Rattle.ert_defs.specs.{Legal.LegalFrom, States.{State, run, state}, Timers.timer_at, declared.entry.Entry.Entry, declared.settings.Settings.Settings, declared.timer.Kind.TheVariants.{Wrapped, Bare}, declared.timer.Start.Start}
+use Rattle.ert_defs.specs.{declared.timer.TimerRef.TimerRef, declared.timer.When.When}
+use Rattle.ert_ops.proofs.{Bound.{IsName, IsFreeLabel, names_grow, new_name, ref_bound}, Clocks.IsDone, Meets.{Agrees, meets_later}, Refusals.{bad_arg_done, full_done}, Starts.{AreStarted, start_done}}
+use Rattle.ert_ops.specs.{Calls.{Calls, start_for_op}, Labels.{Labels, ref_of, label_of, bind}, Lines.line_of, Pieces.Piece, Plain.{slot_of, op_piece}, PlainTimers.{looks, arm_entries, start_now}, Scripts.labels_after, declared.op.Op.Op}
+use Rattle.ert_ops.specs.{declared.reply.Reply.Reply, declared.reply.Reply.TheVariants.{StartOk, StartBadArg, StartFull, SendAfterOk, SendAfterBadArg, SendAfterFull}}
 use Rattle.ert_ops.specs.declared.op.Op.TheVariants as ops
-use Rattle.ert_ops.specs.declared.reply.Reply.{Reply}
-use Rattle.ert_ops.specs.declared.reply.Reply.TheVariants.{StartOk, StartBadArg, StartFull, SendAfterOk, SendAfterBadArg, SendAfterFull}
 
 -- an op of both: it prints the same, and both agree afterwards
 pub record IsAgreed (g : Settings) (n : ℕ) (ls cl : Labels) (s c : State) (op : Op) (reply : Reply) (es : List Entry) : Type 0 where

@@ -2,28 +2,12 @@
 
 use Rattle.std.proofs.Common.{◌≡◌, ℕ, ℤ, Bool, true, false, cond, List, [], ◌∷◌, ◌++◌, map, filter, Option, refl, sym, ap, ◌∙◌, subst}
 use Rattle.ert_defs.proofs.ExpiredTimers.{cond_same}
-use Rattle.ert_defs.specs.Actors.{same_actor, has_actor}
-use Rattle.ert_defs.specs.Clocks.{Clock, clock_after}
-use Rattle.ert_defs.specs.Entries.{entry_by, probe_entry}
-use Rattle.ert_defs.specs.Mails.{MailState, SchedState, mail_after, inbox_after, sched_after, changes_of, is_news, told_of, without}
-use Rattle.ert_defs.specs.States.{State, next, look_after, exited_after}
-use Rattle.ert_defs.specs.Timers.{Row, same_timer, rows_after, status_after, settled_as, handed_as}
-use Rattle.ert_defs.specs.declared.entry.Act.{Act}
-use Rattle.ert_defs.specs.declared.entry.Actor.{Actor}
-use Rattle.ert_defs.specs.declared.entry.Actor.TheVariants.{Keeper, Wheel, Inbox, Sched, MailOf}
-use Rattle.ert_defs.specs.declared.entry.Entry.{Entry}
-use Rattle.ert_defs.specs.declared.entry.Event.{Event}
-use Rattle.ert_defs.specs.declared.entry.Event.TheVariants.{Tick, Shift, Look, Off, Peek, Cancel, Expire, Orphan, Deliver, Drop, Mark, Advanced, Ask, Pick, Answer, Take, Unwatch, Watch, Tell}
-use Rattle.ert_defs.specs.declared.mail.Mail.{Mail}
-use Rattle.ert_defs.specs.declared.mail.Mail.TheVariants.{Change}
-use Rattle.ert_defs.specs.declared.mail.Monitor.{Monitor}
-use Rattle.ert_defs.specs.declared.mail.Request.{Request}
-use Rattle.ert_defs.specs.declared.settings.OffsetState.{OffsetState}
-use Rattle.ert_defs.specs.declared.settings.Reading.{Reading}
-use Rattle.ert_defs.specs.declared.settings.Settings.{Settings}
-use Rattle.ert_defs.specs.declared.timer.Status.{Status}
-use Rattle.ert_defs.specs.declared.timer.Status.TheVariants.{Expired, Delivered, Cancelled, Orphaned, Dropped}
-use Rattle.ert_defs.specs.declared.timer.TimerRef.{TimerRef}
+use Rattle.ert_defs.specs.{Actors.{same_actor, has_actor}, Clocks.{Clock, clock_after}, Entries.{entry_by, probe_entry}, Mails.{MailState, SchedState, mail_after, inbox_after, sched_after, changes_of, is_news, told_of, without}}
+use Rattle.ert_defs.specs.{States.{State, next, look_after, exited_after}, Timers.{Row, same_timer, rows_after, status_after, settled_as, handed_as}, declared.entry.Act.Act, declared.entry.Actor.Actor}
+use Rattle.ert_defs.specs.{declared.entry.Actor.TheVariants.{Keeper, Wheel, Inbox, Sched, MailOf}, declared.entry.Entry.Entry, declared.entry.Event.Event, declared.entry.Event.TheVariants.{Tick, Shift, Look, Off, Peek, Cancel, Expire}}
+use Rattle.ert_defs.specs.{declared.entry.Event.TheVariants.{Orphan, Deliver, Drop, Mark, Advanced, Ask, Pick, Answer, Take, Unwatch, Watch, Tell}, declared.mail.Mail.Mail, declared.mail.Mail.TheVariants.Change}
+use Rattle.ert_defs.specs.{declared.mail.Monitor.Monitor, declared.mail.Request.Request, declared.settings.OffsetState.OffsetState, declared.settings.Reading.Reading, declared.settings.Settings.Settings, declared.timer.Status.Status}
+use Rattle.ert_defs.specs.{declared.timer.Status.TheVariants.{Expired, Delivered, Cancelled, Orphaned, Dropped}, declared.timer.TimerRef.TimerRef}
 use Rattle.ert_ops.proofs.Shown.{Names, AreNames, Pairs, Both, SameRow, SameRequest, SameMail, SameMails, SameSched, Shows, both_if, pairs-append, pairs_others, row_both, messages_same, answers_same, with_row_same}
 
 -- an event of each state, the same but for the names of timers; a start adds a name and is none of these

@@ -4,29 +4,12 @@
 use Rattle.std.proofs.Common.{◌≡◌, ◌≢◌, ℕ, Bool, true, false, cond, ◌&&◌, ◌||◌, nat_eq, List, [], ◌∷◌, map, filter, Option, Some, None, refl, sym, ap, ◌∙◌, subst, arith, eqb-true, eq-eqb}
 use Rattle.std.proofs.lemmas.Bool.{and_parts}
 use Rattle.ert_effects.specs.WheelCalls.{Try, orphans_by, orphan_entries, MaySweep, AllMaySweep, Sweeps, AreSwept, IsSwept}
-use Rattle.ert_defs.proofs.ExpiredTimers.{cond_same}
-use Rattle.ert_defs.proofs.Runs.{kept_from}
-use Rattle.ert_defs.proofs.Slots.{same_timer-true}
-use Rattle.ert_defs.specs.Actors.{same_actor, has_actor}
-use Rattle.ert_defs.specs.Entries.{orphan_entry, probe_entry}
-use Rattle.ert_defs.specs.Laws.{is_armed}
-use Rattle.ert_defs.specs.Legal.{LegalFrom}
-use Rattle.ert_defs.specs.Mails.{MailState, SchedState}
-use Rattle.ert_defs.specs.States.{State, next, run}
-use Rattle.ert_defs.specs.Timers.{Row, row_of, same_timer, settled_as}
-use Rattle.ert_defs.specs.declared.entry.Actor.{Actor}
-use Rattle.ert_defs.specs.declared.entry.Actor.TheVariants.{Wheel, Caller}
-use Rattle.ert_defs.specs.declared.entry.Entry.{Entry}
-use Rattle.ert_defs.specs.declared.mail.Request.{Request}
-use Rattle.ert_defs.specs.declared.settings.Settings.{Settings}
-use Rattle.ert_defs.specs.declared.timer.Status.{Status}
-use Rattle.ert_defs.specs.declared.timer.Status.TheVariants.{Armed, Orphaned}
-use Rattle.ert_defs.specs.declared.timer.TimerRef.{TimerRef}
-use Rattle.ert_ops.proofs.Bound.{IsName, names_are}
-use Rattle.ert_ops.proofs.Meets.{IsKept, Meets, few_same, kept_next, used_later}
-use Rattle.ert_ops.proofs.Shown.{Names, AreNames, Pairs, SameRow, SameRequest, SameMails, SameSched, Shows}
-use Rattle.ert_ops.specs.Labels.{Labels}
-use Rattle.ert_ops.specs.PlainMail.{is_swept, orphans}
+use Rattle.ert_defs.proofs.{ExpiredTimers.cond_same, Runs.kept_from, Slots.same_timer-true}
+use Rattle.ert_defs.specs.{Actors.{same_actor, has_actor}, Entries.{orphan_entry, probe_entry}, Laws.is_armed, Legal.LegalFrom, Mails.{MailState, SchedState}, States.{State, next, run}, Timers.{Row, row_of, same_timer, settled_as}}
+use Rattle.ert_defs.specs.{declared.entry.Actor.Actor, declared.entry.Actor.TheVariants.{Wheel, Caller}, declared.entry.Entry.Entry, declared.mail.Request.Request, declared.settings.Settings.Settings, declared.timer.Status.Status}
+use Rattle.ert_defs.specs.{declared.timer.Status.TheVariants.{Armed, Orphaned}, declared.timer.TimerRef.TimerRef}
+use Rattle.ert_ops.proofs.{Bound.{IsName, names_are}, Meets.{IsKept, Meets, few_same, kept_next, used_later}, Shown.{Names, AreNames, Pairs, SameRow, SameRequest, SameMails, SameSched, Shows}}
+use Rattle.ert_ops.specs.{Labels.Labels, PlainMail.{is_swept, orphans}}
 
 -- all but the statuses stay
 pub record SameRest (s z : State) : Type 0 where

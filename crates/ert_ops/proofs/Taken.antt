@@ -2,26 +2,13 @@
 -- the last of it, and no two rows have one reference.
 
 use Rattle.std.proofs.Common.{◌≡◌, ◌≢◌, ℕ, zero, suc, ◌+◌, ◌-◌, ◌<◌, ◌≤◌, Bool, true, false, cond, ◌&&◌, nat_eq, nat_lt, List, [], ◌∷◌, All, AllPairs, length, get_or, Option, Some, None, refl, sym, ap, ◌∙◌, subst, inl, inr, arith, eq-eqb, eqb-true}
-use Rattle.std.proofs.lemmas.Bool.{cases_eq, and_parts}
-use Rattle.std.proofs.lemmas.Bool.Decides.{nat_tests}
-use Rattle.std.proofs.lemmas.List.Elements.{All-head, All-tail}
-use Rattle.ert_defs.proofs.ExpiredLists.{taken_last}
-use Rattle.ert_defs.proofs.ExpiredTimers.{same_timer_self, same_timer-false}
-use Rattle.ert_defs.proofs.Lists.{pairs_head, pairs_tail}
-use Rattle.ert_defs.proofs.Rows.{IsRow, AreRows, Differ}
-use Rattle.ert_defs.proofs.Slots.{IsOrdered, same_timer-true}
-use Rattle.ert_defs.specs.Legal.{is_generation, names_timer}
-use Rattle.ert_defs.specs.States.{State, uses_at}
-use Rattle.ert_defs.specs.Timers.{Row, Stands, Uses, same_timer, row_of, is_taken, timer_at}
-use Rattle.ert_defs.specs.declared.settings.Settings.{Settings}
-use Rattle.ert_defs.specs.declared.timer.Status.{Status}
-use Rattle.ert_defs.specs.declared.timer.TimerRef.{TimerRef}
-use Rattle.ert_ops.proofs.Bound.{IsName, timers_same}
-use Rattle.ert_ops.proofs.Meets.{IsKept}
-use Rattle.ert_ops.proofs.Shown.{Names, SameRow, Pairs, Shows}
-use Rattle.ert_ops.specs.Labels.{Labels}
+use Rattle.std.proofs.lemmas.{Bool.{cases_eq, and_parts}, Bool.Decides.nat_tests, List.Elements.{All-head, All-tail}}
+use Rattle.ert_defs.proofs.{ExpiredLists.taken_last, ExpiredTimers.{same_timer_self, same_timer-false}, Lists.{pairs_head, pairs_tail}, Rows.{IsRow, AreRows, Differ}, Slots.{IsOrdered, same_timer-true}}
+use Rattle.ert_defs.specs.{Legal.{is_generation, names_timer}, States.{State, uses_at}, Timers.{Row, Stands, Uses, same_timer, row_of, is_taken, timer_at}, declared.settings.Settings.Settings, declared.timer.Status.Status}
+use Rattle.ert_defs.specs.{declared.timer.TimerRef.TimerRef}
+use Rattle.ert_ops.proofs.{Bound.{IsName, timers_same}, Meets.IsKept, Shown.{Names, SameRow, Pairs, Shows}}
+use Rattle.ert_ops.specs.{Labels.Labels, PlainTimers.taken_slots}
 use Rattle.ert_laws.specs.Counts.{count_of}
-use Rattle.ert_ops.specs.PlainTimers.{taken_slots}
 
 -- 1 where a test passes
 abbrev one_if : Bool → ℕ

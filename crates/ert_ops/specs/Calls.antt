@@ -3,36 +3,17 @@
 
 use Rattle.std.specs.Prelude.{◌≡◌, ℕ, ℤ, FitsSigned, Bool, List, [], ◌∷◌, Option}
 use Rattle.std.specs.Int.{w64}
-use Rattle.ert_effects.specs.Chains.{HasServedOne, HasDelivered, HasTurned, Exits}
-use Rattle.ert_effects.specs.ClockCalls.{MovesClock, IsTooWide, HasFinalized, TellsTime, TellsOffset, TellsSystemTime}
-use Rattle.ert_effects.specs.MailCalls.{Takes, IsMonitored, AreMonitorsFull, Demonitors, HasTold}
-use Rattle.ert_effects.specs.RequestCalls.{inbox_for}
-use Rattle.ert_effects.specs.TimerCalls.{Reads, Cancels, IsStarted, IsBadArg, IsWheelFull}
-use Rattle.ert_effects.specs.Ways.{Way}
-use Rattle.ert_effects.specs.WheelCalls.{HasAdvanced, TellsAlive}
-use Rattle.ert_effects.specs.declared.answers.Taken.TheVariants.{Mail as Taking, Empty, Exited}
-use Rattle.ert_defs.specs.Entries.{ask_entry}
-use Rattle.ert_defs.specs.Lines.{end_time}
-use Rattle.ert_defs.specs.declared.entry.Act.TheVariants.{Plain, Force}
+use Rattle.ert_effects.specs.{Chains.{HasServedOne, HasDelivered, HasTurned, Exits}, ClockCalls.{MovesClock, IsTooWide, HasFinalized, TellsTime, TellsOffset, TellsSystemTime}, MailCalls.{Takes, IsMonitored, AreMonitorsFull, Demonitors}}
+use Rattle.ert_effects.specs.{MailCalls.HasTold, RequestCalls.inbox_for, TimerCalls.{Reads, Cancels, IsStarted, IsBadArg, IsWheelFull}, Ways.Way, WheelCalls.{HasAdvanced, TellsAlive}, declared.answers.Taken.TheVariants.Mail as Taking}
+use Rattle.ert_effects.specs.{declared.answers.Taken.TheVariants.{Empty, Exited}}
+use Rattle.ert_defs.specs.{Entries.ask_entry, Lines.end_time, declared.entry.Act.TheVariants.{Plain, Force}, declared.entry.Actor.TheVariants.{Keeper, Wheel, Inbox, MailOf, Caller}, declared.entry.Entry.Entry, declared.mail.Request.Request}
+use Rattle.ert_defs.specs.{declared.mail.RequestKind.RequestKind, declared.mail.RequestKind.TheVariants.{Cancel as ToCancel, Read as ToRead}, declared.settings.Mode.Mode, declared.settings.Reading.Reading}
+use Rattle.ert_defs.specs.{declared.settings.Settings.Settings, declared.timer.Kind.Kind, declared.timer.Kind.TheVariants.{Wrapped, Bare}, declared.timer.Start.Start, declared.timer.When.When}
 use Rattle.ert_defs.specs.declared.entry.Act.TheVariants as acts
-use Rattle.ert_defs.specs.declared.entry.Actor.TheVariants.{Keeper, Wheel, Inbox, MailOf, Caller}
-use Rattle.ert_defs.specs.declared.entry.Entry.{Entry}
-use Rattle.ert_defs.specs.declared.mail.Request.{Request}
-use Rattle.ert_defs.specs.declared.mail.RequestKind.{RequestKind}
-use Rattle.ert_defs.specs.declared.mail.RequestKind.TheVariants.{Cancel as ToCancel, Read as ToRead}
-use Rattle.ert_defs.specs.declared.settings.Mode.{Mode}
-use Rattle.ert_defs.specs.declared.settings.Reading.{Reading}
-use Rattle.ert_defs.specs.declared.settings.Settings.{Settings}
-use Rattle.ert_defs.specs.declared.timer.Kind.{Kind}
-use Rattle.ert_defs.specs.declared.timer.Kind.TheVariants.{Wrapped, Bare}
-use Rattle.ert_defs.specs.declared.timer.Start.{Start}
-use Rattle.ert_defs.specs.declared.timer.When.{When}
-use Rattle.ert_ops.specs.Labels.{Labels, ref_of}
-use Rattle.ert_ops.specs.declared.op.Op.{Op}
+use Rattle.ert_ops.specs.{Labels.{Labels, ref_of}, declared.op.Op.Op, declared.reply.Reply.Reply, declared.reply.Reply.TheVariants.{Tick, TickWide, Check, CheckWide, Finalize, FinalizeWide, Time, System, Offset, Info, Convert}}
+use Rattle.ert_ops.specs.{declared.reply.Reply.TheVariants.{ConvertTooWide, StartOk, StartBadArg, StartFull, SendAfterOk, SendAfterBadArg, SendAfterFull, Cancel, CancelQuiet, Read, CancelAsync, ReadAsync, Serve, Advance, Deliver, Turn}}
+use Rattle.ert_ops.specs.{declared.reply.Reply.TheVariants.{Received, ReceivedEmpty, ReceivedExited, Exit, Alive, Monitor, MonitorFull, Demonitor, Notify}, Conversions.converted}
 use Rattle.ert_ops.specs.declared.op.Op.TheVariants as ops
-use Rattle.ert_ops.specs.declared.reply.Reply.{Reply}
-use Rattle.ert_ops.specs.declared.reply.Reply.TheVariants.{Tick, TickWide, Check, CheckWide, Finalize, FinalizeWide, Time, System, Offset, Info, Convert, ConvertTooWide, StartOk, StartBadArg, StartFull, SendAfterOk, SendAfterBadArg, SendAfterFull, Cancel, CancelQuiet, Read, CancelAsync, ReadAsync, Serve, Advance, Deliver, Turn, Received, ReceivedEmpty, ReceivedExited, Exit, Alive, Monitor, MonitorFull, Demonitor, Notify}
-use Rattle.ert_ops.specs.Conversions.{converted}
 
 -- the reading of the OS clocks that an op gives
 abbrev pub reading_of : ℤ → ℤ → Reading

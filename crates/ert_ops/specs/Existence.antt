@@ -3,36 +3,12 @@
 -- contracts, so that they are proved.
 
 use Rattle.std.specs.Prelude.{◌≡◌, ◌≢◌, ℕ, ◌<◌, ◌≤◌, Bool, List, ◌++◌, length, None, Ok, Err}
-use Rattle.ert_defs.specs.Actors.{IsUser}
-use Rattle.ert_defs.specs.Legal.{LegalFrom, Legal}
-use Rattle.ert_defs.specs.Settings.{IsChecked}
-use Rattle.ert_defs.specs.States.{State, run, state}
-use Rattle.ert_defs.specs.declared.entry.Actor.{Actor}
-use Rattle.ert_defs.specs.declared.entry.Entry.{Entry}
-use Rattle.ert_defs.specs.declared.mail.Request.{Request}
-use Rattle.ert_defs.specs.declared.settings.Reading.{Reading}
-use Rattle.ert_defs.specs.declared.settings.Settings.{Settings}
-use Rattle.ert_defs.specs.declared.timer.Start.{Start}
-use Rattle.ert_defs.specs.declared.timer.TimerRef.{TimerRef}
-use Rattle.ert_effects.specs.Chains.{Serves, AdvancesWheel, Delivers, Turns, Exits}
-use Rattle.ert_effects.specs.ClockCalls.{Ticks, Finalizes, TellsTime, TellsOffset, TellsSystemTime}
-use Rattle.ert_effects.specs.MailCalls.{Takes, Monitors, Demonitors, Notifies}
-use Rattle.ert_effects.specs.RequestCalls.{Asks}
-use Rattle.ert_effects.specs.RestartCalls.{Restarts}
-use Rattle.ert_effects.specs.RoomCalls.{TellsRoom}
-use Rattle.ert_effects.specs.SomeCalls.{AdvancesWheelSome}
-use Rattle.ert_effects.specs.TimerCalls.{Reads, Cancels, Starts}
-use Rattle.ert_effects.specs.Ways.{Step, Growth, alone}
-use Rattle.ert_effects.specs.WheelCalls.{TellsAlive, MarksExit}
-use Rattle.ert_effects.specs.declared.answers.Left.{Left}
-use Rattle.ert_effects.specs.declared.answers.MonitorErr.TheVariants.{NoMemory as NoMonitorMemory}
-use Rattle.ert_effects.specs.declared.answers.StartErr.TheVariants.{NoMemory}
-use Rattle.ert_effects.specs.declared.answers.Turned.{Turned}
-use Rattle.ert_ops.specs.Labels.{AreOps}
-use Rattle.ert_ops.specs.Ranges.{AreOpsInRange}
-use Rattle.ert_ops.specs.declared.op.Op.{Op}
-use Rattle.ert_ops.specs.Plain.{plain_text}
-use Rattle.ert_ops.specs.Scripts.{IsTranscript}
+use Rattle.ert_defs.specs.{Actors.IsUser, Legal.{LegalFrom, Legal}, Settings.IsChecked, States.{State, run, state}, declared.entry.Actor.Actor, declared.entry.Entry.Entry, declared.mail.Request.Request, declared.settings.Reading.Reading}
+use Rattle.ert_defs.specs.{declared.settings.Settings.Settings, declared.timer.Start.Start, declared.timer.TimerRef.TimerRef}
+use Rattle.ert_effects.specs.{Chains.{Serves, AdvancesWheel, Delivers, Turns, Exits}, ClockCalls.{Ticks, Finalizes, TellsTime, TellsOffset, TellsSystemTime}, MailCalls.{Takes, Monitors, Demonitors, Notifies}, RequestCalls.Asks}
+use Rattle.ert_effects.specs.{RestartCalls.Restarts, RoomCalls.TellsRoom, SomeCalls.AdvancesWheelSome, TimerCalls.{Reads, Cancels, Starts}, Ways.{Step, Growth, alone}, WheelCalls.{TellsAlive, MarksExit}, declared.answers.Left.Left}
+use Rattle.ert_effects.specs.{declared.answers.MonitorErr.TheVariants.NoMemory as NoMonitorMemory, declared.answers.StartErr.TheVariants.NoMemory, declared.answers.Turned.Turned}
+use Rattle.ert_ops.specs.{Labels.AreOps, Ranges.AreOpsInRange, declared.op.Op.Op, Plain.plain_text, Scripts.IsTranscript}
 
 -- in a state a step allows some entries that are legal there, and leave no shift due where none was
 pub record IsPossible (g : Settings) (s : State) (allows : Step) : Type 0 where

@@ -1,10 +1,8 @@
 -- Labels: the names by which the ops of a list speak of timers.
 
 use Rattle.std.specs.Prelude.{◌≢◌, ℕ, ◌≤◌, cond, nat_eq, AllPairs, List, [], ◌∷◌, ◌++◌, length}
-use Rattle.ert_defs.specs.Timers.{same_timer, timer_at}
-use Rattle.ert_defs.specs.declared.timer.TimerRef.{TimerRef}
-use Rattle.ert_ops.specs.declared.op.Op.{Op}
-use Rattle.ert_ops.specs.declared.op.Op.TheVariants.{Start, SendAfter}
+use Rattle.ert_defs.specs.{Timers.{same_timer, timer_at}, declared.timer.TimerRef.TimerRef}
+use Rattle.ert_ops.specs.declared.op.Op.{Op, TheVariants.{Start, SendAfter}}
 
 -- the labels of the starts among ops, in order
 abbrev pub labels_in : List Op → List ℕ

@@ -2,17 +2,9 @@
 
 use Rattle.std.specs.Prelude.{◌≡◌, ◌≤◌, ℕ, List, [], ◌++◌, length, take}
 use Rattle.ert_effects.specs.Ways.{alone}
-use Rattle.ert_defs.specs.Legal.{Legal}
-use Rattle.ert_defs.specs.States.{state}
-use Rattle.ert_defs.specs.declared.entry.Entry.{Entry}
-use Rattle.ert_defs.specs.declared.settings.Settings.{Settings}
+use Rattle.ert_defs.specs.{Legal.Legal, States.state, declared.entry.Entry.Entry, declared.settings.Settings.Settings}
 use Rattle.ert_laws.specs.Counts.{counts_of}
-use Rattle.ert_ops.specs.PlainCounts.{plain_counts}
-use Rattle.ert_ops.specs.Plain.{plain_text}
-use Rattle.ert_ops.specs.Labels.{Labels, AreOps}
-use Rattle.ert_ops.specs.Scripts.{Script, lines_of, IsTranscript}
-use Rattle.ert_ops.specs.declared.reply.Reply.{Reply}
-use Rattle.ert_ops.specs.declared.op.Op.{Op}
+use Rattle.ert_ops.specs.{PlainCounts.plain_counts, Plain.plain_text, Labels.{Labels, AreOps}, Scripts.{Script, lines_of, IsTranscript}, declared.reply.Reply.Reply, declared.op.Op.Op}
 
 -- what every script run of the ops prints is what the plain service prints, where a start looks at as many slots as
 -- there are ops: so the wheel is full where one is refused

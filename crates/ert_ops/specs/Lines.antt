@@ -3,9 +3,7 @@
 use Rattle.std.specs.Prelude.{ℕ, true, false, List, codes, Option, Some, None}
 use Rattle.std.specs.Fmt.{decimal, signed_decimal}
 use Rattle.ert_effects.specs.declared.answers.Turned.{Turned}
-use Rattle.ert_defs.specs.declared.mail.Mail.{Mail}
-use Rattle.ert_defs.specs.declared.mail.Mail.TheVariants.{Timeout, Bare, CancelDone, ReadDone, Change}
-use Rattle.ert_defs.specs.declared.timer.TimerRef.{TimerRef}
+use Rattle.ert_defs.specs.declared.{mail.Mail.Mail, mail.Mail.TheVariants.{Timeout, Bare, CancelDone, ReadDone, Change}, timer.TimerRef.TimerRef}
 use Rattle.ert_ops.specs.Texts.{◌⋅◌, state_text, bool_text, moved_text, info_front, info_middle, offset_text, info_back}
 use Rattle.ert_ops.specs.declared.reply.Reply.{Reply}
 use Rattle.ert_ops.specs.declared.reply.Reply.TheVariants.{Tick, TickWide, Check, CheckWide, Finalize, FinalizeWide, Time, System, Offset, Info, Convert, ConvertTooWide, StartOk, StartBadArg, StartFull, SendAfterOk, SendAfterBadArg, SendAfterFull, Cancel, CancelQuiet, Read, CancelAsync, ReadAsync, Serve, Advance, Deliver, Turn, Received, ReceivedEmpty, ReceivedExited, Exit, Alive, Monitor, MonitorFull, Demonitor, Notify}

@@ -3,22 +3,11 @@
 -- range, and its entries need not be legal; but what it prints is what every service prints.
 
 use Rattle.std.specs.Prelude.{ℕ, List, [], ◌∷◌, ◌++◌}
-use Rattle.ert_defs.specs.States.{State, opening, run}
-use Rattle.ert_defs.specs.declared.mail.RequestKind.TheVariants.{Cancel as ToCancel, Read as ToRead}
-use Rattle.ert_defs.specs.declared.settings.Settings.{Settings}
-use Rattle.ert_defs.specs.declared.timer.Kind.TheVariants.{Wrapped, Bare}
-use Rattle.ert_defs.specs.declared.timer.TimerRef.{TimerRef}
-use Rattle.ert_ops.specs.Calls.{reading_of, start_for_op, request_for_op}
-use Rattle.ert_ops.specs.Labels.{Labels, ref_of}
-use Rattle.ert_ops.specs.Lines.{line_of}
-use Rattle.ert_ops.specs.Texts.{end_line}
-use Rattle.ert_ops.specs.Pieces.{Piece}
-use Rattle.ert_ops.specs.PlainClock.{tick_piece, check_piece, finalize_piece, time_piece, system_piece, offset_piece, info_piece, convert_piece}
-use Rattle.ert_ops.specs.PlainMail.{receive_piece, alive_piece, exit_piece, monitor_piece, may_watch, demonitor_piece, notify_piece}
-use Rattle.ert_ops.specs.PlainTimers.{start_now, cancel_now, read_now}
-use Rattle.ert_ops.specs.PlainTurns.{ask_piece, serve_op, advance_op, deliver_op, turn_op}
-use Rattle.ert_ops.specs.Scripts.{labels_after}
-use Rattle.ert_ops.specs.declared.op.Op.{Op}
+use Rattle.ert_defs.specs.{States.{State, opening, run}, declared.mail.RequestKind.TheVariants.{Cancel as ToCancel, Read as ToRead}, declared.settings.Settings.Settings, declared.timer.Kind.TheVariants.{Wrapped, Bare}}
+use Rattle.ert_defs.specs.{declared.timer.TimerRef.TimerRef}
+use Rattle.ert_ops.specs.{Calls.{reading_of, start_for_op, request_for_op}, Labels.{Labels, ref_of}, Lines.line_of, Texts.end_line, Pieces.Piece, PlainClock.{tick_piece, check_piece, finalize_piece, time_piece, system_piece, offset_piece}}
+use Rattle.ert_ops.specs.{PlainClock.{info_piece, convert_piece}, PlainMail.{receive_piece, alive_piece, exit_piece, monitor_piece, may_watch, demonitor_piece, notify_piece}, PlainTimers.{start_now, cancel_now, read_now}}
+use Rattle.ert_ops.specs.{PlainTurns.{ask_piece, serve_op, advance_op, deliver_op, turn_op}, Scripts.labels_after, declared.op.Op.Op}
 use Rattle.ert_ops.specs.declared.op.Op.TheVariants as ops
 use Rattle.ert_ops.specs.declared.reply.Reply.TheVariants as replies
 

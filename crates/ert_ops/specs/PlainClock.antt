@@ -2,22 +2,10 @@
 
 use Rattle.std.specs.Prelude.{ℕ, ℤ, pos, negsuc, ◌+ℤ◌, Bool, cond, ◌&&◌, int_lt, int_le, [], ◌∷◌, Option, Some, None}
 use Rattle.ert_clock.specs.Ticks.{tick_entries}
-use Rattle.ert_defs.specs.Clocks.{face}
-use Rattle.ert_defs.specs.Entries.{look_entry, off_entry, keeper_entry}
-use Rattle.ert_defs.specs.Lines.{Due, end_time, time_after, due_after}
-use Rattle.ert_defs.specs.States.{State}
-use Rattle.ert_defs.specs.declared.entry.Act.{Act}
-use Rattle.ert_defs.specs.declared.entry.Act.TheVariants.{Plain, Force, Finalize as Finalizing}
-use Rattle.ert_defs.specs.declared.entry.Actor.TheVariants.{Caller}
-use Rattle.ert_defs.specs.declared.entry.Event.TheVariants.{Off}
-use Rattle.ert_defs.specs.declared.settings.OffsetState.{OffsetState}
-use Rattle.ert_defs.specs.declared.settings.OffsetState.TheVariants.{Preliminary}
-use Rattle.ert_defs.specs.declared.settings.Reading.{Reading}
-use Rattle.ert_defs.specs.declared.settings.Settings.{Settings}
-use Rattle.ert_ops.specs.Pieces.{Piece}
-use Rattle.ert_ops.specs.declared.reply.Reply.{Reply}
-use Rattle.ert_ops.specs.declared.reply.Reply.TheVariants.{Tick, TickWide, Check, CheckWide, Finalize, FinalizeWide, Time, System, Offset, Info, Convert, ConvertTooWide}
-use Rattle.ert_ops.specs.Conversions.{converted}
+use Rattle.ert_defs.specs.{Clocks.face, Entries.{look_entry, off_entry, keeper_entry}, Lines.{Due, end_time, time_after, due_after}, States.State, declared.entry.Act.Act, declared.entry.Act.TheVariants.{Plain, Force}}
+use Rattle.ert_defs.specs.{declared.entry.Act.TheVariants.Finalize as Finalizing, declared.entry.Actor.TheVariants.Caller, declared.entry.Event.TheVariants.Off, declared.settings.OffsetState.OffsetState}
+use Rattle.ert_defs.specs.{declared.settings.OffsetState.TheVariants.Preliminary, declared.settings.Reading.Reading, declared.settings.Settings.Settings}
+use Rattle.ert_ops.specs.{Pieces.Piece, declared.reply.Reply.Reply, declared.reply.Reply.TheVariants.{Tick, TickWide, Check, CheckWide, Finalize, FinalizeWide, Time, System, Offset, Info, Convert, ConvertTooWide}, Conversions.converted}
 
 -- whether an offset is within its limits
 abbrev pub is_within : ℤ → Bool

@@ -1,13 +1,9 @@
 -- What the plain service leaves of the timers.
 
 use Rattle.std.specs.Prelude.{List, [], ◌∷◌}
-use Rattle.ert_defs.specs.States.{State, opening, run}
-use Rattle.ert_defs.specs.declared.settings.Settings.{Settings}
+use Rattle.ert_defs.specs.{States.{State, opening, run}, declared.settings.Settings.Settings}
 use Rattle.ert_laws.specs.Counts.{Counts, counts_of}
-use Rattle.ert_ops.specs.declared.op.Op.{Op}
-use Rattle.ert_ops.specs.Plain.{op_piece}
-use Rattle.ert_ops.specs.Labels.{Labels}
-use Rattle.ert_ops.specs.Scripts.{labels_after}
+use Rattle.ert_ops.specs.{declared.op.Op.Op, Plain.op_piece, Labels.Labels, Scripts.labels_after}
 
 -- the plain service after ops, from a state and labels on
 abbrev pub plain_after : Settings → State → Labels → List Op → State

@@ -1,21 +1,9 @@
 -- The plain service: mailboxes, exits and monitors of the time offset.
 
 use Rattle.std.specs.Prelude.{ℕ, suc, zero, Bool, true, false, not, ◌&&◌, nat_eq, nat_lt, nat_le, List, [], ◌∷◌, ◌++◌, length, map, filter, Option, Some, None}
-use Rattle.ert_defs.specs.Entries.{off_entry, orphan_entry, mark_entry, take_entry, watch_entry, unwatch_entry, tell_entry}
-use Rattle.ert_defs.specs.Laws.{is_armed}
-use Rattle.ert_defs.specs.Legal.{stands_in}
-use Rattle.ert_defs.specs.Mails.{MailState, first_of, changes_of}
-use Rattle.ert_defs.specs.States.{State, run}
-use Rattle.ert_defs.specs.Timers.{Row}
-use Rattle.ert_defs.specs.declared.entry.Actor.TheVariants.{Caller}
-use Rattle.ert_defs.specs.declared.entry.Entry.{Entry}
-use Rattle.ert_defs.specs.declared.mail.Mail.{Mail}
-use Rattle.ert_defs.specs.declared.settings.Settings.{Settings}
-use Rattle.ert_defs.specs.declared.timer.Status.{Status}
-use Rattle.ert_defs.specs.declared.timer.TimerRef.{TimerRef}
-use Rattle.ert_ops.specs.Pieces.{Piece}
-use Rattle.ert_ops.specs.declared.reply.Reply.{Reply}
-use Rattle.ert_ops.specs.declared.reply.Reply.TheVariants.{Received, ReceivedEmpty, ReceivedExited, Exit, Alive, Monitor as Monitored, MonitorFull, Demonitor, Notify}
+use Rattle.ert_defs.specs.{Entries.{off_entry, orphan_entry, mark_entry, take_entry, watch_entry, unwatch_entry, tell_entry}, Laws.is_armed, Legal.stands_in, Mails.{MailState, first_of, changes_of}, States.{State, run}, Timers.Row}
+use Rattle.ert_defs.specs.{declared.entry.Actor.TheVariants.Caller, declared.entry.Entry.Entry, declared.mail.Mail.Mail, declared.settings.Settings.Settings, declared.timer.Status.Status, declared.timer.TimerRef.TimerRef}
+use Rattle.ert_ops.specs.{Pieces.Piece, declared.reply.Reply.Reply, declared.reply.Reply.TheVariants.{Received, ReceivedEmpty, ReceivedExited, Exit, Alive, Monitor as Monitored, MonitorFull, Demonitor, Notify}}
 
 -- the reply to a receive, by the first message of the mailbox
 abbrev pub receive_reply : Option Mail → Reply

@@ -2,23 +2,11 @@
 
 use Rattle.std.specs.Prelude.{ℕ, Bool, true, false, cond, nat_le, List, [], ◌∷◌, Option, Some, None}
 use Rattle.ert_effects.specs.TimerCalls.{read_entries, cancel_entries}
-use Rattle.ert_defs.specs.Entries.{look_entry, arm_entry, mark_entry, orphan_entry}
-use Rattle.ert_defs.specs.Legal.{left_by}
-use Rattle.ert_defs.specs.Milliseconds.{deadline_of}
-use Rattle.ert_defs.specs.States.{State}
-use Rattle.ert_defs.specs.Timers.{Row, row_of, is_taken, timer_at}
-use Rattle.ert_defs.specs.declared.entry.Actor.TheVariants.{Caller}
-use Rattle.ert_defs.specs.declared.entry.Entry.{Entry}
-use Rattle.ert_defs.specs.declared.settings.Settings.{Settings}
-use Rattle.ert_defs.specs.declared.timer.Kind.{Kind}
-use Rattle.ert_defs.specs.declared.timer.Kind.TheVariants.{Wrapped, Bare}
-use Rattle.ert_defs.specs.declared.timer.Start.{Start}
-use Rattle.ert_defs.specs.declared.timer.Status.{Status}
-use Rattle.ert_defs.specs.declared.timer.TimerRef.{TimerRef}
+use Rattle.ert_defs.specs.{Entries.{look_entry, arm_entry, mark_entry, orphan_entry}, Legal.left_by, Milliseconds.deadline_of, States.State, Timers.{Row, row_of, is_taken, timer_at}, declared.entry.Actor.TheVariants.Caller}
+use Rattle.ert_defs.specs.{declared.entry.Entry.Entry, declared.settings.Settings.Settings, declared.timer.Kind.Kind, declared.timer.Kind.TheVariants.{Wrapped, Bare}, declared.timer.Start.Start, declared.timer.Status.Status}
+use Rattle.ert_defs.specs.{declared.timer.TimerRef.TimerRef}
 use Rattle.ert_laws.specs.Counts.{count_of}
-use Rattle.ert_ops.specs.Pieces.{Piece}
-use Rattle.ert_ops.specs.declared.reply.Reply.{Reply}
-use Rattle.ert_ops.specs.declared.reply.Reply.TheVariants.{StartOk, StartBadArg, StartFull, SendAfterOk, SendAfterBadArg, SendAfterFull, Read}
+use Rattle.ert_ops.specs.{Pieces.Piece, declared.reply.Reply.Reply, declared.reply.Reply.TheVariants.{StartOk, StartBadArg, StartFull, SendAfterOk, SendAfterBadArg, SendAfterFull, Read}}
 
 -- how many take a slot: those that are armed, and those that have expired and aren't handed over
 abbrev pub taken_slots : (TimerRef → Option Status) → List Row → ℕ

@@ -1,30 +1,11 @@
 -- The plain service: asking schedulers, and what they do.
 
 use Rattle.std.specs.Prelude.{ℕ, suc, zero, ◌+◌, Bool, true, false, cond, ◌&&◌, nat_eq, nat_le, List, [], ◌∷◌, ◌++◌, length, map, filter, Option, Some, None}
-use Rattle.ert_effects.specs.Chains.{puts, drops}
-use Rattle.ert_effects.specs.MailCalls.{handed_entries}
-use Rattle.ert_effects.specs.RequestCalls.{inbox_for}
-use Rattle.ert_effects.specs.TimerCalls.{read_entries, cancel_entries}
-use Rattle.ert_effects.specs.declared.answers.Handed.{Handed}
-use Rattle.ert_effects.specs.declared.answers.Handed.TheVariants.{Put, Dropped}
-use Rattle.ert_defs.specs.Entries.{look_entry, expire_entry, advanced_entry, ask_entry, pick_entry, answer_entry}
-use Rattle.ert_defs.specs.Laws.{is_armed}
-use Rattle.ert_defs.specs.Mails.{first_of}
-use Rattle.ert_defs.specs.Milliseconds.{down, natural}
-use Rattle.ert_defs.specs.States.{State, run}
-use Rattle.ert_defs.specs.Timers.{Row}
-use Rattle.ert_defs.specs.declared.entry.Actor.TheVariants.{Sched}
-use Rattle.ert_defs.specs.declared.entry.Entry.{Entry}
-use Rattle.ert_defs.specs.declared.mail.Request.{Request}
-use Rattle.ert_defs.specs.declared.mail.RequestKind.{RequestKind}
-use Rattle.ert_defs.specs.declared.mail.RequestKind.TheVariants.{Cancel as ToCancel, Read as ToRead}
-use Rattle.ert_defs.specs.declared.settings.Settings.{Settings}
-use Rattle.ert_defs.specs.declared.timer.Status.{Status}
-use Rattle.ert_defs.specs.declared.timer.TimerRef.{TimerRef}
-use Rattle.ert_ops.specs.Pieces.{Piece}
-use Rattle.ert_ops.specs.PlainTimers.{is_bound, left_now, left_if}
-use Rattle.ert_ops.specs.declared.reply.Reply.{Reply}
-use Rattle.ert_ops.specs.declared.reply.Reply.TheVariants.{Serve, Advance, Deliver, Turn}
+use Rattle.ert_effects.specs.{Chains.{puts, drops}, MailCalls.handed_entries, RequestCalls.inbox_for, TimerCalls.{read_entries, cancel_entries}, declared.answers.Handed.Handed, declared.answers.Handed.TheVariants.{Put, Dropped}}
+use Rattle.ert_defs.specs.{Entries.{look_entry, expire_entry, advanced_entry, ask_entry, pick_entry, answer_entry}, Laws.is_armed, Mails.first_of, Milliseconds.{down, natural}, States.{State, run}, Timers.Row}
+use Rattle.ert_defs.specs.{declared.entry.Actor.TheVariants.Sched, declared.entry.Entry.Entry, declared.mail.Request.Request, declared.mail.RequestKind.RequestKind, declared.mail.RequestKind.TheVariants.{Cancel as ToCancel, Read as ToRead}}
+use Rattle.ert_defs.specs.{declared.settings.Settings.Settings, declared.timer.Status.Status, declared.timer.TimerRef.TimerRef}
+use Rattle.ert_ops.specs.{Pieces.Piece, PlainTimers.{is_bound, left_now, left_if}, declared.reply.Reply.Reply, declared.reply.Reply.TheVariants.{Serve, Advance, Deliver, Turn}}
 
 -- a request is put into the inbox of its scheduler
 abbrev pub ask_piece : Settings → Request → Reply → Piece

@@ -2,11 +2,7 @@
 
 use Rattle.std.specs.Prelude.{◌≡◌, ℕ, suc, ◌≤◌, List, [], ◌∷◌, ◌++◌, map, length}
 use Rattle.ert_defs.specs.declared.settings.Settings.{Settings}
-use Rattle.ert_ops.specs.Labels.{AreOps}
-use Rattle.ert_ops.specs.Ranges.{IsOpInRange}
-use Rattle.ert_ops.specs.declared.op.Op.{Op}
-use Rattle.ert_ops.specs.declared.op.Op.TheVariants.{Serve, Advance, Deliver, Turn}
-use Rattle.ert_ops.specs.declared.race.RaceLists.{RaceLists}
+use Rattle.ert_ops.specs.{Labels.AreOps, Ranges.IsOpInRange, declared.op.Op.Op, declared.op.Op.TheVariants.{Serve, Advance, Deliver, Turn}, declared.race.RaceLists.RaceLists}
 
 -- the lists of a race without where they lie in memory
 pub record Race : Type 0 where

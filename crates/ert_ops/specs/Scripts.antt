@@ -2,17 +2,9 @@
 
 use Rattle.std.specs.Prelude.{◌≡◌, ℕ, List, [], ◌∷◌, ◌++◌, take}
 use Rattle.ert_effects.specs.Ways.{Way, alone}
-use Rattle.ert_defs.specs.Legal.{Legal}
-use Rattle.ert_defs.specs.States.{state}
-use Rattle.ert_defs.specs.declared.entry.Entry.{Entry}
-use Rattle.ert_defs.specs.declared.settings.Settings.{Settings}
-use Rattle.ert_ops.specs.Calls.{Calls}
-use Rattle.ert_ops.specs.Labels.{Labels, label_of, bind}
-use Rattle.ert_ops.specs.Lines.{line_of}
-use Rattle.ert_ops.specs.Texts.{end_line}
-use Rattle.ert_ops.specs.declared.op.Op.{Op}
+use Rattle.ert_defs.specs.{Legal.Legal, States.state, declared.entry.Entry.Entry, declared.settings.Settings.Settings}
+use Rattle.ert_ops.specs.{Calls.Calls, Labels.{Labels, label_of, bind}, Lines.line_of, Texts.end_line, declared.op.Op.Op, declared.reply.Reply.Reply}
 use Rattle.ert_ops.specs.declared.op.Op.TheVariants as ops
-use Rattle.ert_ops.specs.declared.reply.Reply.{Reply}
 use Rattle.ert_ops.specs.declared.reply.Reply.TheVariants as replies
 
 -- the labels after an op: a start that armed a timer binds its label

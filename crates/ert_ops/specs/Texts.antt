@@ -2,10 +2,7 @@
 
 use Rattle.std.specs.Prelude.{ℕ, ℤ, Bool, true, false, List, ◌++◌, codes, Option, Some, None}
 use Rattle.std.specs.Fmt.{signed_decimal}
-use Rattle.ert_defs.specs.declared.settings.Mode.{Mode}
-use Rattle.ert_defs.specs.declared.settings.Mode.TheVariants.{No, Single, Multi}
-use Rattle.ert_defs.specs.declared.settings.OffsetState.{OffsetState}
-use Rattle.ert_defs.specs.declared.settings.OffsetState.TheVariants.{Preliminary, Final, Volatile}
+use Rattle.ert_defs.specs.declared.settings.{Mode.Mode, Mode.TheVariants.{No, Single, Multi}, OffsetState.OffsetState, OffsetState.TheVariants.{Preliminary, Final, Volatile}}
 
 -- one text, and then another
 infixr 20 ◌⋅◌

@@ -2,17 +2,8 @@
 -- have the texts in their contracts, so that they are proved.
 
 use Rattle.std.specs.Prelude.{◌≡◌, ℕ, zero, suc, pos, false, true, List, [], ◌∷◌, ◌++◌}
-use Rattle.ert_defs.specs.declared.settings.Mode.{Mode}
-use Rattle.ert_defs.specs.declared.settings.Mode.TheVariants.{No}
-use Rattle.ert_defs.specs.declared.settings.Settings.{Settings}
-use Rattle.ert_defs.specs.declared.settings.TheConstants.{SCENARIO_LOOKS}
-use Rattle.ert_defs.specs.declared.timer.When.TheVariants.{After}
-use Rattle.ert_ops.specs.declared.op.Op.{Op}
-use Rattle.ert_ops.specs.declared.op.Op.TheVariants.{Start, Cancel}
-use Rattle.ert_ops.specs.Counts.{settled_line}
-use Rattle.ert_ops.specs.Plain.{plain_text}
-use Rattle.ert_ops.specs.PlainCounts.{plain_counts}
-use Rattle.ert_ops.specs.Scripts.{IsTranscript}
+use Rattle.ert_defs.specs.declared.{settings.Mode.Mode, settings.Mode.TheVariants.No, settings.Settings.Settings, settings.TheConstants.SCENARIO_LOOKS, timer.When.TheVariants.After}
+use Rattle.ert_ops.specs.{declared.op.Op.Op, declared.op.Op.TheVariants.{Start, Cancel}, Counts.settled_line, Plain.plain_text, PlainCounts.plain_counts, Scripts.IsTranscript}
 
 -- settings and ops
 pub record Scenario : Type 0 where

@@ -2,8 +2,7 @@
 
 use Rattle.std.specs.Prelude.{pos, negsuc, [], ◌∷◌}
 use Rattle.ert_defs.specs.declared.settings.Mode.TheVariants.{No, Single, Multi}
-use Rattle.ert_ops.specs.Worked.{corrected, later, Scenario}
-use Rattle.ert_ops.specs.declared.op.Op.TheVariants.{Tick, Check, Finalize, Time, System, Offset, Convert}
+use Rattle.ert_ops.specs.{Worked.{corrected, later, Scenario}, declared.op.Op.TheVariants.{Tick, Check, Finalize, Time, System, Offset, Convert}}
 
 -- without correction time stands still while OS system time catches up
 abbrev pub frozen : Scenario

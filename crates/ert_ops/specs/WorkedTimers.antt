@@ -2,8 +2,7 @@
 
 use Rattle.std.specs.Prelude.{true, pos, negsuc, [], ◌∷◌}
 use Rattle.ert_defs.specs.declared.timer.When.TheVariants.{After, At}
-use Rattle.ert_ops.specs.Worked.{corrected, Scenario, plain}
-use Rattle.ert_ops.specs.declared.op.Op.TheVariants.{Tick, Start, Cancel, Read, ReadAsync, Serve, Advance, Deliver, Turn, Receive, Exit, Alive, Time}
+use Rattle.ert_ops.specs.{Worked.{corrected, Scenario, plain}, declared.op.Op.TheVariants.{Tick, Start, Cancel, Read, ReadAsync, Serve, Advance, Deliver, Turn, Receive, Exit, Alive, Time}}
 
 -- a deadline is rounded up and a look down: at 0.5 milliseconds a timer of 10 is due at 11
 abbrev pub rounding : Scenario

@@ -1,11 +1,9 @@
 -- Worked scenarios on requests, turns, monitors, and what is left at the end.
 
 use Rattle.std.specs.Prelude.{ℕ, zero, suc, pos, true, false, List, [], ◌∷◌, ◌++◌}
-use Rattle.ert_defs.specs.declared.settings.Mode.TheVariants.{Multi}
-use Rattle.ert_defs.specs.declared.timer.When.TheVariants.{After}
-use Rattle.ert_ops.specs.Worked.{corrected, later, Scenario, plain}
-use Rattle.ert_ops.specs.declared.op.Op.{Op}
-use Rattle.ert_ops.specs.declared.op.Op.TheVariants.{Tick, Check, Notify, System, Info, Start, SendAfter, Cancel, CancelQuiet, Read, CancelAsync, ReadAsync, Serve, Turn, Receive, Exit, Monitor, Demonitor}
+use Rattle.ert_defs.specs.declared.{settings.Mode.TheVariants.Multi, timer.When.TheVariants.After}
+use Rattle.ert_ops.specs.{Worked.{corrected, later, Scenario, plain}, declared.op.Op.Op, declared.op.Op.TheVariants.{Tick, Check, Notify, System, Info, Start, SendAfter, Cancel, CancelQuiet, Read, CancelAsync, ReadAsync, Serve, Turn}}
+use Rattle.ert_ops.specs.{declared.op.Op.TheVariants.{Receive, Exit, Monitor, Demonitor}}
 
 -- requests wait for their scheduler, and what no label names is told by its label
 abbrev pub requests : Scenario

@@ -1,8 +1,7 @@
 //! Laws of conversions and of transcripts, each the contract of a function that does nothing, so that it is proved
 //! wherever this crate is.
 
-ghost use Rattle.ert_ops.specs.Conversions.{LawOfRounding};
-ghost use Rattle.ert_ops.specs.Laws.{LawOfOneText, LawOfOneTranscript, LawOfPlainCounts, LawOfFronts};
+ghost use Rattle.ert_ops.specs.{Conversions.LawOfRounding, Laws.{LawOfOneText, LawOfOneTranscript, LawOfPlainCounts, LawOfFronts}};
 
 /// A converted time is the greatest one of the other unit that isn't later than the time.
 pub fn conversions_round_down()

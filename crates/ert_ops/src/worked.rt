@@ -1,12 +1,9 @@
 //! Worked scenarios, of which the rules tell what they print and leave.
 
 ghost use Rattle.std.specs.Prelude.{◌≡◌, ◌++◌, [], codes};
-ghost use Rattle.ert_ops.specs.Labels.{label_of, ref_of};
-ghost use Rattle.ert_ops.specs.Worked.{IsPrinted, one_cancel, Prints, EndsWith, Leaves, repeated};
-ghost use Rattle.ert_ops.specs.WorkedClocks.{frozen, warped, fallen, finalized_once, volatile, too_wide, strong, gentle, conversions};
-ghost use Rattle.ert_ops.specs.WorkedTimers.{rounding, cancelled_again, deadlines, times_below_zero, in_order, one_slot, exits, orphan, by_starting, refused_label};
-ghost use Rattle.ert_ops.specs.WorkedTurns.{requests, too_late, many_requests, quiet, monitors, many_monitors, one_day, idle_turn};
-ghost use Rattle.ert_ops.specs.WorkedTurns.{cancelled_once, delivered_once, orphaned_once};
+ghost use Rattle.ert_ops.specs.{Labels.{label_of, ref_of}, Worked.{IsPrinted, one_cancel, Prints, EndsWith, Leaves, repeated}, WorkedClocks.{frozen, warped, fallen, finalized_once, volatile, too_wide, strong, gentle, conversions}};
+ghost use Rattle.ert_ops.specs.{WorkedTimers.{rounding, cancelled_again, deadlines, times_below_zero, in_order, one_slot, exits, orphan, by_starting, refused_label}, WorkedTurns.{requests, too_late, many_requests, quiet, monitors}};
+ghost use Rattle.ert_ops.specs.{WorkedTurns.{many_monitors, one_day, idle_turn, cancelled_once, delivered_once, orphaned_once}};
 
 /// A timer of 5 milliseconds that is cancelled at once has a legal history with this text. A label that no start
 /// bound stands for a reference that is printed as the label.

@@ -3,34 +3,15 @@
 use Rattle.std.proofs.Common.{◌≡◌, ℕ, suc, ◌+◌, Bool, true, false, cond, List, [], ◌∷◌, ◌++◌, length, length-append, filter, Option, Some, None, Ok, refl, sym, ap, ◌∙◌, arith}
 use Rattle.std.specs.Prelude.{nat_lt}
 use Rattle.std.proofs.lemmas.List.Elements.{filter-append}
-use Rattle.ert_effects.proofs.Growing.{whole_own}
-use Rattle.ert_effects.specs.Chains.{HoldsBy, Serves, ServesAll, ServesMany, AdvancesWheel, Hands, Delivers, HasTurned, Turns, units}
-use Rattle.ert_effects.specs.MailCalls.{handed_entries, HandsOver}
-use Rattle.ert_effects.specs.RequestCalls.{Picks, Answers, DoesAsked, HasAnswered}
-use Rattle.ert_effects.specs.TimerCalls.{read_entries, cancel_entries}
-use Rattle.ert_effects.specs.Ways.{Step, Growth, Way, Then, Many, alone, beside}
-use Rattle.ert_effects.proofs.Advanced.{IsAdvance, advance_is}
-use Rattle.ert_effects.specs.WheelCalls.{Try, expires_by, expiry_entries, Advances}
-use Rattle.ert_effects.specs.declared.answers.Handed.{Handed}
-use Rattle.ert_effects.specs.declared.answers.Handed.TheVariants.{Put, Dropped}
-use Rattle.ert_effects.specs.declared.answers.Turned.{Turned}
-use Rattle.ert_defs.specs.Actors.{of, has_actor}
-use Rattle.ert_defs.specs.Entries.{is_ours, answer_entry, advanced_entry}
-use Rattle.ert_defs.specs.Legal.{names_timer}
-use Rattle.ert_defs.specs.States.{State, state}
-use Rattle.ert_defs.specs.Timers.{Row}
-use Rattle.ert_defs.specs.declared.entry.Actor.{Actor}
-use Rattle.ert_defs.specs.declared.entry.Actor.TheVariants.{Wheel, Inbox, MailOf, Sched}
-use Rattle.ert_defs.specs.declared.entry.Entry.{Entry}
-use Rattle.ert_defs.specs.declared.mail.Request.{Request}
-use Rattle.ert_defs.specs.declared.mail.RequestKind.{RequestKind}
-use Rattle.ert_defs.specs.declared.mail.RequestKind.TheVariants.{Cancel, Read}
-use Rattle.ert_defs.specs.declared.settings.Settings.{Settings}
-use Rattle.ert_defs.specs.declared.timer.Status.{Status}
-use Rattle.ert_defs.specs.declared.timer.TimerRef.{TimerRef}
+use Rattle.ert_effects.proofs.{Growing.whole_own, Advanced.{IsAdvance, advance_is}}
+use Rattle.ert_effects.specs.{Chains.{HoldsBy, Serves, ServesAll, ServesMany, AdvancesWheel, Hands, Delivers, HasTurned, Turns, units}, MailCalls.{handed_entries, HandsOver}, RequestCalls.{Picks, Answers, DoesAsked, HasAnswered}}
+use Rattle.ert_effects.specs.{TimerCalls.{read_entries, cancel_entries}, Ways.{Step, Growth, Way, Then, Many, alone, beside}, WheelCalls.{Try, expires_by, expiry_entries, Advances}, declared.answers.Handed.Handed}
+use Rattle.ert_effects.specs.{declared.answers.Handed.TheVariants.{Put, Dropped}, declared.answers.Turned.Turned}
+use Rattle.ert_defs.specs.{Actors.{of, has_actor}, Entries.{is_ours, answer_entry, advanced_entry}, Legal.names_timer, States.{State, state}, Timers.Row, declared.entry.Actor.Actor, declared.entry.Actor.TheVariants.{Wheel, Inbox, MailOf}}
+use Rattle.ert_defs.specs.{declared.entry.Actor.TheVariants.Sched, declared.entry.Entry.Entry, declared.mail.Request.Request, declared.mail.RequestKind.RequestKind, declared.mail.RequestKind.TheVariants.{Cancel, Read}}
+use Rattle.ert_defs.specs.{declared.settings.Settings.Settings, declared.timer.Status.Status, declared.timer.TimerRef.TimerRef}
 use Rattle.ert_program.proofs.Kept.{in_pieces}
-use Rattle.ert_program.specs.Laws.{is_advance, advances, LawOfAdvancesInTurns, LawOfAdvancesInRound}
-use Rattle.ert_program.specs.Made.{RoundOfTurns}
+use Rattle.ert_program.specs.{Laws.{is_advance, advances, LawOfAdvancesInTurns, LawOfAdvancesInRound}, Made.RoundOfTurns}
 
 advances-append : (a b : List Entry) → advances (a ++ b) ≡ advances a + advances b
 advances-append a b =

@@ -1,15 +1,9 @@
 -- An entry of a legal history has one user, a caller or a scheduler: so what one made is free of every other.
 
 use Rattle.std.proofs.Common.{◌≡◌, ℕ, Bool, true, false, ◌||◌, List, [], ◌∷◌, Option, Some, None, refl, sym, subst}
-use Rattle.ert_defs.specs.Actors.{same_actor, is_with, IsFree, IsUser}
-use Rattle.ert_defs.specs.Legal.{Keeps, IsReader, IsWithMail, LegalFrom}
-use Rattle.ert_defs.specs.States.{State, next}
-use Rattle.ert_defs.specs.declared.entry.Actor.{Actor}
-use Rattle.ert_defs.specs.declared.entry.Actor.TheVariants.{Keeper, Wheel, Inbox, Sched, MailOf, Caller}
-use Rattle.ert_defs.specs.declared.entry.Entry.{Entry}
-use Rattle.ert_defs.specs.declared.entry.Event.{Event}
-use Rattle.ert_defs.specs.declared.entry.Event.TheVariants.{Tick, Shift, Look, Off, Arm, Probe, Peek, Cancel, Expire, Orphan, Deliver, Drop, Mark, Advanced, Ask, Pick, Answer, Take, Unwatch, Watch, Tell}
-use Rattle.ert_defs.specs.declared.settings.Settings.{Settings}
+use Rattle.ert_defs.specs.{Actors.{same_actor, is_with, IsFree, IsUser}, Legal.{Keeps, IsReader, IsWithMail, LegalFrom}, States.{State, next}, declared.entry.Actor.Actor, declared.entry.Actor.TheVariants.{Keeper, Wheel, Inbox, Sched}}
+use Rattle.ert_defs.specs.{declared.entry.Actor.TheVariants.{MailOf, Caller}, declared.entry.Entry.Entry, declared.entry.Event.Event, declared.entry.Event.TheVariants.{Tick, Shift, Look, Off, Arm, Probe, Peek, Cancel, Expire, Orphan}}
+use Rattle.ert_defs.specs.{declared.entry.Event.TheVariants.{Deliver, Drop, Mark, Advanced, Ask, Pick, Answer, Take, Unwatch, Watch, Tell}, declared.settings.Settings.Settings}
 use Rattle.ert_table.proofs.Holders.{same_actor-true}
 use Rattle.ert_locks.specs.Lent.{AllHave}
 

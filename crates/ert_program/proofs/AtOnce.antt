@@ -1,27 +1,14 @@
 -- All act at once: what the seats knew at the end, seen in the history of the world that was put together.
 
 use Rattle.std.proofs.Common.{◌≡◌, ℕ, suc, ◌+◌, ◌<◌, All, List, [], ◌∷◌, length, slice_index_or, Ok, Vec, Global, sym, ap, subst, ◌∙◌, arith}
-use Rattle.ert_effects.specs.Ways.{Growth, Grows, Many, beside}
-use Rattle.ert_effects.specs.Chains.{Turns}
-use Rattle.ert_defs.specs.Legal.{Legal}
-use Rattle.ert_defs.specs.declared.entry.Actor.{Actor}
-use Rattle.ert_defs.specs.declared.entry.Actor.TheVariants.{Caller, Sched}
-use Rattle.ert_defs.specs.declared.entry.Entry.{Entry}
-use Rattle.ert_defs.specs.declared.settings.Settings.{Settings}
-use Rattle.ert_ops.specs.Races.{Race, lists_of, race_of}
-use Rattle.ert_ops.specs.declared.race.RaceLists.{RaceLists}
-use Rattle.ert_ops.specs.declared.op.Op.{Op}
-use Rattle.ert_program.proofs.Makings.{made, makers}
-use Rattle.ert_program.specs.Made.{MakesInStretch, MakesTurns}
-use Rattle.ert_program.specs.Outcomes.{DoesList, DoLists, ActAtOnce}
-use Rattle.ert_program.proofs.Worked.{at_low, length_mapped}
-use Rattle.ert_program.specs.Lists.{did_of, dids_of}
-use Rattle.ert_program.specs.Worked.{list_at, ListsDone, TurnsDone}
+use Rattle.ert_effects.specs.{Ways.{Growth, Grows, Many, beside}, Chains.Turns}
+use Rattle.ert_defs.specs.{Legal.Legal, declared.entry.Actor.Actor, declared.entry.Actor.TheVariants.{Caller, Sched}, declared.entry.Entry.Entry, declared.settings.Settings.Settings}
+use Rattle.ert_ops.specs.{Races.{Race, lists_of, race_of}, declared.race.RaceLists.RaceLists, declared.op.Op.Op, Labels.Labels}
+use Rattle.ert_program.proofs.{Makings.{made, makers}, Worked.{at_low, length_mapped}}
+use Rattle.ert_program.specs.{Made.{MakesInStretch, MakesTurns}, Outcomes.{DoesList, DoLists, ActAtOnce}, Lists.{did_of, dids_of}, Worked.{list_at, ListsDone, TurnsDone}, declared.races.list.ListDone.ListDone}
 use Rattle.ert_service.specs.Joining.{HasOwn}
 use Rattle.ert_table.proofs.Parts.{free_later}
 use Rattle.ert_table.specs.Views.{Begins}
-use Rattle.ert_ops.specs.Labels.{Labels}
-use Rattle.ert_program.specs.declared.races.list.ListDone.{ListDone}
 
 -- a call that an actor's seat tells is made in the history
 own_made : (a : Actor) (call : Growth) (f front h : List Entry) (longer : Begins f h) → Grows call f front → HasOwn a front h → MakesInStretch a call f longer.later

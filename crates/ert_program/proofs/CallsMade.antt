@@ -2,19 +2,11 @@
 
 use Rattle.std.proofs.Common.{rules, ◌≡◌, ℕ, Bool, true, false, cond, nat_eq, [], ◌∷◌, ◌++◌, List, Some, None, Ok, Err, refl, sym}
 use Rattle.ert_effects.specs.Ways.{beside}
-use Rattle.ert_defs.specs.declared.entry.Actor.TheVariants.{Caller}
-use Rattle.ert_defs.specs.declared.entry.Entry.{Entry}
-use Rattle.ert_defs.specs.declared.memory.NoMemory.{NoMemory}
-use Rattle.ert_defs.specs.declared.settings.Settings.{Settings}
-use Rattle.ert_defs.specs.declared.timer.TimerRef.{TimerRef}
-use Rattle.ert_ops.specs.declared.op.Op.{Op}
+use Rattle.ert_defs.specs.declared.{entry.Actor.TheVariants.Caller, entry.Entry.Entry, memory.NoMemory.NoMemory, settings.Settings.Settings, timer.TimerRef.TimerRef}
+use Rattle.ert_ops.specs.{declared.op.Op.Op, Labels.{Labels, ref_of}, Scripts.labels_after, declared.reply.Reply.Reply}
 use Rattle.ert_program.specs.Workers.{AnswersOwn}
 use Rattle.ert_script.proofs.Answered.{unbound}
-use Rattle.ert_script.specs.Doing.{IsAnswered, IsTimerOf, HasStarted}
-use Rattle.ert_script.specs.LabelMaps.{first_ref}
-use Rattle.ert_ops.specs.Labels.{Labels, ref_of}
-use Rattle.ert_ops.specs.Scripts.{labels_after}
-use Rattle.ert_ops.specs.declared.reply.Reply.{Reply}
+use Rattle.ert_script.specs.{Doing.{IsAnswered, IsTimerOf, HasStarted}, LabelMaps.first_ref}
 
 -- a label that is bound in the first of two lists
 pub ref_first : (ls own : Labels) (label : ℕ) (timer : TimerRef) → Some timer ≡ first_ref ls label → ref_of (ls ++ own) label ≡ timer

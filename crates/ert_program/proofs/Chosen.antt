@@ -2,11 +2,8 @@
 
 use Rattle.std.proofs.Common.{◌≡◌, ℕ, suc, ◌-◌, List, [], ◌∷◌, ◌++◌, append_assoc, ℤ, ◌+ℤ◌, ◌-ℤ◌, ◌+◌, ◌<◌, ◌≤◌, true, false, nat_lt, nat_eq, ap, ◌∙◌, arith}
 use Rattle.std.proofs.lemmas.Bool.Decides.{nat_tests}
-use Rattle.ert_ops.specs.declared.op.Op.{Op}
-use Rattle.ert_ops.specs.declared.op.Op.TheVariants.{Tick}
-use Rattle.ert_program.specs.Draws.{after, draw}
-use Rattle.ert_program.specs.Steps.{op_for, step_of, fall_of, made_tick, made_start, made_receive, next_op, next_ops}
-use Rattle.ert_program.specs.declared.generator.Generator.{Generator}
+use Rattle.ert_ops.specs.declared.op.Op.{Op, TheVariants.Tick}
+use Rattle.ert_program.specs.{Draws.{after, draw}, Steps.{op_for, step_of, fall_of, made_tick, made_start, made_receive, next_op, next_ops}, declared.generator.Generator.Generator}
 
 pub for_tick : (d : ℕ) (m : Generator) → d < 2 → op_for d m ≡ made_tick m
 for_tick d m h = let below : nat_lt d 2 ≡ true = grind (arith, nat_tests) in rw below

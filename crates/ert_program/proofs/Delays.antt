@@ -1,12 +1,7 @@
 -- What one thread does after others is done beside them: their entries come before its first step.
 
 use Rattle.std.proofs.Common.{◌≡◌, ◌⊎◌, Bool, true, false, List, [], ◌∷◌, ◌++◌, inl, inr, refl, sym, ap, ◌∙◌, subst, append_assoc, append-nil}
-use Rattle.ert_defs.specs.Actors.{has_actor, of, IsFree}
-use Rattle.ert_defs.specs.Entries.{is_ours}
-use Rattle.ert_defs.specs.States.{State, state}
-use Rattle.ert_defs.specs.declared.entry.Actor.{Actor}
-use Rattle.ert_defs.specs.declared.entry.Entry.{Entry}
-use Rattle.ert_defs.specs.declared.settings.Settings.{Settings}
+use Rattle.ert_defs.specs.{Actors.{has_actor, of, IsFree}, Entries.is_ours, States.{State, state}, declared.entry.Actor.Actor, declared.entry.Entry.Entry, declared.settings.Settings.Settings}
 use Rattle.ert_effects.specs.Ways.{Step, Growth, Whole, Then, Many, alone, beside}
 use Rattle.ert_program.proofs.Having.{as_these, have-append}
 use Rattle.ert_locks.specs.Lent.{AllHave}

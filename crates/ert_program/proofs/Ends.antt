@@ -2,24 +2,12 @@
 
 use Rattle.std.proofs.Common.{◌≡◌, ℕ, Bool, List, [], ◌++◌, Option, Some, None, inl, inr, refl, sym, ap, subst, ◌∙◌, append-nil, arith}
 use Rattle.std.specs.Prelude.{Result, Ok, Err, IfOk, IfSome, IsSomeAnd, OnErr, IsErrOf}
-use Rattle.ert_io.specs.Faults.{Rose}
+use Rattle.ert_io.specs.{Faults.Rose, Known.{StreamTold, before, HandsUpTo, IsAtEnd}, Reads.{Input, ReadsAll}}
 use Rattle.ert_io.proofs.SeveralReads.{handed_none, handed_fewer}
-use Rattle.ert_io.specs.Known.{StreamTold, before, HandsUpTo, IsAtEnd}
-use Rattle.ert_io.specs.Reads.{Input, ReadsAll}
-use Rattle.ert_program.specs.Written.{Returned}
-use Rattle.ert_scenario.specs.Scenarios.{Plan, IsScenario, HasRefusal}
-use Rattle.ert_scenario.specs.declared.scenario.ScenarioErr.{ScenarioErr}
-use Rattle.ert_script.specs.declared.output.RunErr.{RunErr}
-use Rattle.ert_script.specs.declared.output.RunErr.TheVariants.{WriteFault as OutputFailed, NoMemory as OutOfMemory}
-use Rattle.ert_program.specs.Endings.{end_of, without_desk}
-use Rattle.ert_program.specs.Inputs.{Writing, IsPossibleInput, WritesAll, WritesSomeOf, ReadsNone, InputEnds}
-use Rattle.ert_program.specs.OnDesks.{HasRead}
-use Rattle.ert_program.specs.RefusedInputs.{RefusesInput, PartRefused, RefusalEnds}
-use Rattle.ert_program.specs.Streams.{Output}
-use Rattle.ert_program.specs.Unread.{EndsUnread}
-use Rattle.ert_program.specs.declared.ending.EndStatus.TheVariants.{NoMemory}
-use Rattle.ert_program.specs.declared.ending.Ended.{Ended}
-use Rattle.ert_program.specs.declared.ending.Refusal.{Refusal}
+use Rattle.ert_program.specs.{Written.Returned, Endings.{end_of, without_desk}, Inputs.{Writing, IsPossibleInput, WritesAll, WritesSomeOf, ReadsNone, InputEnds}, OnDesks.HasRead, RefusedInputs.{RefusesInput, PartRefused, RefusalEnds}}
+use Rattle.ert_program.specs.{Streams.Output, Unread.EndsUnread, declared.ending.EndStatus.TheVariants.NoMemory, declared.ending.Ended.Ended, declared.ending.Refusal.Refusal}
+use Rattle.ert_scenario.specs.{Scenarios.{Plan, IsScenario, HasRefusal}, declared.scenario.ScenarioErr.ScenarioErr}
+use Rattle.ert_script.specs.declared.output.RunErr.{RunErr, TheVariants.{WriteFault as OutputFailed, NoMemory as OutOfMemory}}
 
 -- no bytes are a scenario and refused
 abbrev pub NeverBoth : Type 0

@@ -1,11 +1,7 @@
 -- Entries that all have one actor.
 
 use Rattle.std.proofs.Common.{◌≡◌, ℕ, Bool, true, false, List, [], ◌∷◌, ◌++◌, Option, Some, None, refl, sym, subst}
-use Rattle.ert_defs.specs.States.{State}
-use Rattle.ert_defs.specs.declared.entry.Actor.{Actor}
-use Rattle.ert_defs.specs.declared.entry.Entry.{Entry}
-use Rattle.ert_defs.specs.declared.settings.Settings.{Settings}
-use Rattle.ert_defs.specs.declared.timer.TimerRef.{TimerRef}
+use Rattle.ert_defs.specs.{States.State, declared.entry.Actor.Actor, declared.entry.Entry.Entry, declared.settings.Settings.Settings, declared.timer.TimerRef.TimerRef}
 use Rattle.ert_effects.specs.TimerCalls.{Reads, Cancels, read_entries, cancel_entries}
 use Rattle.ert_locks.specs.Lent.{AllHave}
 use Rattle.ert_table.proofs.Holders.{same_actor_self}

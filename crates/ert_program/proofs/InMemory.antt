@@ -2,21 +2,11 @@
 
 use Rattle.std.proofs.Common.{◌≡◌, ◌≤◌, ◌⊎◌, ℕ, Bool, false, List, ◌++◌, length, Option, None, Some, inl, inr, ap, subst, arith}
 use Rattle.std.specs.Prelude.{IsSomeAnd}
-use Rattle.ert_io.specs.Faults.{Rose}
-use Rattle.ert_io.specs.Reads.{Input}
-use Rattle.ert_io.specs.Told.{SinkTold}
-use Rattle.ert_ops.specs.Plain.{plain_text}
-use Rattle.ert_program.specs.Written.{Returned}
-use Rattle.ert_scenario.specs.Acceptance.{IsRunnable}
-use Rattle.ert_scenario.specs.Scenarios.{Plan, IsScenario}
-use Rattle.ert_ops.specs.Scripts.{IsTranscript}
-use Rattle.ert_program.proofs.Ends.{all_taken}
-use Rattle.ert_program.proofs.Transcripts.{run_writes}
-use Rattle.ert_program.specs.OnDesks.{HasRead}
-use Rattle.ert_program.specs.Runs.{RunEnds, RunOn}
-use Rattle.ert_program.specs.Streams.{Output}
-use Rattle.ert_program.specs.declared.ending.Ended.{Ended}
-use Rattle.ert_program.specs.declared.ending.EndStatus.TheVariants.{Done, NoMemory}
+use Rattle.ert_io.specs.{Faults.Rose, Reads.Input, Told.SinkTold}
+use Rattle.ert_ops.specs.{Plain.plain_text, Scripts.IsTranscript}
+use Rattle.ert_program.specs.{Written.Returned, OnDesks.HasRead, Runs.{RunEnds, RunOn}, Streams.Output, declared.ending.Ended.Ended, declared.ending.EndStatus.TheVariants.{Done, NoMemory}}
+use Rattle.ert_scenario.specs.{Acceptance.IsRunnable, Scenarios.{Plan, IsScenario}}
+use Rattle.ert_program.proofs.{Ends.all_taken, Transcripts.run_writes}
 
 -- no bytes are two scenarios
 abbrev pub OneScenario : Type 0

@@ -2,32 +2,16 @@
 
 use Rattle.std.proofs.Common.{◌≡◌, ℕ, ◌<◌, ◌^◌, List, [], ◌∷◌, Bool, true, false, ◌&&◌, ◌⊎◌, inl, inr, Option, Some, None, refl, sym, ap, ap₂, subst, ◌∙◌, cond, codes, lit<, map}
 use Rattle.std.specs.Prelude.{option_map, option_and_then}
-use Rattle.std.specs.List.{list_all}
-use Rattle.std.specs.Str.{bytes_eq}
-use Rattle.std.specs.Str.Parse.{digits_value}
-use Rattle.std.proofs.lemmas.Bool.{and_parts}
-use Rattle.std.proofs.lemmas.List.Folds.{list_all-map}
-use Rattle.std.proofs.lemmas.Slice.Eq.{bytes_eq-Decides}
-use Rattle.clap.specs.Kinds.{HasKind, Kinds, or_else}
-use Rattle.clap.specs.Simple.{App, Shape}
-use Rattle.clap.specs.declared.error.Error.{Error}
-use Rattle.clap.specs.Values.{kind_of, refused_kind}
-use Rattle.clap.specs.ValueTests.{is_unsigned_in}
-use Rattle.clap.specs.Walk.{Row, Text, nothing_held, rows_after, subcommand_met, idle}
-use Rattle.clap.specs.Faults.{fault_of, level_fault}
-use Rattle.clap.specs.Words.{subcommand_of}
-use Rattle.clap.specs.declared.builder.value_parser.ValueParser.TheVariants.{Unsigned}
-use Rattle.clap.specs.declared.error.kind.ErrorKind.{ErrorKind}
+use Rattle.std.specs.{List.list_all, Str.bytes_eq, Str.Parse.digits_value}
+use Rattle.std.proofs.lemmas.{Bool.and_parts, List.Folds.list_all-map, Slice.Eq.bytes_eq-Decides}
+use Rattle.clap.specs.{Kinds.{HasKind, Kinds, or_else}, Simple.{App, Shape}, declared.error.Error.Error, Values.{kind_of, refused_kind}, ValueTests.is_unsigned_in, Walk.{Row, Text, nothing_held, rows_after, subcommand_met, idle}}
+use Rattle.clap.specs.{Faults.{fault_of, level_fault}, Words.subcommand_of, declared.builder.value_parser.ValueParser.TheVariants.Unsigned, declared.error.kind.ErrorKind.ErrorKind}
 use Rattle.clap.specs.declared.error.kind.ErrorKind.TheVariants as kind
-use Rattle.ert_program.specs.declared.command.Command.{Command}
-use Rattle.ert_program.specs.declared.command.Command.TheVariants.{Run, Race, Live, Stress}
-use Rattle.ert_program.specs.Apps.{app}
-use Rattle.ert_program.specs.Commands.{without_words, command_of, form_of, is_number_in, is_plain_word, live_of, stress_of}
-use Rattle.ert_program.specs.Matches.{command_in, command_named}
-use Rattle.ert_program.proofs.Plain.{IsWord}
-use Rattle.ert_program.proofs.Words.{number_is, parsed_is, plain_is_word}
-use Rattle.ert_program.proofs.Levels.{run, race, live, stress, run_alone, race_alone, run_more, race_more, live_alone, live_taken, live_refused, live_more, live_read, stress_alone, stress_one, stress_one_refused, stress_taken, stress_seed_refused, stress_n_refused, stress_more, stress_more_refused, stress_read}
-use Rattle.ert_program.proofs.Shapes.{IsNamed, names, no_words, below, below_rows, unknown, named_run, named_race, named_live, named_stress}
+use Rattle.ert_program.specs.{declared.command.Command.Command, declared.command.Command.TheVariants.{Run, Race, Live, Stress}, Apps.app, Commands.{without_words, command_of, form_of, is_number_in, is_plain_word, live_of, stress_of}}
+use Rattle.ert_program.specs.{Matches.{command_in, command_named}}
+use Rattle.ert_program.proofs.{Plain.IsWord, Words.{number_is, parsed_is, plain_is_word}, Levels.{run, race, live, stress, run_alone, race_alone, run_more, race_more, live_alone, live_taken, live_refused, live_more, live_read}}
+use Rattle.ert_program.proofs.{Levels.{stress_alone, stress_one, stress_one_refused, stress_taken, stress_seed_refused, stress_n_refused, stress_more, stress_more_refused, stress_read}, Shapes.{IsNamed, names, no_words, below, below_rows}}
+use Rattle.ert_program.proofs.{Shapes.{unknown, named_run, named_race, named_live, named_stress}}
 
 -- the words are refused, and are no command
 pub record Refused (words : List Text) (wanted : Option Command) : Type 0 where

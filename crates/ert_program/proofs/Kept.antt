@@ -3,17 +3,9 @@
 use Rattle.std.proofs.Common.{◌≡◌, ℕ, suc, List, [], ◌∷◌, ◌++◌, length, ap, ◌∙◌, append-nil}
 use Rattle.std.proofs.lemmas.List.Elements.{filter-append}
 use Rattle.ert_effects.specs.Ways.{Growth, Way, beside}
-use Rattle.ert_defs.specs.Actors.{of, has_actor}
-use Rattle.ert_defs.specs.declared.entry.Actor.{Actor}
-use Rattle.ert_defs.specs.declared.entry.Actor.TheVariants.{Sched, Caller}
-use Rattle.ert_defs.specs.declared.entry.Entry.{Entry}
-use Rattle.ert_defs.specs.declared.settings.Settings.{Settings}
-use Rattle.ert_ops.specs.declared.op.Op.{Op}
-use Rattle.ert_program.specs.Laws.{LawOfPieces, LawOfTurnPieces, LawOfReplies}
-use Rattle.ert_program.specs.Made.{MakesInStretch}
-use Rattle.ert_ops.specs.Labels.{Labels}
-use Rattle.ert_ops.specs.Scripts.{Script, labels_after}
-use Rattle.ert_ops.specs.declared.reply.Reply.{Reply}
+use Rattle.ert_defs.specs.{Actors.{of, has_actor}, declared.entry.Actor.Actor, declared.entry.Actor.TheVariants.{Sched, Caller}, declared.entry.Entry.Entry, declared.settings.Settings.Settings}
+use Rattle.ert_ops.specs.{declared.op.Op.Op, Labels.Labels, Scripts.{Script, labels_after}, declared.reply.Reply.Reply}
+use Rattle.ert_program.specs.{Laws.{LawOfPieces, LawOfTurnPieces, LawOfReplies}, Made.MakesInStretch}
 
 pub in_pieces : (a : Actor) (call : Growth) (h stretch : List Entry) (makes : MakesInStretch a call h stretch) → of stretch a ≡ of makes.pieces a
 in_pieces a call h stretch makes =

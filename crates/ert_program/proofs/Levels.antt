@@ -2,19 +2,12 @@
 
 use Rattle.std.proofs.Common.{◌≡◌, List, [], ◌∷◌, true, false, Some, refl, ap, ap₂, ◌∙◌, codes, fold}
 use Rattle.std.specs.Prelude.{option_map, option_and_then}
-use Rattle.clap.specs.Kinds.{Kinds, or_else}
-use Rattle.clap.specs.Values.{refused_kind}
-use Rattle.clap.specs.Simple.{Shape}
-use Rattle.clap.specs.Walk.{Text, Walk, value, arg_by_index, finished, nothing_held, rows_after, to_positional, walk_from, walked}
-use Rattle.clap.specs.Faults.{level_fault, step_fault, walk_fault}
-use Rattle.clap.specs.ValueTests.{is_unsigned_in}
-use Rattle.clap.specs.declared.builder.value_parser.ValueParser.TheVariants.{Unsigned}
+use Rattle.clap.specs.{Kinds.{Kinds, or_else}, Values.refused_kind, Simple.Shape, Walk.{Text, Walk, value, arg_by_index, finished, nothing_held, rows_after, to_positional, walk_from, walked}, Faults.{level_fault, step_fault, walk_fault}}
+use Rattle.clap.specs.{ValueTests.is_unsigned_in, declared.builder.value_parser.ValueParser.TheVariants.Unsigned}
 use Rattle.clap.specs.declared.error.kind.ErrorKind.TheVariants as kind
 use Rattle.clap.proofs.OnLiterals.{clap_on_literals}
-use Rattle.ert_program.specs.declared.command.Command.TheVariants.{Live, Stress}
-use Rattle.ert_program.specs.Matches.{command_in, parsed}
-use Rattle.ert_program.proofs.Plain.{IsWord, fault_plain, walked_plain}
-use Rattle.ert_program.proofs.Shapes.{bare_shape, level}
+use Rattle.ert_program.specs.{declared.command.Command.TheVariants.{Live, Stress}, Matches.{command_in, parsed}}
+use Rattle.ert_program.proofs.{Plain.{IsWord, fault_plain, walked_plain}, Shapes.{bare_shape, level}}
 
 abbrev pub run : Shape
 run = bare_shape (codes "run")

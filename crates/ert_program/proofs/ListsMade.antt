@@ -1,21 +1,12 @@
 -- Lists of ops, as far as they have come.
 
 use Rattle.std.proofs.Common.{◌≡◌, ◌<◌, ℕ, zero, suc, ◌+◌, List, [], ◌∷◌, ◌++◌, take, drop, length, get_or, inl, inr, arith, refl, sym, subst, ap, ◌∙◌, append_assoc}
-use Rattle.std.proofs.Math.Seq.{drop-cons}
-use Rattle.std.proofs.lemmas.List.{take_more}
+use Rattle.std.proofs.{Math.Seq.drop-cons, lemmas.List.take_more}
 use Rattle.ert_effects.specs.Ways.{Way, beside}
-use Rattle.ert_defs.specs.declared.entry.Actor.TheVariants.{Caller}
-use Rattle.ert_defs.specs.declared.entry.Entry.{Entry}
-use Rattle.ert_defs.specs.declared.settings.Settings.{Settings}
-use Rattle.ert_ops.specs.Races.{MayDo, IsCallersOp}
-use Rattle.ert_ops.specs.Ranges.{IsOpInRange}
-use Rattle.ert_ops.specs.declared.op.Op.{Op}
+use Rattle.ert_defs.specs.declared.{entry.Actor.TheVariants.Caller, entry.Entry.Entry, settings.Settings.Settings}
+use Rattle.ert_ops.specs.{Races.{MayDo, IsCallersOp}, Ranges.IsOpInRange, declared.op.Op.Op, Calls.Calls, Labels.Labels, Scripts.{Script, labels_after}, declared.reply.Reply.Reply}
 use Rattle.ert_ops.specs.declared.op.Op.TheVariants as ops
-use Rattle.ert_ops.specs.Calls.{Calls}
 use Rattle.ert_script.proofs.Runs.{script_more}
-use Rattle.ert_ops.specs.Labels.{Labels}
-use Rattle.ert_ops.specs.Scripts.{Script, labels_after}
-use Rattle.ert_ops.specs.declared.reply.Reply.{Reply}
 use Rattle.ert_ops.specs.declared.reply.Reply.TheVariants as replies
 use Rattle.ert_program.specs.Workers.{DoesOwn, DoesAll, FailsOwn, StopsOwn, DoesSome}
 

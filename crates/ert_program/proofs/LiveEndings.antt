@@ -1,15 +1,9 @@
 -- How `live` ends, by what the readings made and whether it was written.
 
 use Rattle.std.proofs.Common.{◌≡◌, ◌<◌, ◌⊎◌, ℕ, List, [], ◌∷◌, ◌++◌, length, Option, None, Some, inl, inr, sym, subst, ◌∙◌, arith}
-use Rattle.ert_defs.specs.Readings.{IsValid}
-use Rattle.ert_defs.specs.declared.settings.Reading.{Reading}
-use Rattle.ert_io.specs.Faults.{Rose}
-use Rattle.ert_io.specs.Known.{StreamTold, before}
-use Rattle.ert_io.specs.Told.{took}
-use Rattle.ert_program.specs.Lives.{AreValid, LiveRefused, Watched, LiveEnds}
-use Rattle.ert_program.specs.Streams.{ClockStream, Output}
-use Rattle.ert_program.specs.declared.ending.Ended.{Ended}
-use Rattle.ert_program.specs.declared.ending.EndStatus.TheVariants.{Done, NoMemory}
+use Rattle.ert_defs.specs.{Readings.IsValid, declared.settings.Reading.Reading}
+use Rattle.ert_io.specs.{Faults.Rose, Known.{StreamTold, before}, Told.took}
+use Rattle.ert_program.specs.{Lives.{AreValid, LiveRefused, Watched, LiveEnds}, Streams.{ClockStream, Output}, declared.ending.Ended.Ended, declared.ending.EndStatus.TheVariants.{Done, NoMemory}}
 
 -- a reading that stands among the first of valid ones is valid
 among : (taken readings later rest : List Reading) (bad : Reading) → (taken ++ bad ∷ []) ++ rest ≡ readings ++ later → length taken < length readings

@@ -3,35 +3,20 @@
 use Rattle.std.specs.Arc.{arc_value}
 use Rattle.std.proofs.Common.{◌≡◌, ◌<◌, ◌≤◌, ◌+◌, ℕ, ℤ, List, [], ◌∷◌, ◌++◌, length, length-append, None, Some, refl, inl, inr, sym, ap, subst, ◌∙◌, append_assoc, append-nil, arith}
 use Rattle.ert_effects.specs.Ways.{Way, alone}
-use Rattle.ert_defs.specs.Lines.{Face}
-use Rattle.ert_defs.specs.Readings.{IsValid}
-use Rattle.ert_defs.specs.declared.entry.Entry.{Entry}
-use Rattle.ert_defs.specs.declared.settings.Reading.{Reading}
-use Rattle.ert_defs.specs.declared.settings.Settings.{Settings}
-use Rattle.ert_io.specs.Faults.{Rose}
+use Rattle.ert_defs.specs.{Lines.Face, Readings.IsValid, declared.entry.Entry.Entry, declared.settings.Reading.Reading, declared.settings.Settings.Settings}
+use Rattle.ert_io.specs.{Faults.Rose, Known.{StreamTold, HandsOut, HandsUpTo}}
 use Rattle.ert_io.proofs.SeveralReads.{handed_both, handed_none, handed_fewer}
-use Rattle.ert_io.specs.Known.{StreamTold, HandsOut, HandsUpTo}
-use Rattle.ert_ops.specs.declared.op.Op.{Op}
+use Rattle.ert_ops.specs.{declared.op.Op.Op, Calls.Calls, Labels.Labels, Texts.end_line, declared.reply.Reply.Reply}
 use Rattle.ert_ops.specs.declared.op.Op.TheVariants as ops
-use Rattle.ert_program.specs.Written.{Returned}
+use Rattle.ert_program.specs.{Written.Returned, Endings.without_desk, Lives.{AreValid, live_settings, live_ops, live_part, live_lines, refused_reading, IsLiveText, LiveDone, LiveRefused, LiveStopped, Watched, Lived, TellsTimes}}
+use Rattle.ert_program.specs.{Streams.ClockStream, declared.ending.EndStatus.TheVariants.{Done, Refused, ClockFault}}
 use Rattle.ert_laws.specs.KeptLaws.{KeepsLaws}
-use Rattle.ert_program.proofs.Written.{has_history}
-use Rattle.ert_world.specs.Openings.{IsOpened}
-use Rattle.ert_world.specs.Worlds.{Seen}
+use Rattle.ert_program.proofs.{Written.{has_history, script_of}, Transcripts.stands_for}
+use Rattle.ert_world.specs.{Openings.IsOpened, Worlds.Seen}
 use Rattle.ert_script.proofs.Runs.{runs_none, runs_more}
 use Rattle.ert_script.specs.Scripts.{Does, Runs}
 use Rattle.ert_table.specs.Desks.{settings_of, KnowsAll}
-use Rattle.ert_ops.specs.Calls.{Calls}
-use Rattle.ert_ops.specs.Labels.{Labels}
-use Rattle.ert_ops.specs.Texts.{end_line}
-use Rattle.ert_ops.specs.declared.reply.Reply.{Reply}
 use Rattle.ert_ops.specs.declared.reply.Reply.TheVariants as replies
-use Rattle.ert_program.proofs.Transcripts.{stands_for}
-use Rattle.ert_program.proofs.Written.{script_of}
-use Rattle.ert_program.specs.Endings.{without_desk}
-use Rattle.ert_program.specs.Lives.{AreValid, live_settings, live_ops, live_part, live_lines, refused_reading, IsLiveText, LiveDone, LiveRefused, LiveStopped, Watched, Lived, TellsTimes}
-use Rattle.ert_program.specs.Streams.{ClockStream}
-use Rattle.ert_program.specs.declared.ending.EndStatus.TheVariants.{Done, Refused, ClockFault}
 
 -- lines and ops, with one more behind
 

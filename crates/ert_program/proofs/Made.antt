@@ -3,30 +3,16 @@
 use Rattle.std.specs.Arc.{arc_value}
 use Rattle.std.proofs.Common.{◌≡◌, ℕ, List, [], refl, inl, inr, ap, ◌∙◌}
 use Rattle.std.specs.Prelude.{Result, Ok, Err, IfOk, IsErrOf}
-use Rattle.ert_defs.specs.Lines.{Face}
-use Rattle.ert_defs.specs.States.{state}
-use Rattle.ert_defs.specs.declared.entry.Entry.{Entry}
-use Rattle.ert_defs.specs.declared.settings.Settings.{Settings}
-use Rattle.ert_io.specs.Faults.{Rose}
-use Rattle.ert_io.specs.Told.{SinkTold, took, TakesFront}
-use Rattle.ert_laws.specs.Counts.{counts_of}
-use Rattle.ert_laws.specs.KeptLaws.{KeepsLaws}
-use Rattle.ert_program.proofs.Written.{has_history}
-use Rattle.ert_program.specs.Written.{Returned}
+use Rattle.ert_defs.specs.{Lines.Face, States.state, declared.entry.Entry.Entry, declared.settings.Settings.Settings}
+use Rattle.ert_io.specs.{Faults.Rose, Told.{SinkTold, took, TakesFront}}
+use Rattle.ert_laws.specs.{Counts.counts_of, KeptLaws.KeepsLaws}
+use Rattle.ert_program.proofs.{Written.has_history, Transcripts.{text_of, is_run, stands_for}}
+use Rattle.ert_program.specs.{Written.Returned, Endings.end_of, Generated.generated, OnDesks.RanOn, Streams.Output, Stresses.{summary_of, SummaryOf, StopsSummary, HasRun, StressEnds}}
 use Rattle.ert_scenario.specs.Scenarios.{Plan}
-use Rattle.ert_script.specs.Written.{RunsAll}
-use Rattle.ert_script.specs.declared.output.RunErr.{RunErr}
-use Rattle.ert_script.specs.declared.output.RunErr.TheVariants.{WriteFault as OutputFailed, NoMemory as OutOfMemory}
+use Rattle.ert_script.specs.{Written.RunsAll, declared.output.RunErr.RunErr, declared.output.RunErr.TheVariants.{WriteFault as OutputFailed, NoMemory as OutOfMemory}}
 use Rattle.ert_table.specs.Desks.{settings_of, KnowsAll}
 use Rattle.ert_ops.specs.Labels.{Labels}
-use Rattle.ert_world.specs.Openings.{IsOpened}
-use Rattle.ert_world.specs.Worlds.{Seen}
-use Rattle.ert_program.proofs.Transcripts.{text_of, is_run, stands_for}
-use Rattle.ert_program.specs.Endings.{end_of}
-use Rattle.ert_program.specs.Generated.{generated}
-use Rattle.ert_program.specs.OnDesks.{RanOn}
-use Rattle.ert_program.specs.Streams.{Output}
-use Rattle.ert_program.specs.Stresses.{summary_of, SummaryOf, StopsSummary, HasRun, StressEnds}
+use Rattle.ert_world.specs.{Openings.IsOpened, Worlds.Seen}
 
 -- all ops of a plan were done on a world that was opened for it
 pub has_run : (plan : Plan) (start w : Seen) (after : Labels) → IsOpened plan.settings start → RunsAll start [] plan.ops w after → HasRun plan w

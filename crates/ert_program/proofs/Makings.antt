@@ -1,19 +1,12 @@
 -- What an actor made, seen in a whole history; and who makes the entries of a legal one.
 
 use Rattle.std.proofs.Common.{◌≡◌, ℕ, ◌<◌, All, List, [], ◌∷◌, ◌++◌, Option, sym, ap, subst, ◌∙◌, append_assoc}
-use Rattle.std.proofs.lemmas.List.{append_cancel_left}
-use Rattle.std.proofs.lemmas.List.Elements.{All-nil, All-cons}
+use Rattle.std.proofs.lemmas.List.{append_cancel_left, Elements.{All-nil, All-cons}}
 use Rattle.ert_effects.specs.Ways.{Growth, Grows}
 use Rattle.ert_defs.proofs.Runs.{legal_then}
-use Rattle.ert_defs.specs.Actors.{IsFree, IsCaller, IsUser, IsMaker}
-use Rattle.ert_defs.specs.Legal.{Keeps, IsReader, IsProber, LegalFrom, Legal}
-use Rattle.ert_defs.specs.States.{State, opening, state, next}
-use Rattle.ert_defs.specs.declared.entry.Actor.{Actor}
-use Rattle.ert_defs.specs.declared.entry.Actor.TheVariants.{Keeper, Sched, Caller}
-use Rattle.ert_defs.specs.declared.entry.Entry.{Entry}
-use Rattle.ert_defs.specs.declared.entry.Event.{Event}
-use Rattle.ert_defs.specs.declared.entry.Event.TheVariants.{Tick, Shift, Look, Off, Arm, Probe, Peek, Cancel, Expire, Orphan, Deliver, Drop, Mark, Advanced, Ask, Pick, Answer, Take, Unwatch, Watch, Tell}
-use Rattle.ert_defs.specs.declared.settings.Settings.{Settings}
+use Rattle.ert_defs.specs.{Actors.{IsFree, IsCaller, IsUser, IsMaker}, Legal.{Keeps, IsReader, IsProber, LegalFrom, Legal}, States.{State, opening, state, next}, declared.entry.Actor.Actor, declared.entry.Actor.TheVariants.{Keeper, Sched}}
+use Rattle.ert_defs.specs.{declared.entry.Actor.TheVariants.Caller, declared.entry.Entry.Entry, declared.entry.Event.Event, declared.entry.Event.TheVariants.{Tick, Shift, Look, Off, Arm, Probe, Peek, Cancel, Expire, Orphan, Deliver, Drop}}
+use Rattle.ert_defs.specs.{declared.entry.Event.TheVariants.{Mark, Advanced, Ask, Pick, Answer, Take, Unwatch, Watch, Tell}, declared.settings.Settings.Settings}
 use Rattle.ert_program.specs.Made.{MakesInStretch}
 
 -- a call that an actor's front has grown by is made in the history, where what comes after the front is free

@@ -1,16 +1,11 @@
 -- What a typed getter of `clap` gives is the number that the text reads as.
 
-use Rattle.std.proofs.Common.{◌≡◌, ℕ, ◌^◌, List, [], ◌∷◌, Bool, true, false, ◌&&◌, nat_lt, Option, Some, None, refl, ap, length}
+use Rattle.std.proofs.Common.{◌≡◌, ℕ, ◌^◌, List, [], ◌∷◌, Bool, true, false, ◌&&◌, nat_lt, Option, Some, None, refl, ap, length, lt-ltb}
 use Rattle.std.specs.Prelude.{Result, Ok, Err, option_and_then}
-use Rattle.std.specs.Char.{digit_value}
-use Rattle.std.specs.List.{list_all}
-use Rattle.std.specs.Str.Parse.{ParsesUnsigned, AllDigits, digits_value, without_leading_plus}
-use Rattle.std.proofs.Common.{lt-ltb}
+use Rattle.std.specs.{Char.digit_value, List.list_all, Str.Parse.{ParsesUnsigned, AllDigits, digits_value, without_leading_plus}}
 use Rattle.std.proofs.lemmas.Bool.{and_parts}
-use Rattle.clap.specs.Matches.{ReadsOne}
-use Rattle.clap.specs.Walk.{Text}
-use Rattle.ert_program.specs.Commands.{is_number}
-use Rattle.ert_program.specs.Matches.{parsed}
+use Rattle.clap.specs.{Matches.ReadsOne, Walk.Text}
+use Rattle.ert_program.specs.{Commands.is_number, Matches.parsed}
 use borrow.Author.Tests.{ltb-true}
 
 digits_pass : (ds : List ℕ) → AllDigits 10 ds → list_all (λ d. nat_lt (digit_value d) 10) ds ≡ true

@@ -2,37 +2,15 @@
 
 use Rattle.std.proofs.Common.{◌≡◌, ℕ, zero, suc, ◌+◌, ◌<◌, ◌≤◌, Bool, true, false, nat_lt, nat_eq, List, [], ◌∷◌, ◌++◌, length, None, Ok, inl, inr, refl, sym, ap, ◌∙◌, subst, append_assoc, append-nil, arith}
 use Rattle.std.proofs.lemmas.Bool.Decides.{nat_tests}
-use Rattle.ert_defs.specs.Actors.{same_actor, IsFree, IsUser}
-use Rattle.ert_defs.specs.Legal.{Legal}
-use Rattle.ert_defs.specs.Settings.{IsChecked}
-use Rattle.ert_defs.specs.States.{state}
-use Rattle.ert_defs.specs.declared.entry.Actor.{Actor}
-use Rattle.ert_defs.specs.declared.entry.Actor.TheVariants.{Sched, Caller}
-use Rattle.ert_defs.specs.declared.entry.Entry.{Entry}
-use Rattle.ert_defs.specs.declared.settings.Settings.{Settings}
-use Rattle.ert_effects.specs.Chains.{Turns}
-use Rattle.ert_effects.specs.Ways.{Growth, Many, alone, beside}
-use Rattle.ert_effects.specs.declared.answers.Turned.{Turned}
+use Rattle.ert_defs.specs.{Actors.{same_actor, IsFree, IsUser}, Legal.Legal, Settings.IsChecked, States.state, declared.entry.Actor.Actor, declared.entry.Actor.TheVariants.{Sched, Caller}, declared.entry.Entry.Entry}
+use Rattle.ert_defs.specs.{declared.settings.Settings.Settings}
+use Rattle.ert_effects.specs.{Chains.Turns, Ways.{Growth, Many, alone, beside}, declared.answers.Turned.Turned}
 use Rattle.ert_laws.specs.Counts.{counts_of}
-use Rattle.ert_ops.specs.Races.{MayDo, MayDoAll, lists_of}
-use Rattle.ert_ops.specs.Ranges.{AreOpsInRange}
-use Rattle.ert_ops.specs.declared.op.Op.{Op}
-use Rattle.ert_ops.proofs.Following.{legal_with, follow_none, follow_then}
-use Rattle.ert_ops.proofs.PossibleOps.{can_run}
-use Rattle.ert_ops.proofs.PossibleTurns.{possible_turn}
-use Rattle.ert_ops.specs.Existence.{CanFollow}
-use Rattle.ert_program.proofs.Apart.{free_of_other}
-use Rattle.ert_program.proofs.Delays.{Late, Delays}
+use Rattle.ert_ops.specs.{Races.{MayDo, MayDoAll, lists_of}, Ranges.AreOpsInRange, declared.op.Op.Op, Existence.CanFollow, Labels.Labels, Scripts.Script}
+use Rattle.ert_ops.proofs.{Following.{legal_with, follow_none, follow_then}, PossibleOps.can_run, PossibleTurns.possible_turn}
+use Rattle.ert_program.proofs.{Apart.free_of_other, Delays.{Late, Delays}, Makings.makers, OpsBeside.{delay_script, script_adds}, TurnsBeside.delay_turns}
 use Rattle.ert_table.proofs.Holders.{free-append}
-use Rattle.ert_program.proofs.Makings.{makers}
-use Rattle.ert_program.proofs.OpsBeside.{delay_script, script_adds}
-use Rattle.ert_program.proofs.TurnsBeside.{delay_turns}
-use Rattle.ert_program.specs.Existence.{LawOfOutcomes}
-use Rattle.ert_program.specs.Made.{MakesInStretch, MakesTurns, RoundOfTurns, MakesRound}
-use Rattle.ert_program.specs.Outcomes.{DoesList, DoLists, ActAtOnce}
-use Rattle.ert_program.specs.Reports.{Did, report}
-use Rattle.ert_ops.specs.Labels.{Labels}
-use Rattle.ert_ops.specs.Scripts.{Script}
+use Rattle.ert_program.specs.{Existence.LawOfOutcomes, Made.{MakesInStretch, MakesTurns, RoundOfTurns, MakesRound}, Outcomes.{DoesList, DoLists, ActAtOnce}, Reports.{Did, report}}
 
 -- what came late is made in the stretch, where what comes after is free of the actor
 makes_late : (a : Actor) (call : Growth) (h x m after : List Entry) → Late call h x m → IsFree x a → IsFree after a → MakesInStretch a call h (x ++ (m ++ after))

@@ -2,36 +2,17 @@
 
 use Rattle.std.proofs.Common.{◌≡◌, ℕ, ℤ, zero, suc, Bool, true, false, List, [], ◌∷◌, ◌++◌, Ok, Err, inl, inr, refl, ap, ◌∙◌, subst, append_assoc, append-nil, sym}
 use Rattle.ert_clock.specs.declared.clock.ClockErr.TheVariants.{OffsetWide}
-use Rattle.ert_defs.specs.States.{state}
-use Rattle.ert_defs.specs.declared.entry.Actor.TheVariants.{Keeper, Wheel, Inbox, MailOf, Caller}
-use Rattle.ert_defs.specs.declared.entry.Entry.{Entry}
-use Rattle.ert_defs.specs.declared.mail.Request.{Request}
-use Rattle.ert_defs.specs.declared.mail.RequestKind.TheVariants.{Cancel as ToCancel, Read as ToRead}
-use Rattle.ert_defs.specs.declared.settings.Mode.{Mode}
-use Rattle.ert_defs.specs.declared.settings.OffsetState.{OffsetState}
-use Rattle.ert_defs.specs.declared.settings.Settings.{Settings}
-use Rattle.ert_defs.specs.declared.timer.Kind.TheVariants.{Wrapped, Bare}
-use Rattle.ert_effects.specs.Chains.{SweepsWheel, SweepsWheels, Exits}
-use Rattle.ert_effects.specs.ClockCalls.{TellsTime, TellsOffset, TellsSystemTime}
-use Rattle.ert_effects.specs.RequestCalls.{inbox_for, Asks}
-use Rattle.ert_effects.specs.TimerCalls.{Cancels}
-use Rattle.ert_effects.specs.Ways.{Way, Then, alone, beside}
-use Rattle.ert_effects.specs.WheelCalls.{TellsAlive, MarksExit, Sweeps, IsSwept}
-use Rattle.ert_effects.specs.declared.answers.MonitorErr.TheVariants.{Full as NoMore}
-use Rattle.ert_effects.specs.declared.answers.StartErr.TheVariants.{BadArg, Full}
-use Rattle.ert_effects.specs.declared.answers.Taken.TheVariants.{Mail as Taking, Empty, Exited}
-use Rattle.ert_ops.specs.Races.{IsCallersOp, MayDo}
-use Rattle.ert_ops.specs.declared.op.Op.{Op}
+use Rattle.ert_defs.specs.{States.state, declared.entry.Actor.TheVariants.{Keeper, Wheel, Inbox, MailOf, Caller}, declared.entry.Entry.Entry, declared.mail.Request.Request, declared.mail.RequestKind.TheVariants.Cancel as ToCancel}
+use Rattle.ert_defs.specs.{declared.mail.RequestKind.TheVariants.Read as ToRead, declared.settings.Mode.Mode, declared.settings.OffsetState.OffsetState, declared.settings.Settings.Settings, declared.timer.Kind.TheVariants.{Wrapped, Bare}}
+use Rattle.ert_effects.specs.{Chains.{SweepsWheel, SweepsWheels, Exits}, ClockCalls.{TellsTime, TellsOffset, TellsSystemTime}, RequestCalls.{inbox_for, Asks}, TimerCalls.Cancels, Ways.{Way, Then, alone, beside}, WheelCalls.TellsAlive}
+use Rattle.ert_effects.specs.{WheelCalls.{MarksExit, Sweeps, IsSwept}, declared.answers.MonitorErr.TheVariants.Full as NoMore, declared.answers.StartErr.TheVariants.{BadArg, Full}, declared.answers.Taken.TheVariants.{Mail as Taking, Empty}}
+use Rattle.ert_effects.specs.{declared.answers.Taken.TheVariants.Exited}
+use Rattle.ert_ops.specs.{Races.{IsCallersOp, MayDo}, declared.op.Op.Op, Calls.{Calls, Converts, reading_of, request_for_op, start_for_op}, Labels.{Labels, ref_of}, Scripts.{Script, labels_after}, declared.reply.Reply.Reply}
 use Rattle.ert_ops.specs.declared.op.Op.TheVariants as ops
-use Rattle.ert_program.proofs.Delays.{Delays, step_beside, delay_step, delay_then, delay_nothing, late_as}
+use Rattle.ert_program.proofs.{Delays.{Delays, step_beside, delay_step, delay_then, delay_nothing, late_as}, Having.{as_these, reads_have, cancels_have}}
 use Rattle.ert_table.proofs.Holders.{same_actor_self}
 use Rattle.ert_locks.proofs.Own.{ticks_have, finalizes_have, starts_have, sweeps_have, asks_have, takes_have, monitors_have, demonitors_have, notifies_have}
-use Rattle.ert_program.proofs.Having.{as_these, reads_have, cancels_have}
 use Rattle.ert_locks.specs.Lent.{AllHave}
-use Rattle.ert_ops.specs.Calls.{Calls, Converts, reading_of, request_for_op, start_for_op}
-use Rattle.ert_ops.specs.Labels.{Labels, ref_of}
-use Rattle.ert_ops.specs.Scripts.{Script, labels_after}
-use Rattle.ert_ops.specs.declared.reply.Reply.{Reply}
 use Rattle.ert_ops.specs.declared.reply.Reply.TheVariants as replies
 
 -- one entry by a caller

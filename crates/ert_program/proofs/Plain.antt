@@ -1,13 +1,9 @@
 -- What `clap` makes of a word without a hyphen, where it names no subcommand.
 
 use Rattle.std.proofs.Common.{◌≡◌, ℕ, List, [], ◌∷◌, false, None, ap, ap₂, ◌∙◌, cond}
-use Rattle.std.specs.Option.{option_map_or}
-use Rattle.std.specs.Str.{bytes_eq}
-use Rattle.clap.specs.Lexer.{long_of, short_of}
-use Rattle.clap.specs.Kinds.{Kinds, or_else}
-use Rattle.clap.specs.Simple.{Shape}
-use Rattle.clap.specs.Walk.{Held, Names, Rule, Step, Text, Walk, idle, value, trailing, subcommand_met, subcommand_or_other, long_or_other, short_or_plain, word_met, after_step, to_positional, arg_by_index, walked}
-use Rattle.clap.specs.Faults.{bundle_fault, flag_word_fault, other_fault, step_fault, turn_fault, walk_fault}
+use Rattle.std.specs.{Option.option_map_or, Str.bytes_eq}
+use Rattle.clap.specs.{Lexer.{long_of, short_of}, Kinds.{Kinds, or_else}, Simple.Shape, Walk.{Held, Names, Rule, Step, Text, Walk, idle, value, trailing, subcommand_met, subcommand_or_other, long_or_other, short_or_plain, word_met}}
+use Rattle.clap.specs.{Walk.{after_step, to_positional, arg_by_index, walked}, Faults.{bundle_fault, flag_word_fault, other_fault, step_fault, turn_fault, walk_fault}}
 
 -- the word is no flag
 pub record IsWord (word : Text) : Type 0 where

@@ -2,19 +2,13 @@
 
 use Rattle.std.proofs.Common.{◌≡◌, ℕ, true, List, Some, sym, subst, ◌∙◌}
 use Rattle.std.specs.Prelude.{Result, Ok, Err, IfOk, OnErr}
-use Rattle.ert_io.specs.Reads.{Input}
-use Rattle.ert_io.specs.Told.{SinkTold, TakesFront}
+use Rattle.ert_io.specs.{Reads.Input, Told.{SinkTold, TakesFront}}
 use Rattle.ert_defs.specs.declared.settings.Settings.{Settings}
-use Rattle.ert_ops.specs.Races.{Race}
-use Rattle.ert_ops.specs.declared.op.Op.{Op}
-use Rattle.ert_program.specs.Written.{Returned, MayWrite, RacesOn, StopsRace}
-use Rattle.ert_scenario.specs.Acceptance.{IsRaceable, plan_with}
-use Rattle.ert_scenario.specs.Scenarios.{Plan, IsScenario}
+use Rattle.ert_ops.specs.{Races.Race, declared.op.Op.Op}
+use Rattle.ert_program.specs.{Written.{Returned, MayWrite, RacesOn, StopsRace}, Inputs.{WritesAll, WritesSomeOf}, OnDesks.{HasRead, RanOn}, Races.{OfRace, IsReport, OfPlan, RaceWrites, RaceOf}}
+use Rattle.ert_scenario.specs.{Acceptance.{IsRaceable, plan_with}, Scenarios.{Plan, IsScenario}}
 use Rattle.ert_script.specs.declared.output.RunErr.{RunErr}
 use Rattle.ert_program.proofs.Ends.{IsOfScenario}
-use Rattle.ert_program.specs.Inputs.{WritesAll, WritesSomeOf}
-use Rattle.ert_program.specs.OnDesks.{HasRead, RanOn}
-use Rattle.ert_program.specs.Races.{OfRace, IsReport, OfPlan, RaceWrites, RaceOf}
 
 -- it was run
 pub raced : (plan : Plan) (race : Race) (old new : SinkTold) (ran : Result Returned RunErr) → plan.race ≡ Some race

@@ -2,13 +2,9 @@
 
 use Rattle.std.proofs.Common.{◌≡◌, ℕ, ◌≤◌, List, [], ◌∷◌, Bool, true, false, ◌&&◌, nat_le, Option, Some, None, refl, arith, sym, ap, subst, codes, ◌∙◌}
 use Rattle.std.specs.Prelude.{IfSome, if◌then◌else◌}
-use Rattle.std.specs.List.{list_all}
-use Rattle.std.specs.Str.{bytes_eq}
-use Rattle.std.specs.Str.Parse.{digits_value}
+use Rattle.std.specs.{List.list_all, Str.bytes_eq, Str.Parse.digits_value}
 use Rattle.std.proofs.lemmas.Grind.{common_steps}
-use Rattle.ert_program.specs.Commands.{is_plain_word, is_number, is_number_in, without_words, live_of, stress_of, form_of, command_of}
-use Rattle.ert_program.specs.declared.command.Command.{Command}
-use Rattle.ert_program.specs.declared.command.Command.TheVariants.{Run, Race, Live, Stress}
+use Rattle.ert_program.specs.{Commands.{is_plain_word, is_number, is_number_in, without_words, live_of, stress_of, form_of, command_of}, declared.command.Command.Command, declared.command.Command.TheVariants.{Run, Race, Live, Stress}}
 
 -- the numbers of a command are within their limits
 abbrev pub IsInLimits : Command → Type 0

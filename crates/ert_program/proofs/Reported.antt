@@ -2,12 +2,8 @@
 
 use Rattle.std.proofs.Common.{◌≡◌, ℕ, suc, zero, ◌+◌, ◌<◌, List, [], ◌∷◌, ◌++◌, length, take, slice_index_or, refl, sym, ap, ◌∙◌, arith, append-nil, append_assoc}
 use Rattle.std.proofs.lemmas.List.{take_more}
-use Rattle.ert_program.specs.Reports.{Did, all_labels, lines_by, heading, lists_text}
-use Rattle.ert_program.specs.Lists.{did_of, dids_of}
-use Rattle.ert_program.specs.declared.races.list.ListDone.{ListDone}
-use Rattle.ert_ops.specs.Labels.{Labels, label_of}
-use Rattle.ert_ops.specs.Lines.{line_of}
-use Rattle.ert_ops.specs.declared.reply.Reply.{Reply}
+use Rattle.ert_program.specs.{Reports.{Did, all_labels, lines_by, heading, lists_text}, Lists.{did_of, dids_of}, declared.races.list.ListDone.ListDone}
+use Rattle.ert_ops.specs.{Labels.{Labels, label_of}, Lines.line_of, declared.reply.Reply.Reply}
 
 -- the labels of one list more
 labels_last : (labels : Labels) (dids : List Did) (d : Did) → all_labels labels (dids ++ d ∷ []) ≡ all_labels labels dids ++ d.own

@@ -1,18 +1,11 @@
 -- The last turns of a race: one turn more of a round, and as far as they have come.
 
 use Rattle.std.proofs.Common.{◌≡◌, ℕ, suc, ◌+◌, List, [], ◌∷◌, ◌++◌, length, Ok, refl, sym, ap, subst, ◌∙◌, arith, append-nil, append_assoc, length-append, ◌<◌, ◌≤◌}
-use Rattle.ert_effects.specs.Chains.{Turns}
-use Rattle.ert_effects.specs.Ways.{Grows, alone}
-use Rattle.ert_effects.specs.declared.answers.Turned.{Turned}
-use Rattle.ert_defs.specs.declared.entry.Entry.{Entry}
-use Rattle.ert_defs.specs.declared.settings.Settings.{Settings}
-use Rattle.ert_program.specs.Made.{RoundOfTurns, MakesRound}
+use Rattle.ert_effects.specs.{Chains.Turns, Ways.{Grows, alone}, declared.answers.Turned.Turned}
+use Rattle.ert_defs.specs.declared.{entry.Entry.Entry, settings.Settings.Settings}
+use Rattle.ert_program.specs.{Made.{RoundOfTurns, MakesRound}, Outcomes.ActAtOnce, Reports.Did, Ends.{RunsAtOnce, EndsRound, RacesTo}}
 use Rattle.ert_effects.proofs.Growing.{grows_then}
-use Rattle.ert_program.specs.Outcomes.{ActAtOnce}
-use Rattle.ert_program.specs.Reports.{Did}
-use Rattle.ert_ops.specs.Races.{Race}
-use Rattle.ert_program.specs.Ends.{RunsAtOnce, EndsRound, RacesTo}
-use Rattle.ert_ops.specs.Labels.{Labels}
+use Rattle.ert_ops.specs.{Races.Race, Labels.Labels}
 use Rattle.ert_world.specs.Worlds.{Seen, Goes}
 
 -- the number of the next scheduler

@@ -3,15 +3,10 @@
 use Rattle.std.proofs.Common.{◌≡◌, List, [], ◌∷◌, Bool, false, Option, Some, None, refl, sym, ap, ap₂, ◌∙◌, codes, fold}
 use Rattle.std.specs.Prelude.{is_some, find, option_map, unwrap_or}
 use Rattle.std.specs.Option.{option_map_or}
-use Rattle.clap.specs.Kinds.{Kinds, or_else}
-use Rattle.clap.specs.Simple.{App, Shape, label_of, names_of, entered, built, rows_at}
-use Rattle.clap.specs.Walk.{Held, Names, Text, Walk, idle, answers_to, finished, nothing_held, rows_after, settled, subcommand_met, walk_from, walked}
-use Rattle.clap.specs.Faults.{check_fault, defaults_fault, entered_fault, fault_of, level_fault, settle_fault, turn_fault, walk_fault}
-use Rattle.clap.specs.Words.{subcommand_of}
+use Rattle.clap.specs.{Kinds.{Kinds, or_else}, Simple.{App, Shape, label_of, names_of, entered, built, rows_at}, Walk.{Held, Names, Text, Walk, idle, answers_to, finished, nothing_held, rows_after, settled, subcommand_met, walk_from}}
+use Rattle.clap.specs.{Walk.walked, Faults.{check_fault, defaults_fault, entered_fault, fault_of, level_fault, settle_fault, turn_fault, walk_fault}, Words.subcommand_of}
 use Rattle.clap.specs.declared.error.kind.ErrorKind.TheVariants as kind
-use Rattle.clap.proofs.FaultLemmas.{stopped_fault}
-use Rattle.clap.proofs.OnLiterals.{clap_on_literals}
-use Rattle.clap.proofs.WalkLemmas.{walk_stopped}
+use Rattle.clap.proofs.{FaultLemmas.stopped_fault, OnLiterals.clap_on_literals, WalkLemmas.walk_stopped}
 use Rattle.ert_program.specs.Apps.{app}
 use Rattle.ert_program.proofs.Plain.{IsWord, fault_plain}
 

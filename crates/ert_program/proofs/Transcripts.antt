@@ -4,36 +4,17 @@ use Rattle.std.specs.Arc.{arc_value}
 use Rattle.std.proofs.Common.{◌≡◌, ◌≤◌, ◌+◌, ℕ, false, List, [], ◌++◌, length, length-append, take, Option, None, Some, refl, sym, ap, subst, ◌∙◌, arith}
 use Rattle.std.specs.Prelude.{Result, Ok, Err, IfOk, OnErr}
 use Rattle.ert_io.proofs.Takes.{took-took, front_after, front_of, fits_after}
-use Rattle.ert_io.specs.Reads.{Input}
-use Rattle.ert_io.specs.Known.{HasRoomFor}
-use Rattle.ert_io.specs.Told.{SinkTold, took, TakesFront}
-use Rattle.ert_defs.specs.Lines.{Face}
-use Rattle.ert_defs.specs.declared.entry.Entry.{Entry}
-use Rattle.ert_defs.specs.declared.settings.Settings.{Settings}
+use Rattle.ert_io.specs.{Reads.Input, Known.HasRoomFor, Told.{SinkTold, took, TakesFront}}
+use Rattle.ert_defs.specs.{Lines.Face, declared.entry.Entry.Entry, declared.settings.Settings.Settings}
 use Rattle.ert_laws.specs.KeptLaws.{KeepsLaws}
-use Rattle.ert_ops.specs.Labels.{AreOps, Labels}
-use Rattle.ert_ops.specs.declared.op.Op.{Op}
-use Rattle.ert_ops.proofs.Fronts.{first_lines}
-use Rattle.ert_ops.proofs.Runs.{one_text}
-use Rattle.ert_ops.specs.Laws.{IsFront}
-use Rattle.ert_ops.specs.Plain.{plain_text}
-use Rattle.ert_program.proofs.Written.{script_of, beginning_of, has_history}
-use Rattle.ert_program.specs.Written.{Returned}
-use Rattle.ert_scenario.specs.Acceptance.{IsRunnable, plan_alone}
-use Rattle.ert_scenario.specs.Scenarios.{Plan, IsScenario}
-use Rattle.ert_script.specs.Scripts.{Runs}
-use Rattle.ert_script.specs.Written.{WritesRun, WritesSome, LinesFit}
-use Rattle.ert_script.specs.declared.output.RunErr.{RunErr}
+use Rattle.ert_ops.specs.{Labels.{AreOps, Labels}, declared.op.Op.Op, Laws.IsFront, Plain.plain_text, Scripts.lines_of, Texts.end_line, declared.reply.Reply.Reply}
+use Rattle.ert_ops.proofs.{Fronts.first_lines, Runs.one_text}
+use Rattle.ert_program.proofs.{Written.{script_of, beginning_of, has_history}, Ends.IsOfScenario}
+use Rattle.ert_program.specs.{Written.Returned, Inputs.{WritesAll, WritesSomeOf}, OnDesks.{HasRead, RanOn}, Runs.{RunWrites, RunOf}}
+use Rattle.ert_scenario.specs.{Acceptance.{IsRunnable, plan_alone}, Scenarios.{Plan, IsScenario}}
+use Rattle.ert_script.specs.{Scripts.Runs, Written.{WritesRun, WritesSome, LinesFit}, declared.output.RunErr.RunErr}
 use Rattle.ert_table.specs.Desks.{settings_of, KnowsAll}
-use Rattle.ert_ops.specs.Scripts.{lines_of}
-use Rattle.ert_ops.specs.Texts.{end_line}
-use Rattle.ert_ops.specs.declared.reply.Reply.{Reply}
-use Rattle.ert_world.specs.Openings.{IsOpened}
-use Rattle.ert_world.specs.Worlds.{Seen, StandsFor}
-use Rattle.ert_program.proofs.Ends.{IsOfScenario}
-use Rattle.ert_program.specs.Inputs.{WritesAll, WritesSomeOf}
-use Rattle.ert_program.specs.OnDesks.{HasRead, RanOn}
-use Rattle.ert_program.specs.Runs.{RunWrites, RunOf}
+use Rattle.ert_world.specs.{Openings.IsOpened, Worlds.{Seen, StandsFor}}
 
 -- the world that it came to stands for that history
 pub stands_for : (g : Settings) (start v : Seen) (list : List Op) (rs : List Reply) (after : Labels) → IsOpened g start → (ran : Runs start [] list rs v after)

@@ -2,23 +2,12 @@
 
 use Rattle.std.proofs.Common.{◌≡◌, ℕ, Bool, true, false, nat_lt, cond, List, [], ◌∷◌, ◌++◌, Option, Some, None, Ok, inl, inr, refl, sym, ap, ◌∙◌, subst, append_assoc, append-nil}
 use Rattle.ert_defs.proofs.Runs.{sched_stays, state-append}
-use Rattle.ert_defs.specs.Actors.{IsFree}
-use Rattle.ert_defs.specs.Mails.{SchedState, first_of}
-use Rattle.ert_defs.specs.States.{State, state}
-use Rattle.ert_defs.specs.declared.entry.Actor.TheVariants.{Wheel, Inbox, Sched, MailOf}
-use Rattle.ert_defs.specs.declared.entry.Entry.{Entry}
-use Rattle.ert_defs.specs.declared.mail.Request.{Request}
-use Rattle.ert_defs.specs.declared.settings.Settings.{Settings}
-use Rattle.ert_effects.specs.Chains.{HoldsBy, HoldsRequest, HasServed, Serves, units, ServesMany, ServesAll, AdvancesWheel, Hands, HandsMany, Delivers, Turns}
-use Rattle.ert_effects.specs.MailCalls.{HandsOver}
-use Rattle.ert_effects.specs.RequestCalls.{Picks, Answers}
-use Rattle.ert_effects.specs.Ways.{Way, Then, Many, alone, beside}
-use Rattle.ert_effects.specs.WheelCalls.{Advances}
-use Rattle.ert_effects.specs.declared.answers.Handed.{Handed}
-use Rattle.ert_effects.specs.declared.answers.Turned.{Turned}
-use Rattle.ert_program.proofs.Delays.{Late, Delays, step_beside, delay_step, delay_then, delay_many, delay_cond, late_as}
+use Rattle.ert_defs.specs.{Actors.IsFree, Mails.{SchedState, first_of}, States.{State, state}, declared.entry.Actor.TheVariants.{Wheel, Inbox, Sched, MailOf}, declared.entry.Entry.Entry, declared.mail.Request.Request}
+use Rattle.ert_defs.specs.{declared.settings.Settings.Settings}
+use Rattle.ert_effects.specs.{Chains.{HoldsBy, HoldsRequest, HasServed, Serves, units, ServesMany, ServesAll, AdvancesWheel, Hands, HandsMany, Delivers, Turns}, MailCalls.HandsOver, RequestCalls.{Picks, Answers}, Ways.{Way, Then, Many}}
+use Rattle.ert_effects.specs.{Ways.{alone, beside}, WheelCalls.Advances, declared.answers.Handed.Handed, declared.answers.Turned.Turned}
+use Rattle.ert_program.proofs.{Delays.{Late, Delays, step_beside, delay_step, delay_then, delay_many, delay_cond, late_as}, Having.as_these}
 use Rattle.ert_locks.proofs.Own.{advances_have, picks_have, answers_have, hands_have}
-use Rattle.ert_program.proofs.Having.{as_these}
 
 -- what a scheduler has stays while others step
 sched_same : (g : Settings) (w : ℕ) (h x p : List Entry) → p ≡ h ++ x → IsFree x (Sched w) → (state g p).scheds w ≡ (state g h).scheds w

@@ -2,12 +2,8 @@
 
 use Rattle.std.proofs.Common.{ℕ, ◌+◌, List, [], ◌∷◌, ◌++◌, Ok, ap, ◌∙◌, length-append}
 use Rattle.ert_effects.proofs.Growing.{grows_more}
-use Rattle.ert_effects.specs.Chains.{Turns}
-use Rattle.ert_effects.specs.Ways.{Grows, beside}
-use Rattle.ert_effects.specs.declared.answers.Turned.{Turned}
-use Rattle.ert_defs.specs.declared.entry.Actor.TheVariants.{Sched}
-use Rattle.ert_defs.specs.declared.entry.Entry.{Entry}
-use Rattle.ert_defs.specs.declared.settings.Settings.{Settings}
+use Rattle.ert_effects.specs.{Chains.Turns, Ways.{Grows, beside}, declared.answers.Turned.Turned}
+use Rattle.ert_defs.specs.declared.{entry.Actor.TheVariants.Sched, entry.Entry.Entry, settings.Settings.Settings}
 use Rattle.ert_program.specs.Workers.{TurnsSoOften}
 
 -- one more

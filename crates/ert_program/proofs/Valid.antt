@@ -3,15 +3,9 @@
 use Rattle.std.proofs.Common.{◌≡◌, ◌≢◌, ℕ, zero, suc, ◌+◌, ◌<◌, ◌≤◌, ◌⊎◌, inl, inr, List, [], ◌∷◌, length, get_or, AllPairs, refl, sym, subst, arith}
 use Rattle.std.proofs.lemmas.Int.{ints}
 use Rattle.ert_defs.specs.Readings.{IsValid}
-use Rattle.ert_ops.specs.Labels.{labels_in, AreOps}
-use Rattle.ert_ops.specs.Ranges.{IsOpInRange, AreOpsInRange}
-use Rattle.ert_ops.specs.declared.op.Op.{Op}
-use Rattle.ert_program.specs.Draws.{after, draw}
-use Rattle.ert_program.specs.Generated.{generated_settings}
-use Rattle.ert_program.specs.Steps.{Made, IsBounded, first, made_tick, next_op, next_ops}
-use Rattle.ert_program.specs.declared.generator.Generator.{Generator}
-use Rattle.ert_program.proofs.Draws.{draw_low}
-use Rattle.ert_program.proofs.Within.{IsWithin, room, drawn_within, ticked_within, first_within, next_within, by_choice}
+use Rattle.ert_ops.specs.{Labels.{labels_in, AreOps}, Ranges.{IsOpInRange, AreOpsInRange}, declared.op.Op.Op}
+use Rattle.ert_program.specs.{Draws.{after, draw}, Generated.generated_settings, Steps.{Made, IsBounded, first, made_tick, next_op, next_ops}, declared.generator.Generator.Generator}
+use Rattle.ert_program.proofs.{Draws.draw_low, Within.{IsWithin, room, drawn_within, ticked_within, first_within, next_within, by_choice}}
 
 -- ---- the ranges
 

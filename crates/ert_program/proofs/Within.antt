@@ -2,9 +2,7 @@
 
 use Rattle.std.proofs.Common.{ℕ, ℤ, pos, ◌+◌, ◌*◌, ◌<◌, ◌≤◌, ◌+ℤ◌, ◌-ℤ◌, ◌≤ℤ◌, Bool, true, false, cond, nat_eq, nat_lt, arith}
 use Rattle.std.proofs.lemmas.Int.{ints}
-use Rattle.ert_program.specs.Draws.{after, draw}
-use Rattle.ert_program.specs.Steps.{Made, IsBounded, first, step_of, fall_of, made_tick, made_start, made_cancel, made_read, made_turn, made_receive, op_for, next_op}
-use Rattle.ert_program.specs.declared.generator.Generator.{Generator}
+use Rattle.ert_program.specs.{Draws.{after, draw}, Steps.{Made, IsBounded, first, step_of, fall_of, made_tick, made_start, made_cancel, made_read, made_turn, made_receive, op_for, next_op}, declared.generator.Generator.Generator}
 use Rattle.ert_program.proofs.Draws.{draw_low}
 
 -- the numbers are those of k ops

@@ -2,15 +2,10 @@
 
 use Rattle.std.proofs.Common.{◌≡◌, ℕ, ◌<◌, ◌^◌, List, [], ◌∷◌, Bool, true, false, ◌&&◌, nat_eq, nat_lt, nat_le, Some, None, refl, sym, ap, ◌∙◌, cond, drop, arith, eqb-true}
 use Rattle.std.specs.Prelude.{option_and_then}
-use Rattle.std.specs.List.{list_all}
-use Rattle.std.specs.Str.Parse.{digits_value, without_leading_plus}
-use Rattle.std.proofs.lemmas.Bool.{and_parts}
-use Rattle.std.proofs.lemmas.Bool.Decides.{nat_tests}
-use Rattle.clap.specs.Lexer.{long_of_rest, short_of_rest, strip_byte}
-use Rattle.clap.specs.ValueTests.{is_unsigned_in}
-use Rattle.clap.specs.Walk.{Text}
-use Rattle.ert_program.specs.Commands.{is_plain_byte, is_plain_word, is_number, is_number_in}
-use Rattle.ert_program.specs.Matches.{parsed}
+use Rattle.std.specs.{List.list_all, Str.Parse.{digits_value, without_leading_plus}}
+use Rattle.std.proofs.lemmas.Bool.{and_parts, Decides.nat_tests}
+use Rattle.clap.specs.{Lexer.{long_of_rest, short_of_rest, strip_byte}, ValueTests.is_unsigned_in, Walk.Text}
+use Rattle.ert_program.specs.{Commands.{is_plain_byte, is_plain_word, is_number, is_number_in}, Matches.parsed}
 use Rattle.ert_program.proofs.Plain.{IsWord}
 
 is_not : (b other : ℕ) → is_plain_byte b ≡ true → is_plain_byte other ≡ false → nat_eq b other ≡ false

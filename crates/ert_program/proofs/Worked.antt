@@ -2,16 +2,10 @@
 
 use Rattle.std.proofs.Common.{◌≡◌, ℕ, zero, suc, ◌<◌, List, [], ◌∷◌, length, map, slice_index_or, Ok, Err, refl, sym, ap, subst, ◌∙◌, arith}
 use Rattle.std.specs.Prelude.{IfOk, OnOk, Result}
-use Rattle.ert_defs.specs.declared.entry.Entry.{Entry}
-use Rattle.ert_defs.specs.declared.memory.NoMemory.{NoMemory}
-use Rattle.ert_defs.specs.declared.settings.Settings.{Settings}
-use Rattle.ert_ops.specs.Races.{MayDo, MayDoAll}
-use Rattle.ert_ops.specs.declared.op.Op.{Op}
-use Rattle.ert_program.specs.Worked.{list_at, list_ok, turns_ok, CallerWorked, SchedWorked, ListsDone, TurnsDone}
+use Rattle.ert_defs.specs.declared.{entry.Entry.Entry, memory.NoMemory.NoMemory, settings.Settings.Settings}
+use Rattle.ert_ops.specs.{Races.{MayDo, MayDoAll}, declared.op.Op.Op, Labels.Labels}
+use Rattle.ert_program.specs.{Worked.{list_at, list_ok, turns_ok, CallerWorked, SchedWorked, ListsDone, TurnsDone}, Workers.{DoesAll, TurnsSoOften}, declared.races.list.ListDone.ListDone}
 use Rattle.ert_service.specs.Dividing.{AreSeated}
-use Rattle.ert_program.specs.Workers.{DoesAll, TurnsSoOften}
-use Rattle.ert_ops.specs.Labels.{Labels}
-use Rattle.ert_program.specs.declared.races.list.ListDone.{ListDone}
 
 -- the list of a number may be done
 pub may_at : (g : Settings) (lists : List (List Op)) (n : ℕ) → MayDoAll g lists → MayDo g (list_at lists n)

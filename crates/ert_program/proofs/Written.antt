@@ -4,30 +4,15 @@ use Rattle.std.specs.Arc.{arc_value}
 use Rattle.std.proofs.Common.{◌≡◌, ℕ, List, [], ◌++◌, length, take, Option, None, inl, inr, refl, sym, ap, subst, ◌∙◌, arith, append-nil}
 use Rattle.std.proofs.lemmas.List.{take_all}
 use Rattle.ert_effects.specs.Ways.{alone}
-use Rattle.ert_defs.specs.Legal.{Legal}
-use Rattle.ert_defs.specs.Lines.{Face}
-use Rattle.ert_defs.specs.States.{state}
-use Rattle.ert_defs.specs.declared.entry.Entry.{Entry}
-use Rattle.ert_defs.specs.declared.settings.Settings.{Settings}
+use Rattle.ert_defs.specs.{Legal.Legal, Lines.Face, States.state, declared.entry.Entry.Entry, declared.settings.Settings.Settings}
 use Rattle.ert_io.proofs.Takes.{took-took, front_after}
-use Rattle.ert_io.specs.Known.{HasRoomFor}
-use Rattle.ert_io.specs.Told.{SinkTold, took, room_left, TakesFront}
-use Rattle.ert_laws.specs.Counts.{counts_of}
-use Rattle.ert_laws.specs.KeptLaws.{KeepsLaws}
-use Rattle.ert_ops.specs.Races.{Race}
-use Rattle.ert_ops.specs.declared.op.Op.{Op}
-use Rattle.ert_program.specs.Outcomes.{Races, IsOutcome}
-use Rattle.ert_program.specs.Reports.{Did, behind}
-use Rattle.ert_program.specs.Ends.{RacesTo}
-use Rattle.ert_program.specs.Written.{Returned, HasHistory, MayWrite, RacesOn, StopsRace}
-use Rattle.ert_world.specs.Openings.{IsOpened}
-use Rattle.ert_world.specs.Worlds.{Seen, StandsFor}
-use Rattle.ert_script.specs.Scripts.{Runs}
-use Rattle.ert_script.specs.Written.{WritesRun, LinesFit}
+use Rattle.ert_io.specs.{Known.HasRoomFor, Told.{SinkTold, took, room_left, TakesFront}}
+use Rattle.ert_laws.specs.{Counts.counts_of, KeptLaws.KeepsLaws}
+use Rattle.ert_ops.specs.{Races.Race, declared.op.Op.Op, Labels.Labels, Scripts.{Script, IsBeginning, lines_of}, declared.reply.Reply.Reply}
+use Rattle.ert_program.specs.{Outcomes.{Races, IsOutcome}, Reports.{Did, behind}, Ends.RacesTo, Written.{Returned, HasHistory, MayWrite, RacesOn, StopsRace}}
+use Rattle.ert_world.specs.{Openings.IsOpened, Worlds.{Seen, StandsFor}}
+use Rattle.ert_script.specs.{Scripts.Runs, Written.{WritesRun, LinesFit}}
 use Rattle.ert_table.specs.Desks.{settings_of, KnowsAll}
-use Rattle.ert_ops.specs.Labels.{Labels}
-use Rattle.ert_ops.specs.Scripts.{Script, IsBeginning, lines_of}
-use Rattle.ert_ops.specs.declared.reply.Reply.{Reply}
 
 -- a run from an opened world on, where no label is bound, is a script run from the empty history on
 pub script_of : (g : Settings) (start v : Seen) (list : List Op) (rs : List Reply) (after : Labels) → IsOpened g start → (ran : Runs start [] list rs v after)

@@ -1,8 +1,7 @@
 -- The program's commands, as `clap` is told them.
 
 use Rattle.std.specs.Prelude.{ℕ, Some, true, codes}
-use Rattle.clap.specs.Words.{App, Rule, Text, new_app, new_rule, with_rule, with_subcommand}
-use Rattle.clap.specs.declared.builder.ValueParser.TheVariants.{Unsigned}
+use Rattle.clap.specs.{Words.{App, Rule, Text, new_app, new_rule, with_rule, with_subcommand}, declared.builder.ValueParser.TheVariants.Unsigned}
 
 -- an argument that is a number in a range
 abbrev pub number : Text → ℕ → ℕ → Rule

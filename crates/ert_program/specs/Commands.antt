@@ -1,12 +1,8 @@
 -- Which words are which command.
 
 use Rattle.std.specs.Prelude.{ℕ, List, [], ◌∷◌, Bool, ◌&&◌, ◌||◌, Option, Some, None, length, nat_lt, nat_le, codes, if◌then◌else◌}
-use Rattle.std.specs.Char.{digit_value}
-use Rattle.std.specs.List.{list_all}
-use Rattle.std.specs.Str.{bytes_eq}
-use Rattle.std.specs.Str.Parse.{digits_value}
-use Rattle.ert_program.specs.declared.command.Command.{Command}
-use Rattle.ert_program.specs.declared.command.Command.TheVariants.{Run, Race, Live, Stress}
+use Rattle.std.specs.{Char.digit_value, List.list_all, Str.bytes_eq, Str.Parse.digits_value}
+use Rattle.ert_program.specs.declared.command.Command.{Command, TheVariants.{Run, Race, Live, Stress}}
 
 -- a to z, and 0 to 9
 abbrev pub is_plain_byte : ℕ → Bool

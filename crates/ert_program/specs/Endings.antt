@@ -2,19 +2,10 @@
 
 use Rattle.std.specs.Prelude.{◌≡◌, ℕ, ◌⊎◌, Bool, true, false, List, Option, Some, None, IfSome, Result, Ok, Err, map, string_bytes, String}
 use Rattle.std.specs.declared.alloc.Global.{Global}
-use Rattle.ert_program.specs.Commands.{command_of}
-use Rattle.ert_program.specs.declared.command.Command.{Command}
-use Rattle.ert_program.specs.declared.command.Command.TheVariants.{Run, Race, Live}
-use Rattle.ert_io.specs.Faults.{Rose}
-use Rattle.ert_io.specs.Told.{took, TakesFront}
-use Rattle.ert_script.specs.declared.output.RunErr.{RunErr}
-use Rattle.ert_script.specs.declared.output.RunErr.TheVariants.{WriteFault as OutputFailed, NoMemory as OutOfMemory}
-use Rattle.ert_program.specs.Refusals.{usage_line}
-use Rattle.ert_program.specs.Streams.{Output}
-use Rattle.ert_program.specs.declared.ending.EndStatus.{EndStatus}
-use Rattle.ert_program.specs.declared.ending.Ended.{Ended}
-use Rattle.ert_program.specs.declared.ending.EndStatus.TheVariants.{Done, Usage, Refused, ReadFault, WriteFault, ClockFault, NoMemory, TooLong}
-use Rattle.ert_program.specs.Written.{Returned}
+use Rattle.ert_program.specs.{Commands.command_of, declared.command.Command.Command, declared.command.Command.TheVariants.{Run, Race, Live}, Refusals.usage_line, Streams.Output, declared.ending.EndStatus.EndStatus}
+use Rattle.ert_program.specs.{declared.ending.Ended.Ended, declared.ending.EndStatus.TheVariants.{Done, Usage, Refused, ReadFault, WriteFault, ClockFault, NoMemory, TooLong}, Written.Returned}
+use Rattle.ert_io.specs.{Faults.Rose, Told.{took, TakesFront}}
+use Rattle.ert_script.specs.declared.output.RunErr.{RunErr, TheVariants.{WriteFault as OutputFailed, NoMemory as OutOfMemory}}
 use Rattle.ert_scenario.specs.Scenarios.{HasRefusal}
 
 -- the number of a status

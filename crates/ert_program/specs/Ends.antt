@@ -2,11 +2,8 @@
 
 use Rattle.std.specs.Prelude.{◌≡◌, List}
 use Rattle.ert_effects.specs.Ways.{Grows}
-use Rattle.ert_ops.specs.Races.{Race}
-use Rattle.ert_program.specs.Made.{MakesRound}
-use Rattle.ert_program.specs.Outcomes.{ActAtOnce, Races}
-use Rattle.ert_program.specs.Reports.{Did}
-use Rattle.ert_ops.specs.Labels.{Labels}
+use Rattle.ert_ops.specs.{Races.Race, Labels.Labels}
+use Rattle.ert_program.specs.{Made.MakesRound, Outcomes.{ActAtOnce, Races}, Reports.Did}
 use Rattle.ert_world.specs.Worlds.{Seen}
 
 -- all act at once on a world, with these labels

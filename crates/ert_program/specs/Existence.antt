@@ -2,12 +2,8 @@
 -- as its contract, so that it is proved.
 
 use Rattle.std.specs.Prelude.{ℕ, List}
-use Rattle.ert_defs.specs.Settings.{IsChecked}
-use Rattle.ert_defs.specs.declared.entry.Entry.{Entry}
-use Rattle.ert_defs.specs.declared.settings.Settings.{Settings}
-use Rattle.ert_ops.specs.Races.{Race, IsRace}
-use Rattle.ert_ops.specs.Ranges.{AreOpsInRange}
-use Rattle.ert_ops.specs.declared.op.Op.{Op}
+use Rattle.ert_defs.specs.{Settings.IsChecked, declared.entry.Entry.Entry, declared.settings.Settings.Settings}
+use Rattle.ert_ops.specs.{Races.{Race, IsRace}, Ranges.AreOpsInRange, declared.op.Op.Op}
 use Rattle.ert_program.specs.Outcomes.{IsOutcome}
 
 -- ops that are in range, and then a race, have an outcome

@@ -1,9 +1,7 @@
 -- The scenario of a seed.
 
 use Rattle.std.specs.Prelude.{ℕ, pos, false, None}
-use Rattle.ert_defs.specs.declared.settings.Mode.TheVariants.{Multi}
-use Rattle.ert_defs.specs.declared.settings.Settings.{Settings}
-use Rattle.ert_defs.specs.declared.settings.TheConstants.{SCENARIO_LOOKS}
+use Rattle.ert_defs.specs.declared.settings.{Mode.TheVariants.Multi, Settings.Settings, TheConstants.SCENARIO_LOOKS}
 use Rattle.ert_scenario.specs.Scenarios.{Plan}
 use Rattle.ert_program.specs.Steps.{next_ops, first}
 

@@ -1,13 +1,8 @@
 -- How a command ends that reads an input.
 
 use Rattle.std.specs.Prelude.{◌≡◌, ◌≢◌, ◌≤◌, ◌⊎◌, ℕ, List, Option, Some, length, IfSome}
-use Rattle.ert_io.specs.Faults.{Rose}
-use Rattle.ert_io.specs.Known.{HandsUpTo}
-use Rattle.ert_io.specs.Reads.{Input, ReadsAll, ReadsMore}
-use Rattle.ert_io.specs.Told.{SinkTold, took, TakesFront}
-use Rattle.ert_program.specs.Streams.{Output}
-use Rattle.ert_program.specs.declared.ending.EndStatus.{EndStatus}
-use Rattle.ert_program.specs.declared.ending.EndStatus.TheVariants.{Done, Usage, Refused, ReadFault, WriteFault, ClockFault, NoMemory, TooLong}
+use Rattle.ert_io.specs.{Faults.Rose, Known.HandsUpTo, Reads.{Input, ReadsAll, ReadsMore}, Told.{SinkTold, took, TakesFront}}
+use Rattle.ert_program.specs.{Streams.Output, declared.ending.EndStatus.EndStatus, declared.ending.EndStatus.TheVariants.{Done, Usage, Refused, ReadFault, WriteFault, ClockFault, NoMemory, TooLong}}
 
 -- which texts may be written of these bytes
 abbrev pub Writing : Type 1

@@ -1,17 +1,9 @@
 -- Laws of what is done in a race. The functions of src/laws.rt carry them as contracts, so that they are proved.
 
 use Rattle.std.specs.Prelude.{◌≡◌, ℕ, Bool, true, false, List, filter, length}
-use Rattle.ert_defs.specs.Actors.{of}
-use Rattle.ert_defs.specs.declared.entry.Actor.TheVariants.{Sched, Caller}
-use Rattle.ert_defs.specs.declared.entry.Entry.{Entry}
-use Rattle.ert_defs.specs.declared.entry.Event.{Event}
-use Rattle.ert_defs.specs.declared.entry.Event.TheVariants.{Advanced}
-use Rattle.ert_defs.specs.declared.settings.Settings.{Settings}
-use Rattle.ert_ops.specs.declared.op.Op.{Op}
-use Rattle.ert_program.specs.Made.{MakesTurns, MakesRound}
-use Rattle.ert_program.specs.Outcomes.{DoesList}
-use Rattle.ert_program.specs.Reports.{Did}
-use Rattle.ert_ops.specs.Labels.{Labels}
+use Rattle.ert_defs.specs.{Actors.of, declared.entry.Actor.TheVariants.{Sched, Caller}, declared.entry.Entry.Entry, declared.entry.Event.Event, declared.entry.Event.TheVariants.Advanced, declared.settings.Settings.Settings}
+use Rattle.ert_ops.specs.{declared.op.Op.Op, Labels.Labels}
+use Rattle.ert_program.specs.{Made.{MakesTurns, MakesRound}, Outcomes.DoesList, Reports.Did}
 
 -- of a stretch in which a caller does a list, all entries of the caller are in the pieces of the list's calls
 abbrev pub LawOfPieces : Type 0

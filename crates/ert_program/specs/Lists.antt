@@ -1,8 +1,7 @@
 -- What came of lists, as the outcome of a race has it.
 
 use Rattle.std.specs.Prelude.{List, map}
-use Rattle.ert_program.specs.Reports.{Did}
-use Rattle.ert_program.specs.declared.races.list.ListDone.{ListDone}
+use Rattle.ert_program.specs.{Reports.Did, declared.races.list.ListDone.ListDone}
 
 -- what came of one list: its replies, and the labels that it bound
 abbrev pub did_of : ListDone → Did

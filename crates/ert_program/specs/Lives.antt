@@ -3,31 +3,16 @@
 use Rattle.std.specs.Prelude.{◌≡◌, ◌≢◌, ◌<◌, ◌+◌, ◌⊎◌, ℕ, ℤ, pos, true, List, [], ◌∷◌, ◌++◌, length, codes, decimal, Some, None, IsSomeAnd}
 use Rattle.std.specs.Fmt.{signed_decimal}
 use Rattle.ert_effects.specs.Ways.{alone}
-use Rattle.ert_defs.specs.Legal.{Legal}
-use Rattle.ert_defs.specs.Readings.{IsValid}
-use Rattle.ert_defs.specs.States.{state}
-use Rattle.ert_defs.specs.declared.entry.Entry.{Entry}
-use Rattle.ert_defs.specs.declared.settings.Mode.TheVariants.{No}
-use Rattle.ert_defs.specs.declared.settings.Reading.{Reading}
-use Rattle.ert_defs.specs.declared.settings.Settings.{Settings}
-use Rattle.ert_defs.specs.declared.settings.TheConstants.{SCENARIO_LOOKS}
-use Rattle.ert_io.specs.Faults.{Rose}
-use Rattle.ert_io.specs.Known.{StreamTold, HandsOut, HandsUpTo}
-use Rattle.ert_io.specs.Told.{took, TakesFront}
-use Rattle.ert_ops.specs.declared.op.Op.{Op}
+use Rattle.ert_defs.specs.{Legal.Legal, Readings.IsValid, States.state, declared.entry.Entry.Entry, declared.settings.Mode.TheVariants.No, declared.settings.Reading.Reading, declared.settings.Settings.Settings}
+use Rattle.ert_defs.specs.{declared.settings.TheConstants.SCENARIO_LOOKS}
+use Rattle.ert_io.specs.{Faults.Rose, Known.{StreamTold, HandsOut, HandsUpTo}, Told.{took, TakesFront}}
+use Rattle.ert_ops.specs.{declared.op.Op.Op, Labels.Labels, Scripts.Script, declared.reply.Reply.Reply}
 use Rattle.ert_ops.specs.declared.op.Op.TheVariants as ops
-use Rattle.ert_program.specs.Written.{Returned, HasHistory}
-use Rattle.ert_world.specs.Openings.{IsOpened}
-use Rattle.ert_world.specs.Worlds.{Seen, StandsFor}
+use Rattle.ert_program.specs.{Written.{Returned, HasHistory}, Streams.{ClockStream, Output}, declared.ending.Ended.Ended, declared.ending.EndStatus.TheVariants.{Done, Refused, WriteFault, ClockFault, NoMemory}}
+use Rattle.ert_world.specs.{Openings.IsOpened, Worlds.{Seen, StandsFor}}
 use Rattle.ert_script.specs.Scripts.{Does, Runs}
-use Rattle.ert_ops.specs.Labels.{Labels}
-use Rattle.ert_ops.specs.Scripts.{Script}
 use Rattle.ert_ops.specs.Texts.{◌⋅◌, end_line}
-use Rattle.ert_ops.specs.declared.reply.Reply.{Reply}
 use Rattle.ert_ops.specs.declared.reply.Reply.TheVariants as replies
-use Rattle.ert_program.specs.Streams.{ClockStream, Output}
-use Rattle.ert_program.specs.declared.ending.Ended.{Ended}
-use Rattle.ert_program.specs.declared.ending.EndStatus.TheVariants.{Done, Refused, WriteFault, ClockFault, NoMemory}
 
 -- readings that are all valid
 abbrev pub AreValid : List Reading → Type 0

@@ -1,14 +1,8 @@
 -- What an actor makes in a stretch of a history, beside others, and what each scheduler makes alone.
 
 use Rattle.std.specs.Prelude.{◌≡◌, ℕ, suc, List, [], ◌∷◌, ◌++◌, length, Ok}
-use Rattle.ert_effects.specs.Chains.{HasTurned}
-use Rattle.ert_effects.specs.Ways.{Growth, Then, Many, alone, beside}
-use Rattle.ert_effects.specs.declared.answers.Turned.{Turned}
-use Rattle.ert_defs.specs.Actors.{IsFree}
-use Rattle.ert_defs.specs.declared.entry.Actor.{Actor}
-use Rattle.ert_defs.specs.declared.entry.Actor.TheVariants.{Sched}
-use Rattle.ert_defs.specs.declared.entry.Entry.{Entry}
-use Rattle.ert_defs.specs.declared.settings.Settings.{Settings}
+use Rattle.ert_effects.specs.{Chains.HasTurned, Ways.{Growth, Then, Many, alone, beside}, declared.answers.Turned.Turned}
+use Rattle.ert_defs.specs.{Actors.IsFree, declared.entry.Actor.Actor, declared.entry.Actor.TheVariants.Sched, declared.entry.Entry.Entry, declared.settings.Settings.Settings}
 
 -- an actor makes a call in a stretch that comes after a history, and has no entry in the stretch after it
 pub record MakesInStretch (a : Actor) (call : Growth) (h stretch : List Entry) : Type 0 where

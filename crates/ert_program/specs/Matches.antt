@@ -1,12 +1,9 @@
 -- The command that matches of `clap` say.
 
 use Rattle.std.specs.Prelude.{ℕ, ◌^◌, ◌&&◌, nat_lt, List, Option, Some, None, codes, if◌then◌else◌, option_and_then, option_map}
-use Rattle.std.specs.Str.{bytes_eq}
-use Rattle.std.specs.Str.Parse.{digits_value, without_leading_plus}
+use Rattle.std.specs.Str.{bytes_eq, Parse.{digits_value, without_leading_plus}}
 use Rattle.clap.specs.Words.{Row, Text, one_of}
-use Rattle.ert_program.specs.Commands.{is_number}
-use Rattle.ert_program.specs.declared.command.Command.{Command}
-use Rattle.ert_program.specs.declared.command.Command.TheVariants.{Run, Race, Live, Stress}
+use Rattle.ert_program.specs.{Commands.is_number, declared.command.Command.Command, declared.command.Command.TheVariants.{Run, Race, Live, Stress}}
 
 -- the number that a text reads as, below 2^64
 abbrev pub parsed : Text → Option ℕ

@@ -2,8 +2,7 @@
 
 use Rattle.std.specs.Prelude.{◌≡◌, ℕ, Bool, List}
 use Rattle.ert_defs.specs.declared.entry.Entry.{Entry}
-use Rattle.ert_io.specs.Reads.{Input, ReadsAll}
-use Rattle.ert_io.specs.Told.{SinkTold, took}
+use Rattle.ert_io.specs.{Reads.{Input, ReadsAll}, Told.{SinkTold, took}}
 use Rattle.ert_program.specs.Written.{Returned, HasHistory}
 use Rattle.ert_scenario.specs.Scenarios.{Plan, IsScenario}
 

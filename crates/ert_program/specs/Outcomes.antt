@@ -3,20 +3,10 @@
 
 use Rattle.std.specs.Prelude.{◌≡◌, ℕ, suc, ◌<◌, All, List, [], ◌∷◌, ◌++◌}
 use Rattle.ert_effects.specs.Ways.{Growth, Then, alone, beside}
-use Rattle.ert_defs.specs.Actors.{IsMaker}
-use Rattle.ert_defs.specs.Legal.{Legal}
-use Rattle.ert_defs.specs.States.{state}
-use Rattle.ert_defs.specs.declared.entry.Actor.TheVariants.{Caller}
-use Rattle.ert_defs.specs.declared.entry.Entry.{Entry}
-use Rattle.ert_defs.specs.declared.settings.Settings.{Settings}
+use Rattle.ert_defs.specs.{Actors.IsMaker, Legal.Legal, States.state, declared.entry.Actor.TheVariants.Caller, declared.entry.Entry.Entry, declared.settings.Settings.Settings}
 use Rattle.ert_laws.specs.Counts.{counts_of}
-use Rattle.ert_ops.specs.Races.{Race, lists_of}
-use Rattle.ert_ops.specs.declared.op.Op.{Op}
-use Rattle.ert_program.specs.Made.{MakesInStretch, MakesTurns, MakesRound}
-use Rattle.ert_program.specs.Reports.{Did, report}
-use Rattle.ert_ops.specs.Labels.{Labels}
-use Rattle.ert_ops.specs.Scripts.{Script}
-use Rattle.ert_ops.specs.declared.reply.Reply.{Reply}
+use Rattle.ert_ops.specs.{Races.{Race, lists_of}, declared.op.Op.Op, Labels.Labels, Scripts.Script, declared.reply.Reply.Reply}
+use Rattle.ert_program.specs.{Made.{MakesInStretch, MakesTurns, MakesRound}, Reports.{Did, report}}
 
 -- a caller does a list beside others: it knows the labels of the ops, and those that it binds itself
 abbrev pub DoesList : Settings → Labels → ℕ → List Op → Did → List Entry → List Entry → Type 0

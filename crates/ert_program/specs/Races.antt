@@ -1,20 +1,11 @@
 -- What `race` leaves.
 
 use Rattle.std.specs.Prelude.{◌≡◌, ℕ, true, List, Some}
-use Rattle.ert_defs.specs.declared.entry.Entry.{Entry}
-use Rattle.ert_defs.specs.declared.settings.Settings.{Settings}
-use Rattle.ert_io.specs.Reads.{Input}
-use Rattle.ert_io.specs.Told.{SinkTold}
-use Rattle.ert_ops.specs.Races.{Race}
-use Rattle.ert_ops.specs.declared.op.Op.{Op}
-use Rattle.ert_program.specs.Outcomes.{IsOutcome}
-use Rattle.ert_program.specs.Written.{Returned, MayWrite}
-use Rattle.ert_scenario.specs.Acceptance.{IsRaceable}
-use Rattle.ert_scenario.specs.Scenarios.{Plan}
-use Rattle.ert_program.specs.Inputs.{InputEnds}
-use Rattle.ert_program.specs.OnDesks.{DidOn}
-use Rattle.ert_program.specs.Streams.{Output}
-use Rattle.ert_program.specs.declared.ending.EndStatus.{EndStatus}
+use Rattle.ert_defs.specs.declared.{entry.Entry.Entry, settings.Settings.Settings}
+use Rattle.ert_io.specs.{Reads.Input, Told.SinkTold}
+use Rattle.ert_ops.specs.{Races.Race, declared.op.Op.Op}
+use Rattle.ert_program.specs.{Outcomes.IsOutcome, Written.{Returned, MayWrite}, Inputs.InputEnds, OnDesks.DidOn, Streams.Output, declared.ending.EndStatus.EndStatus}
+use Rattle.ert_scenario.specs.{Acceptance.IsRaceable, Scenarios.Plan}
 
 -- a text of a race after these ops
 abbrev pub OfRace : Type 1

@@ -2,8 +2,7 @@
 
 use Rattle.std.specs.Prelude.{ℕ, List, [], codes, decimal}
 use Rattle.ert_ops.specs.Texts.{◌⋅◌}
-use Rattle.ert_scenario.specs.declared.scenario.ScenarioErr.{ScenarioErr}
-use Rattle.ert_scenario.specs.declared.scenario.ScenarioErr.TheVariants.{Json, Shape, Range, Limit, NoMemory}
+use Rattle.ert_scenario.specs.declared.scenario.ScenarioErr.{ScenarioErr, TheVariants.{Json, Shape, Range, Limit, NoMemory}}
 
 -- the line of a refusal
 abbrev pub refusal_line : ScenarioErr → List ℕ

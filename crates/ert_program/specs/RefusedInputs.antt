@@ -1,18 +1,10 @@
 -- What a command leaves whose input is no scenario: why it is none, and what was written of that.
 
 use Rattle.std.specs.Prelude.{◌≡◌, ◌⊎◌, ℕ, Bool, List, Option, length, IsSomeAnd}
-use Rattle.ert_io.specs.Known.{HasRoomFor}
-use Rattle.ert_io.specs.Reads.{Input, ReadsAll}
-use Rattle.ert_io.specs.Told.{SinkTold, took, TakesFront}
-use Rattle.ert_scenario.specs.Scenarios.{Plan, HasRefusal}
-use Rattle.ert_scenario.specs.declared.scenario.ScenarioErr.{ScenarioErr}
-use Rattle.ert_program.specs.Inputs.{IsPossibleInput}
-use Rattle.ert_program.specs.OnDesks.{HasRead}
-use Rattle.ert_program.specs.Refusals.{refusal_line}
-use Rattle.ert_program.specs.Streams.{Output}
-use Rattle.ert_program.specs.declared.ending.Ended.{Ended}
-use Rattle.ert_program.specs.declared.ending.EndStatus.TheVariants.{Refused, WriteFault, NoMemory}
-use Rattle.ert_program.specs.declared.ending.Refusal.{Refusal}
+use Rattle.ert_io.specs.{Known.HasRoomFor, Reads.{Input, ReadsAll}, Told.{SinkTold, took, TakesFront}}
+use Rattle.ert_scenario.specs.{Scenarios.{Plan, HasRefusal}, declared.scenario.ScenarioErr.ScenarioErr}
+use Rattle.ert_program.specs.{Inputs.IsPossibleInput, OnDesks.HasRead, Refusals.refusal_line, Streams.Output, declared.ending.Ended.Ended, declared.ending.EndStatus.TheVariants.{Refused, WriteFault, NoMemory}}
+use Rattle.ert_program.specs.{declared.ending.Refusal.Refusal}
 
 -- all bytes were read, the refusal that is returned has them, they have that refusal, and its line was written
 pub record RefusesInput (race : Bool) (i j : Input) (old new : SinkTold) (refusal : Refusal) : Type 0 where

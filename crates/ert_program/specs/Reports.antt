@@ -4,13 +4,8 @@
 use Rattle.std.specs.Prelude.{ℕ, zero, suc, ℤ, List, [], ◌∷◌, ◌++◌, codes}
 use Rattle.std.specs.Fmt.{decimal}
 use Rattle.ert_laws.specs.Counts.{Counts}
-use Rattle.ert_ops.specs.Counts.{settled_line}
-use Rattle.ert_ops.specs.Labels.{Labels, label_of}
-use Rattle.ert_ops.specs.Lines.{line_of}
-use Rattle.ert_ops.specs.Scripts.{lines_of}
+use Rattle.ert_ops.specs.{Counts.settled_line, Labels.{Labels, label_of}, Lines.line_of, Scripts.lines_of, declared.op.Op.Op, declared.reply.Reply.Reply}
 use Rattle.ert_ops.specs.Texts.{◌⋅◌, end_line}
-use Rattle.ert_ops.specs.declared.op.Op.{Op}
-use Rattle.ert_ops.specs.declared.reply.Reply.{Reply}
 
 -- what came of a list: its replies, and the labels that it bound
 pub record Did : Type 0 where

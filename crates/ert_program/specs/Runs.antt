@@ -1,22 +1,11 @@
 -- What `run` leaves.
 
 use Rattle.std.specs.Prelude.{◌≡◌, ℕ, false, List, Option, length}
-use Rattle.ert_defs.specs.declared.entry.Entry.{Entry}
-use Rattle.ert_defs.specs.declared.settings.Settings.{Settings}
-use Rattle.ert_io.specs.Known.{HasRoomFor}
-use Rattle.ert_io.specs.Reads.{Input}
-use Rattle.ert_io.specs.Told.{SinkTold}
-use Rattle.ert_ops.specs.declared.op.Op.{Op}
-use Rattle.ert_ops.specs.Plain.{plain_text}
-use Rattle.ert_program.specs.Written.{Returned}
-use Rattle.ert_scenario.specs.Acceptance.{IsRunnable}
-use Rattle.ert_scenario.specs.Scenarios.{Plan}
-use Rattle.ert_ops.specs.Scripts.{IsTranscript}
-use Rattle.ert_program.specs.Inputs.{IsPossibleInput, InputEnds}
-use Rattle.ert_program.specs.OnDesks.{DidOn}
-use Rattle.ert_program.specs.RefusedInputs.{RefusalFits}
-use Rattle.ert_program.specs.Streams.{Output}
-use Rattle.ert_program.specs.declared.ending.EndStatus.{EndStatus}
+use Rattle.ert_defs.specs.declared.{entry.Entry.Entry, settings.Settings.Settings}
+use Rattle.ert_io.specs.{Known.HasRoomFor, Reads.Input, Told.SinkTold}
+use Rattle.ert_ops.specs.{declared.op.Op.Op, Plain.plain_text, Scripts.IsTranscript}
+use Rattle.ert_program.specs.{Written.Returned, Inputs.{IsPossibleInput, InputEnds}, OnDesks.DidOn, RefusedInputs.RefusalFits, Streams.Output, declared.ending.EndStatus.EndStatus}
+use Rattle.ert_scenario.specs.{Acceptance.IsRunnable, Scenarios.Plan}
 
 -- what `run` writes of bytes: they are a scenario, and the text is what the plain service prints of its ops
 pub record RunWrites (bytes text : List ℕ) : Type 0 where

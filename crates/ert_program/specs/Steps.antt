@@ -2,10 +2,8 @@
 
 use Rattle.std.specs.Prelude.{ℕ, zero, suc, ◌+◌, ◌*◌, ◌≤◌, ℤ, pos, negsuc, ◌+ℤ◌, ◌-ℤ◌, ◌≤ℤ◌, List, [], ◌∷◌, nat_eq, nat_lt, if◌then◌else◌}
 use Rattle.ert_defs.specs.declared.timer.When.TheVariants.{After}
-use Rattle.ert_ops.specs.declared.op.Op.{Op}
-use Rattle.ert_ops.specs.declared.op.Op.TheVariants.{Tick, Start, Cancel, Read, Turn, Receive}
-use Rattle.ert_program.specs.Draws.{after, draw}
-use Rattle.ert_program.specs.declared.generator.Generator.{Generator}
+use Rattle.ert_ops.specs.declared.op.Op.{Op, TheVariants.{Tick, Start, Cancel, Read, Turn, Receive}}
+use Rattle.ert_program.specs.{Draws.{after, draw}, declared.generator.Generator.Generator}
 
 -- an op, and what the op after it is made from
 pub record Made : Type 0 where

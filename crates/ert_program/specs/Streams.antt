@@ -2,8 +2,7 @@
 
 use Rattle.std.specs.Prelude.{ℕ, List, Option}
 use Rattle.ert_defs.specs.declared.settings.Reading.{Reading}
-use Rattle.ert_io.specs.Known.{StreamTold, stream_told}
-use Rattle.ert_io.specs.Told.{SinkTold, sink_told}
+use Rattle.ert_io.specs.{Known.{StreamTold, stream_told}, Told.{SinkTold, sink_told}}
 
 -- of the output: the bytes that it took and its room, and how many writes failed
 pub record Output : Type 0 where

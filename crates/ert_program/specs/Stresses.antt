@@ -1,21 +1,14 @@
 -- What `stress` leaves.
 
 use Rattle.std.specs.Prelude.{◌≡◌, ◌≢◌, ◌⊎◌, ℕ, ℤ, List, None, IsSomeAnd}
-use Rattle.ert_defs.specs.States.{state}
-use Rattle.ert_defs.specs.declared.entry.Entry.{Entry}
-use Rattle.ert_program.specs.Generated.{generated}
-use Rattle.ert_io.specs.Faults.{Rose}
-use Rattle.ert_io.specs.Told.{SinkTold, TakesFront}
+use Rattle.ert_defs.specs.{States.state, declared.entry.Entry.Entry}
+use Rattle.ert_program.specs.{Generated.generated, OnDesks.RanOn, Runs.RunOf, Streams.Output, declared.ending.Ended.Ended, declared.ending.EndStatus.TheVariants.{Done, WriteFault, NoMemory}}
+use Rattle.ert_io.specs.{Faults.Rose, Told.{SinkTold, TakesFront}}
 use Rattle.ert_laws.specs.Counts.{Counts, counts_of}
 use Rattle.ert_scenario.specs.Scenarios.{Plan}
 use Rattle.ert_world.specs.Worlds.{Seen, StandsFor}
 use Rattle.ert_ops.specs.Counts.{settled_line}
 use Rattle.ert_ops.specs.Texts.{◌⋅◌, end_line}
-use Rattle.ert_program.specs.OnDesks.{RanOn}
-use Rattle.ert_program.specs.Runs.{RunOf}
-use Rattle.ert_program.specs.Streams.{Output}
-use Rattle.ert_program.specs.declared.ending.Ended.{Ended}
-use Rattle.ert_program.specs.declared.ending.EndStatus.TheVariants.{Done, WriteFault, NoMemory}
 
 -- how many timers have which status, and when that is
 unfoldable pub summary_of : Counts → ℤ → List ℕ

@@ -1,14 +1,9 @@
 -- How the reading of a scenario ends where there is none: what both `run` and `race` leave then.
 
 use Rattle.std.specs.Prelude.{◌≡◌, ◌≢◌, ◌≤◌, ℕ, Bool, List, Some, None, length, IsSomeAnd}
-use Rattle.ert_io.specs.Faults.{Rose}
-use Rattle.ert_io.specs.Known.{HandsUpTo}
-use Rattle.ert_io.specs.Reads.{Input, ReadsMore}
+use Rattle.ert_io.specs.{Faults.Rose, Known.HandsUpTo, Reads.{Input, ReadsMore}}
 use Rattle.ert_scenario.specs.Scenarios.{Plan, IsScenario}
-use Rattle.ert_program.specs.RefusedInputs.{RefusesInput, PartRefused}
-use Rattle.ert_program.specs.Streams.{Output}
-use Rattle.ert_program.specs.declared.ending.Ended.{Ended}
-use Rattle.ert_program.specs.declared.ending.EndStatus.TheVariants.{Done, Usage, Refused, ReadFault, WriteFault, ClockFault, NoMemory, TooLong}
+use Rattle.ert_program.specs.{RefusedInputs.{RefusesInput, PartRefused}, Streams.Output, declared.ending.Ended.Ended, declared.ending.EndStatus.TheVariants.{Done, Usage, Refused, ReadFault, WriteFault, ClockFault, NoMemory, TooLong}}
 
 -- it ended with no scenario: the input failed or was too long, or it was refused, or memory ran out
 pub record EndsUnread (race : Bool) (i j : Input) (o p : Output) (e : Ended) : Type 0 where

@@ -1,14 +1,10 @@
 -- What the threads of callers and of schedulers leave.
 
 use Rattle.std.specs.Prelude.{◌≡◌, ℕ, ◌<◌, List, [], length, slice_index_or, IfOk, OnOk, Result, Ok}
-use Rattle.ert_defs.specs.declared.entry.Entry.{Entry}
-use Rattle.ert_defs.specs.declared.memory.NoMemory.{NoMemory}
-use Rattle.ert_defs.specs.declared.settings.Settings.{Settings}
-use Rattle.ert_ops.specs.declared.op.Op.{Op}
+use Rattle.ert_defs.specs.declared.{entry.Entry.Entry, memory.NoMemory.NoMemory, settings.Settings.Settings}
+use Rattle.ert_ops.specs.{declared.op.Op.Op, Labels.Labels}
 use Rattle.ert_service.specs.Joining.{AreNumbered}
-use Rattle.ert_ops.specs.Labels.{Labels}
-use Rattle.ert_program.specs.Workers.{DoesAll, TurnsSoOften}
-use Rattle.ert_program.specs.declared.races.list.ListDone.{ListDone}
+use Rattle.ert_program.specs.{Workers.{DoesAll, TurnsSoOften}, declared.races.list.ListDone.ListDone}
 
 -- the list of a number
 abbrev pub list_at : List (List Op) → ℕ → List Op

@@ -2,19 +2,10 @@
 -- it in its contract, so that it is proved.
 
 use Rattle.std.specs.Prelude.{pos, false, List, [], ◌∷◌, ◌++◌, Some, None}
-use Rattle.ert_defs.specs.Entries.{look_entry, arm_entry, mark_entry, peek_entry, cancel_entry, pick_entry, advanced_entry}
-use Rattle.ert_defs.specs.Timers.{timer_at}
-use Rattle.ert_defs.specs.declared.entry.Actor.TheVariants.{Caller, Sched}
-use Rattle.ert_defs.specs.declared.entry.Entry.{Entry}
-use Rattle.ert_defs.specs.declared.settings.Settings.{Settings}
-use Rattle.ert_defs.specs.declared.timer.Kind.TheVariants.{Wrapped}
-use Rattle.ert_defs.specs.declared.timer.TimerRef.{TimerRef}
-use Rattle.ert_defs.specs.declared.timer.When.TheVariants.{After}
-use Rattle.ert_ops.specs.Races.{Race}
-use Rattle.ert_ops.specs.declared.op.Op.{Op}
+use Rattle.ert_defs.specs.{Entries.{look_entry, arm_entry, mark_entry, peek_entry, cancel_entry, pick_entry, advanced_entry}, Timers.timer_at, declared.entry.Actor.TheVariants.{Caller, Sched}, declared.entry.Entry.Entry}
+use Rattle.ert_defs.specs.{declared.settings.Settings.Settings, declared.timer.Kind.TheVariants.Wrapped, declared.timer.TimerRef.TimerRef, declared.timer.When.TheVariants.After}
+use Rattle.ert_ops.specs.{Races.Race, declared.op.Op.Op, Calls.start_for_op, Worked.plain}
 use Rattle.ert_ops.specs.declared.op.Op.TheVariants as ops
-use Rattle.ert_ops.specs.Calls.{start_for_op}
-use Rattle.ert_ops.specs.Worked.{plain}
 
 -- the settings: there are two callers
 abbrev pub two_callers : Settings

@@ -1,19 +1,10 @@
 -- What a worker does on a service, beside others.
 
 use Rattle.std.specs.Prelude.{◌≡◌, ◌⊎◌, ℕ, ◌<◌, List, [], ◌∷◌, ◌++◌, length, take, drop, Result, Ok, Err, IfOk, OnErr}
-use Rattle.ert_effects.specs.Chains.{Turns}
-use Rattle.ert_effects.specs.Ways.{Grows, Many, beside}
-use Rattle.ert_effects.specs.declared.answers.Turned.{Turned}
-use Rattle.ert_defs.specs.declared.entry.Actor.TheVariants.{Caller, Sched}
-use Rattle.ert_defs.specs.declared.entry.Entry.{Entry}
-use Rattle.ert_defs.specs.declared.memory.NoMemory.{NoMemory}
-use Rattle.ert_defs.specs.declared.settings.Settings.{Settings}
-use Rattle.ert_ops.specs.declared.op.Op.{Op}
+use Rattle.ert_effects.specs.{Chains.Turns, Ways.{Grows, Many, beside}, declared.answers.Turned.Turned}
+use Rattle.ert_defs.specs.declared.{entry.Actor.TheVariants.{Caller, Sched}, entry.Entry.Entry, memory.NoMemory.NoMemory, settings.Settings.Settings}
+use Rattle.ert_ops.specs.{declared.op.Op.Op, Calls.Calls, Labels.Labels, Scripts.{Script, labels_after}, declared.reply.Reply.Reply}
 use Rattle.ert_script.specs.Doing.{BreaksOff}
-use Rattle.ert_ops.specs.Calls.{Calls}
-use Rattle.ert_ops.specs.Labels.{Labels}
-use Rattle.ert_ops.specs.Scripts.{Script, labels_after}
-use Rattle.ert_ops.specs.declared.reply.Reply.{Reply}
 use Rattle.ert_program.specs.declared.races.list.ListDone.{ListDone}
 
 -- a caller does an op: its labels are those that it knows, and after them its own, to which a start adds. A history

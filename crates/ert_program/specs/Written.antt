@@ -1,25 +1,14 @@
 -- What a race has written.
 
-use Rattle.std.specs.Arc.{arc_value}
+use Rattle.std.specs.{Arc.arc_value, declared.alloc.Global.Global, declared.sync.Arc.Arc}
 use Rattle.std.specs.Prelude.{◌≡◌, ◌⊎◌, ℕ, List}
-use Rattle.std.specs.declared.alloc.Global.{Global}
-use Rattle.std.specs.declared.sync.Arc.{Arc}
-use Rattle.ert_defs.specs.States.{state}
-use Rattle.ert_defs.specs.declared.entry.Entry.{Entry}
-use Rattle.ert_defs.specs.declared.settings.Settings.{Settings}
+use Rattle.ert_defs.specs.{States.state, declared.entry.Entry.Entry, declared.settings.Settings.Settings}
 use Rattle.ert_io.specs.Told.{SinkTold, took, TakesFront}
-use Rattle.ert_laws.specs.Counts.{counts_of}
-use Rattle.ert_laws.specs.KeptLaws.{KeepsLaws}
-use Rattle.ert_ops.specs.Races.{Race}
-use Rattle.ert_ops.specs.declared.op.Op.{Op}
-use Rattle.ert_program.specs.Outcomes.{IsOutcome}
-use Rattle.ert_program.specs.Reports.{Did, behind}
+use Rattle.ert_laws.specs.{Counts.counts_of, KeptLaws.KeepsLaws}
+use Rattle.ert_ops.specs.{Races.Race, declared.op.Op.Op, Labels.Labels, Scripts.IsBeginning}
+use Rattle.ert_program.specs.{Outcomes.IsOutcome, Reports.{Did, behind}}
 use Rattle.ert_world.specs.Worlds.{Seen}
-use Rattle.ert_table.specs.Desks.{settings_of, KnowsAll}
-use Rattle.ert_table.specs.declared.desk.Desk.{Desk}
-use Rattle.ert_table.specs.declared.desk.Pass.{Pass}
-use Rattle.ert_ops.specs.Labels.{Labels}
-use Rattle.ert_ops.specs.Scripts.{IsBeginning}
+use Rattle.ert_table.specs.{Desks.{settings_of, KnowsAll}, declared.desk.Desk.Desk, declared.desk.Pass.Pass}
 
 -- what a run returns: a share of its desk, and the pass that holds every actor of it
 abbrev pub Returned : Type 0

@@ -1,9 +1,7 @@
 ghost use Rattle.std.specs.Prelude.{◌≡◌, map, IfOk};
-ghost use Rattle.std.specs.String.{string_bytes};
+ghost use Rattle.std.specs.{String.string_bytes, List.list_all};
 ghost use Rattle.clap.specs.Words.{found_of, rows_of, subcommand_rows_of};
-ghost use Rattle.std.specs.List.{list_all};
-ghost use Rattle.ert_program.specs.Commands.{is_plain_byte, is_plain_word, command_of};
-ghost use Rattle.ert_program.specs.Matches.{command_in, number_at};
+ghost use Rattle.ert_program.specs.{Commands.{is_plain_byte, is_plain_word, command_of}, Matches.{command_in, number_at}};
 
 use crate::command::Command;
 use crate::parser::parser;

@@ -1,7 +1,6 @@
 ghost use Rattle.std.specs.Prelude.{◌≡◌, ◌≤◌, IfOk};
 ghost use Rattle.ert_scenario.specs.Scenarios.{plan_of};
-ghost use Rattle.ert_program.specs.Generated.{generated};
-ghost use Rattle.ert_program.specs.Steps.{next_ops, first};
+ghost use Rattle.ert_program.specs.{Generated.generated, Steps.{next_ops, first}};
 
 use crate::generator::Generator;
 use ert_defs::{Mode, NoMemory, Reading, SCENARIO_LOOKS, Settings};

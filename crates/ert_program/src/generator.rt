@@ -20,8 +20,7 @@ pub(crate) struct Generator {
 
 impl Generator {
     ghost use Rattle.std.specs.Prelude.{◌≡◌, ◌<◌, ◌+◌, ◌+ℤ◌, ◌-ℤ◌, ◌≤ℤ◌, pos};
-    ghost use Rattle.ert_program.specs.Draws.{after, draw};
-    ghost use Rattle.ert_program.specs.Steps.{IsBounded, first, step_of, fall_of, made_tick, made_start, op_for, next_op};
+    ghost use Rattle.ert_program.specs.{Draws.{after, draw}, Steps.{IsBounded, first, step_of, fall_of, made_tick, made_start, op_for, next_op}};
 
     /// Before the first op.
     pub(crate) fn new(seed: u64) -> Generator

@@ -3,11 +3,8 @@
 
 ghost use Rattle.std.specs.Prelude.{◌≡◌, ◌≤◌, ◌%◌, ℕ, [], ◌∷◌, length};
 ghost use Rattle.ert_defs.specs.Settings.{IsChecked};
-ghost use Rattle.ert_ops.specs.Labels.{AreOps};
-ghost use Rattle.ert_ops.specs.Ranges.{AreOpsInRange};
-ghost use Rattle.ert_ops.specs.declared.op.Op.TheVariants.{Turn, Receive};
-ghost use Rattle.ert_program.specs.Draws.{after, drawn};
-ghost use Rattle.ert_program.specs.Generated.{generated};
+ghost use Rattle.ert_ops.specs.{Labels.AreOps, Ranges.AreOpsInRange, declared.op.Op.TheVariants.{Turn, Receive}};
+ghost use Rattle.ert_program.specs.{Draws.{after, drawn}, Generated.generated};
 
 /// What holds of every generated scenario of at most 100,000 ops: a service can be opened with its settings,
 /// the arguments of its ops are in range there, no two starts have one label, and there are as many ops as

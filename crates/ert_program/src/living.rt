@@ -1,13 +1,11 @@
 //! The command `live`.
 ghost use Rattle.std.specs.Prelude.{◌≡◌, ◌≤◌, ◌++◌, [], ◌∷◌, List, None, IfOk, OnOk, OnErr, string_bytes};
-ghost use Rattle.ert_defs.specs.Readings.{IsValid};
-ghost use Rattle.ert_defs.specs.declared.settings.Reading.{Reading as OneReading};
+ghost use Rattle.ert_defs.specs.{Readings.IsValid, declared.settings.Reading.Reading as OneReading};
 ghost use Rattle.ert_io.specs.Known.{stream_told, HandsUpTo};
 ghost use Rattle.ert_ops.specs.declared.op.Op.TheVariants as ops;
 ghost use Rattle.ert_script.specs.Scripts.{Does};
 ghost use Rattle.ert_ops.specs.declared.reply.Reply.TheVariants as replies;
-ghost use Rattle.ert_program.specs.Lives.{live_settings, live_part, refused_reading, Watched, LiveEnds, Lived, TellsTimes};
-ghost use Rattle.ert_program.specs.Streams.{clock_stream_of, output_of};
+ghost use Rattle.ert_program.specs.{Lives.{live_settings, live_part, refused_reading, Watched, LiveEnds, Lived, TellsTimes}, Streams.{clock_stream_of, output_of}};
 
 use crate::ending::{EndStatus, Ended};
 use ert_defs::{Mode, NoMemory, Reading, SCENARIO_LOOKS, Settings};

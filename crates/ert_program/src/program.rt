@@ -1,16 +1,7 @@
 ghost use Rattle.std.specs.Prelude.{◌≡◌, ◌≢◌, ◌≤◌, ◌⊎◌, ℕ, true, false, Some, None, IfSome, IsSomeAnd};
-ghost use Rattle.ert_program.specs.declared.command.Command.TheVariants.{Run, Race, Live, Stress};
-ghost use Rattle.ert_io.specs.Faults.{Rose};
-ghost use Rattle.ert_io.specs.Reads.{input_of};
-ghost use Rattle.ert_io.specs.Told.{took, TakesFront};
-ghost use Rattle.ert_program.specs.Endings.{command_asked, reads_input, reads_clock, HasItsRefusal, UsageEnds};
-ghost use Rattle.ert_program.specs.Lives.{LiveEnds};
-ghost use Rattle.ert_program.specs.Races.{RaceEnds, RaceOn};
-ghost use Rattle.ert_program.specs.Refusals.{usage_line};
-ghost use Rattle.ert_program.specs.RefusedInputs.{RefusalEnds};
-ghost use Rattle.ert_program.specs.Runs.{InputFits, RunEnds, RunOn};
-ghost use Rattle.ert_program.specs.Streams.{told_by_sink, output_of, clock_stream_of};
-ghost use Rattle.ert_program.specs.Stresses.{StressEnds};
+ghost use Rattle.ert_program.specs.{declared.command.Command.TheVariants.{Run, Race, Live, Stress}, Endings.{command_asked, reads_input, reads_clock, HasItsRefusal, UsageEnds}, Lives.LiveEnds, Races.{RaceEnds, RaceOn}, Refusals.usage_line};
+ghost use Rattle.ert_program.specs.{RefusedInputs.RefusalEnds, Runs.{InputFits, RunEnds, RunOn}, Streams.{told_by_sink, output_of, clock_stream_of}, Stresses.StressEnds};
+ghost use Rattle.ert_io.specs.{Faults.Rose, Reads.input_of, Told.{took, TakesFront}};
 
 use crate::command::Command;
 use crate::command_line::command_of;

@@ -1,18 +1,10 @@
 //! The command `race`.
 ghost use Rattle.std.specs.Prelude.{◌≡◌, ◌≢◌, ◌≤◌, ℕ, List, None, true, is_some, option_map, IfSome, IfOk, OnErr, IsErrOf, IsSomeAnd};
 ghost use Rattle.ert_defs.specs.Settings.{IsChecked};
-ghost use Rattle.ert_io.specs.Faults.{Rose};
-ghost use Rattle.ert_io.specs.Reads.{input_of};
-ghost use Rattle.ert_io.specs.Told.{TakesFront};
-ghost use Rattle.ert_ops.specs.Races.{IsRace, race_of};
-ghost use Rattle.ert_ops.specs.Ranges.{AreOpsInRange};
-ghost use Rattle.ert_program.specs.Written.{MayWrite};
+ghost use Rattle.ert_io.specs.{Faults.Rose, Reads.input_of, Told.TakesFront};
+ghost use Rattle.ert_ops.specs.{Races.{IsRace, race_of}, Ranges.AreOpsInRange};
+ghost use Rattle.ert_program.specs.{Written.MayWrite, Endings.HasItsRefusal, OnDesks.RanOn, Races.{OfPlan, RaceOf, RaceOn, RaceEnds}, RefusedInputs.RefusalEnds, Streams.{told_by_sink, output_of}};
 ghost use Rattle.ert_scenario.specs.Scenarios.{plan_of};
-ghost use Rattle.ert_program.specs.Endings.{HasItsRefusal};
-ghost use Rattle.ert_program.specs.OnDesks.{RanOn};
-ghost use Rattle.ert_program.specs.Races.{OfPlan, RaceOf, RaceOn, RaceEnds};
-ghost use Rattle.ert_program.specs.RefusedInputs.{RefusalEnds};
-ghost use Rattle.ert_program.specs.Streams.{told_by_sink, output_of};
 
 use crate::ending::{EndStatus, Ended};
 use crate::races::{Gate, run_race};

@@ -2,11 +2,7 @@
 ghost use Rattle.std.specs.Prelude.{◌≡◌, ◌≤◌, IfOk, IfErr, OnOk};
 ghost use Rattle.ert_io.specs.Reads.{input_of};
 ghost use Rattle.ert_scenario.specs.Scenarios.{plan_of};
-ghost use Rattle.ert_program.specs.Endings.{HasItsRefusal};
-ghost use Rattle.ert_program.specs.OnDesks.{HasRead};
-ghost use Rattle.ert_program.specs.RefusedInputs.{RefusalFits};
-ghost use Rattle.ert_program.specs.Streams.{output_of};
-ghost use Rattle.ert_program.specs.Unread.{EndsUnread};
+ghost use Rattle.ert_program.specs.{Endings.HasItsRefusal, OnDesks.HasRead, RefusedInputs.RefusalFits, Streams.output_of, Unread.EndsUnread};
 
 use crate::ending::{EndStatus, Ended, Refusal};
 use crate::refusal::refuse;

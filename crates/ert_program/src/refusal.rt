@@ -1,11 +1,8 @@
 //! The line of a refusal.
 ghost use Rattle.std.specs.Prelude.{◌≡◌, ◌≢◌, ◌≤◌, ◌⊎◌, ◌++◌, length, Some, None, OnOk, string_bytes};
-ghost use Rattle.ert_io.specs.Faults.{Rose};
-ghost use Rattle.ert_io.specs.Known.{HasRoomFor};
-ghost use Rattle.ert_io.specs.Told.{took, TakesFront};
+ghost use Rattle.ert_io.specs.{Faults.Rose, Known.HasRoomFor, Told.{took, TakesFront}};
 ghost use Rattle.ert_scenario.specs.declared.scenario.ScenarioErr.TheVariants.{NoMemory};
-ghost use Rattle.ert_program.specs.Refusals.{refusal_line};
-ghost use Rattle.ert_program.specs.Streams.{told_by_sink};
+ghost use Rattle.ert_program.specs.{Refusals.refusal_line, Streams.told_by_sink};
 
 use crate::ending::{EndStatus, Ended, Refusal};
 use ert_io::Sink;

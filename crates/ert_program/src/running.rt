@@ -1,20 +1,10 @@
 //! The command `run`.
 ghost use Rattle.std.specs.Prelude.{◌≡◌, ◌≢◌, ◌≤◌, false, None, length, IfOk, OnOk, OnErr, IsErrOf, IsSomeAnd};
 ghost use Rattle.ert_defs.specs.Settings.{IsChecked};
-ghost use Rattle.ert_io.specs.Faults.{Rose};
-ghost use Rattle.ert_io.specs.Known.{HasRoomFor};
-ghost use Rattle.ert_io.specs.Reads.{input_of};
-ghost use Rattle.ert_io.specs.Told.{took, TakesFront};
-ghost use Rattle.ert_ops.specs.Labels.{AreOps};
-ghost use Rattle.ert_ops.specs.Ranges.{AreOpsInRange};
-ghost use Rattle.ert_ops.specs.Plain.{plain_text};
+ghost use Rattle.ert_io.specs.{Faults.Rose, Known.HasRoomFor, Reads.input_of, Told.{took, TakesFront}};
+ghost use Rattle.ert_ops.specs.{Labels.AreOps, Ranges.AreOpsInRange, Plain.plain_text, Texts.end_line};
 ghost use Rattle.ert_scenario.specs.Scenarios.{plan_of};
-ghost use Rattle.ert_ops.specs.Texts.{end_line};
-ghost use Rattle.ert_program.specs.Endings.{HasItsRefusal};
-ghost use Rattle.ert_program.specs.OnDesks.{RanOn};
-ghost use Rattle.ert_program.specs.RefusedInputs.{RefusalEnds, RefusalFits};
-ghost use Rattle.ert_program.specs.Runs.{RunOf, RunOn, RunEnds, RunFits};
-ghost use Rattle.ert_program.specs.Streams.{told_by_sink, output_of};
+ghost use Rattle.ert_program.specs.{Endings.HasItsRefusal, OnDesks.RanOn, RefusedInputs.{RefusalEnds, RefusalFits}, Runs.{RunOf, RunOn, RunEnds, RunFits}, Streams.{told_by_sink, output_of}};
 
 use crate::ending::{EndStatus, Ended};
 use crate::reading::read_input;

@@ -1,12 +1,9 @@
 //! The command `stress`.
 ghost use Rattle.std.specs.Prelude.{◌≡◌, ◌≤◌, ◌++◌, None, IfOk, OnOk, IsErrOf, string_bytes};
 ghost use Rattle.ert_defs.specs.States.{state};
-ghost use Rattle.ert_program.specs.Generated.{generated};
-ghost use Rattle.ert_program.specs.OnDesks.{RanOn};
+ghost use Rattle.ert_program.specs.{Generated.generated, OnDesks.RanOn, Streams.told_by_sink, Stresses.{SummaryOf, StopsSummary, summary_of, HasRun}};
 ghost use Rattle.ert_io.specs.Faults.{Rose};
 ghost use Rattle.ert_laws.specs.Counts.{counts_of};
-ghost use Rattle.ert_program.specs.Streams.{told_by_sink};
-ghost use Rattle.ert_program.specs.Stresses.{SummaryOf, StopsSummary, summary_of, HasRun};
 
 use crate::generation::generate;
 use crate::laws::generated_scenarios_are_valid;

@@ -2,32 +2,15 @@
 
 use Rattle.std.proofs.Common.{◌≡◌, ◌≢◌, ◌+◌, ◌≤◌, ℕ, suc, List, [], ◌∷◌, ◌++◌, map, length, get_or, Bool, true, false, ◌&&◌, ◌||◌, not, Option, Some, None, Ok, Err, eqb, ltb, cond, codes, sym, subst, ap, ◌∙◌, arith, refl, append-nil}
 use Rattle.std.specs.List.{list_all}
-use Rattle.std.proofs.lemmas.Bool.{and_parts}
-use Rattle.std.proofs.lemmas.Bool.Decides.{nat_tests}
-use Rattle.std.proofs.lemmas.List.{length-map}
+use Rattle.std.proofs.lemmas.{Bool.and_parts, Bool.Decides.nat_tests, List.length-map}
 use Rattle.serde_json.specs.Data.{Data}
 use Rattle.ert_defs.specs.declared.settings.Settings.{Settings}
-use Rattle.ert_ops.specs.Labels.{labels_in, AreOps}
-use Rattle.ert_ops.specs.declared.op.Op.{Op}
-use Rattle.ert_ops.specs.declared.op.Op.TheVariants.{Start, SendAfter}
-use Rattle.ert_scenario.specs.Acceptance.{IsAccepted, plan_alone}
-use Rattle.ert_scenario.specs.Fields.{head_of, settings_with, settings_from, field, top_of, format_of}
+use Rattle.ert_ops.specs.{Labels.{labels_in, AreOps}, declared.op.Op.Op, declared.op.Op.TheVariants.{Start, SendAfter}}
+use Rattle.ert_scenario.specs.{Acceptance.{IsAccepted, plan_alone}, Fields.{head_of, settings_with, settings_from, field, top_of, format_of}, Labels.{started_label, has, is_new, with_label, tested}, Lists.{OpValues, lists_found}}
+use Rattle.ert_scenario.specs.{Ranges.{is_op, is_checked}, Scenarios.{Plan, Verdict, with_callers, is_over, over, refused, planned, judged, judged_all, verdict_of}, Walked.without_fault, Walks.{raws_of, all_raws, first_shape, first_range}}
+use Rattle.ert_scenario.specs.{Walks.ops_of, declared.doer.ListDoer.TheVariants.Everyone, declared.fields.Top.Top, declared.format.Format.Format, declared.scenario.ScenarioErr.TheVariants.{Shape, Range, Limit}}
 use Rattle.ert_scenario.specs.Kinds.{FoundOrFault, ◌>>=◌, if_in_range, listed}
-use Rattle.ert_scenario.specs.Labels.{started_label, has, is_new, with_label, tested}
-use Rattle.ert_scenario.specs.Lists.{OpValues, lists_found}
-use Rattle.ert_scenario.specs.Ranges.{is_op, is_checked}
-use Rattle.ert_scenario.specs.Scenarios.{Plan, Verdict, with_callers, is_over, over, refused, planned, judged, judged_all, verdict_of}
-use Rattle.ert_scenario.specs.Walked.{without_fault}
-use Rattle.ert_scenario.specs.Walks.{raws_of, all_raws, first_shape, first_range, ops_of}
-use Rattle.ert_scenario.specs.declared.doer.ListDoer.TheVariants.{Everyone}
-use Rattle.ert_scenario.specs.declared.fields.Top.{Top}
-use Rattle.ert_scenario.specs.declared.format.Format.{Format}
-use Rattle.ert_scenario.specs.declared.scenario.ScenarioErr.TheVariants.{Shape, Range, Limit}
-use Rattle.ert_scenario.proofs.Cut.{ops_of-without}
-use Rattle.ert_scenario.proofs.Founds.{follows, in_range_parts}
-use Rattle.ert_scenario.proofs.NewLabels.{AreNew}
-use Rattle.ert_scenario.proofs.SettingsRead.{has_settings, settings_are}
-use Rattle.ert_scenario.proofs.Valid.{tested_plan, valid, whole}
+use Rattle.ert_scenario.proofs.{Cut.ops_of-without, Founds.{follows, in_range_parts}, NewLabels.AreNew, SettingsRead.{has_settings, settings_are}, Valid.{tested_plan, valid, whole}}
 
 -- ---- the settings are for one caller
 

@@ -2,16 +2,10 @@
 
 use Rattle.std.proofs.Common.{◌≡◌, ◌≤◌, ℕ, List, length, Bool, true, false, ◌||◌, Option, Some, None, Ok, Err, cond, ltb, sym, arith, refl}
 use Rattle.std.proofs.lemmas.Bool.Decides.{nat_tests}
-use Rattle.ert_scenario.specs.Kinds.{FoundOrFault}
-use Rattle.ert_scenario.specs.Lists.{OpValues, list_count}
-use Rattle.ert_scenario.specs.Scenarios.{Plan, Verdict, refused, is_over, over, planned, judged, judged_all}
-use Rattle.ert_scenario.specs.Walks.{all_raws, founds_of, first_shape, first_range}
-use Rattle.ert_scenario.specs.declared.fields.Top.{Top}
-use Rattle.ert_scenario.specs.declared.format.Format.{Format}
+use Rattle.ert_scenario.specs.{Kinds.FoundOrFault, Lists.{OpValues, list_count}, Scenarios.{Plan, Verdict, refused, is_over, over, planned, judged, judged_all}, Walks.{all_raws, founds_of, first_shape, first_range}, declared.fields.Top.Top}
+use Rattle.ert_scenario.specs.{declared.format.Format.Format, declared.scenario.ScenarioErr.ScenarioErr, declared.scenario.ScenarioErr.TheVariants.{Shape, Range, Limit}}
 use Rattle.ert_scenario.specs.declared.fault.Fault.TheVariants as faults
 use Rattle.ert_ops.specs.declared.op.Op.{Op}
-use Rattle.ert_scenario.specs.declared.scenario.ScenarioErr.{ScenarioErr}
-use Rattle.ert_scenario.specs.declared.scenario.ScenarioErr.TheVariants.{Shape, Range, Limit}
 
 -- not too much of anything
 pub record AreFew (n lists turns : ℕ) : Type 0 where

@@ -2,33 +2,17 @@
 
 use Rattle.std.proofs.Common.{◌≡◌, ◌+◌, ◌≤◌, ℕ, suc, List, [], ◌∷◌, ◌++◌, length, Bool, true, false, ◌&&◌, Option, Some, None, is_some, IfSome, option_map, Ok, Err, ltb, cond, if◌then◌else◌, codes, sym, subst, ap, ◌∙◌, arith, refl}
 use Rattle.std.specs.List.{list_all}
-use Rattle.std.proofs.lemmas.Bool.{and_parts}
-use Rattle.std.proofs.lemmas.Bool.Decides.{nat_tests}
-use Rattle.std.proofs.lemmas.List.{length-map, map-append}
-use Rattle.serde_json.specs.Data.{Data, Items}
-use Rattle.serde_json.specs.Find.{get, as_array}
+use Rattle.std.proofs.lemmas.{Bool.and_parts, Bool.Decides.nat_tests, List.{length-map, map-append}}
+use Rattle.serde_json.specs.{Data.{Data, Items}, Find.{get, as_array}}
 use Rattle.ert_defs.specs.declared.settings.Settings.{Settings}
-use Rattle.ert_ops.specs.Races.{Race, lists_of, ops_in}
-use Rattle.ert_ops.specs.declared.op.Op.{Op}
-use Rattle.ert_ops.specs.declared.op.Op.TheVariants.{Tick}
-use Rattle.ert_scenario.specs.Acceptance.{HasSettings, AreCallersLists, IsAcceptedRace, plan_with}
-use Rattle.ert_scenario.specs.Fields.{only_named, is_among, race_fields, race_turns, settings_from, field, top_of, format_of}
+use Rattle.ert_ops.specs.{Races.{Race, lists_of, ops_in}, declared.op.Op.Op, declared.op.Op.TheVariants.Tick}
+use Rattle.ert_scenario.specs.{Acceptance.{HasSettings, AreCallersLists, IsAcceptedRace, plan_with}, Fields.{only_named, is_among, race_fields, race_turns, settings_from, field, top_of, format_of}, Labels.tested, Lists.RaceValues}
+use Rattle.ert_scenario.specs.{Lists.{OpValues, lists_in, race_lists, lists_found, list_count}, Ranges.is_op, Scenarios.{Plan, with_callers, is_over, planned_race, planned, judged, judged_all, verdict_of}, Walked.without_fault}
+use Rattle.ert_scenario.specs.{Walks.{raws_of, caller_raws, race_raws, all_raws, first_range, ops_of}, declared.doer.ListDoer.TheVariants.{Everyone, Keeper, Caller}, declared.fault.Fault.TheVariants.Shape, declared.fields.Top.Top}
+use Rattle.ert_scenario.specs.{declared.format.Format.Format}
 use Rattle.ert_scenario.specs.Kinds.{FoundOrFault, ◌>>=◌, of_kind, read_both, listed, list_of, or_empty, items_in, is_array, arrays, non_negative}
-use Rattle.ert_scenario.specs.Labels.{tested}
-use Rattle.ert_scenario.specs.Lists.{RaceValues, OpValues, lists_in, race_lists, lists_found, list_count}
-use Rattle.ert_scenario.specs.Ranges.{is_op}
-use Rattle.ert_scenario.specs.Scenarios.{Plan, with_callers, is_over, planned_race, planned, judged, judged_all, verdict_of}
-use Rattle.ert_scenario.specs.Walked.{without_fault}
-use Rattle.ert_scenario.specs.Walks.{raws_of, caller_raws, race_raws, all_raws, first_range, ops_of}
-use Rattle.ert_scenario.specs.declared.doer.ListDoer.TheVariants.{Everyone, Keeper, Caller}
-use Rattle.ert_scenario.specs.declared.fault.Fault.TheVariants.{Shape}
-use Rattle.ert_scenario.specs.declared.fields.Top.{Top}
-use Rattle.ert_scenario.specs.declared.format.Format.{Format}
-use Rattle.ert_scenario.proofs.Acceptance.{all_fit, tested_same, no_shape, no_range, judged_as, not_over, or_none}
-use Rattle.ert_scenario.proofs.Cut.{splits, callers_ops, all_flat, ops_of-without}
-use Rattle.ert_scenario.proofs.Founds.{follows, both_ok}
-use Rattle.ert_scenario.proofs.SettingsRead.{both_are, nothing_else, has_settings, settings_are, for_callers, few_callers}
-use Rattle.ert_scenario.proofs.Valid.{IsValidRace, tested_plan, valid, whole}
+use Rattle.ert_scenario.proofs.{Acceptance.{all_fit, tested_same, no_shape, no_range, judged_as, not_over, or_none}, Cut.{splits, callers_ops, all_flat, ops_of-without}, Founds.{follows, both_ok}, SettingsRead.{both_are, nothing_else}}
+use Rattle.ert_scenario.proofs.{SettingsRead.{has_settings, settings_are, for_callers, few_callers}, Valid.{IsValidRace, tested_plan, valid, whole}}
 
 -- ---- arrays
 

@@ -1,18 +1,12 @@
 -- A value with a field changed, and a list with each item changed.
 
 use Rattle.std.proofs.Common.{◌≡◌, ℕ, List, [], ◌∷◌, map, Bool, true, false, ◌&&◌, Option, Some, None, option_map, Ok, Err, Ordering, Less, Equal, Greater, nat_cmp, bytes_eq, cond, sym, ap, ◌∙◌, refl, true≢false}
-use Rattle.std.proofs.lemmas.Map.Text.{is_eq-slice_cmp}
-use Rattle.std.proofs.lemmas.Slice.Eq.{bytes_eq-Decides}
-use Rattle.std.specs.Cmp.Lexicographic.{slice_cmp}
-use Rattle.std.specs.List.{list_all}
-use Rattle.std.specs.Ordering.{match_ordering, is_eq}
-use Rattle.serde_json.specs.Data.{Data, array, object, Members, no_members, member, put}
-use Rattle.serde_json.specs.Find.{get, get_member}
+use Rattle.std.proofs.lemmas.{Map.Text.is_eq-slice_cmp, Slice.Eq.bytes_eq-Decides}
+use Rattle.std.specs.{Cmp.Lexicographic.slice_cmp, List.list_all, Ordering.{match_ordering, is_eq}}
+use Rattle.serde_json.specs.{Data.{Data, array, object, Members, no_members, member, put}, Find.{get, get_member}}
 use Rattle.serde_json.proofs.Views.{get_member-put, get_member-put_other}
-use Rattle.ert_scenario.specs.Fields.{are_named, only_named}
+use Rattle.ert_scenario.specs.{Fields.{are_named, only_named}, Migration.{migrated_op, each, migrated_list, with_field, changed_to, changed}, declared.fault.Fault.TheVariants.Shape}
 use Rattle.ert_scenario.specs.Kinds.{FoundOrFault, found_map, ◌>>=◌, of_kind, listed, list_of, is_array, arrays}
-use Rattle.ert_scenario.specs.Migration.{migrated_op, each, migrated_list, with_field, changed_to, changed}
-use Rattle.ert_scenario.specs.declared.fault.Fault.TheVariants.{Shape}
 use Rattle.ert_scenario.proofs.Listed.{list_of_items}
 
 pub apart : (a b : List ℕ) → bytes_eq a b ≡ false → a ≡ b → ⊥

@@ -1,20 +1,11 @@
 -- The tests of the ranges, and the facts that they test.
 
 use Rattle.std.proofs.Common.{◌≡◌, ◌&&◌, ◌*◌, ◌≤◌, ℕ, ℤ, ◌≤ℤ◌, ◌<ℤ◌, false, Result, Ok, Err, is_ok, leb, int_le, int_lt, leb-true, le-leb, arith}
-use Rattle.std.proofs.lemmas.Bool.{false≢true}
-use Rattle.std.proofs.lemmas.Int.{ints}
-use Rattle.std.proofs.lemmas.Nat.{mul-le}
+use Rattle.std.proofs.lemmas.{Bool.false≢true, Int.ints, Nat.mul-le, Bool.Decides.{Decides-and, Decides-like, Decides-int_eq, same_from_decides}}
 use Rattle.std.specs.Bool.{Decides}
-use Rattle.std.proofs.lemmas.Bool.Decides.{Decides-and, Decides-like, Decides-int_eq, same_from_decides}
-use Rattle.ert_defs.specs.Readings.{IsValid}
-use Rattle.ert_defs.specs.Settings.{IsStart, HasCounts, IsChecked, Checks}
-use Rattle.ert_defs.specs.declared.settings.Reading.{Reading}
-use Rattle.ert_defs.specs.declared.settings.Settings.{Settings}
-use Rattle.ert_defs.specs.declared.settings.SettingsFault.{SettingsFault}
-use Rattle.ert_defs.specs.declared.settings.TheConstants.{MOST_CHAINS}
-use Rattle.ert_defs.specs.declared.settings.SettingsFault.TheVariants.{Start, First, Count}
-use Rattle.ert_scenario.specs.declared.limits.TheConstants.{MOST_SCHEDULERS, MOST_PROCESSES, MOST_SLOTS, MOST_SLOTS_IN_ALL, MOST_CALLERS}
-use Rattle.ert_scenario.specs.Ranges.{is_reading, is_start, has_counts, is_checked}
+use Rattle.ert_defs.specs.{Readings.IsValid, Settings.{IsStart, HasCounts, IsChecked, Checks}, declared.settings.Reading.Reading, declared.settings.Settings.Settings, declared.settings.SettingsFault.SettingsFault}
+use Rattle.ert_defs.specs.{declared.settings.TheConstants.MOST_CHAINS, declared.settings.SettingsFault.TheVariants.{Start, First, Count}}
+use Rattle.ert_scenario.specs.{declared.limits.TheConstants.{MOST_SCHEDULERS, MOST_PROCESSES, MOST_SLOTS, MOST_SLOTS_IN_ALL, MOST_CALLERS}, Ranges.{is_reading, is_start, has_counts, is_checked}}
 
 pub Decides-nat_le : (a b : ℕ) → Decides (leb a b) (a ≤ b)
 Decides-nat_le a b = (leb-true a b, le-leb a b)

@@ -3,19 +3,10 @@
 use Rattle.std.proofs.Common.{◌≡◌, ◌+◌, ℕ, List, [], ◌∷◌, ◌++◌, map, length, take, drop, Option, Some, None, option_map, Ok, Err, sym, subst, ap, ◌∙◌, refl}
 use Rattle.std.proofs.lemmas.List.{length-map}
 use Rattle.serde_json.specs.Data.{Data}
-use Rattle.ert_ops.specs.Races.{Race, lists_of as race_parts, ops_in}
-use Rattle.ert_ops.specs.declared.op.Op.{Op}
-use Rattle.ert_scenario.specs.Cuts.{cut_callers, cut_race, cut_plan}
-use Rattle.ert_scenario.specs.Kinds.{FoundOrFault, items_in}
-use Rattle.ert_scenario.specs.Lists.{RaceValues, OpValues, list_count}
-use Rattle.ert_scenario.specs.Rows.{op_of}
-use Rattle.ert_scenario.specs.Scenarios.{Plan, with_callers, planned_race, planned}
-use Rattle.ert_scenario.specs.Walked.{without_fault}
-use Rattle.ert_scenario.specs.Walks.{raws_of, caller_raws, race_raws, all_raws, ops_of}
-use Rattle.ert_scenario.specs.declared.doer.ListDoer.{ListDoer}
-use Rattle.ert_scenario.specs.declared.doer.ListDoer.TheVariants.{Everyone, Keeper, Caller}
-use Rattle.ert_scenario.specs.declared.fields.Top.{Top}
-use Rattle.ert_scenario.specs.declared.format.Format.{Format}
+use Rattle.ert_ops.specs.{Races.{Race, lists_of as race_parts, ops_in}, declared.op.Op.Op}
+use Rattle.ert_scenario.specs.{Cuts.{cut_callers, cut_race, cut_plan}, Kinds.{FoundOrFault, items_in}, Lists.{RaceValues, OpValues, list_count}, Rows.op_of, Scenarios.{Plan, with_callers, planned_race, planned}, Walked.without_fault}
+use Rattle.ert_scenario.specs.{Walks.{raws_of, caller_raws, race_raws, all_raws, ops_of}, declared.doer.ListDoer.ListDoer, declared.doer.ListDoer.TheVariants.{Everyone, Keeper, Caller}, declared.fields.Top.Top}
+use Rattle.ert_scenario.specs.{declared.format.Format.Format}
 
 -- ---- a list of two parts
 

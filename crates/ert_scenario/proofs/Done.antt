@@ -4,18 +4,12 @@ use Rattle.std.proofs.Common.{◌≡◌, ℕ, List, [], ◌∷◌, All, Bool, tr
 use Rattle.std.proofs.lemmas.List.Elements.{All-nil, All-cons, All-weaker}
 use Rattle.ert_defs.specs.Mails.{first_of, others_of}
 use Rattle.serde_json.specs.Data.{Data}
-use Rattle.ert_ops.specs.Races.{IsCallersOp}
-use Rattle.ert_ops.specs.declared.op.Op.{Op}
-use Rattle.ert_ops.specs.declared.op.Op.TheVariants.{Tick, Check, Finalize, Notify, Time, System, Offset, Info, Convert, Start, SendAfter, Cancel, CancelQuiet, Read, CancelAsync, ReadAsync, Receive, Exit, Alive, Monitor, Demonitor}
-use Rattle.ert_scenario.specs.Doers.{IsKeepersOp, IsCallersAlone, IsDoneBy}
+use Rattle.ert_ops.specs.{Races.IsCallersOp, declared.op.Op.Op, declared.op.Op.TheVariants.{Tick, Check, Finalize, Notify, Time, System, Offset, Info, Convert, Start, SendAfter, Cancel, CancelQuiet, Read, CancelAsync, ReadAsync, Receive}}
+use Rattle.ert_ops.specs.{declared.op.Op.TheVariants.{Exit, Alive, Monitor, Demonitor}}
+use Rattle.ert_scenario.specs.{Doers.{IsKeepersOp, IsCallersAlone, IsDoneBy}, Rows.{OpRow, keeper_rows, shared_rows, convert_row, clock_rows, process_rows, start_args, timer_rows, request_args, rows_of_one, rows_of_two, rows_of_format}}
+use Rattle.ert_scenario.specs.{Rows.{caller_groups, groups_of, row_in, or_next, op_named, op_of}, Units.time_unit, Walks.{raws_of, ops_of}, declared.doer.ListDoer.ListDoer, declared.doer.ListDoer.TheVariants.{Everyone, Keeper, Caller}}
+use Rattle.ert_scenario.specs.{declared.format.Format.Format, declared.format.Format.TheVariants.{One, Two}}
 use Rattle.ert_scenario.specs.Kinds.{FoundOrFault, ◌>>=◌, ◌▹◌, integer, one_word, two_words, reading_from, listed, text, end}
-use Rattle.ert_scenario.specs.Rows.{OpRow, keeper_rows, shared_rows, convert_row, clock_rows, process_rows, start_args, timer_rows, request_args, rows_of_one, rows_of_two, rows_of_format, caller_groups, groups_of, row_in, or_next, op_named, op_of}
-use Rattle.ert_scenario.specs.Units.{time_unit}
-use Rattle.ert_scenario.specs.Walks.{raws_of, ops_of}
-use Rattle.ert_scenario.specs.declared.doer.ListDoer.{ListDoer}
-use Rattle.ert_scenario.specs.declared.doer.ListDoer.TheVariants.{Everyone, Keeper, Caller}
-use Rattle.ert_scenario.specs.declared.format.Format.{Format}
-use Rattle.ert_scenario.specs.declared.format.Format.TheVariants.{One, Two}
 use Rattle.ert_scenario.proofs.Founds.{follows}
 
 -- ---- rows all of whose ops have the property

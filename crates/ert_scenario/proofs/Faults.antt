@@ -4,20 +4,13 @@ use Rattle.std.proofs.Common.{◌≡◌, ◌<◌, ◌≤◌, ◌⊎◌, inl, inr
 use Rattle.std.proofs.lemmas.Bool.Decides.{nat_tests}
 use Rattle.serde_json.specs.Data.{Data}
 use Rattle.ert_defs.specs.declared.settings.Settings.{Settings}
-use Rattle.ert_ops.specs.Ranges.{IsOpInRange}
-use Rattle.ert_ops.specs.declared.op.Op.{Op}
-use Rattle.ert_ops.specs.declared.op.Op.TheVariants.{Tick, Check, Finalize, Notify, Time, System, Offset, Info, Convert, Start, SendAfter, Cancel, CancelQuiet, Read, CancelAsync, ReadAsync, Serve, Advance, Deliver, Turn, Receive, Exit, Alive, Monitor, Demonitor}
-use Rattle.ert_scenario.specs.Fields.{top_of, format_of}
+use Rattle.ert_ops.specs.{Ranges.IsOpInRange, declared.op.Op.Op, declared.op.Op.TheVariants.{Tick, Check, Finalize, Notify, Time, System, Offset, Info, Convert, Start, SendAfter, Cancel, CancelQuiet, Read, CancelAsync, ReadAsync, Serve}}
+use Rattle.ert_ops.specs.{declared.op.Op.TheVariants.{Advance, Deliver, Turn, Receive, Exit, Alive, Monitor, Demonitor}}
+use Rattle.ert_scenario.specs.{Fields.{top_of, format_of}, Labels.{started_label, has, is_new, with_label, tested}, Places.{fault_of, fault_in, op_founds, founds_in, HasRangeFault, raw_at, settings_in, GivesRawOps, IsStartAt}}
+use Rattle.ert_scenario.specs.{Ranges.{is_label, is_process, is_started, is_op}, Lists.{OpValues, lists_found}, Walks.{all_raws, founds_of}, declared.fields.Top.Top}
 use Rattle.ert_scenario.specs.Kinds.{FoundOrFault, ◌>>=◌, if_in_range}
-use Rattle.ert_scenario.specs.Labels.{started_label, has, is_new, with_label, tested}
-use Rattle.ert_scenario.specs.Places.{fault_of, fault_in, op_founds, founds_in, HasRangeFault, raw_at, settings_in, GivesRawOps, IsStartAt}
-use Rattle.ert_scenario.specs.Ranges.{is_label, is_process, is_started, is_op}
-use Rattle.ert_scenario.specs.Lists.{OpValues, lists_found}
-use Rattle.ert_scenario.specs.Walks.{all_raws, founds_of}
 use Rattle.ert_scenario.specs.declared.fault.Fault.TheVariants as faults
-use Rattle.ert_scenario.specs.declared.fields.Top.{Top}
-use Rattle.ert_scenario.proofs.Checked.{Decides-reading}
-use Rattle.ert_scenario.proofs.InRange.{in_range_tested}
+use Rattle.ert_scenario.proofs.{Checked.Decides-reading, InRange.in_range_tested}
 
 -- ---- an op in range passes the test
 

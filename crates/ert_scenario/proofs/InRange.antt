@@ -1,17 +1,11 @@
 -- The tested ops of a list are in range, and so are those of its parts.
 
 use Rattle.std.proofs.Common.{◌≡◌, ◌≤◌, ◌<◌, ℕ, List, [], ◌∷◌, ◌++◌, length, Bool, true, false, ◌&&◌, Ok, Err, ltb, leb, arith, refl}
-use Rattle.std.proofs.lemmas.Bool.{and_parts}
-use Rattle.std.proofs.lemmas.Bool.Decides.{nat_tests}
+use Rattle.std.proofs.lemmas.Bool.{and_parts, Decides.nat_tests}
 use Rattle.ert_defs.specs.declared.settings.Settings.{Settings}
-use Rattle.ert_ops.specs.Ranges.{IsOpInRange, AreOpsInRange}
-use Rattle.ert_ops.specs.declared.op.Op.{Op}
-use Rattle.ert_ops.specs.declared.op.Op.TheVariants.{Tick, Check, Finalize, Notify, Start, SendAfter, Cancel, CancelQuiet, Read, CancelAsync, ReadAsync, Serve, Advance, Deliver, Turn, Receive, Exit, Alive, Monitor, Demonitor}
-use Rattle.ert_scenario.specs.Kinds.{FoundOrFault, if_in_range}
-use Rattle.ert_scenario.specs.Labels.{started_label, is_new, with_label, tested}
-use Rattle.ert_scenario.specs.Ranges.{is_label, is_sched, is_process, is_started, is_op}
-use Rattle.ert_scenario.specs.Scenarios.{with_callers}
-use Rattle.ert_scenario.specs.Walks.{ops_of}
+use Rattle.ert_ops.specs.{Ranges.{IsOpInRange, AreOpsInRange}, declared.op.Op.Op, declared.op.Op.TheVariants.{Tick, Check, Finalize, Notify, Start, SendAfter, Cancel, CancelQuiet, Read, CancelAsync, ReadAsync, Serve, Advance, Deliver}}
+use Rattle.ert_ops.specs.{declared.op.Op.TheVariants.{Turn, Receive, Exit, Alive, Monitor, Demonitor}}
+use Rattle.ert_scenario.specs.{Kinds.{FoundOrFault, if_in_range}, Labels.{started_label, is_new, with_label, tested}, Ranges.{is_label, is_sched, is_process, is_started, is_op}, Scenarios.with_callers, Walks.ops_of}
 use Rattle.ert_scenario.proofs.Checked.{Decides-reading}
 
 -- ---- the test of an op, and what it tests

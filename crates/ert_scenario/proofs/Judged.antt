@@ -3,16 +3,8 @@
 use Rattle.std.proofs.Common.{◌≡◌, ◌≢◌, ℕ, List, [], length, true, false, Option, Some, None, Ok, Err, cond, sym, ap, ◌∙◌, refl}
 use Rattle.std.proofs.lemmas.List.{length-map}
 use Rattle.ert_ops.specs.declared.op.Op.{Op}
-use Rattle.ert_scenario.specs.Kinds.{FoundOrFault}
-use Rattle.ert_scenario.specs.Labels.{tested}
-use Rattle.ert_scenario.specs.Lists.{OpValues, list_count}
-use Rattle.ert_scenario.specs.Scenarios.{Plan, is_over, over, planned, judged}
-use Rattle.ert_scenario.specs.Walks.{first_shape, first_range}
-use Rattle.ert_scenario.specs.Walked.{IsOver, IsShapeAt}
-use Rattle.ert_scenario.specs.declared.fields.Top.{Top}
-use Rattle.ert_scenario.specs.declared.format.Format.{Format}
-use Rattle.ert_scenario.specs.declared.scenario.ScenarioErr.{ScenarioErr}
-use Rattle.ert_scenario.specs.declared.scenario.ScenarioErr.TheVariants.{Json, Shape, Range, Limit, NoMemory}
+use Rattle.ert_scenario.specs.{Kinds.FoundOrFault, Labels.tested, Lists.{OpValues, list_count}, Scenarios.{Plan, is_over, over, planned, judged}, Walks.{first_shape, first_range}, Walked.{IsOver, IsShapeAt}, declared.fields.Top.Top}
+use Rattle.ert_scenario.specs.{declared.format.Format.Format, declared.scenario.ScenarioErr.ScenarioErr, declared.scenario.ScenarioErr.TheVariants.{Json, Shape, Range, Limit, NoMemory}}
 use Rattle.ert_scenario.proofs.Tested.{first_shape-tested, length-tested, whole_walk}
 
 -- what ends the walk is the verdict

@@ -2,29 +2,15 @@
 
 use Rattle.std.proofs.Common.{◌≡◌, ◌+◌, ℕ, List, [], map, Bool, true, false, Option, Some, None, option_map, Ok, Err, codes, bytes_eq, sym, subst, ap, ◌∙◌, refl}
 use Rattle.std.proofs.lemmas.List.{length-map}
-use Rattle.serde_json.specs.Data.{Data, number, object, unsigned, Members, put}
-use Rattle.serde_json.specs.Find.{get}
+use Rattle.serde_json.specs.{Data.{Data, number, object, unsigned, Members, put}, Find.get}
 use Rattle.serde_json.proofs.Views.{get_member-put, get_member-put_other}
-use Rattle.ert_ops.specs.Races.{Race}
-use Rattle.ert_ops.specs.declared.op.Op.{Op}
-use Rattle.ert_scenario.specs.Fields.{is_among, race_fields, is_field, are_named, only_named, field, start_and_first, modes, clock_fields_of, sizes_of, one_or_two, settings_from, race_turns, top_of, format_of}
+use Rattle.ert_ops.specs.{Races.Race, declared.op.Op.Op}
+use Rattle.ert_scenario.specs.{Fields.{is_among, race_fields, is_field, are_named, only_named, field, start_and_first, modes, clock_fields_of, sizes_of, one_or_two, settings_from, race_turns, top_of, format_of}, Lists.RaceValues}
+use Rattle.ert_scenario.specs.{Lists.{OpValues, race_lists, lists_in, lists_found, list_count}, Migration.{IsOfFormat, migrated_op, each, migrated_list, with_field, changed_to, changed, migrated_race, migrated}, Scenarios.{Plan, IsValue}}
+use Rattle.ert_scenario.specs.{Scenarios.{IsScenario, with_callers, planned_race, planned, judged, judged_all, verdict_of}, Labels.tested, Walked.without_fault, Walks.{raws_of, all_raws, ops_of}, declared.doer.ListDoer.TheVariants.Everyone}
+use Rattle.ert_scenario.specs.{declared.fault.Fault.TheVariants.Shape, declared.fields.Top.Top, declared.format.Format.Format, declared.format.Format.TheVariants.{One, Two}}
 use Rattle.ert_scenario.specs.Kinds.{FoundOrFault, found_map, ◌>>=◌, read_both, of_kind, if_in_range, integer, listed, arrays}
-use Rattle.ert_scenario.specs.Lists.{RaceValues, OpValues, race_lists, lists_in, lists_found, list_count}
-use Rattle.ert_scenario.specs.Migration.{IsOfFormat, migrated_op, each, migrated_list, with_field, changed_to, changed, migrated_race, migrated}
-use Rattle.ert_scenario.specs.Scenarios.{Plan, IsValue, IsScenario, with_callers, planned_race, planned, judged, judged_all, verdict_of}
-use Rattle.ert_scenario.specs.Labels.{tested}
-use Rattle.ert_scenario.specs.Walked.{without_fault}
-use Rattle.ert_scenario.specs.Walks.{raws_of, all_raws, ops_of}
-use Rattle.ert_scenario.specs.declared.doer.ListDoer.TheVariants.{Everyone}
-use Rattle.ert_scenario.specs.declared.fault.Fault.TheVariants.{Shape}
-use Rattle.ert_scenario.specs.declared.fields.Top.{Top}
-use Rattle.ert_scenario.specs.declared.format.Format.{Format}
-use Rattle.ert_scenario.specs.declared.format.Format.TheVariants.{One, Two}
-use Rattle.ert_scenario.proofs.Founds.{both_seen}
-use Rattle.ert_scenario.proofs.Least.{verdict_at}
-use Rattle.ert_scenario.proofs.Migrated.{moved_race, moved_lists, all_kept}
-use Rattle.ert_scenario.proofs.Valid.{whole, tested_plan}
-use Rattle.ert_scenario.proofs.Changed.{other_field, this_field, same_names, each_listed, each_arrays, put_named, apart}
+use Rattle.ert_scenario.proofs.{Founds.both_seen, Least.verdict_at, Migrated.{moved_race, moved_lists, all_kept}, Valid.{whole, tested_plan}, Changed.{other_field, this_field, same_names, each_listed, each_arrays, put_named, apart}}
 
 -- ---- a race
 

@@ -3,22 +3,13 @@
 use Rattle.std.proofs.Common.{◌≡◌, ◌+◌, ◌<◌, ◌≤◌, ◌⊎◌, inl, inr, ℕ, zero, suc, List, length, Bool, true, false, ◌||◌, Option, Some, None, Ok, Err, cond, ltb, sym, subst, ap, ◌∙◌, arith, refl}
 use Rattle.std.proofs.lemmas.Bool.Decides.{nat_tests}
 use Rattle.serde_json.specs.Data.{Data}
-use Rattle.ert_scenario.specs.Fields.{top_of, format_of}
+use Rattle.ert_scenario.specs.{Fields.{top_of, format_of}, Lists.{OpValues, lists_in, race_lists, lists_found, list_count}, Places.{fault_in, founds_in, op_founds, fault_by, HasShapeFault, caller_list_count, turns_in, IsLeast, IsNowhere}}
+use Rattle.ert_scenario.specs.{Scenarios.{Plan, Verdict, IsValue, IsValueWith, IsScenario, HasRefusal, refused, is_over, over, planned, judged, judged_all, verdict_of}, Walks.{first_shape, first_range, all_raws, founds_of}}
+use Rattle.ert_scenario.specs.{declared.fault.Fault.Fault, declared.fields.Top.Top, declared.format.Format.Format, declared.scenario.ScenarioErr.ScenarioErr, declared.scenario.ScenarioErr.TheVariants.{Shape, Range, Limit}}
 use Rattle.ert_scenario.specs.Kinds.{FoundOrFault, ◌>>=◌, read_both, of_kind, listed, arrays}
-use Rattle.ert_scenario.specs.Lists.{OpValues, lists_in, race_lists, lists_found, list_count}
-use Rattle.ert_scenario.specs.Places.{fault_in, founds_in, op_founds, fault_by, HasShapeFault, caller_list_count, turns_in, IsLeast, IsNowhere}
-use Rattle.ert_scenario.specs.Scenarios.{Plan, Verdict, IsValue, IsValueWith, IsScenario, HasRefusal, refused, is_over, over, planned, judged, judged_all, verdict_of}
-use Rattle.ert_scenario.specs.Walks.{first_shape, first_range, all_raws, founds_of}
-use Rattle.ert_scenario.specs.declared.fault.Fault.{Fault}
 use Rattle.ert_scenario.specs.declared.fault.Fault.TheVariants as faults
-use Rattle.ert_scenario.specs.declared.fields.Top.{Top}
-use Rattle.ert_scenario.specs.declared.format.Format.{Format}
 use Rattle.ert_ops.specs.declared.op.Op.{Op}
-use Rattle.ert_scenario.specs.declared.scenario.ScenarioErr.{ScenarioErr}
-use Rattle.ert_scenario.specs.declared.scenario.ScenarioErr.TheVariants.{Shape, Range, Limit}
-use Rattle.ert_scenario.proofs.Accepted.{AreFew, accepts}
-use Rattle.ert_scenario.proofs.Founds.{both_err}
-use Rattle.ert_scenario.proofs.LeastFrom.{LeastFrom, Lacks, shape_from, lacks_shape, range_from, lacks_range}
+use Rattle.ert_scenario.proofs.{Accepted.{AreFew, accepts}, Founds.both_err, LeastFrom.{LeastFrom, Lacks, shape_from, lacks_shape, range_from, lacks_range}}
 
 -- ---- the places of a value
 

@@ -1,10 +1,7 @@
 -- The first fault of a list that begins at place k.
 
 use Rattle.std.proofs.Common.{◌≡◌, ◌+◌, ◌<◌, ℕ, zero, suc, List, [], ◌∷◌, Some, None, Ok, Err, arith, refl}
-use Rattle.ert_scenario.specs.Kinds.{FoundOrFault}
-use Rattle.ert_scenario.specs.Places.{fault_of, fault_in}
-use Rattle.ert_scenario.specs.Walks.{first_shape, first_range}
-use Rattle.ert_scenario.specs.declared.fault.Fault.{Fault}
+use Rattle.ert_scenario.specs.{Kinds.FoundOrFault, Places.{fault_of, fault_in}, Walks.{first_shape, first_range}, declared.fault.Fault.Fault}
 use Rattle.ert_scenario.specs.declared.fault.Fault.TheVariants as faults
 use Rattle.ert_ops.specs.declared.op.Op.{Op}
 

@@ -2,10 +2,7 @@
 
 use Rattle.std.proofs.Common.{◌≡◌, List, [], ◌∷◌, map, ◌&&◌, is_some, refl, ap}
 use Rattle.std.specs.List.{list_all}
-use Rattle.serde_json.specs.Data.{Data}
-use Rattle.serde_json.specs.Find.{as_array}
-use Rattle.serde_json.specs.View.{view, items_of}
-use Rattle.serde_json.specs.declared.value.Value.{Value}
+use Rattle.serde_json.specs.{Data.Data, Find.as_array, View.{view, items_of}, declared.value.Value.Value}
 use Rattle.ert_scenario.specs.Kinds.{list_of, is_array}
 
 pub list_of_items : (ds : List Data) → list_of (items_of ds) ≡ ds

@@ -2,26 +2,15 @@
 
 use Rattle.std.proofs.Common.{◌≡◌, ℕ, List, [], ◌∷◌, ◌++◌, map, Bool, true, false, ◌||◌, Option, Some, None, option_map, Ok, Err, Vec, Global, cond, codes, bytes_eq, sym, subst, ap, ◌∙◌, refl, true≢false}
 use Rattle.std.proofs.lemmas.Slice.Eq.{bytes_eq-Decides}
-use Rattle.serde_json.specs.Data.{Data, null, boolean, number, string, array, object}
-use Rattle.serde_json.specs.View.{view, items_of, items_view}
-use Rattle.serde_json.specs.declared.value.Value.{Value, Array}
+use Rattle.serde_json.specs.{Data.{Data, null, boolean, number, string, array, object}, View.{view, items_of, items_view}, declared.value.Value.{Value, Array}}
 use Rattle.serde_json.proofs.Views.{view-Array}
-use Rattle.ert_ops.specs.declared.op.Op.{Op}
-use Rattle.ert_ops.specs.declared.op.Op.TheVariants.{CancelAsync, ReadAsync}
+use Rattle.ert_ops.specs.{declared.op.Op.Op, declared.op.Op.TheVariants.{CancelAsync, ReadAsync}, Races.Race}
 use Rattle.ert_scenario.specs.Kinds.{FoundOrFault, ◌>>=◌, read_both, of_kind, integer, word, boolean as boolean_of, two_words, list_of, listed, items_in, text, end}
-use Rattle.ert_scenario.specs.Migration.{is_ask, migrated_items, migrated_op, each, migrated_list}
-use Rattle.ert_scenario.specs.Rows.{keeper_rows, shared_rows, sched_rows, clock_rows, process_rows, timer_rows, request_args, rows_of_one, rows_of_two, caller_groups, groups_of, row_in, or_next, op_named, op_from, op_of}
-use Rattle.ert_scenario.specs.Walked.{without_fault}
-use Rattle.ert_scenario.specs.Walks.{raws_of, caller_raws, race_raws, all_raws, ops_of}
-use Rattle.ert_scenario.specs.Lists.{RaceValues, OpValues}
-use Rattle.ert_scenario.specs.Scenarios.{planned_race}
-use Rattle.ert_ops.specs.Races.{Race}
+use Rattle.ert_scenario.specs.{Migration.{is_ask, migrated_items, migrated_op, each, migrated_list}, Rows.{keeper_rows, shared_rows, sched_rows, clock_rows, process_rows, timer_rows, request_args, rows_of_one, rows_of_two, caller_groups}}
+use Rattle.ert_scenario.specs.{Rows.{groups_of, row_in, or_next, op_named, op_from, op_of}, Walked.without_fault, Walks.{raws_of, caller_raws, race_raws, all_raws, ops_of}, Lists.{RaceValues, OpValues}, Scenarios.planned_race}
+use Rattle.ert_scenario.specs.{declared.doer.ListDoer.ListDoer, declared.doer.ListDoer.TheVariants.{Everyone, Keeper, Caller}, declared.format.Format.TheVariants.{One, Two}}
 use Rattle.ert_scenario.specs.declared.fault.Fault.TheVariants as faults
-use Rattle.ert_scenario.specs.declared.doer.ListDoer.{ListDoer}
-use Rattle.ert_scenario.specs.declared.doer.ListDoer.TheVariants.{Everyone, Keeper, Caller}
-use Rattle.ert_scenario.specs.declared.format.Format.TheVariants.{One, Two}
-use Rattle.ert_scenario.proofs.Cut.{splits, callers_ops}
-use Rattle.ert_scenario.proofs.Listed.{list_of_items}
+use Rattle.ert_scenario.proofs.{Cut.{splits, callers_ops}, Listed.list_of_items}
 
 -- the op that the code makes of migrated items
 pub array_migrated : (d : Data) (old new : Vec Value Global) → d ≡ view (Array old) → map view new.items ≡ migrated_items (map view old.items)

@@ -1,21 +1,11 @@
 -- No two starts among the tested ops of a list have one label.
 
 use Rattle.std.proofs.Common.{◌≡◌, ◌≢◌, ◌<◌, ℕ, zero, suc, List, [], ◌∷◌, ◌++◌, length, take, get_or, All, AllPairs, Bool, true, false, not, ◌&&◌, ◌||◌, Option, Some, None, Ok, Err, eqb, sym, subst, ap, arith, refl}
-use Rattle.std.proofs.lemmas.List.{length-append}
-use Rattle.std.proofs.lemmas.List.Elements.{All-take, All-same}
-use Rattle.std.proofs.lemmas.List.Kept.{AllPairs-cons}
-use Rattle.std.proofs.Math.Seq.{take-append_seam}
+use Rattle.std.proofs.{lemmas.List.length-append, lemmas.List.Elements.{All-take, All-same}, lemmas.List.Kept.AllPairs-cons, Math.Seq.take-append_seam, lemmas.Bool.and_parts, lemmas.Bool.Decides.nat_tests}
 use Rattle.ert_defs.proofs.Lists.{pairs_head, pairs_tail}
-use Rattle.std.proofs.lemmas.Bool.{and_parts}
-use Rattle.std.proofs.lemmas.Bool.Decides.{nat_tests}
 use Rattle.ert_defs.specs.declared.settings.Settings.{Settings}
-use Rattle.ert_ops.specs.Labels.{labels_in, AreOps}
-use Rattle.ert_ops.specs.declared.op.Op.{Op}
-use Rattle.ert_ops.specs.declared.op.Op.TheVariants.{Start, SendAfter}
-use Rattle.ert_scenario.specs.Kinds.{FoundOrFault, if_in_range}
-use Rattle.ert_scenario.specs.Labels.{started_label, has, is_new, with_label, tested}
-use Rattle.ert_scenario.specs.Ranges.{is_op}
-use Rattle.ert_scenario.specs.Walks.{ops_of}
+use Rattle.ert_ops.specs.{Labels.{labels_in, AreOps}, declared.op.Op.Op, declared.op.Op.TheVariants.{Start, SendAfter}}
+use Rattle.ert_scenario.specs.{Kinds.{FoundOrFault, if_in_range}, Labels.{started_label, has, is_new, with_label, tested}, Ranges.is_op, Walks.ops_of}
 
 -- these labels are apart from one another, and none is among the earlier ones
 pub record AreNew (earlier labels : List ℕ) : Type 0 where

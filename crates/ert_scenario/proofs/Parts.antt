@@ -1,14 +1,10 @@
 -- The test of the parts of a unit, and the fact that it tests.
 
 use Rattle.std.proofs.Common.{◌≡◌, ◌↔◌, ℕ, true, false, Option, Some, None, IsSome, IfSome, Ok, refl, ap, ◌∙◌}
-use Rattle.std.proofs.lemmas.Bool.{false≢true}
-use Rattle.std.specs.Bool.{Decides}
-use Rattle.std.specs.Option.{ok_or}
-use Rattle.std.proofs.lemmas.Bool.Decides.{Decides-and, Decides-like, Decides-ltb, same_from_decides}
+use Rattle.std.proofs.lemmas.Bool.{false≢true, Decides.{Decides-and, Decides-like, Decides-ltb, same_from_decides}}
+use Rattle.std.specs.{Bool.Decides, Option.ok_or}
 use Rattle.ert_ops.specs.Units.{IsParts}
-use Rattle.ert_scenario.specs.Kinds.{if_in_range}
-use Rattle.ert_scenario.specs.Units.{is_parts, unit_of}
-use Rattle.ert_scenario.specs.declared.fault.Fault.TheVariants.{Range}
+use Rattle.ert_scenario.specs.{Kinds.if_in_range, Units.{is_parts, unit_of}, declared.fault.Fault.TheVariants.Range}
 use Rattle.ert_scenario.proofs.Checked.{Decides-nat_le}
 
 Decides-parts : (n : ℕ) → Decides (is_parts n) (IsParts n)

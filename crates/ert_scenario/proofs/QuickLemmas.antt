@@ -3,24 +3,13 @@
 use Rattle.std.proofs.Common.{◌≡◌, ◌<◌, ◌≤◌, ◌-◌, ℕ, suc, List, [], ◌∷◌, ◌++◌, map, length, Option, Some, None, option_map, Ok, sym, ap, ap₂, subst, ◌∙◌, refl, arith}
 use Rattle.std.proofs.lemmas.List.{map-append}
 use Rattle.json.specs.Json as json
-use Rattle.json.specs.Json.{value, items, after_end_array, parse_map}
+use Rattle.json.specs.{Json.{value, items, after_end_array, parse_map}, Token.Token}
 use Rattle.json.specs.Token as tokens
-use Rattle.json.specs.Token.{Token}
 use Rattle.json.proofs.Grammar.{value_is, value-begin_array}
-use Rattle.serde_json.specs.Data.{Data, array, Items, no_items, item}
-use Rattle.serde_json.specs.Read.{of_json, of_items, converted}
-use Rattle.serde_json.specs.View.{view, items_of, items_view}
-use Rattle.serde_json.specs.declared.value.Value.{Value}
-use Rattle.ert_scenario.proofs.Reading.{converted-array, item_read, items_over}
+use Rattle.serde_json.specs.{Data.{Data, array, Items, no_items, item}, Read.{of_json, of_items, converted}, View.{view, items_of, items_view}, declared.value.Value.Value}
+use Rattle.ert_scenario.proofs.{Reading.{converted-array, item_read, items_over}, Listed.list_of_items}
 use Rattle.ert_ops.specs.declared.op.Op.{Op}
-use Rattle.ert_scenario.specs.Kinds.{of_kind, listed}
-use Rattle.ert_scenario.specs.Quick.{scalar_of, ReadsOp, ReadsOps}
-use Rattle.ert_scenario.specs.Rows.{op_from, op_of}
-use Rattle.ert_scenario.specs.Walked.{without_fault}
-use Rattle.ert_scenario.specs.Walks.{raws_of}
-use Rattle.ert_scenario.specs.declared.doer.ListDoer.TheVariants.{Everyone}
-use Rattle.ert_scenario.specs.declared.format.Format.{Format}
-use Rattle.ert_scenario.proofs.Listed.{list_of_items}
+use Rattle.ert_scenario.specs.{Kinds.{of_kind, listed}, Quick.{scalar_of, ReadsOp, ReadsOps}, Rows.{op_from, op_of}, Walked.without_fault, Walks.raws_of, declared.doer.ListDoer.TheVariants.Everyone, declared.format.Format.Format}
 
 number_read : (depth : ℕ) (o : Option Data) (d : Data) (rest : List Token) → o ≡ Some d → option_map {U = Data × List Token} (λ b. (b, rest)) o ≡ Some (d, rest)
 number_read depth o d rest h = ap (option_map {U = Data × List Token} (λ b. (b, rest))) h

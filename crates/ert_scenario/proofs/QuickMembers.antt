@@ -2,35 +2,17 @@
 
 use Rattle.std.proofs.Common.{◌≡◌, ◌<◌, ◌≤◌, ◌-◌, ◌+◌, ℕ, suc, List, [], ◌∷◌, Bool, true, false, ◌&&◌, Option, Some, None, is_some, Result, Ok, Err, length, codes, bytes_eq, sym, subst, ap, ◌∙◌, refl, arith}
 use Rattle.std.specs.Prelude.{IfOk, IfSome}
-use Rattle.std.proofs.lemmas.List.{append-nil}
-use Rattle.std.proofs.lemmas.Slice.Eq.{bytes_eq-Decides}
-use Rattle.json.specs.Json.{value, members, read_key, parse_map}
-use Rattle.json.specs.Token.{Token, begin_object}
+use Rattle.std.proofs.lemmas.{List.append-nil, Slice.Eq.bytes_eq-Decides}
+use Rattle.json.specs.{Json.{value, members, read_key, parse_map}, Token.{Token, begin_object}}
 use Rattle.json.proofs.Grammar.{value-begin_object, read_key-shorter}
-use Rattle.serde_json.specs.Data.{Data, array, object, Members, no_members, put}
-use Rattle.serde_json.specs.Find.{get_member}
-use Rattle.serde_json.specs.Read.{of_json, of_members, converted}
-use Rattle.serde_json.specs.View.{items_of, members_view}
-use Rattle.ert_scenario.proofs.Reading.{converted-object, member_read, members_over}
+use Rattle.serde_json.specs.{Data.{Data, array, object, Members, no_members, put}, Find.get_member, Read.{of_json, of_members, converted}, View.{items_of, members_view}}
+use Rattle.ert_scenario.proofs.{Reading.{converted-object, member_read, members_over}, Cut.ops_of-without, Judged.judged_ok, Changed.{apart, put_named}, Listed.list_of_items}
 use Rattle.serde_json.proofs.Views.{get_member-put, get_member-put_other}
 use Rattle.ert_ops.specs.declared.op.Op.{Op}
-use Rattle.ert_scenario.specs.Fields.{is_field, are_named, only_named, start_and_first, modes, clock_fields_of, sizes_of, settings_from, top_of, format_of}
-use Rattle.ert_scenario.specs.Kinds.{FoundOrFault, of_kind, listed}
-use Rattle.ert_scenario.specs.Labels.{tested}
-use Rattle.ert_scenario.specs.Lists.{lists_found}
-use Rattle.ert_scenario.specs.Quick.{ReadsOps}
-use Rattle.ert_scenario.specs.QuickMembers.{without_race, IsOpsField, HasSeenMembers, IsSeenAs, ReadsMember, IsPlanWith, plan_for_one}
-use Rattle.ert_scenario.specs.Scenarios.{Plan, is_over, with_callers, judged, verdict_of}
-use Rattle.ert_scenario.specs.Walked.{without_fault, IsOver}
-use Rattle.ert_scenario.specs.Walks.{raws_of, all_raws, first_shape, first_range, ops_of}
-use Rattle.ert_scenario.specs.declared.doer.ListDoer.TheVariants.{Everyone}
-use Rattle.ert_scenario.specs.declared.fields.Top.{Top}
-use Rattle.ert_scenario.specs.declared.format.Format.{Format}
-use Rattle.ert_scenario.specs.declared.quick.members.Seen.{Seen}
-use Rattle.ert_scenario.proofs.Cut.{ops_of-without}
-use Rattle.ert_scenario.proofs.Judged.{judged_ok}
-use Rattle.ert_scenario.proofs.Changed.{apart, put_named}
-use Rattle.ert_scenario.proofs.Listed.{list_of_items}
+use Rattle.ert_scenario.specs.{Fields.{is_field, are_named, only_named, start_and_first, modes, clock_fields_of, sizes_of, settings_from, top_of, format_of}, Kinds.{FoundOrFault, of_kind, listed}, Labels.tested, Lists.lists_found}
+use Rattle.ert_scenario.specs.{Quick.ReadsOps, QuickMembers.{without_race, IsOpsField, HasSeenMembers, IsSeenAs, ReadsMember, IsPlanWith, plan_for_one}, Scenarios.{Plan, is_over, with_callers, judged, verdict_of}, Walked.without_fault}
+use Rattle.ert_scenario.specs.{Walked.IsOver, Walks.{raws_of, all_raws, first_shape, first_range, ops_of}, declared.doer.ListDoer.TheVariants.Everyone, declared.fields.Top.Top, declared.format.Format.Format}
+use Rattle.ert_scenario.specs.{declared.quick.members.Seen.Seen}
 
 OPS : List ℕ
 OPS = codes "ops"

@@ -3,20 +3,12 @@
 use Rattle.std.proofs.Common.{◌≡◌, ◌≢◌, ℕ, List, Option, Some, None, Result, Ok, Err, IfErr, Bool, true, false, ◌⊎◌, inl, inr, sym, ◌∙◌, refl, subst}
 use Rattle.std.proofs.lemmas.Str.{IsUtf8-from_is_utf8, is_utf8-from_IsUtf8}
 use Rattle.std.specs.Str.{IsUtf8, is_utf8}
-use Rattle.serde_json.specs.Data.{Data}
-use Rattle.serde_json.specs.Read.{read}
-use Rattle.ert_scenario.specs.Fields.{top_of, format_of}
-use Rattle.ert_scenario.specs.Kinds.{FoundOrFault}
-use Rattle.ert_scenario.specs.Lists.{OpValues, lists_found}
-use Rattle.ert_scenario.specs.Scenarios.{Plan, Verdict, IsValue, IsScenario, HasRefusal, refused, over, judged, judged_all, verdict_of}
-use Rattle.ert_scenario.specs.Walks.{all_raws, founds_of, first_shape, first_range}
-use Rattle.ert_scenario.specs.declared.fields.Top.{Top}
-use Rattle.ert_scenario.specs.declared.format.Format.{Format}
+use Rattle.serde_json.specs.{Data.Data, Read.read}
+use Rattle.ert_scenario.specs.{Fields.{top_of, format_of}, Kinds.FoundOrFault, Lists.{OpValues, lists_found}, Scenarios.{Plan, Verdict, IsValue, IsScenario, HasRefusal, refused, over, judged, judged_all, verdict_of}, Walks.all_raws}
+use Rattle.ert_scenario.specs.{Walks.{founds_of, first_shape, first_range}, declared.fields.Top.Top, declared.format.Format.Format, declared.scenario.Scenario.Scenario, declared.scenario.ScenarioErr.ScenarioErr}
+use Rattle.ert_scenario.specs.{declared.scenario.ScenarioErr.TheVariants.{Json, Shape, Range, Limit, NoMemory}}
 use Rattle.ert_scenario.specs.declared.fault.Fault.TheVariants as faults
 use Rattle.ert_ops.specs.declared.op.Op.{Op}
-use Rattle.ert_scenario.specs.declared.scenario.Scenario.{Scenario}
-use Rattle.ert_scenario.specs.declared.scenario.ScenarioErr.{ScenarioErr}
-use Rattle.ert_scenario.specs.declared.scenario.ScenarioErr.TheVariants.{Json, Shape, Range, Limit, NoMemory}
 
 -- the refusal names a place
 abbrev HasPlace : ScenarioErr → Type 0

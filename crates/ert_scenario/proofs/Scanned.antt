@@ -1,21 +1,11 @@
 -- The ops of a list one after another.
 
 use Rattle.std.proofs.Common.{◌≡◌, ◌+◌, ◌<◌, ◌≤◌, ℕ, suc, List, [], ◌∷◌, ◌++◌, map, length, drop, get_or, Some, None, ap, sym, ◌∙◌, add-one}
-use Rattle.std.proofs.lemmas.List.{append-nil}
-use Rattle.std.proofs.Math.Seq.{drop-cons}
-use Rattle.std.proofs.Math.ListN.{drop_of_length-le}
-use Rattle.serde_json.specs.Data.{Data}
-use Rattle.serde_json.specs.View.{view}
-use Rattle.serde_json.specs.declared.value.Value.{Value}
+use Rattle.std.proofs.{lemmas.List.append-nil, Math.Seq.drop-cons, Math.ListN.drop_of_length-le}
+use Rattle.serde_json.specs.{Data.Data, View.view, declared.value.Value.Value}
 use Rattle.ert_ops.specs.declared.op.Op.{Op}
-use Rattle.ert_scenario.specs.Kinds.{FoundOrFault, items_in}
-use Rattle.ert_scenario.specs.Rows.{op_of}
-use Rattle.ert_scenario.specs.Walked.{without_fault, WalkIsAt, IsOver}
-use Rattle.ert_scenario.specs.Walks.{raws_of, caller_raws, first_shape}
-use Rattle.ert_scenario.specs.declared.walk.Walk.{Walk}
-use Rattle.ert_scenario.specs.declared.doer.ListDoer.{ListDoer}
-use Rattle.ert_scenario.specs.declared.doer.ListDoer.TheVariants.{Caller}
-use Rattle.ert_scenario.specs.declared.format.Format.{Format}
+use Rattle.ert_scenario.specs.{Kinds.{FoundOrFault, items_in}, Rows.op_of, Walked.{without_fault, WalkIsAt, IsOver}, Walks.{raws_of, caller_raws, first_shape}, declared.walk.Walk.Walk, declared.doer.ListDoer.ListDoer}
+use Rattle.ert_scenario.specs.{declared.doer.ListDoer.TheVariants.Caller, declared.format.Format.Format}
 
 next_value : (items : List Value) (i : ℕ) (x : Value) → i < length items → x ≡ get_or items i x → drop i items ≡ x ∷ drop (i + 1) items
 next_value items i x low is = rw (add-one, drop-cons items i x low) (ap (λ v. v ∷ drop (suc i) items) (sym is))

@@ -2,20 +2,11 @@
 
 use Rattle.std.proofs.Common.{◌≡◌, ◌+◌, ◌≤◌, ℕ, ℤ, suc, Bool, true, Ok, codes, sym, subst, ap, ◌∙◌, arith, refl}
 use Rattle.serde_json.specs.Data.{Data}
-use Rattle.ert_defs.specs.declared.settings.Mode.{Mode}
-use Rattle.ert_defs.specs.declared.settings.Reading.{Reading}
-use Rattle.ert_defs.specs.declared.settings.Settings.{Settings}
-use Rattle.ert_scenario.specs.Acceptance.{HasSettings}
-use Rattle.ert_scenario.specs.Fields.{is_field, only_named, field, one_or_two, start_time, time_warp_mode, time_correction, count, start_and_first, modes, clock_fields_of, sizes_of, head_of, settings_with, settings_from}
+use Rattle.ert_defs.specs.declared.settings.{Mode.Mode, Reading.Reading, Settings.Settings}
+use Rattle.ert_scenario.specs.{Acceptance.HasSettings, Fields.{is_field, only_named, field, one_or_two, start_time, time_warp_mode, time_correction, count, start_and_first, modes, clock_fields_of, sizes_of, head_of, settings_with}}
+use Rattle.ert_scenario.specs.{Fields.settings_from, Ranges.is_checked, Scenarios.with_callers, declared.fields.ClockFields.ClockFields, declared.fields.Head.Head, declared.fields.Sizes.Sizes}
 use Rattle.ert_scenario.specs.Kinds.{FoundOrFault, ◌>>=◌, read_both, if_in_range, listed_reading}
-use Rattle.ert_scenario.specs.Ranges.{is_checked}
-use Rattle.ert_scenario.specs.Scenarios.{with_callers}
-use Rattle.ert_scenario.specs.declared.fields.ClockFields.{ClockFields}
-use Rattle.ert_scenario.specs.declared.fields.Head.{Head}
-use Rattle.ert_scenario.specs.declared.fields.Sizes.{Sizes}
-use Rattle.ert_scenario.proofs.Checked.{Decides-checked}
-use Rattle.ert_scenario.proofs.Founds.{follows, in_range_parts, both_ok}
-use Rattle.ert_scenario.proofs.Valid.{with_more}
+use Rattle.ert_scenario.proofs.{Checked.Decides-checked, Founds.{follows, in_range_parts, both_ok}, Valid.with_more}
 
 -- ---- two readings that succeed together
 

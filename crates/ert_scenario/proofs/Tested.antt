@@ -1,18 +1,12 @@
 -- The tests of ops one after another: over labels as a list, and over a flag for each label.
 
 use Rattle.std.proofs.Common.{◌≡◌, ◌≢◌, ◌+◌, ◌<◌, ℕ, suc, List, [], ◌∷◌, ◌++◌, length, get_or, set, replicate, Bool, true, false, not, ◌&&◌, ◌||◌, Option, Some, None, Ok, Err, leb, eqb, cond, sym, ap, subst, ◌∙◌, refl, arith, length-set, get_or-set_same, get_or-set_other, ⊎_elim}
-use Rattle.std.proofs.lemmas.List.{length-replicate, get_or-replicate, append-nil}
-use Rattle.std.proofs.lemmas.Bool.{and_parts, cases_eq}
-use Rattle.std.proofs.lemmas.Bool.Decides.{nat_tests}
+use Rattle.std.proofs.lemmas.{List.{length-replicate, get_or-replicate, append-nil}, Bool.{and_parts, cases_eq}, Bool.Decides.nat_tests}
 use Rattle.std.specs.Option.{option_or}
 use Rattle.ert_defs.specs.declared.settings.Settings.{Settings}
-use Rattle.ert_ops.specs.declared.op.Op.{Op}
-use Rattle.ert_ops.specs.declared.op.Op.TheVariants.{Start, SendAfter}
-use Rattle.ert_scenario.specs.Kinds.{FoundOrFault, if_in_range}
-use Rattle.ert_scenario.specs.Labels.{started_label, has, is_new, with_label, tested, AreUnset, is_free, with_flag, first_out}
-use Rattle.ert_scenario.specs.Ranges.{is_op, is_label}
-use Rattle.ert_scenario.specs.Walks.{first_shape, first_range, ops_of}
-use Rattle.ert_scenario.specs.Walked.{without_fault, IsOver}
+use Rattle.ert_ops.specs.declared.op.Op.{Op, TheVariants.{Start, SendAfter}}
+use Rattle.ert_scenario.specs.{Kinds.{FoundOrFault, if_in_range}, Labels.{started_label, has, is_new, with_label, tested, AreUnset, is_free, with_flag, first_out}, Ranges.{is_op, is_label}, Walks.{first_shape, first_range, ops_of}}
+use Rattle.ert_scenario.specs.{Walked.{without_fault, IsOver}}
 use Rattle.ert_scenario.specs.declared.fault.Fault.TheVariants as faults
 
 pub are_free : (count : ℕ) (taken : List Bool) → taken ≡ replicate count false → AreUnset count taken

@@ -1,35 +1,16 @@
 -- The settings of a scenario are checked, its ops are in range, and no two starts have one label.
 
 use Rattle.std.proofs.Common.{◌≡◌, ◌+◌, ◌≤◌, ℕ, List, [], ◌∷◌, ◌++◌, length, All, Bool, true, false, ◌&&◌, Option, Some, None, is_some, IfSome, option_map, Ok, Err, codes, sym, subst, ap, ◌∙◌, arith, refl}
-use Rattle.std.proofs.lemmas.List.{length-map}
-use Rattle.std.proofs.lemmas.List.Elements.{All-nil, All-cons, All-head, All-tail}
+use Rattle.std.proofs.lemmas.List.{length-map, Elements.{All-nil, All-cons, All-head, All-tail}}
 use Rattle.serde_json.specs.Data.{Data}
-use Rattle.ert_defs.specs.Settings.{IsChecked}
-use Rattle.ert_defs.specs.declared.settings.Settings.{Settings}
-use Rattle.ert_defs.specs.declared.settings.TheConstants.{SCENARIO_LOOKS}
-use Rattle.ert_ops.specs.Labels.{AreOps}
-use Rattle.ert_ops.specs.Races.{Race, IsRace, MayDo, MayDoAll, IsCallersOp, lists_of as race_parts, ops_in}
-use Rattle.ert_ops.specs.Ranges.{AreOpsInRange}
-use Rattle.ert_ops.specs.declared.op.Op.{Op}
-use Rattle.ert_scenario.specs.Doers.{IsKeepersOp, IsCallersAlone, AreCallersAlone}
-use Rattle.ert_scenario.specs.Fields.{head_of, settings_with, settings_from, race_turns, field, top_of, format_of}
-use Rattle.ert_scenario.specs.Kinds.{FoundOrFault, read_both, if_in_range, listed, items_in}
-use Rattle.ert_scenario.specs.Labels.{started_label, is_new, with_label, tested}
-use Rattle.ert_scenario.specs.Ranges.{is_checked, is_op}
-use Rattle.ert_scenario.specs.Lists.{RaceValues, OpValues, race_lists, lists_found, list_count}
-use Rattle.ert_scenario.specs.Scenarios.{Plan, with_callers, planned_race, planned, verdict_of}
-use Rattle.ert_scenario.specs.Walked.{without_fault}
-use Rattle.ert_scenario.specs.Walks.{raws_of, all_raws, founds_of, first_range, ops_of}
-use Rattle.ert_scenario.specs.declared.doer.ListDoer.TheVariants.{Keeper, Caller}
-use Rattle.ert_scenario.specs.declared.fields.Top.{Top}
-use Rattle.ert_scenario.specs.declared.format.Format.{Format}
-use Rattle.ert_scenario.proofs.Accepted.{AreFew, accepts_all}
-use Rattle.ert_scenario.proofs.Checked.{Decides-checked}
-use Rattle.ert_scenario.proofs.Cut.{callers_ops, race_ops, all_flat, ops_of-without}
-use Rattle.ert_scenario.proofs.Done.{all_done, keepers_are_callers, callers_are_callers}
-use Rattle.ert_scenario.proofs.Founds.{follows, in_range_parts, both_ok}
-use Rattle.ert_scenario.proofs.InRange.{ops_in_range, length-ops_of, still_in_range, all_in_range, range_front, range_back}
-use Rattle.ert_scenario.proofs.NewLabels.{all_new, ops_front}
+use Rattle.ert_defs.specs.{Settings.IsChecked, declared.settings.Settings.Settings, declared.settings.TheConstants.SCENARIO_LOOKS}
+use Rattle.ert_ops.specs.{Labels.AreOps, Races.{Race, IsRace, MayDo, MayDoAll, IsCallersOp, lists_of as race_parts, ops_in}, Ranges.AreOpsInRange, declared.op.Op.Op}
+use Rattle.ert_scenario.specs.{Doers.{IsKeepersOp, IsCallersAlone, AreCallersAlone}, Fields.{head_of, settings_with, settings_from, race_turns, field, top_of, format_of}, Kinds.{FoundOrFault, read_both, if_in_range, listed, items_in}}
+use Rattle.ert_scenario.specs.{Labels.{started_label, is_new, with_label, tested}, Ranges.{is_checked, is_op}, Lists.{RaceValues, OpValues, race_lists, lists_found, list_count}, Scenarios.{Plan, with_callers, planned_race, planned}}
+use Rattle.ert_scenario.specs.{Scenarios.verdict_of, Walked.without_fault, Walks.{raws_of, all_raws, founds_of, first_range, ops_of}, declared.doer.ListDoer.TheVariants.{Keeper, Caller}, declared.fields.Top.Top}
+use Rattle.ert_scenario.specs.{declared.format.Format.Format}
+use Rattle.ert_scenario.proofs.{Accepted.{AreFew, accepts_all}, Checked.Decides-checked, Cut.{callers_ops, race_ops, all_flat, ops_of-without}, Done.{all_done, keepers_are_callers, callers_are_callers}, Founds.{follows, in_range_parts}}
+use Rattle.ert_scenario.proofs.{Founds.both_ok, InRange.{ops_in_range, length-ops_of, still_in_range, all_in_range, range_front, range_back}, NewLabels.{all_new, ops_front}}
 
 -- ---- where there is no fault
 

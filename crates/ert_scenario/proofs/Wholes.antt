@@ -4,8 +4,7 @@ use Rattle.std.proofs.Common.{◌≡◌, ◌<◌, ℕ, ℤ, pos, negsuc, Bool, t
 use Rattle.std.proofs.lemmas.Bool.Decides.{nat_tests}
 use Rattle.std.specs.Int.{FitsUnsignedBits}
 use Rattle.std.specs.Prelude.{unsigned_abs}
-use Rattle.ert_scenario.specs.Kinds.{if_in_range, word_from}
-use Rattle.ert_scenario.specs.declared.fault.Fault.TheVariants.{Range}
+use Rattle.ert_scenario.specs.{Kinds.{if_in_range, word_from}, declared.fault.Fault.TheVariants.Range}
 
 within : (fits : Bool) (n : ℕ) → fits ≡ true → Ok n ≡ if_in_range fits n
 unfolding if_in_range

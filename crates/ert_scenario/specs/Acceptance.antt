@@ -2,21 +2,11 @@
 
 use Rattle.std.specs.Prelude.{◌≡◌, ℕ, suc, ◌≤◌, Bool, true, false, List, [], ◌∷◌, ◌++◌, map, length, Option, None, Some, Ok, codes}
 use Rattle.std.specs.List.{list_all}
-use Rattle.serde_json.specs.Data.{Data}
-use Rattle.serde_json.specs.Find.{get}
-use Rattle.ert_defs.specs.declared.settings.Settings.{Settings}
-use Rattle.ert_defs.specs.declared.settings.TheConstants.{SCENARIO_LOOKS}
-use Rattle.ert_ops.specs.Labels.{AreOps}
-use Rattle.ert_ops.specs.Races.{Race, lists_of, ops_in}
-use Rattle.ert_ops.specs.declared.op.Op.{Op}
-use Rattle.ert_scenario.specs.Fields.{is_field, only_named, is_among, race_fields, one_or_two, start_time, time_warp_mode, time_correction, count, field, format_of}
-use Rattle.ert_scenario.specs.Kinds.{listed, listed_reading, non_negative}
-use Rattle.ert_scenario.specs.Ranges.{is_checked, is_op}
-use Rattle.ert_scenario.specs.Rows.{op_of}
-use Rattle.ert_scenario.specs.Scenarios.{IsValue, Plan}
-use Rattle.ert_scenario.specs.declared.doer.ListDoer.{ListDoer}
-use Rattle.ert_scenario.specs.declared.doer.ListDoer.TheVariants.{Everyone, Keeper, Caller}
-use Rattle.ert_scenario.specs.declared.format.Format.{Format}
+use Rattle.serde_json.specs.{Data.Data, Find.get}
+use Rattle.ert_defs.specs.declared.settings.{Settings.Settings, TheConstants.SCENARIO_LOOKS}
+use Rattle.ert_ops.specs.{Labels.AreOps, Races.{Race, lists_of, ops_in}, declared.op.Op.Op}
+use Rattle.ert_scenario.specs.{Fields.{is_field, only_named, is_among, race_fields, one_or_two, start_time, time_warp_mode, time_correction, count, field, format_of}, Kinds.{listed, listed_reading, non_negative}, Ranges.{is_checked, is_op}}
+use Rattle.ert_scenario.specs.{Rows.op_of, Scenarios.{IsValue, Plan}, declared.doer.ListDoer.ListDoer, declared.doer.ListDoer.TheVariants.{Everyone, Keeper, Caller}, declared.format.Format.Format}
 
 -- the fields of a value give these settings, for so many callers, and a service can be opened with them. It has no field
 -- with another name

@@ -2,12 +2,8 @@
 
 use Rattle.std.specs.Prelude.{ℕ, ◌+◌, List, [], ◌∷◌, length, take, drop, option_map}
 use Rattle.serde_json.specs.Data.{Data}
-use Rattle.ert_ops.specs.Races.{Race}
-use Rattle.ert_ops.specs.declared.op.Op.{Op}
-use Rattle.ert_scenario.specs.Kinds.{items_in}
-use Rattle.ert_scenario.specs.Lists.{RaceValues, OpValues, list_count}
-use Rattle.ert_scenario.specs.Scenarios.{Plan, with_callers}
-use Rattle.ert_scenario.specs.declared.fields.Top.{Top}
+use Rattle.ert_ops.specs.{Races.Race, declared.op.Op.Op}
+use Rattle.ert_scenario.specs.{Kinds.items_in, Lists.{RaceValues, OpValues, list_count}, Scenarios.{Plan, with_callers}, declared.fields.Top.Top}
 
 -- for each caller's list as many ops as it has items
 abbrev pub cut_callers : List Data → List Op → List (List Op)

@@ -1,11 +1,8 @@
 -- Which ops may stand in a list, by the thread that does it.
 
 use Rattle.std.specs.Prelude.{List, All}
-use Rattle.ert_ops.specs.Races.{IsCallersOp}
-use Rattle.ert_ops.specs.declared.op.Op.{Op}
-use Rattle.ert_ops.specs.declared.op.Op.TheVariants.{Tick, Check, Finalize, Notify}
-use Rattle.ert_scenario.specs.declared.doer.ListDoer.{ListDoer}
-use Rattle.ert_scenario.specs.declared.doer.ListDoer.TheVariants.{Everyone, Keeper, Caller}
+use Rattle.ert_ops.specs.{Races.IsCallersOp, declared.op.Op.Op, declared.op.Op.TheVariants.{Tick, Check, Finalize, Notify}}
+use Rattle.ert_scenario.specs.declared.doer.ListDoer.{ListDoer, TheVariants.{Everyone, Keeper, Caller}}
 
 -- an op of the clock's thread: one that hands the clock a reading, or tells a process of the time offset
 abbrev pub IsKeepersOp : Op → Type 0

@@ -1,24 +1,12 @@
 -- The fields of a scenario but for its lists of ops: the settings, and the turns of a race.
 
 use Rattle.std.specs.Prelude.{ℕ, ℤ, pos, List, [], ◌∷◌, codes, Bool, true, false, ◌&&◌, ◌||◌, Option, Ok, Err, if◌then◌else◌}
-use Rattle.std.specs.Ordering.{int_eq}
-use Rattle.std.specs.Str.{bytes_eq}
-use Rattle.serde_json.specs.Data.{Data, Members, no_members, member}
-use Rattle.serde_json.specs.Find.{get, as_object}
-use Rattle.ert_defs.specs.declared.settings.Mode.{Mode}
-use Rattle.ert_defs.specs.declared.settings.Mode.TheVariants.{No, Single, Multi}
-use Rattle.ert_defs.specs.declared.settings.Reading.{Reading}
-use Rattle.ert_defs.specs.declared.settings.Settings.{Settings}
-use Rattle.ert_defs.specs.declared.settings.TheConstants.{SCENARIO_LOOKS}
+use Rattle.std.specs.{Ordering.int_eq, Str.bytes_eq}
+use Rattle.serde_json.specs.{Data.{Data, Members, no_members, member}, Find.{get, as_object}}
+use Rattle.ert_defs.specs.declared.settings.{Mode.Mode, Mode.TheVariants.{No, Single, Multi}, Reading.Reading, Settings.Settings, TheConstants.SCENARIO_LOOKS}
 use Rattle.ert_scenario.specs.Kinds.{FoundOrFault, ◌>>=◌, read_both, of_kind, if_in_range, integer, word, non_negative, boolean, text, called, or_absent, listed_reading}
-use Rattle.ert_scenario.specs.Ranges.{is_checked}
-use Rattle.ert_scenario.specs.declared.fault.Fault.TheVariants.{Shape}
-use Rattle.ert_scenario.specs.declared.fields.Sizes.{Sizes}
-use Rattle.ert_scenario.specs.declared.fields.ClockFields.{ClockFields}
-use Rattle.ert_scenario.specs.declared.fields.Head.{Head}
-use Rattle.ert_scenario.specs.declared.fields.Top.{Top}
-use Rattle.ert_scenario.specs.declared.format.Format.{Format}
-use Rattle.ert_scenario.specs.declared.format.Format.TheVariants.{One, Two}
+use Rattle.ert_scenario.specs.{Ranges.is_checked, declared.fault.Fault.TheVariants.Shape, declared.fields.Sizes.Sizes, declared.fields.ClockFields.ClockFields, declared.fields.Head.Head, declared.fields.Top.Top}
+use Rattle.ert_scenario.specs.{declared.format.Format.Format, declared.format.Format.TheVariants.{One, Two}}
 
 -- the name of each field of the clock
 abbrev pub clock_fields : List (List ℕ)

@@ -1,14 +1,10 @@
 -- What an argument or a field is read as, or the fault that it has.
 
 use Rattle.std.specs.Prelude.{ℕ, ℤ, pos, negsuc, nat_lt, List, [], ◌∷◌, Bool, true, false, Option, Some, None, is_some, Result, Ok, Err, option_map, option_and_then, if◌then◌else◌}
-use Rattle.std.specs.List.{list_all}
-use Rattle.std.specs.Str.{bytes_eq}
-use Rattle.ert_defs.specs.Mails.{first_of, others_of}
-use Rattle.serde_json.specs.Data.{Data, Items, no_items, item}
-use Rattle.serde_json.specs.Find.{as_number, as_i64, as_u64, as_bool, as_str, as_array}
-use Rattle.ert_defs.specs.declared.settings.Reading.{Reading}
-use Rattle.ert_scenario.specs.declared.fault.Fault.{Fault}
-use Rattle.ert_scenario.specs.declared.fault.Fault.TheVariants.{Shape, Range}
+use Rattle.std.specs.{List.list_all, Str.bytes_eq}
+use Rattle.ert_defs.specs.{Mails.{first_of, others_of}, declared.settings.Reading.Reading}
+use Rattle.serde_json.specs.{Data.{Data, Items, no_items, item}, Find.{as_number, as_i64, as_u64, as_bool, as_str, as_array}}
+use Rattle.ert_scenario.specs.declared.fault.Fault.{Fault, TheVariants.{Shape, Range}}
 
 -- what was read, or its fault
 abbrev pub FoundOrFault : Type 0 → Type 0

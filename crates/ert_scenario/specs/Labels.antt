@@ -2,10 +2,8 @@
 
 use Rattle.std.specs.Prelude.{◌≡◌, ◌<◌, ◌+◌, ℕ, List, [], ◌∷◌, length, Bool, true, false, not, ◌&&◌, ◌||◌, nat_eq, slice_index_or, slice_set, Option, Some, None, Ok, Err, if◌then◌else◌}
 use Rattle.ert_defs.specs.declared.settings.Settings.{Settings}
-use Rattle.ert_ops.specs.declared.op.Op.{Op}
-use Rattle.ert_ops.specs.declared.op.Op.TheVariants.{Start, SendAfter}
-use Rattle.ert_scenario.specs.Kinds.{FoundOrFault, if_in_range}
-use Rattle.ert_scenario.specs.Ranges.{is_op}
+use Rattle.ert_ops.specs.declared.op.Op.{Op, TheVariants.{Start, SendAfter}}
+use Rattle.ert_scenario.specs.{Kinds.{FoundOrFault, if_in_range}, Ranges.is_op}
 
 -- the label of an op that starts a timer
 unfoldable pub started_label : Op → Option ℕ

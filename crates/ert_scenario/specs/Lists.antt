@@ -1,12 +1,9 @@
 -- The lists of ops of a value: that of the field `ops`, and those of the field `race`.
 
 use Rattle.std.specs.Prelude.{ℕ, List, map, length, codes, Bool, true, false, Option, Some, None, Ok, option_map}
-use Rattle.serde_json.specs.Data.{Data}
-use Rattle.serde_json.specs.View.{view}
+use Rattle.serde_json.specs.{Data.Data, View.view}
 use Rattle.ert_scenario.specs.Kinds.{FoundOrFault, ◌>>=◌, read_both, of_kind, listed, arrays}
-use Rattle.ert_scenario.specs.Fields.{field}
-use Rattle.ert_scenario.specs.declared.lists.Lists.{Lists}
-use Rattle.ert_scenario.specs.declared.lists.RaceItems.{RaceItems}
+use Rattle.ert_scenario.specs.{Fields.field, declared.lists.Lists.Lists, declared.lists.RaceItems.RaceItems}
 
 -- the values of the ops of a race: those of the clock's thread, and an array for each caller
 pub record RaceValues : Type 0 where

@@ -3,11 +3,8 @@
 use Rattle.std.specs.Prelude.{◌≡◌, ℕ, pos, List, [], ◌∷◌, ◌++◌, map, codes, Bool, true, false, ◌||◌, Option, Some, None, Ok, Err, if◌then◌else◌}
 use Rattle.std.specs.Str.{bytes_eq}
 use Rattle.ert_defs.specs.Mails.{first_of}
-use Rattle.serde_json.specs.Data.{Data, null, boolean, number, string, array, object, unsigned, put}
-use Rattle.serde_json.specs.Find.{get}
-use Rattle.serde_json.specs.View.{items_of}
-use Rattle.ert_scenario.specs.Fields.{field}
-use Rattle.ert_scenario.specs.Kinds.{FoundOrFault, integer, list_of, text}
+use Rattle.serde_json.specs.{Data.{Data, null, boolean, number, string, array, object, unsigned, put}, Find.get, View.items_of}
+use Rattle.ert_scenario.specs.{Fields.field, Kinds.{FoundOrFault, integer, list_of, text}}
 
 -- whether it is the name of an op that asks a scheduler
 abbrev pub is_ask : FoundOrFault (List ℕ) → Bool

@@ -4,15 +4,9 @@ use Rattle.std.specs.Prelude.{◌≡◌, ◌<◌, ◌⊎◌, ℕ, zero, suc, Boo
 use Rattle.serde_json.specs.Data.{Data}
 use Rattle.ert_defs.specs.declared.settings.Settings.{Settings}
 use Rattle.ert_ops.specs.declared.op.Op.{Op}
-use Rattle.ert_scenario.specs.Fields.{top_of, format_of}
+use Rattle.ert_scenario.specs.{Fields.{top_of, format_of}, Labels.started_label, Lists.{OpValues, lists_found, list_count}, Walks.{all_raws, founds_of}, declared.fault.Fault.Fault, declared.fault.Fault.TheVariants.{Shape, Range}}
+use Rattle.ert_scenario.specs.{declared.fields.Top.Top, declared.limits.TheConstants.{MOST_LISTS, MOST_TURNS, MOST_OPS}}
 use Rattle.ert_scenario.specs.Kinds.{FoundOrFault, found_map, ◌>>=◌, read_both}
-use Rattle.ert_scenario.specs.Labels.{started_label}
-use Rattle.ert_scenario.specs.Lists.{OpValues, lists_found, list_count}
-use Rattle.ert_scenario.specs.Walks.{all_raws, founds_of}
-use Rattle.ert_scenario.specs.declared.fault.Fault.{Fault}
-use Rattle.ert_scenario.specs.declared.fault.Fault.TheVariants.{Shape, Range}
-use Rattle.ert_scenario.specs.declared.fields.Top.{Top}
-use Rattle.ert_scenario.specs.declared.limits.TheConstants.{MOST_LISTS, MOST_TURNS, MOST_OPS}
 
 -- the fault, where there is one
 abbrev pub fault_of : {X : Type 0} → FoundOrFault X → Option Fault

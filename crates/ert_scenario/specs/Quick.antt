@@ -1,18 +1,11 @@
 -- What one pass over the tokens of a text finds.
 
 use Rattle.std.specs.Prelude.{◌≡◌, ℕ, suc, List, Option, Some, None, Ok, option_map}
-use Rattle.json.specs.Json.{value}
+use Rattle.json.specs.{Json.value, Token.Token}
 use Rattle.json.specs.Token as tokens
-use Rattle.json.specs.Token.{Token}
-use Rattle.serde_json.specs.Data.{Data, boolean, number, string, array}
-use Rattle.serde_json.specs.Read.{number_of, of_json, converted}
-use Rattle.serde_json.specs.View.{items_of}
+use Rattle.serde_json.specs.{Data.{Data, boolean, number, string, array}, Read.{number_of, of_json, converted}, View.items_of}
 use Rattle.ert_ops.specs.declared.op.Op.{Op}
-use Rattle.ert_scenario.specs.Rows.{op_of}
-use Rattle.ert_scenario.specs.Walked.{without_fault}
-use Rattle.ert_scenario.specs.Walks.{raws_of}
-use Rattle.ert_scenario.specs.declared.doer.ListDoer.TheVariants.{Everyone}
-use Rattle.ert_scenario.specs.declared.format.Format.{Format}
+use Rattle.ert_scenario.specs.{Rows.op_of, Walked.without_fault, Walks.raws_of, declared.doer.ListDoer.TheVariants.Everyone, declared.format.Format.Format}
 
 -- the value of a token that is a whole value
 abbrev pub scalar_of : Token → Option Data

@@ -2,24 +2,12 @@
 
 use Rattle.std.specs.Prelude.{◌≡◌, ℕ, suc, List, [], false, codes, Option, Some, None, Ok}
 use Rattle.std.specs.Str.{bytes_eq}
-use Rattle.json.specs.Json.{value}
-use Rattle.json.specs.Token.{Token}
-use Rattle.serde_json.specs.Data.{Data, array, object, Members, put}
-use Rattle.serde_json.specs.Find.{get_member}
-use Rattle.serde_json.specs.Read.{of_json, converted}
-use Rattle.serde_json.specs.View.{items_of, members_view}
+use Rattle.json.specs.{Json.value, Token.Token}
+use Rattle.serde_json.specs.{Data.{Data, array, object, Members, put}, Find.get_member, Read.{of_json, converted}, View.{items_of, members_view}}
 use Rattle.ert_defs.specs.declared.settings.Settings.{Settings}
 use Rattle.ert_ops.specs.declared.op.Op.{Op}
-use Rattle.ert_scenario.specs.Fields.{is_field, are_named}
-use Rattle.ert_scenario.specs.Labels.{tested}
-use Rattle.ert_scenario.specs.Lists.{OpValues}
-use Rattle.ert_scenario.specs.Scenarios.{Plan, with_callers, judged, verdict_of}
-use Rattle.ert_scenario.specs.Walked.{without_fault}
-use Rattle.ert_scenario.specs.Walks.{raws_of, all_raws}
-use Rattle.ert_scenario.specs.declared.doer.ListDoer.TheVariants.{Everyone}
-use Rattle.ert_scenario.specs.declared.fields.Top.{Top}
-use Rattle.ert_scenario.specs.declared.format.Format.{Format}
-use Rattle.ert_scenario.specs.declared.quick.members.Seen.{Seen}
+use Rattle.ert_scenario.specs.{Fields.{is_field, are_named}, Labels.tested, Lists.OpValues, Scenarios.{Plan, with_callers, judged, verdict_of}, Walked.without_fault, Walks.{raws_of, all_raws}, declared.doer.ListDoer.TheVariants.Everyone}
+use Rattle.ert_scenario.specs.{declared.fields.Top.Top, declared.format.Format.Format, declared.quick.members.Seen.Seen}
 
 -- the values of ops, without a race
 abbrev pub without_race : List Data → OpValues

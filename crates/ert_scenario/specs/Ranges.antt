@@ -1,10 +1,8 @@
 -- The ranges of settings and of ops, as tests.
 
 use Rattle.std.specs.Prelude.{◌*◌, ℕ, pos, negsuc, ℤ, Bool, true, ◌&&◌, int_lt, int_le, nat_le, nat_lt}
-use Rattle.std.specs.Int.{int_rem_euclid}
-use Rattle.std.specs.Ordering.{int_eq}
-use Rattle.ert_defs.specs.declared.settings.Reading.{Reading}
-use Rattle.ert_defs.specs.declared.settings.Settings.{Settings}
+use Rattle.std.specs.{Int.int_rem_euclid, Ordering.int_eq}
+use Rattle.ert_defs.specs.declared.settings.{Reading.Reading, Settings.Settings}
 use Rattle.ert_ops.specs.declared.op.Op.{Op}
 use Rattle.ert_ops.specs.declared.op.Op.TheVariants.{Tick, Check, Finalize, Notify, Time, System, Offset, Info, Convert, Start, SendAfter, Cancel, CancelQuiet, Read, CancelAsync, ReadAsync, Serve, Advance, Deliver, Turn, Receive, Exit, Alive, Monitor, Demonitor}
 use Rattle.ert_scenario.specs.declared.limits.TheConstants.{MOST_SCHEDULERS, MOST_PROCESSES, MOST_SLOTS, MOST_SLOTS_IN_ALL, MOST_CALLERS}

@@ -2,23 +2,13 @@
 
 use Rattle.std.specs.Prelude.{ℕ, ℤ, List, [], ◌∷◌, codes, Bool, true, Option, Some, None, Ok, Err, if◌then◌else◌}
 use Rattle.std.specs.Str.{bytes_eq}
-use Rattle.ert_defs.specs.Mails.{first_of, others_of}
+use Rattle.ert_defs.specs.{Mails.{first_of, others_of}, declared.settings.Reading.Reading, declared.timer.When.When, declared.timer.When.TheVariants.{After, At}}
 use Rattle.serde_json.specs.Data.{Data}
-use Rattle.ert_defs.specs.declared.settings.Reading.{Reading}
-use Rattle.ert_defs.specs.declared.timer.When.{When}
-use Rattle.ert_defs.specs.declared.timer.When.TheVariants.{After, At}
 use Rattle.ert_ops.specs.declared.op.Op.{Op}
 use Rattle.ert_ops.specs.declared.op.Op.TheVariants.{Tick, Check, Finalize, Notify, Time, System, Offset, Info, Convert, Start, SendAfter, Cancel, CancelQuiet, Read, CancelAsync, ReadAsync, Serve, Advance, Deliver, Turn, Receive, Exit, Alive, Monitor, Demonitor}
 use Rattle.ert_scenario.specs.Kinds.{FoundOrFault, ◌>>=◌, ◌▹◌, integer, word, unsigned_integer, boolean, called, one_word, two_words, reading_from, listed, text, end}
-use Rattle.ert_scenario.specs.Units.{time_unit}
-use Rattle.ert_scenario.specs.declared.fault.Fault.TheVariants.{Shape}
-use Rattle.ert_scenario.specs.declared.doer.ListDoer.{ListDoer}
-use Rattle.ert_scenario.specs.declared.doer.ListDoer.TheVariants.{Everyone, Keeper, Caller}
-use Rattle.ert_scenario.specs.declared.format.Format.{Format}
-use Rattle.ert_scenario.specs.declared.format.Format.TheVariants.{One, Two}
-use Rattle.ert_scenario.specs.declared.rows.timers.Origin.{Origin}
-use Rattle.ert_scenario.specs.declared.rows.timers.Origin.TheVariants.{Now, Zero}
-use Rattle.ert_scenario.specs.declared.rows.timers.StartArgs.{StartArgs}
+use Rattle.ert_scenario.specs.{Units.time_unit, declared.fault.Fault.TheVariants.Shape, declared.doer.ListDoer.ListDoer, declared.doer.ListDoer.TheVariants.{Everyone, Keeper, Caller}, declared.format.Format.Format}
+use Rattle.ert_scenario.specs.{declared.format.Format.TheVariants.{One, Two}, declared.rows.timers.Origin.Origin, declared.rows.timers.Origin.TheVariants.{Now, Zero}, declared.rows.timers.StartArgs.StartArgs}
 
 -- the name of an op, and how its arguments are read
 abbrev pub OpRow : Type 0

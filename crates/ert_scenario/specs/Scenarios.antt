@@ -2,23 +2,13 @@
 
 use Rattle.std.specs.Prelude.{◌≡◌, ◌+◌, ℕ, List, map, length, Bool, ◌||◌, Option, Some, None, option_map, Result, Ok, Err, nat_lt, if◌then◌else◌}
 use Rattle.std.specs.Str.{IsUtf8}
-use Rattle.serde_json.specs.Data.{Data}
-use Rattle.serde_json.specs.Read.{read}
+use Rattle.serde_json.specs.{Data.Data, Read.read}
 use Rattle.ert_defs.specs.declared.settings.Settings.{Settings}
-use Rattle.ert_ops.specs.Races.{Race, race_of}
-use Rattle.ert_ops.specs.declared.op.Op.{Op}
-use Rattle.ert_scenario.specs.Fields.{top_of, format_of}
-use Rattle.ert_scenario.specs.Kinds.{FoundOrFault, items_in}
-use Rattle.ert_scenario.specs.Lists.{RaceValues, OpValues, lists_found, list_count}
-use Rattle.ert_scenario.specs.Walks.{raws_of, all_raws, founds_of, first_shape, first_range, ops_of}
-use Rattle.ert_scenario.specs.declared.doer.ListDoer.TheVariants.{Everyone, Keeper, Caller}
+use Rattle.ert_ops.specs.{Races.{Race, race_of}, declared.op.Op.Op}
+use Rattle.ert_scenario.specs.{Fields.{top_of, format_of}, Kinds.{FoundOrFault, items_in}, Lists.{RaceValues, OpValues, lists_found, list_count}, Walks.{raws_of, all_raws, founds_of, first_shape, first_range, ops_of}}
+use Rattle.ert_scenario.specs.{declared.doer.ListDoer.TheVariants.{Everyone, Keeper, Caller}, declared.fields.Top.Top, declared.format.Format.Format, declared.limits.TheConstants.{MOST_LISTS, MOST_TURNS, MOST_OPS}}
+use Rattle.ert_scenario.specs.{declared.scenario.Scenario.Scenario, declared.scenario.ScenarioErr.ScenarioErr, declared.scenario.ScenarioErr.TheVariants.{Json, Shape, Range, Limit, NoMemory}}
 use Rattle.ert_scenario.specs.declared.fault.Fault.TheVariants as faults
-use Rattle.ert_scenario.specs.declared.fields.Top.{Top}
-use Rattle.ert_scenario.specs.declared.format.Format.{Format}
-use Rattle.ert_scenario.specs.declared.limits.TheConstants.{MOST_LISTS, MOST_TURNS, MOST_OPS}
-use Rattle.ert_scenario.specs.declared.scenario.Scenario.{Scenario}
-use Rattle.ert_scenario.specs.declared.scenario.ScenarioErr.{ScenarioErr}
-use Rattle.ert_scenario.specs.declared.scenario.ScenarioErr.TheVariants.{Json, Shape, Range, Limit, NoMemory}
 
 -- a scenario without where it lies in memory
 pub record Plan : Type 0 where

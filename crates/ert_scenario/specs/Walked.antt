@@ -2,12 +2,8 @@
 
 use Rattle.std.specs.Prelude.{◌≡◌, ◌+◌, ℕ, List, ◌∷◌, ◌++◌, map, length, Option, Some, None, Ok, Err}
 use Rattle.ert_ops.specs.declared.op.Op.{Op}
-use Rattle.ert_scenario.specs.Kinds.{FoundOrFault}
-use Rattle.ert_scenario.specs.Walks.{first_shape}
+use Rattle.ert_scenario.specs.{Kinds.FoundOrFault, Walks.first_shape, declared.scenario.ScenarioErr.ScenarioErr, declared.scenario.ScenarioErr.TheVariants.{Json, Shape, Range, Limit, NoMemory}, declared.walk.Walk.Walk}
 use Rattle.ert_scenario.specs.declared.fault.Fault.TheVariants as faults
-use Rattle.ert_scenario.specs.declared.scenario.ScenarioErr.{ScenarioErr}
-use Rattle.ert_scenario.specs.declared.scenario.ScenarioErr.TheVariants.{Json, Shape, Range, Limit, NoMemory}
-use Rattle.ert_scenario.specs.declared.walk.Walk.{Walk}
 
 -- the ops, as they are found without a fault
 abbrev pub without_fault : List Op → List (FoundOrFault Op)

@@ -3,15 +3,8 @@
 use Rattle.std.specs.Prelude.{ℕ, ◌+◌, List, [], ◌∷◌, ◌++◌, map, Option, Some, None, Ok, Err}
 use Rattle.serde_json.specs.Data.{Data}
 use Rattle.ert_ops.specs.declared.op.Op.{Op}
-use Rattle.ert_scenario.specs.Kinds.{FoundOrFault, items_in}
-use Rattle.ert_scenario.specs.Labels.{tested}
-use Rattle.ert_scenario.specs.Lists.{RaceValues, OpValues}
-use Rattle.ert_scenario.specs.Rows.{op_of}
-use Rattle.ert_scenario.specs.declared.fault.Fault.TheVariants.{Shape, Range}
-use Rattle.ert_scenario.specs.declared.doer.ListDoer.{ListDoer}
-use Rattle.ert_scenario.specs.declared.doer.ListDoer.TheVariants.{Everyone, Keeper, Caller}
-use Rattle.ert_scenario.specs.declared.fields.Top.{Top}
-use Rattle.ert_scenario.specs.declared.format.Format.{Format}
+use Rattle.ert_scenario.specs.{Kinds.{FoundOrFault, items_in}, Labels.tested, Lists.{RaceValues, OpValues}, Rows.op_of, declared.fault.Fault.TheVariants.{Shape, Range}, declared.doer.ListDoer.ListDoer}
+use Rattle.ert_scenario.specs.{declared.doer.ListDoer.TheVariants.{Everyone, Keeper, Caller}, declared.fields.Top.Top, declared.format.Format.Format}
 
 -- what each of the values is as an op of the format, in the list of this doer
 abbrev pub raws_of : Format → ListDoer → List Data → List (FoundOrFault Op)

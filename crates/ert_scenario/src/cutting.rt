@@ -2,9 +2,7 @@
 
 ghost use Rattle.std.specs.Prelude.{◌≡◌, ◌≤◌, map, take, drop, IfOk};
 ghost use Rattle.ert_ops.specs.Races.{race_of};
-ghost use Rattle.ert_scenario.specs.Cuts.{cut_callers, cut_race, cut_plan};
-ghost use Rattle.ert_scenario.specs.Lists.{lists_seen, race_seen, list_count};
-ghost use Rattle.ert_scenario.specs.Scenarios.{plan_of};
+ghost use Rattle.ert_scenario.specs.{Cuts.{cut_callers, cut_race, cut_plan}, Lists.{lists_seen, race_seen, list_count}, Scenarios.plan_of};
 ghost use Rattle.serde_json.specs.View.{view};
 
 use crate::fields::Top;

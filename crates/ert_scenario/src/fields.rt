@@ -1,14 +1,10 @@
 //! The fields of a scenario but for its lists of ops: the settings, and the turns of a race.
 
 ghost use Rattle.std.specs.Prelude.{◌≡◌, option_map, string_bytes};
-ghost use Rattle.std.specs.BTreeMap.{keys};
-ghost use Rattle.std.specs.List.{list_all};
+ghost use Rattle.std.specs.{BTreeMap.keys, List.list_all};
 ghost use Rattle.serde_json.specs.View.{view};
-ghost use Rattle.ert_scenario.specs.Fields.{clock_fields, other_fields, race_fields, is_field, is_among, only_named, modes_by_name};
-ghost use Rattle.ert_scenario.specs.Fields.{start_time, time_warp_mode, time_correction, count, start_and_first, modes, one_or_two};
-ghost use Rattle.ert_scenario.specs.Fields.{clock_fields_of, sizes_of, head_of, settings_with, settings_from, race_turns, top_of};
-ghost use Rattle.ert_scenario.specs.Kinds.{called};
-ghost use Rattle.ert_scenario.specs.Ranges.{has_counts, is_checked};
+ghost use Rattle.ert_scenario.specs.{Fields.{clock_fields, other_fields, race_fields, is_field, is_among, only_named, modes_by_name, start_time, time_warp_mode, time_correction, count, start_and_first, modes, one_or_two, clock_fields_of}};
+ghost use Rattle.ert_scenario.specs.{Fields.{sizes_of, head_of, settings_with, settings_from, race_turns, top_of}, Kinds.called, Ranges.{has_counts, is_checked}};
 
 use crate::fault::Fault;
 use crate::kinds::{boolean, both, count_of, in_range, integer, present, reading, text, word};

@@ -2,8 +2,7 @@
 
 ghost use Rattle.std.specs.Prelude.{◌≡◌, option_map};
 ghost use Rattle.serde_json.specs.View.{view};
-ghost use Rattle.ert_scenario.specs.Fields.{format_by, format_of};
-ghost use Rattle.ert_scenario.specs.Kinds.{integer};
+ghost use Rattle.ert_scenario.specs.{Fields.{format_by, format_of}, Kinds.integer};
 
 use crate::kinds::integer;
 use serde_json::Value;

@@ -4,9 +4,8 @@ ghost use Rattle.std.specs.Prelude.{◌≡◌, map, option_map};
 ghost use Rattle.std.specs.List.{list_all};
 ghost use Rattle.serde_json.specs.View.{view};
 ghost use Rattle.ert_defs.specs.Mails.{first_of, others_of};
-ghost use Rattle.ert_scenario.specs.Kinds.{found_map, read_both, of_kind, if_in_range, integer, word_from, word, non_negative_from, non_negative, unsigned_integer, boolean, text};
-ghost use Rattle.ert_defs.specs.Mails.{first_of, others_of};
-ghost use Rattle.ert_scenario.specs.Kinds.{listed, items_in, is_array, arrays, end, one_word, two_words, reading_from, listed_reading};
+ghost use Rattle.ert_scenario.specs.Kinds.{found_map, read_both, of_kind, if_in_range, integer, word_from, word, non_negative_from, non_negative, unsigned_integer, boolean, text, listed, items_in, is_array, arrays, end, one_word};
+ghost use Rattle.ert_scenario.specs.Kinds.{two_words, reading_from, listed_reading};
 
 use crate::fault::Fault;
 use ert_defs::Reading;

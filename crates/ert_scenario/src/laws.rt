@@ -2,20 +2,11 @@
 //! bring its law into reach; the call costs nothing.
 
 ghost use Rattle.std.specs.Prelude.{◌≡◌, ◌<◌, ◌⊎◌, ℕ, suc, Bool, true, false, List, All, Some, IfSome, is_some};
-ghost use Rattle.ert_defs.specs.Settings.{IsChecked};
-ghost use Rattle.ert_defs.specs.declared.settings.Settings.{Settings};
-ghost use Rattle.ert_ops.specs.Labels.{AreOps};
-ghost use Rattle.ert_ops.specs.Races.{Race as ARace, IsRace};
-ghost use Rattle.ert_ops.specs.Ranges.{IsOpInRange, AreOpsInRange};
+ghost use Rattle.ert_defs.specs.{Settings.IsChecked, declared.settings.Settings.Settings};
+ghost use Rattle.ert_ops.specs.{Labels.AreOps, Races.{Race as ARace, IsRace}, Ranges.{IsOpInRange, AreOpsInRange}, declared.op.Op.Op as AnOp};
 ghost use Rattle.serde_json.specs.Data.{Data};
-ghost use Rattle.ert_ops.specs.declared.op.Op.{Op as AnOp};
-ghost use Rattle.ert_scenario.specs.Acceptance.{IsRunnable, IsRaceable, plan_alone, plan_with};
-ghost use Rattle.ert_scenario.specs.Doers.{IsKeepersOp, AreCallersAlone};
-ghost use Rattle.ert_scenario.specs.Kinds.{FoundOrFault};
-ghost use Rattle.ert_scenario.specs.Migration.{IsOfFormat, migrated};
-ghost use Rattle.ert_scenario.specs.Places.{HasShapeFault, HasRangeFault, IsTooMuch, IsLeast, IsNowhere, raw_at, GivesRawOps, IsStartAt};
-ghost use Rattle.ert_scenario.specs.Scenarios.{Plan, IsValue, IsScenario, HasRefusal, verdict_of};
-ghost use Rattle.ert_scenario.specs.declared.scenario.ScenarioErr.{ScenarioErr as Refusal};
+ghost use Rattle.ert_scenario.specs.{Acceptance.{IsRunnable, IsRaceable, plan_alone, plan_with}, Doers.{IsKeepersOp, AreCallersAlone}, Kinds.FoundOrFault, Migration.{IsOfFormat, migrated}, Places.{HasShapeFault, HasRangeFault, IsTooMuch}};
+ghost use Rattle.ert_scenario.specs.{Places.{IsLeast, IsNowhere, raw_at, GivesRawOps, IsStartAt}, Scenarios.{Plan, IsValue, IsScenario, HasRefusal, verdict_of}, declared.scenario.ScenarioErr.ScenarioErr as Refusal};
 
 use crate::limits::{
     MOST_CALLERS, MOST_LISTS, MOST_OPS, MOST_PROCESSES, MOST_SCHEDULERS, MOST_SLOTS,

@@ -2,8 +2,7 @@
 
 ghost use Rattle.std.specs.Prelude.{◌≡◌, option_map};
 ghost use Rattle.serde_json.specs.View.{view};
-ghost use Rattle.ert_scenario.specs.Kinds.{found_map};
-ghost use Rattle.ert_scenario.specs.Lists.{lists_seen, race_seen, lists_in, race_lists, lists_alone, lists_with_race, lists_found, list_count};
+ghost use Rattle.ert_scenario.specs.{Kinds.found_map, Lists.{lists_seen, race_seen, lists_in, race_lists, lists_alone, lists_with_race, lists_found, list_count}};
 
 use crate::fault::Fault;
 use crate::kinds::{arrays, both, listed, present};

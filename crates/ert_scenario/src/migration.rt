@@ -1,11 +1,9 @@
 //! Values of format 1, made values of format 2.
 
 ghost use Rattle.std.specs.Prelude.{◌≡◌, map, codes, Ok, IfOk, OnOk};
-ghost use Rattle.serde_json.specs.View.{view, members_view};
-ghost use Rattle.serde_json.specs.Data.{put as with_member};
+ghost use Rattle.serde_json.specs.{View.{view, members_view}, Data.put as with_member};
 ghost use Rattle.ert_defs.specs.Mails.{first_of};
-ghost use Rattle.ert_scenario.specs.Kinds.{text as text_of};
-ghost use Rattle.ert_scenario.specs.Migration.{is_ask, migrated_items, migrated_op, each, migrated_list, with_field, changed, migrated_race, migrated};
+ghost use Rattle.ert_scenario.specs.{Kinds.text as text_of, Migration.{is_ask, migrated_items, migrated_op, each, migrated_list, with_field, changed, migrated_race, migrated}};
 
 use crate::kinds::{next, text};
 use ert_defs::NoMemory;

@@ -3,10 +3,8 @@
 
 ghost use Rattle.std.specs.Prelude.{◌≡◌, [], false, Some, IsTrue, IfOk, IfErr, IfSome};
 ghost use Rattle.json.specs.Json.{value as json_value};
-ghost use Rattle.serde_json.specs.Data.{Members, object};
-ghost use Rattle.serde_json.specs.Read.{read, of_json, converted};
-ghost use Rattle.ert_scenario.specs.QuickMembers.{IsSeenAs, IsPlanOf, IsPlanWith, plan_for_one};
-ghost use Rattle.ert_scenario.specs.Scenarios.{plan_of, IsScenario};
+ghost use Rattle.serde_json.specs.{Data.{Members, object}, Read.{read, of_json, converted}};
+ghost use Rattle.ert_scenario.specs.{QuickMembers.{IsSeenAs, IsPlanOf, IsPlanWith, plan_for_one}, Scenarios.{plan_of, IsScenario}};
 
 mod members;
 mod ops;

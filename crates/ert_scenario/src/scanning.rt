@@ -1,10 +1,7 @@
 ghost use Rattle.std.specs.Prelude.{◌++◌, [], List, map, OnOk, IfOk, IfErr};
 ghost use Rattle.serde_json.specs.View.{view};
 ghost use Rattle.ert_ops.specs.declared.op.Op.{Op as AnOp};
-ghost use Rattle.ert_scenario.specs.Kinds.{FoundOrFault};
-ghost use Rattle.ert_scenario.specs.Lists.{lists_seen, race_seen};
-ghost use Rattle.ert_scenario.specs.Walked.{WalkIsAt, IsOver, IsShapeAt};
-ghost use Rattle.ert_scenario.specs.Walks.{raws_of, caller_raws, race_raws, all_raws, first_shape};
+ghost use Rattle.ert_scenario.specs.{Kinds.FoundOrFault, Lists.{lists_seen, race_seen}, Walked.{WalkIsAt, IsOver, IsShapeAt}, Walks.{raws_of, caller_raws, race_raws, all_raws, first_shape}};
 
 use crate::doer::ListDoer;
 use crate::format::Format;

@@ -1,12 +1,7 @@
 ghost use Rattle.std.specs.Prelude.{◌≡◌, ◌≢◌, [], List, IfOk, IfErr};
 ghost use Rattle.serde_json.specs.View.{view};
-ghost use Rattle.ert_scenario.specs.Scenarios.{plan_of, is_over, judged, verdict_of, IsScenario, HasRefusal};
+ghost use Rattle.ert_scenario.specs.{Scenarios.{plan_of, is_over, judged, verdict_of, IsScenario, HasRefusal}, Kinds.FoundOrFault, Labels.tested, Lists.lists_seen, Walked.IsOver, Walks.{all_raws, founds_of, first_range}};
 ghost use Rattle.ert_ops.specs.declared.op.Op.{Op as AnOp};
-ghost use Rattle.ert_scenario.specs.Kinds.{FoundOrFault};
-ghost use Rattle.ert_scenario.specs.Labels.{tested};
-ghost use Rattle.ert_scenario.specs.Lists.{lists_seen};
-ghost use Rattle.ert_scenario.specs.Walked.{IsOver};
-ghost use Rattle.ert_scenario.specs.Walks.{all_raws, founds_of, first_range};
 
 use crate::cutting::scenario_from;
 use crate::fault::Fault;

@@ -2,8 +2,7 @@
 
 ghost use Rattle.std.specs.Prelude.{◌≡◌, option_map};
 ghost use Rattle.serde_json.specs.View.{view};
-ghost use Rattle.ert_scenario.specs.Kinds.{called};
-ghost use Rattle.ert_scenario.specs.Units.{unit_names, unit_of, time_unit};
+ghost use Rattle.ert_scenario.specs.{Kinds.called, Units.{unit_names, unit_of, time_unit}};
 
 use crate::fault::Fault;
 use crate::kinds::{natural, text};

@@ -1,7 +1,5 @@
 ghost use Rattle.std.specs.Prelude.{◌≡◌, ◌∷◌, [], List, None, OnOk, IfOk, IfErr};
-ghost use Rattle.ert_scenario.specs.Kinds.{FoundOrFault};
-ghost use Rattle.ert_scenario.specs.Walks.{first_shape};
-ghost use Rattle.ert_scenario.specs.Walked.{WalkIsAt, IsShapeAt};
+ghost use Rattle.ert_scenario.specs.{Kinds.FoundOrFault, Walks.first_shape, Walked.{WalkIsAt, IsShapeAt}};
 ghost use Rattle.ert_ops.specs.declared.op.Op.{Op as AnOp};
 
 use crate::fault::Fault;

@@ -1,16 +1,11 @@
 -- A call of a world that gave out no seat.
 
 use Rattle.std.proofs.Common.{◌≡◌, Ok, Err}
-use Rattle.ert_defs.specs.declared.memory.NoMemory.{NoMemory}
-use Rattle.ert_defs.specs.declared.timer.TimerRef.{TimerRef}
+use Rattle.ert_defs.specs.declared.{memory.NoMemory.NoMemory, timer.TimerRef.TimerRef}
 use Rattle.ert_effects.specs.Ways.{Growth, Grows, Way, alone}
-use Rattle.ert_ops.specs.declared.op.Op.{Op}
+use Rattle.ert_ops.specs.{declared.op.Op.Op, Labels.Labels, Scripts.labels_after, declared.reply.Reply.Reply}
 use Rattle.ert_script.proofs.Answered.{unbound}
-use Rattle.ert_script.specs.Doing.{IsAnswered, IsTimerOf, HasStarted}
-use Rattle.ert_script.specs.Scripts.{StaysAlone, DoesWith, Fails}
-use Rattle.ert_ops.specs.Labels.{Labels}
-use Rattle.ert_ops.specs.Scripts.{labels_after}
-use Rattle.ert_ops.specs.declared.reply.Reply.{Reply}
+use Rattle.ert_script.specs.{Doing.{IsAnswered, IsTimerOf, HasStarted}, Scripts.{StaysAlone, DoesWith, Fails}}
 use Rattle.ert_world.specs.Worlds.{Seen, Goes}
 
 pub grows_alone : (old new : Seen) (call : Way → Growth) → Goes old call new → old.next ≡ 1 → Grows (call (alone old.settings)) old.history new.history

@@ -2,35 +2,15 @@
 
 use Rattle.std.proofs.Common.{◌≡◌, ℕ, ℤ, Bool, true, false, List, [], ◌∷◌, Option, Result, Ok, Err, refl, sym, ap, subst, ◌∙◌, append-nil}
 use Rattle.std.specs.Prelude.{◌≢◌}
-use Rattle.ert_clock.specs.declared.clock.ClockErr.{ClockErr}
-use Rattle.ert_clock.specs.declared.clock.ClockErr.TheVariants.{BadReading, OffsetWide}
-use Rattle.ert_clock.specs.declared.clock.Moved.{Moved}
-use Rattle.ert_defs.specs.declared.entry.Actor.TheVariants.{Keeper, Wheel, Inbox, MailOf, Caller}
-use Rattle.ert_defs.specs.declared.entry.Entry.{Entry}
-use Rattle.ert_defs.specs.declared.mail.Request.{Request}
-use Rattle.ert_defs.specs.declared.mail.RequestKind.{RequestKind}
-use Rattle.ert_defs.specs.declared.settings.OffsetState.{OffsetState}
-use Rattle.ert_defs.specs.declared.settings.Settings.{Settings}
-use Rattle.ert_defs.specs.declared.timer.Kind.TheVariants.{Wrapped, Bare}
-use Rattle.ert_defs.specs.declared.timer.TimerRef.{TimerRef}
-use Rattle.ert_defs.specs.declared.timer.When.{When}
-use Rattle.ert_effects.specs.ClockCalls.{Ticks, Finalizes, TellsOffset}
-use Rattle.ert_effects.specs.MailCalls.{Takes}
-use Rattle.ert_effects.specs.RequestCalls.{inbox_for, Asks}
-use Rattle.ert_effects.specs.TimerCalls.{Reads, Cancels, Starts}
-use Rattle.ert_effects.specs.Ways.{Grows, Way}
-use Rattle.ert_effects.specs.declared.answers.StartErr.{StartErr}
-use Rattle.ert_effects.specs.declared.answers.StartErr.TheVariants.{BadArg, Full, NoMemory as OutOfMemory}
-use Rattle.ert_effects.specs.declared.answers.Taken.{Taken}
-use Rattle.ert_effects.specs.declared.answers.Taken.TheVariants.{Mail as Taking, Empty, Exited}
-use Rattle.ert_ops.specs.declared.op.Op.{Op}
+use Rattle.ert_clock.specs.declared.clock.{ClockErr.ClockErr, ClockErr.TheVariants.{BadReading, OffsetWide}, Moved.Moved}
+use Rattle.ert_defs.specs.declared.{entry.Actor.TheVariants.{Keeper, Wheel, Inbox, MailOf, Caller}, entry.Entry.Entry, mail.Request.Request, mail.RequestKind.RequestKind, settings.OffsetState.OffsetState, settings.Settings.Settings}
+use Rattle.ert_defs.specs.declared.{timer.Kind.TheVariants.{Wrapped, Bare}, timer.TimerRef.TimerRef, timer.When.When}
+use Rattle.ert_effects.specs.{ClockCalls.{Ticks, Finalizes, TellsOffset}, MailCalls.Takes, RequestCalls.{inbox_for, Asks}, TimerCalls.{Reads, Cancels, Starts}, Ways.{Grows, Way}, declared.answers.StartErr.StartErr}
+use Rattle.ert_effects.specs.{declared.answers.StartErr.TheVariants.{BadArg, Full, NoMemory as OutOfMemory}, declared.answers.Taken.Taken, declared.answers.Taken.TheVariants.{Mail as Taking, Empty, Exited}}
+use Rattle.ert_ops.specs.{declared.op.Op.Op, Calls.{reading_of, start_for_op, request_for_op, AsksFor, Calls, Converts}, Labels.{Labels, ref_of}, declared.reply.Reply.Reply}
 use Rattle.ert_ops.specs.declared.op.Op.TheVariants as ops
 use Rattle.ert_effects.proofs.Growing.{grows_as}
-use Rattle.ert_script.specs.Doing.{IsAnswered, HasStarted, CannotAsk, BreaksOff}
-use Rattle.ert_script.specs.Replies.{tick_told, check_told, finalize_told, settings_told, start_told, take_told}
-use Rattle.ert_ops.specs.Calls.{reading_of, start_for_op, request_for_op, AsksFor, Calls, Converts}
-use Rattle.ert_ops.specs.Labels.{Labels, ref_of}
-use Rattle.ert_ops.specs.declared.reply.Reply.{Reply}
+use Rattle.ert_script.specs.{Doing.{IsAnswered, HasStarted, CannotAsk, BreaksOff}, Replies.{tick_told, check_told, finalize_told, settings_told, start_told, take_told}}
 use Rattle.ert_ops.specs.declared.reply.Reply.TheVariants as replies
 
 module _ (g : Settings) (way : Way) (n : ℕ) (timer : TimerRef) (f h : List Entry) where

@@ -1,13 +1,9 @@
 -- What an index finds, and what it finds when a label was bound.
 
 use Rattle.std.proofs.Common.{◌≡◌, ℕ, Bool, true, false, cond, nat_eq, [], ◌∷◌, Option, Some, None, refl, sym, ap, ◌∙◌}
-use Rattle.std.specs.Cmp.{unsigned_ties, both_tied}
-use Rattle.std.specs.Option.{unwrap_or, option_or}
-use Rattle.std.specs.Ordering.{nat_cmp, eq_by_cmp}
-use Rattle.ert_defs.specs.Timers.{same_timer, timer_at}
-use Rattle.ert_defs.specs.declared.timer.TimerRef.{TimerRef}
-use Rattle.ert_script.specs.LabelMaps.{AreFound, first_ref, first_label}
-use Rattle.ert_script.specs.Keys.{key_of_timer, key_cmp}
+use Rattle.std.specs.{Cmp.{unsigned_ties, both_tied}, Option.{unwrap_or, option_or}, Ordering.{nat_cmp, eq_by_cmp}}
+use Rattle.ert_defs.specs.{Timers.{same_timer, timer_at}, declared.timer.TimerRef.TimerRef}
+use Rattle.ert_script.specs.{LabelMaps.{AreFound, first_ref, first_label}, Keys.{key_of_timer, key_cmp}}
 use Rattle.ert_ops.specs.Labels.{Labels, bind, ref_of, label_in, label_of}
 
 -- the first of a list, or what stands for none

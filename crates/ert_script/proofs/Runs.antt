@@ -2,27 +2,14 @@
 
 use Rattle.std.proofs.Common.{◌≡◌, ℕ, ◌+◌, ◌<◌, List, [], ◌∷◌, ◌++◌, take, drop, length, get_or, Option, zero, suc, inl, inr, arith, refl, sym, subst, ap, ◌∙◌, append_assoc, append-nil}
 use Rattle.std.specs.Prelude.{Result, Ok, Err, OnErr, IfErr, ◌≤◌}
-use Rattle.std.proofs.Math.Seq.{drop-cons}
-use Rattle.std.proofs.lemmas.List.{take_more, take_all}
+use Rattle.std.proofs.{Math.Seq.drop-cons, lemmas.List.{take_more, take_all}}
 use Rattle.ert_effects.specs.Ways.{Way, alone}
 use Rattle.ert_io.proofs.Takes.{took-took, took-none, fits_after}
-use Rattle.ert_io.specs.Known.{HasRoomFor}
-use Rattle.ert_io.specs.Told.{SinkTold, sink_told, took, room_left, TakesFront}
-use Rattle.ert_defs.specs.declared.entry.Entry.{Entry}
-use Rattle.ert_defs.specs.declared.settings.Settings.{Settings}
-use Rattle.ert_script.specs.Pages.{WritesWaiting}
-use Rattle.ert_script.specs.declared.output.RunErr.{RunErr}
-use Rattle.ert_script.specs.declared.output.RunErr.TheVariants.{NoMemory}
-use Rattle.ert_ops.specs.Ranges.{IsOpInRange, AreOpsInRange}
-use Rattle.ert_ops.specs.declared.op.Op.{Op}
+use Rattle.ert_io.specs.{Known.HasRoomFor, Told.{SinkTold, sink_told, took, room_left, TakesFront}}
+use Rattle.ert_defs.specs.declared.{entry.Entry.Entry, settings.Settings.Settings}
+use Rattle.ert_script.specs.{Pages.WritesWaiting, declared.output.RunErr.RunErr, declared.output.RunErr.TheVariants.NoMemory, Scripts.{DoesWith, Fails, Runs}, Written.{RunsAll, RunsSome, StopsAt, WritesRun, WritesSome, LinesFit}}
+use Rattle.ert_ops.specs.{Ranges.{IsOpInRange, AreOpsInRange}, declared.op.Op.Op, Calls.Calls, Labels.{Labels, label_of}, Lines.line_of, Scripts.{Script, labels_after, lines_of}, declared.reply.Reply.Reply}
 use Rattle.ert_world.specs.Worlds.{Seen, StandsFor}
-use Rattle.ert_script.specs.Scripts.{DoesWith, Fails, Runs}
-use Rattle.ert_script.specs.Written.{RunsAll, RunsSome, StopsAt, WritesRun, WritesSome, LinesFit}
-use Rattle.ert_ops.specs.Calls.{Calls}
-use Rattle.ert_ops.specs.Labels.{Labels, label_of}
-use Rattle.ert_ops.specs.Lines.{line_of}
-use Rattle.ert_ops.specs.Scripts.{Script, labels_after, lines_of}
-use Rattle.ert_ops.specs.declared.reply.Reply.{Reply}
 
 -- a script run and one more op
 pub script_more : (g : Settings) (way : Way) (n : ℕ) (ls : Labels) (list : List Op) (rs : List Reply) (after : Labels) (h m piece : List Entry) (op : Op) (r : Reply)

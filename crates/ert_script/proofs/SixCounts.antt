@@ -2,8 +2,7 @@
 
 use Rattle.std.proofs.Common.{◌≡◌, ℕ, List, ◌++◌, codes, append_assoc}
 use Rattle.std.specs.Fmt.{decimal}
-use Rattle.ert_world.specs.Counted.{numbers_of}
-use Rattle.ert_world.specs.declared.counts.Counts.{Counts}
+use Rattle.ert_world.specs.{Counted.numbers_of, declared.counts.Counts.Counts}
 use Rattle.ert_ops.specs.Counts.{settled_line}
 
 three : (s a t b u c rest : List ℕ) → (s ++ (a ++ (t ++ (b ++ (u ++ c))))) ++ rest ≡ s ++ (a ++ (t ++ (b ++ (u ++ (c ++ rest)))))

@@ -1,26 +1,12 @@
 -- What is answered to an op, by the maker of its call.
 
 use Rattle.std.specs.Prelude.{◌≡◌, ℕ, List, [], ◌∷◌, Option, Some, None, Result, Ok, Err, IfOk, OnErr}
-use Rattle.ert_defs.specs.declared.entry.Actor.TheVariants.{Wheel, Inbox, MailOf}
-use Rattle.ert_defs.specs.declared.entry.Entry.{Entry}
-use Rattle.ert_defs.specs.declared.mail.Request.{Request}
-use Rattle.ert_defs.specs.declared.mail.RequestKind.TheVariants.{Cancel as ToCancel, Read as ToRead}
-use Rattle.ert_defs.specs.declared.memory.NoMemory.{NoMemory}
-use Rattle.ert_defs.specs.declared.settings.Settings.{Settings}
-use Rattle.ert_defs.specs.declared.timer.Kind.TheVariants.{Wrapped, Bare}
-use Rattle.ert_defs.specs.declared.timer.Start.{Start}
-use Rattle.ert_defs.specs.declared.timer.TimerRef.{TimerRef}
-use Rattle.ert_effects.specs.Chains.{Serves, AdvancesWheel, Delivers, Turns}
-use Rattle.ert_effects.specs.MailCalls.{Monitors, Notifies}
-use Rattle.ert_effects.specs.RequestCalls.{inbox_for, Asks}
-use Rattle.ert_effects.specs.TimerCalls.{Starts}
-use Rattle.ert_effects.specs.Ways.{Growth, Grows, Way}
-use Rattle.ert_effects.specs.declared.answers.MonitorErr.TheVariants.{NoMemory as OutOfMemory}
-use Rattle.ert_ops.specs.declared.op.Op.{Op}
+use Rattle.ert_defs.specs.declared.{entry.Actor.TheVariants.{Wheel, Inbox, MailOf}, entry.Entry.Entry, mail.Request.Request, mail.RequestKind.TheVariants.{Cancel as ToCancel, Read as ToRead}, memory.NoMemory.NoMemory}
+use Rattle.ert_defs.specs.declared.{settings.Settings.Settings, timer.Kind.TheVariants.{Wrapped, Bare}, timer.Start.Start, timer.TimerRef.TimerRef}
+use Rattle.ert_effects.specs.{Chains.{Serves, AdvancesWheel, Delivers, Turns}, MailCalls.{Monitors, Notifies}, RequestCalls.{inbox_for, Asks}, TimerCalls.Starts, Ways.{Growth, Grows, Way}}
+use Rattle.ert_effects.specs.{declared.answers.MonitorErr.TheVariants.NoMemory as OutOfMemory}
+use Rattle.ert_ops.specs.{declared.op.Op.Op, Calls.{Calls, start_for_op, request_for_op}, Labels.{Labels, ref_of}, declared.reply.Reply.Reply}
 use Rattle.ert_ops.specs.declared.op.Op.TheVariants as ops
-use Rattle.ert_ops.specs.Calls.{Calls, start_for_op, request_for_op}
-use Rattle.ert_ops.specs.Labels.{Labels, ref_of}
-use Rattle.ert_ops.specs.declared.reply.Reply.{Reply}
 use Rattle.ert_ops.specs.declared.reply.Reply.TheVariants as replies
 
 -- an op of a caller is on the clock

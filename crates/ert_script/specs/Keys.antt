@@ -1,8 +1,7 @@
 -- The keys by which an index finds the label of a timer.
 
 use Rattle.std.specs.Prelude.{ℕ}
-use Rattle.std.specs.Ordering.{nat_cmp, ordering_then}
-use Rattle.std.specs.declared.cmp.Ordering.{Ordering}
+use Rattle.std.specs.{Ordering.{nat_cmp, ordering_then}, declared.cmp.Ordering.Ordering}
 use Rattle.ert_defs.specs.declared.timer.TimerRef.{TimerRef}
 
 -- the key of a reference: its wheel, slot and generation

@@ -2,8 +2,7 @@
 
 use Rattle.std.specs.Prelude.{◌≡◌, ℕ, cond, nat_eq, [], ◌∷◌, Option, Some, None}
 use Rattle.ert_script.specs.Keys.{key_of_timer}
-use Rattle.ert_defs.specs.Timers.{same_timer}
-use Rattle.ert_defs.specs.declared.timer.TimerRef.{TimerRef}
+use Rattle.ert_defs.specs.{Timers.same_timer, declared.timer.TimerRef.TimerRef}
 use Rattle.ert_ops.specs.Labels.{Labels}
 
 -- the reference of the first pair with a label

@@ -1,19 +1,9 @@
 -- The replies to ops, by the answers of their calls.
 
 use Rattle.std.specs.Prelude.{ℤ, Result, Ok, Err, pos}
-use Rattle.ert_clock.specs.declared.clock.ClockErr.{ClockErr}
-use Rattle.ert_clock.specs.declared.clock.ClockErr.TheVariants.{OffsetWide}
-use Rattle.ert_clock.specs.declared.clock.Moved.{Moved}
-use Rattle.ert_defs.specs.Lines.{end_time}
-use Rattle.ert_defs.specs.declared.settings.OffsetState.{OffsetState}
-use Rattle.ert_defs.specs.declared.settings.Settings.{Settings}
-use Rattle.ert_defs.specs.declared.timer.Kind.{Kind}
-use Rattle.ert_defs.specs.declared.timer.Kind.TheVariants.{Wrapped, Bare}
-use Rattle.ert_defs.specs.declared.timer.TimerRef.{TimerRef}
-use Rattle.ert_effects.specs.declared.answers.StartErr.{StartErr}
-use Rattle.ert_effects.specs.declared.answers.StartErr.TheVariants.{BadArg}
-use Rattle.ert_effects.specs.declared.answers.Taken.{Taken}
-use Rattle.ert_effects.specs.declared.answers.Taken.TheVariants.{Mail as Taking, Empty, Exited}
+use Rattle.ert_clock.specs.declared.clock.{ClockErr.ClockErr, ClockErr.TheVariants.OffsetWide, Moved.Moved}
+use Rattle.ert_defs.specs.{Lines.end_time, declared.settings.OffsetState.OffsetState, declared.settings.Settings.Settings, declared.timer.Kind.Kind, declared.timer.Kind.TheVariants.{Wrapped, Bare}, declared.timer.TimerRef.TimerRef}
+use Rattle.ert_effects.specs.declared.answers.{StartErr.StartErr, StartErr.TheVariants.BadArg, Taken.Taken, Taken.TheVariants.{Mail as Taking, Empty, Exited}}
 use Rattle.ert_ops.specs.declared.reply.Reply.{Reply}
 use Rattle.ert_ops.specs.declared.reply.Reply.TheVariants.{Tick, TickWide, Check, CheckWide, Finalize, FinalizeWide, Info, StartOk, StartBadArg, StartFull, SendAfterOk, SendAfterBadArg, SendAfterFull, Received, ReceivedEmpty, ReceivedExited}
 

@@ -2,13 +2,9 @@
 
 use Rattle.std.specs.Prelude.{◌≡◌, List}
 use Rattle.ert_effects.specs.Ways.{Grows, alone}
-use Rattle.ert_ops.specs.declared.op.Op.{Op}
+use Rattle.ert_ops.specs.{declared.op.Op.Op, Calls.Calls, Labels.Labels, Scripts.{Script, labels_after}, declared.reply.Reply.Reply}
 use Rattle.ert_script.specs.Doing.{BreaksOff}
 use Rattle.ert_world.specs.Worlds.{Seen}
-use Rattle.ert_ops.specs.Calls.{Calls}
-use Rattle.ert_ops.specs.Labels.{Labels}
-use Rattle.ert_ops.specs.Scripts.{Script, labels_after}
-use Rattle.ert_ops.specs.declared.reply.Reply.{Reply}
 
 -- what every call of a world keeps that gave out no seat: its settings and its seats
 pub record StaysAlone (old new : Seen) : Type 0 where

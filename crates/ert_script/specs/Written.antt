@@ -1,16 +1,10 @@
 -- What a run of ops did, and what it wrote.
 
 use Rattle.std.specs.Prelude.{◌≡◌, ◌⊎◌, ℕ, List, [], ◌∷◌, length, take, drop, Option}
-use Rattle.ert_io.specs.Known.{HasRoomFor}
-use Rattle.ert_io.specs.Told.{SinkTold, took, TakesFront}
-use Rattle.ert_script.specs.declared.output.RunErr.{RunErr}
-use Rattle.ert_script.specs.declared.output.RunErr.TheVariants.{WriteFault}
-use Rattle.ert_ops.specs.declared.op.Op.{Op}
+use Rattle.ert_io.specs.{Known.HasRoomFor, Told.{SinkTold, took, TakesFront}}
+use Rattle.ert_script.specs.{declared.output.RunErr.RunErr, declared.output.RunErr.TheVariants.WriteFault, Scripts.{Runs, Fails}}
+use Rattle.ert_ops.specs.{declared.op.Op.Op, Labels.Labels, Scripts.lines_of, declared.reply.Reply.Reply}
 use Rattle.ert_world.specs.Worlds.{Seen, StandsFor}
-use Rattle.ert_script.specs.Scripts.{Runs, Fails}
-use Rattle.ert_ops.specs.Labels.{Labels}
-use Rattle.ert_ops.specs.Scripts.{lines_of}
-use Rattle.ert_ops.specs.declared.reply.Reply.{Reply}
 
 -- the world did a list of ops, from labels to labels, and came to a service that stands for its history
 pub record RunsAll (old : Seen) (ls : Labels) (ops : List Op) (new : Seen) (after : Labels) : Type 0 where

@@ -7,19 +7,9 @@ use ert_effects::{MonitorErr, StartErr, Taken};
 pub trait Doer {
     ghost use Rattle.std.specs.Prelude.{◌≡◌, ◌≢◌, ◌<◌, ℕ, List, [], ◌∷◌, Err};
     ghost use Rattle.ert_clock.specs.declared.clock.ClockErr.TheVariants.{BadReading};
-    ghost use Rattle.ert_defs.specs.Readings.{IsValid};
-    ghost use Rattle.ert_defs.specs.Settings.{IsChecked};
-    ghost use Rattle.ert_defs.specs.declared.entry.Actor.TheVariants.{Keeper, Wheel, Inbox, MailOf, Caller};
-    ghost use Rattle.ert_defs.specs.declared.entry.Entry.{Entry};
-    ghost use Rattle.ert_defs.specs.declared.settings.Settings.{Settings};
-    ghost use Rattle.ert_effects.specs.Chains.{Exits};
-    ghost use Rattle.ert_effects.specs.ClockCalls.{Ticks, Finalizes, TellsTime, TellsOffset, TellsSystemTime};
-    ghost use Rattle.ert_effects.specs.MailCalls.{Takes, Monitors, Demonitors, Notifies};
-    ghost use Rattle.ert_effects.specs.RequestCalls.{inbox_for, Asks};
-    ghost use Rattle.ert_effects.specs.TimerCalls.{Reads, Cancels, Starts};
-    ghost use Rattle.ert_effects.specs.Ways.{Way, Grows};
-    ghost use Rattle.ert_effects.specs.WheelCalls.{TellsAlive};
-    ghost use Rattle.ert_effects.specs.declared.answers.StartErr.TheVariants.{NoMemory as OutOfMemory};
+    ghost use Rattle.ert_defs.specs.{Readings.IsValid, Settings.IsChecked, declared.entry.Actor.TheVariants.{Keeper, Wheel, Inbox, MailOf, Caller}, declared.entry.Entry.Entry, declared.settings.Settings.Settings};
+    ghost use Rattle.ert_effects.specs.{Chains.Exits, ClockCalls.{Ticks, Finalizes, TellsTime, TellsOffset, TellsSystemTime}, MailCalls.{Takes, Monitors, Demonitors, Notifies}, RequestCalls.{inbox_for, Asks}, TimerCalls.{Reads, Cancels}};
+    ghost use Rattle.ert_effects.specs.{TimerCalls.Starts, Ways.{Way, Grows}, WheelCalls.TellsAlive, declared.answers.StartErr.TheVariants.NoMemory as OutOfMemory};
 
     // The number of the caller.
     ghost number: { Self → ℕ };

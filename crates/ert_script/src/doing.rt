@@ -1,7 +1,6 @@
 //! What an op does, by whoever makes its call.
 ghost use Rattle.std.specs.Prelude.{◌≡◌, Ok};
-ghost use Rattle.ert_ops.specs.Races.{IsCallersOp};
-ghost use Rattle.ert_ops.specs.Ranges.{IsOpInRange};
+ghost use Rattle.ert_ops.specs.{Races.IsCallersOp, Ranges.IsOpInRange};
 ghost use Rattle.ert_script.specs.Doing.{IsAnswered, IsClockOp, IsStartOp, IsTimerOp, IsProcessOp};
 
 use crate::doer::Doer;

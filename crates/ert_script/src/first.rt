@@ -1,7 +1,6 @@
 ghost use Rattle.std.specs.Prelude.{◌≡◌, not, cond, false, Some, None, IfOk, OnOk, OnErr, is_some};
 ghost use Rattle.std.specs.BTreeMap as tree;
-ghost use Rattle.std.specs.Option.{option_or};
-ghost use Rattle.std.specs.Ordering.{eq_by_cmp};
+ghost use Rattle.std.specs.{Option.option_or, Ordering.eq_by_cmp};
 
 use ert_defs::NoMemory;
 use std::collections::BTreeMap;

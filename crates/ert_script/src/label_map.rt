@@ -1,6 +1,5 @@
 ghost use Rattle.std.specs.Prelude.{◌≡◌};
-ghost use Rattle.ert_script.specs.Doing.{label_asked};
-ghost use Rattle.ert_script.specs.Keys.{key_of_timer};
+ghost use Rattle.ert_script.specs.{Doing.label_asked, Keys.key_of_timer};
 
 use crate::first::put_first;
 use ert_defs::{NoMemory, TimerRef};
@@ -23,8 +22,7 @@ pub struct LabelMap {
 impl Model for LabelMap {
     ghost use Rattle.std.specs.BTreeMap as tree;
     ghost use Rattle.std.specs.Ordering.{nat_cmp};
-    ghost use Rattle.ert_script.specs.Keys.{key_cmp};
-    ghost use Rattle.ert_script.specs.LabelMaps.{AreFound};
+    ghost use Rattle.ert_script.specs.{Keys.key_cmp, LabelMaps.AreFound};
     ghost use Rattle.ert_ops.specs.Labels.{Labels};
 
     ghost Value = { Labels };
@@ -43,10 +41,8 @@ pub const NO_TIMER: TimerRef = TimerRef {
 
 impl LabelMap {
     ghost use Rattle.std.specs.Prelude.{◌≡◌, ◌++◌, [], OnOk, OnErr};
-    ghost use Rattle.ert_script.specs.LabelMaps.{first_ref};
-    ghost use Rattle.ert_script.specs.Doing.{IsTimerOf, HasStarted};
-    ghost use Rattle.ert_ops.specs.Labels.{bind, ref_of, label_of};
-    ghost use Rattle.ert_ops.specs.Scripts.{labels_after};
+    ghost use Rattle.ert_script.specs.{LabelMaps.first_ref, Doing.{IsTimerOf, HasStarted}};
+    ghost use Rattle.ert_ops.specs.{Labels.{bind, ref_of, label_of}, Scripts.labels_after};
 
     /// No label.
     pub fn new(alloc: Global) -> LabelMap

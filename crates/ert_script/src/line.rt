@@ -2,8 +2,7 @@ ghost use Rattle.std.specs.Prelude.{◌≡◌, ℕ, ◌++◌, codes, OnOk, strin
 ghost use Rattle.std.specs.Fmt.{decimal};
 ghost use Rattle.ert_defs.specs.declared.timer.TimerRef.{TimerRef};
 ghost use Rattle.ert_script.specs.Told.{IsFixedReply};
-ghost use Rattle.ert_ops.specs.Labels.{label_of};
-ghost use Rattle.ert_ops.specs.Lines.{line_of};
+ghost use Rattle.ert_ops.specs.{Labels.label_of, Lines.line_of};
 ghost use Rattle.ert_ops.specs.Texts.{◌⋅◌, bool_text, end_line};
 
 use crate::clock_line::write_clock;

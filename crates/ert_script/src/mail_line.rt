@@ -1,8 +1,7 @@
 //! The lines of what was received, and of what a turn did.
 ghost use Rattle.std.specs.Prelude.{◌≡◌, ◌++◌, codes, OnOk, string_bytes};
 ghost use Rattle.std.specs.Fmt.{decimal, signed_decimal};
-ghost use Rattle.ert_ops.specs.Labels.{label_of};
-ghost use Rattle.ert_ops.specs.Lines.{left_text, mail_line, turn_line};
+ghost use Rattle.ert_ops.specs.{Labels.label_of, Lines.{left_text, mail_line, turn_line}};
 ghost use Rattle.ert_ops.specs.Texts.{◌⋅◌};
 
 use crate::label_map::LabelMap;

@@ -1,10 +1,7 @@
 ghost use Rattle.std.specs.Prelude.{◌≡◌, ◌≤◌, ◌++◌, OnOk, OnErr, IsErrOf, Err, length, string_bytes, codes};
-ghost use Rattle.ert_io.specs.Faults.{Rose};
-ghost use Rattle.ert_io.specs.Known.{HasRoomFor};
-ghost use Rattle.ert_io.specs.Told.{sink_told, took, TakesFront};
+ghost use Rattle.ert_io.specs.{Faults.Rose, Known.HasRoomFor, Told.{sink_told, took, TakesFront}};
 ghost use Rattle.ert_script.specs.Pages.{WritesWaiting};
-ghost use Rattle.ert_ops.specs.Labels.{label_of};
-ghost use Rattle.ert_ops.specs.Lines.{line_of};
+ghost use Rattle.ert_ops.specs.{Labels.label_of, Lines.line_of};
 
 use crate::label_map::LabelMap;
 use crate::line::write_line;

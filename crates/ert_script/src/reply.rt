@@ -1,8 +1,6 @@
 ghost use Rattle.std.specs.Prelude.{◌≡◌, IfOk, OnErr};
 ghost use Rattle.ert_defs.specs.Readings.{IsValid};
-ghost use Rattle.ert_ops.specs.Races.{IsCallersOp};
-ghost use Rattle.ert_ops.specs.Ranges.{IsOpInRange};
-ghost use Rattle.ert_ops.specs.declared.op.Op.{Op};
+ghost use Rattle.ert_ops.specs.{Races.IsCallersOp, Ranges.IsOpInRange, declared.op.Op.Op};
 ghost use Rattle.ert_script.specs.Scripts.{Does, DoesWith, Fails};
 
 use crate::doing::do_op;

@@ -1,6 +1,5 @@
 ghost use Rattle.std.specs.Prelude.{◌≡◌, ◌≤◌, OnOk, OnErr, IfErr, IsErrOf};
-ghost use Rattle.ert_io.specs.Faults.{Rose};
-ghost use Rattle.ert_io.specs.Told.{sink_told};
+ghost use Rattle.ert_io.specs.{Faults.Rose, Told.sink_told};
 ghost use Rattle.ert_ops.specs.Ranges.{AreOpsInRange};
 ghost use Rattle.ert_world.specs.Worlds.{StandsFor};
 ghost use Rattle.ert_script.specs.Written.{RunsAll, RunsSome, WritesRun, WritesSome, LinesFit};

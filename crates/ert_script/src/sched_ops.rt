@@ -1,8 +1,7 @@
 //! The ops of schedulers. Without memory each leaves what it did before.
 ghost use Rattle.std.specs.Prelude.{◌≡◌, ◌<◌, IfOk, OnErr};
-ghost use Rattle.ert_ops.specs.declared.op.Op.{Op};
+ghost use Rattle.ert_ops.specs.{declared.op.Op.Op, Labels.Labels};
 ghost use Rattle.ert_script.specs.Scripts.{DoesWith, Fails};
-ghost use Rattle.ert_ops.specs.Labels.{Labels};
 
 use ert_defs::NoMemory;
 use ert_ops::Reply;

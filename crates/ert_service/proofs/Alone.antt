@@ -1,14 +1,11 @@
 -- Calls of a caller that take no lock.
 
 use Rattle.std.proofs.Common.{◌≡◌, [], ◌∷◌, subst}
-use Rattle.ert_defs.specs.declared.entry.Actor.{Actor}
-use Rattle.ert_defs.specs.declared.settings.Settings.{Settings}
+use Rattle.ert_defs.specs.declared.{entry.Actor.Actor, settings.Settings.Settings}
 use Rattle.ert_effects.specs.Ways.{Step}
 use Rattle.ert_locks.proofs.Lent.{steps_alone}
 use Rattle.ert_service.specs.Fronts.{StepsAlone}
-use Rattle.ert_table.specs.Calls.{IsMade}
-use Rattle.ert_table.specs.Desks.{view_of}
-use Rattle.ert_table.specs.declared.desk.Pass.{Pass}
+use Rattle.ert_table.specs.{Calls.IsMade, Desks.view_of, declared.desk.Pass.Pass}
 
 -- a call at a desk with these settings, by a pass with one actor
 pub made_alone : (g s : Settings) (a : Actor) (allows : Settings → Step) (p q : Pass) → s ≡ g → (view_of p).actors ≡ a ∷ [] → IsMade s (view_of p) (allows s) (view_of q)

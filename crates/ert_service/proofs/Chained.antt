@@ -2,36 +2,18 @@
 
 use Rattle.std.proofs.Common.{◌≡◌, ℕ, ◌<◌, ◌≤◌, Bool, true, ◌&&◌, List, [], ◌∷◌, ◌++◌, length, Some, Result, Ok, Err, refl, sym, ap, subst, ◌∙◌, arith, append_assoc, eq-eqb}
 use Rattle.std.specs.Prelude.{nat_eq, not, OnOk}
-use Rattle.ert_effects.specs.Chains.{Delivers, Turns}
-use Rattle.ert_effects.specs.WheelCalls.{MarksExit}
-use Rattle.ert_effects.specs.Ways.{Growth, Way, Grows, beside}
-use Rattle.ert_effects.specs.declared.answers.Turned.{Turned}
+use Rattle.ert_effects.specs.{Chains.{Delivers, Turns}, WheelCalls.MarksExit, Ways.{Growth, Way, Grows, beside}, declared.answers.Turned.Turned}
 use Rattle.ert_defs.proofs.Runs.{state-append, exit_stays}
-use Rattle.ert_defs.specs.Entries.{mark_entry, is_ours}
-use Rattle.ert_defs.specs.Mails.{first_of}
-use Rattle.ert_defs.specs.States.{State, next, state}
-use Rattle.ert_defs.specs.Timers.{Row}
-use Rattle.ert_defs.specs.declared.entry.Actor.{Actor}
-use Rattle.ert_defs.specs.declared.entry.Entry.{Entry}
-use Rattle.ert_defs.specs.declared.mail.Request.{Request}
-use Rattle.ert_defs.specs.declared.memory.NoMemory.{NoMemory}
-use Rattle.ert_defs.specs.declared.settings.Settings.{Settings}
-use Rattle.ert_laws.proofs.Few.{expired_few}
-use Rattle.ert_laws.proofs.Requests.{held_have_askers}
-use Rattle.ert_laws.proofs.RowRanges.{first_placed}
+use Rattle.ert_defs.specs.{Entries.{mark_entry, is_ours}, Mails.first_of, States.{State, next, state}, Timers.Row, declared.entry.Actor.Actor, declared.entry.Entry.Entry, declared.mail.Request.Request, declared.memory.NoMemory.NoMemory}
+use Rattle.ert_defs.specs.{declared.settings.Settings.Settings, declared.settings.TheConstants.MOST_SLOTS}
+use Rattle.ert_laws.proofs.{Few.expired_few, Requests.held_have_askers, RowRanges.first_placed}
 use Rattle.ert_service.proofs.Settling.{turns_leave_none}
 use Rattle.ert_world.proofs.Places.{place}
 use Rattle.ert_service.specs.Settled.{NoneWaits}
-use Rattle.ert_timers.specs.SchedParts.{SchedStands}
-use Rattle.ert_table.proofs.Holders.{or_right}
-use Rattle.ert_table.proofs.OneStep.{legal_by}
-use Rattle.ert_table.specs.Calls.{IsMade}
-use Rattle.ert_table.specs.Desks.{front_of}
-use Rattle.ert_table.specs.declared.desk.Pass.{Pass}
-use Rattle.ert_table.specs.declared.view.View.{View}
+use Rattle.ert_timers.specs.{SchedParts.SchedStands, declared.sched_part.SchedPart.SchedPart}
+use Rattle.ert_table.proofs.{Holders.or_right, OneStep.legal_by}
+use Rattle.ert_table.specs.{Calls.IsMade, Desks.front_of, declared.desk.Pass.Pass, declared.view.View.View}
 use native.Mathlib.Bridge.{le_prop}
-use Rattle.ert_timers.specs.declared.sched_part.SchedPart.{SchedPart}
-use Rattle.ert_defs.specs.declared.settings.TheConstants.{MOST_SLOTS}
 
 -- after a turn no expired timer waits, nor after all were handed over
 pub turn_ends : (g : Settings) (a : Actor) (wheel : ℕ) (answer : Result Turned NoMemory) (f h : List Entry) → Grows (Turns g (beside g a) wheel answer) f h

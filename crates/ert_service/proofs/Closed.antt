@@ -3,24 +3,13 @@
 
 use Rattle.std.proofs.Common.{◌≡◌, ℕ, zero, suc, ◌+◌, ◌<◌, true, List, [], ◌∷◌, ◌++◌, slice_index_or, Option, Some, None, refl, sym, ap, subst, ◌∙◌, length-append}
 use Rattle.atomic_table.specs.Seated.{TableId}
-use Rattle.ert_defs.specs.Legal.{Legal}
-use Rattle.ert_defs.specs.declared.entry.Actor.{Actor}
-use Rattle.ert_defs.specs.declared.entry.Actor.TheVariants.{Keeper, Wheel, Inbox, Sched, MailOf, Caller}
-use Rattle.ert_defs.specs.declared.settings.Settings.{Settings}
+use Rattle.ert_defs.specs.{Legal.Legal, declared.entry.Actor.Actor, declared.entry.Actor.TheVariants.{Keeper, Wheel, Inbox, Sched, MailOf, Caller}, declared.settings.Settings.Settings}
 use Rattle.ert_locks.proofs.Lent.{holds_self}
-use Rattle.ert_locks.specs.KindLaws.{keepers_are}
-use Rattle.ert_locks.specs.Kinds.{PartFits, keepers, wheels, inboxes, scheds, mails}
-use Rattle.ert_locks.specs.Names.{IsDesk}
+use Rattle.ert_locks.specs.{KindLaws.keepers_are, Kinds.{PartFits, keepers, wheels, inboxes, scheds, mails}, Names.IsDesk}
 use Rattle.ert_world.proofs.Alone.{holds_all}
-use Rattle.ert_world.specs.Parts.{AllParts, Stand}
-use Rattle.ert_world.specs.Worlds.{AreFit}
-use Rattle.ert_service.specs.Gathering.{IsSeen, AreIn, AreEmpty, filled}
-use Rattle.ert_service.specs.Joining.{HasOwn}
-use Rattle.ert_table.specs.Desks.{settings_of, view_of, front_of, actors_of, Belongs}
-use Rattle.ert_table.specs.Held.{is_held, IsWhole}
-use Rattle.ert_table.specs.declared.desk.Desk.{Desk}
-use Rattle.ert_table.specs.declared.desk.Pass.{Pass}
-use Rattle.ert_table.specs.declared.view.View.{View}
+use Rattle.ert_world.specs.{Parts.{AllParts, Stand}, Worlds.AreFit}
+use Rattle.ert_service.specs.{Gathering.{IsSeen, AreIn, AreEmpty, filled}, Joining.HasOwn}
+use Rattle.ert_table.specs.{Desks.{settings_of, view_of, front_of, actors_of, Belongs}, Held.{is_held, IsWhole}, declared.desk.Desk.Desk, declared.desk.Pass.Pass, declared.view.View.View}
 
 filled_none : {X : Type 0} (places : List (Option X)) → filled (places ++ None ∷ []) ≡ filled places
 filled_none [] = refl

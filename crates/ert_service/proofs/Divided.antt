@@ -3,10 +3,7 @@
 use Rattle.std.proofs.Common.{◌≡◌, ℕ, suc, ◌+◌, ◌<◌, ◌≤◌, true, false, List, [], ◌∷◌, ◌++◌, length, slice_index_or, refl, sym, subst, arith}
 use Rattle.std.specs.Prelude.{nat_eq}
 use Rattle.std.proofs.lemmas.Bool.{ne_eqb}
-use Rattle.ert_defs.specs.declared.entry.Actor.{Actor}
-use Rattle.ert_defs.specs.declared.entry.Actor.TheVariants.{Caller}
-use Rattle.ert_defs.specs.declared.entry.Entry.{Entry}
-use Rattle.ert_defs.specs.declared.settings.Settings.{Settings}
+use Rattle.ert_defs.specs.declared.{entry.Actor.Actor, entry.Actor.TheVariants.Caller, entry.Entry.Entry, settings.Settings.Settings}
 use Rattle.ert_locks.specs.Kinds.{Kind, IsKind}
 use Rattle.ert_service.specs.Dividing.{AreSeated, AreFirst, Divides}
 use Rattle.ert_world.proofs.Opened.{new_more}

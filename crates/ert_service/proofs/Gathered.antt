@@ -5,17 +5,13 @@ use Rattle.std.proofs.Common.{◌≡◌, ◌⊎◌, inl, inr, ⊎_elim, ℕ, zer
 use borrow.Author.Count.{below_more}
 use Rattle.std.specs.Prelude.{slice_set}
 use Rattle.std.proofs.lemmas.List.{length-set}
-use Rattle.ert_defs.specs.Legal.{Legal}
-use Rattle.ert_defs.specs.declared.settings.Settings.{Settings}
+use Rattle.ert_defs.specs.{Legal.Legal, declared.settings.Settings.Settings}
 use Rattle.ert_locks.proofs.Lent.{holds_self}
 use Rattle.ert_locks.specs.Kinds.{Kind, IsKind}
 use Rattle.ert_service.specs.Gathering.{IsSeen, Gathered, filled, somes, AreEmpty, AreIn}
-use Rattle.ert_world.proofs.Opened.{new_more}
-use Rattle.ert_world.proofs.Returned.{at_place}
+use Rattle.ert_world.proofs.{Opened.new_more, Returned.at_place}
 use Rattle.ert_table.proofs.Holders.{held_first, held_then}
-use Rattle.ert_table.specs.Held.{is_held}
-use Rattle.ert_table.specs.Views.{Joined, meeting}
-use Rattle.ert_table.specs.declared.view.View.{View}
+use Rattle.ert_table.specs.{Held.is_held, Views.{Joined, meeting}, declared.view.View.View}
 
 pub seen_then : {u v w : View} → IsSeen u v → IsSeen v w → IsSeen u w
 seen_then {u} {v} {w} one other = record {

@@ -7,11 +7,8 @@ use Rattle.std.proofs.lemmas.List.Elements.{All-append}
 use Rattle.ert_defs.specs.declared.entry.Actor.{Actor}
 use Rattle.ert_locks.proofs.Lent.{holds_self}
 use Rattle.ert_service.proofs.Gathered.{seen_then, seen_left, seen_right}
-use Rattle.ert_service.specs.Gathering.{IsSeen}
-use Rattle.ert_service.specs.Joining.{JoinsSeats}
-use Rattle.ert_table.specs.Held.{is_held}
-use Rattle.ert_table.specs.Views.{Joined, meeting}
-use Rattle.ert_table.specs.declared.view.View.{View}
+use Rattle.ert_service.specs.{Gathering.IsSeen, Joining.JoinsSeats}
+use Rattle.ert_table.specs.{Held.is_held, Views.{Joined, meeting}, declared.view.View.View}
 
 pub all_as : {S : Type 0} (P Q : S → Type 0) (xs : List S) → ((x : S) → P x → Q x) → All P xs → All Q xs
 all_as P Q xs gives all = λ k d low. gives (slice_index_or xs k d) (all k d low)

@@ -3,23 +3,12 @@
 use Rattle.std.proofs.Common.{◌≡◌, ◌⊎◌, inl, inr, ℕ, Bool, true, false, List, [], ◌∷◌, ◌++◌, Option, Some, None, Result, Ok, Err, refl, sym, subst, ◌∙◌}
 use Rattle.std.specs.Prelude.{IfOk}
 use Rattle.std.proofs.lemmas.Bool.{true_from_ne_false}
-use Rattle.ert_defs.specs.Laws.{has_settled}
-use Rattle.ert_defs.specs.Legal.{Legal}
-use Rattle.ert_defs.specs.States.{state}
-use Rattle.ert_defs.specs.declared.entry.Actor.{Actor}
-use Rattle.ert_defs.specs.declared.entry.Actor.TheVariants.{Wheel}
-use Rattle.ert_defs.specs.declared.entry.Entry.{Entry}
-use Rattle.ert_defs.specs.declared.settings.Settings.{Settings}
-use Rattle.ert_defs.specs.declared.timer.Start.{Start}
-use Rattle.ert_defs.specs.declared.timer.TimerRef.{TimerRef}
-use Rattle.ert_effects.specs.TimerCalls.{Starts, Reads, Cancels}
-use Rattle.ert_effects.specs.Ways.{Grows, beside}
-use Rattle.ert_effects.specs.declared.answers.StartErr.{StartErr}
+use Rattle.ert_defs.specs.{Laws.has_settled, Legal.Legal, States.state, declared.entry.Actor.Actor, declared.entry.Actor.TheVariants.Wheel, declared.entry.Entry.Entry, declared.settings.Settings.Settings, declared.timer.Start.Start}
+use Rattle.ert_defs.specs.{declared.timer.TimerRef.TimerRef}
+use Rattle.ert_effects.specs.{TimerCalls.{Starts, Reads, Cancels}, Ways.{Grows, beside}, declared.answers.StartErr.StartErr}
 use Rattle.ert_service.proofs.Settling.{refute_by}
-use Rattle.ert_service.specs.Fronts.{StepsAlone}
-use Rattle.ert_service.specs.Settled.{WasSettled}
-use Rattle.ert_table.specs.Desks.{front_of}
-use Rattle.ert_table.specs.declared.desk.Pass.{Pass}
+use Rattle.ert_service.specs.{Fronts.StepsAlone, Settled.WasSettled}
+use Rattle.ert_table.specs.{Desks.front_of, declared.desk.Pass.Pass}
 use Rattle.ert_world.proofs.Known.{known_starts, none_settled}
 use Rattle.ert_world.specs.Known.{WasStarted}
 

@@ -2,13 +2,10 @@
 
 use Rattle.atomic_table.specs.Seated.{TableId}
 use Rattle.std.proofs.Common.{subst}
-use Rattle.ert_defs.specs.declared.entry.Actor.{Actor}
-use Rattle.ert_defs.specs.declared.settings.Settings.{Settings}
+use Rattle.ert_defs.specs.declared.{entry.Actor.Actor, settings.Settings.Settings}
 use Rattle.ert_locks.specs.Names.{IsPassFor}
 use Rattle.ert_service.specs.Fronts.{IsLegal}
-use Rattle.ert_table.specs.Desks.{front_of}
-use Rattle.ert_table.specs.Rule.{IsLegalBy}
-use Rattle.ert_table.specs.declared.desk.Pass.{Pass}
+use Rattle.ert_table.specs.{Desks.front_of, Rule.IsLegalBy, declared.desk.Pass.Pass}
 
 -- a pass of one actor has a legal front
 pub legal_front : {table : TableId} {g : Settings} {a : Actor} {p : Pass} → IsPassFor table g a p → IsLegal g (front_of p)

@@ -2,19 +2,12 @@
 
 use Rattle.std.proofs.Common.{◌≡◌, true, false, List, refl, sym, subst}
 use Rattle.atomic_table.specs.Seated.{TableId}
-use Rattle.ert_defs.specs.Actors.{same_actor}
-use Rattle.ert_defs.specs.declared.entry.Actor.{Actor}
-use Rattle.ert_defs.specs.declared.entry.Actor.TheVariants.{Keeper}
-use Rattle.ert_defs.specs.declared.settings.Settings.{Settings}
+use Rattle.ert_defs.specs.{Actors.same_actor, declared.entry.Actor.Actor, declared.entry.Actor.TheVariants.Keeper, declared.settings.Settings.Settings}
 use Rattle.ert_locks.specs.Names.{IsDesk}
 use Rattle.ert_world.proofs.Alone.{whole_of}
-use Rattle.ert_world.specs.Parts.{AllParts}
-use Rattle.ert_world.specs.Worlds.{AreFit}
+use Rattle.ert_world.specs.{Parts.AllParts, Worlds.AreFit}
 use Rattle.ert_table.proofs.Holders.{held_but_other}
-use Rattle.ert_table.specs.Desks.{settings_of, actors_of}
-use Rattle.ert_table.specs.Held.{is_held, actors_but, IsActor}
-use Rattle.ert_table.specs.declared.desk.Desk.{Desk}
-use Rattle.ert_table.specs.declared.desk.Pass.{Pass}
+use Rattle.ert_table.specs.{Desks.{settings_of, actors_of}, Held.{is_held, actors_but, IsActor}, declared.desk.Desk.Desk, declared.desk.Pass.Pass}
 
 -- all actors but the clock's are held once that was taken out
 pub held_at : {table : TableId} {g : Settings} {d : Desk} {p : Pass} {parts : AllParts} {left : List Actor} (a : Actor) → IsDesk table g d → AreFit d p 1 parts

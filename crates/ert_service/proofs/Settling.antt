@@ -3,45 +3,18 @@
 
 use Rattle.std.proofs.Common.{◌≡◌, ◌≢◌, ⊎_elim, ℕ, zero, suc, ◌<◌, ◌≤◌, ℤ, Bool, true, false, cond, List, [], ◌∷◌, ◌++◌, length, filter, slice_index_or, Contains, Option, Some, None, Result, Ok, Err, refl, sym, ap, subst, ◌∙◌, arith, append_assoc, append-nil, eq-eqb}
 use Rattle.std.specs.Prelude.{nat_eq, nat_le, IfOk}
-use Rattle.std.proofs.lemmas.Bool.{le-leb, true_from_ne_false}
-use Rattle.std.proofs.lemmas.List.Elements.{Contains-append_left}
-use Rattle.ert_effects.proofs.Growing.{filter_within}
-use Rattle.ert_effects.proofs.Swept.{exits_settle_timers}
-use Rattle.ert_effects.proofs.TurnEnds.{turns_end}
-use Rattle.ert_effects.specs.Chains.{AdvancesWheel, Exits}
-use Rattle.ert_effects.specs.TimerCalls.{Starts, Closes, IsMissed}
-use Rattle.ert_effects.specs.WheelCalls.{expiry_entries}
-use Rattle.ert_effects.specs.Ways.{Whole, Grows, beside}
-use Rattle.ert_effects.specs.declared.answers.StartErr.{StartErr}
-use Rattle.ert_defs.specs.Actors.{has_actor, IsFree}
-use Rattle.ert_defs.specs.Entries.{is_ours, look_entry, arm_entry, mark_entry, probe_entry, orphan_entry, advanced_entry}
-use Rattle.ert_defs.specs.Laws.{has_settled}
-use Rattle.ert_defs.specs.Legal.{Legal, Can, AllSettled}
-use Rattle.ert_defs.specs.Milliseconds.{natural, down, deadline_of}
-use Rattle.ert_defs.specs.States.{State, uses_at, opening, next, run, state}
-use Rattle.ert_defs.specs.Timers.{Row, row_from, rows_after, timer_at}
-use Rattle.ert_defs.specs.declared.entry.Actor.{Actor}
-use Rattle.ert_defs.specs.declared.entry.Actor.TheVariants.{Wheel, Sched, Caller}
-use Rattle.ert_defs.specs.declared.entry.Entry.{Entry}
-use Rattle.ert_defs.specs.declared.entry.Event.{Event}
-use Rattle.ert_defs.specs.declared.entry.Event.TheVariants.{Arm}
-use Rattle.ert_defs.specs.declared.memory.NoMemory.{NoMemory}
-use Rattle.ert_defs.specs.declared.settings.Settings.{Settings}
-use Rattle.ert_defs.specs.declared.timer.Start.{Start}
-use Rattle.ert_defs.specs.declared.timer.Status.{Status}
-use Rattle.ert_defs.specs.declared.timer.Status.TheVariants.{Armed}
-use Rattle.ert_defs.specs.declared.timer.TimerRef.{TimerRef}
-use Rattle.ert_defs.proofs.Runs.{state-append, legal_first, legal_then, rows_stay, last_stays, exit_stays}
-use Rattle.ert_defs.proofs.Settlings.{rows_stay_settled, settled_timers_stay}
-use Rattle.ert_defs.proofs.ExpiredTimers.{same_timer_self}
-use Rattle.ert_defs.proofs.Slots.{ordered}
-use Rattle.ert_defs.proofs.Uses.{Use, before_self}
+use Rattle.std.proofs.lemmas.{Bool.{le-leb, true_from_ne_false}, List.Elements.Contains-append_left}
+use Rattle.ert_effects.proofs.{Growing.filter_within, Swept.exits_settle_timers, TurnEnds.turns_end}
+use Rattle.ert_effects.specs.{Chains.{AdvancesWheel, Exits}, TimerCalls.{Starts, Closes, IsMissed}, WheelCalls.expiry_entries, Ways.{Whole, Grows, beside}, declared.answers.StartErr.StartErr}
+use Rattle.ert_defs.specs.{Actors.{has_actor, IsFree}, Entries.{is_ours, look_entry, arm_entry, mark_entry, probe_entry, orphan_entry, advanced_entry}, Laws.has_settled, Legal.{Legal, Can, AllSettled}, Milliseconds.{natural, down}}
+use Rattle.ert_defs.specs.{Milliseconds.deadline_of, States.{State, uses_at, opening, next, run, state}, Timers.{Row, row_from, rows_after, timer_at}, declared.entry.Actor.Actor, declared.entry.Actor.TheVariants.{Wheel, Sched, Caller}}
+use Rattle.ert_defs.specs.{declared.entry.Entry.Entry, declared.entry.Event.Event, declared.entry.Event.TheVariants.Arm, declared.memory.NoMemory.NoMemory, declared.settings.Settings.Settings, declared.timer.Start.Start}
+use Rattle.ert_defs.specs.{declared.timer.Status.Status, declared.timer.Status.TheVariants.Armed, declared.timer.TimerRef.TimerRef}
+use Rattle.ert_defs.proofs.{Runs.{state-append, legal_first, legal_then, rows_stay, last_stays, exit_stays}, Settlings.{rows_stay_settled, settled_timers_stay}, ExpiredTimers.same_timer_self, Slots.ordered, Uses.{Use, before_self}}
 use Rattle.ert_service.specs.Settled.{LawOfSettledByAdvance, LawOfSettledByExit, LawOfSettledByStart, LawOfNoneWaiting, NoneDue, NoneFor, NoneWaits, WasSettled}
 use Rattle.ert_world.proofs.Places.{Place, place}
-use Rattle.ert_table.proofs.Holders.{or_left}
-use Rattle.ert_table.proofs.OneStep.{legal_by}
-use Rattle.ert_table.specs.Desks.{front_of}
-use Rattle.ert_table.specs.declared.desk.Pass.{Pass}
+use Rattle.ert_table.proofs.{Holders.or_left, OneStep.legal_by}
+use Rattle.ert_table.specs.{Desks.front_of, declared.desk.Pass.Pass}
 use native.Mathlib.Bridge.{le_prop}
 
 -- the history up to such a place in what comes last of a piece, and what comes from it on

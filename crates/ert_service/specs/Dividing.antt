@@ -2,14 +2,10 @@
 
 use Rattle.std.specs.Prelude.{◌≡◌, ℕ, ◌+◌, ◌<◌, ◌≤◌, true, false, List, [], length, slice_index_or, Some}
 use Rattle.atomic_table.specs.Seated.{TableId}
-use Rattle.ert_defs.specs.Actors.{same_actor}
-use Rattle.ert_defs.specs.declared.entry.Actor.{Actor}
-use Rattle.ert_defs.specs.declared.entry.Entry.{Entry}
-use Rattle.ert_defs.specs.declared.settings.Settings.{Settings}
+use Rattle.ert_defs.specs.{Actors.same_actor, declared.entry.Actor.Actor, declared.entry.Entry.Entry, declared.settings.Settings.Settings}
 use Rattle.ert_locks.specs.Kinds.{Kind}
 use Rattle.ert_world.specs.Parts.{AreOrdered}
-use Rattle.ert_table.specs.Held.{is_held}
-use Rattle.ert_table.specs.declared.desk.Pass.{Pass}
+use Rattle.ert_table.specs.{Held.is_held, declared.desk.Pass.Pass}
 
 -- actors of all other sorts are held still
 pub record KeepsBut (sort : ℕ → Actor) (old new : List Actor) : Type 0 where

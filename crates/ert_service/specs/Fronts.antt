@@ -1,10 +1,7 @@
 -- What a front shows, and how it grows with no part.
 
 use Rattle.std.specs.Prelude.{List, []}
-use Rattle.ert_defs.specs.Legal.{Legal}
-use Rattle.ert_defs.specs.declared.entry.Actor.{Actor}
-use Rattle.ert_defs.specs.declared.entry.Entry.{Entry}
-use Rattle.ert_defs.specs.declared.settings.Settings.{Settings}
+use Rattle.ert_defs.specs.{Legal.Legal, declared.entry.Actor.Actor, declared.entry.Entry.Entry, declared.settings.Settings.Settings}
 use Rattle.ert_effects.specs.Ways.{Step, beside}
 use Rattle.ert_locks.specs.Passes.{FrontGrows}
 use Rattle.ert_table.specs.declared.desk.Pass.{Pass}

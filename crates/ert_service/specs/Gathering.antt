@@ -1,14 +1,10 @@
 -- How a service is closed: passes that are joined one after the other, and parts that are put in order.
 
 use Rattle.std.specs.Prelude.{◌≡◌, ℕ, suc, ◌<◌, true, List, [], ◌∷◌, length, slice_index_or, Option, Some, None}
-use Rattle.ert_defs.specs.Actors.{of}
-use Rattle.ert_defs.specs.declared.entry.Actor.{Actor}
-use Rattle.ert_defs.specs.declared.settings.Settings.{Settings}
+use Rattle.ert_defs.specs.{Actors.of, declared.entry.Actor.Actor, declared.settings.Settings.Settings}
 use Rattle.ert_locks.specs.Kinds.{Kind}
 use Rattle.ert_service.specs.Dividing.{AreFirst}
-use Rattle.ert_table.specs.Held.{is_held}
-use Rattle.ert_table.specs.Views.{Begins}
-use Rattle.ert_table.specs.declared.view.View.{View}
+use Rattle.ert_table.specs.{Held.is_held, Views.Begins, declared.view.View.View}
 
 -- a pass is seen in another: its front begins that one's, which holds its actors, and has their entries alone
 pub record IsSeen (v w : View) : Type 0 where

@@ -1,13 +1,9 @@
 -- How the seats of a service are joined, in order of number.
 
 use Rattle.std.specs.Prelude.{◌≡◌, ℕ, ◌+◌, ◌<◌, true, List, ◌++◌, length, slice_index_or, All}
-use Rattle.ert_defs.specs.Actors.{of}
-use Rattle.ert_defs.specs.declared.entry.Actor.{Actor}
-use Rattle.ert_defs.specs.declared.entry.Entry.{Entry}
+use Rattle.ert_defs.specs.{Actors.of, declared.entry.Actor.Actor, declared.entry.Entry.Entry}
 use Rattle.ert_service.specs.Gathering.{IsSeen}
-use Rattle.ert_table.specs.Held.{is_held}
-use Rattle.ert_table.specs.Views.{Begins}
-use Rattle.ert_table.specs.declared.view.View.{View}
+use Rattle.ert_table.specs.{Held.is_held, Views.Begins, declared.view.View.View}
 
 -- so many seats in order of number
 pub record AreNumbered {S : Type 0} (number : S → ℕ) (count : ℕ) (seats : List S) : Type 0 where

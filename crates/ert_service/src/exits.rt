@@ -10,14 +10,10 @@ use std::sync::Wait;
 
 impl<'a, L: DeskName, R: Wait> CallerSession<'a, L, R> {
     ghost use Rattle.std.specs.Prelude.{◌≡◌, ◌<◌, ℕ, true};
-    ghost use Rattle.ert_effects.specs.Chains.{Exits};
-    ghost use Rattle.ert_effects.specs.Ways.{beside};
-    ghost use Rattle.ert_effects.specs.WheelCalls.{MarksExit, TellsAlive};
-    ghost use Rattle.ert_defs.specs.States.{HasExited, state};
-    ghost use Rattle.ert_defs.specs.declared.entry.Actor.TheVariants.{Caller};
+    ghost use Rattle.ert_effects.specs.{Chains.Exits, Ways.beside, WheelCalls.{MarksExit, TellsAlive}};
+    ghost use Rattle.ert_defs.specs.{States.{HasExited, state}, declared.entry.Actor.TheVariants.Caller};
     ghost use Rattle.ert_locks.specs.Passes.{FrontGrows};
-    ghost use Rattle.ert_service.specs.Fronts.{IsLegal, StepsAlone};
-    ghost use Rattle.ert_service.specs.Settled.{NoneFor};
+    ghost use Rattle.ert_service.specs.{Fronts.{IsLegal, StepsAlone}, Settled.NoneFor};
     ghost use Rattle.ert_table.specs.Desks.{front_of};
 
     /// Lets a process exit, cancels its timers in all wheels, one after the other, and answers true; false,

@@ -1,14 +1,10 @@
 //! How the seats of a service are joined when it is closed.
 ghost use Rattle.std.specs.Prelude.{◌≡◌, ◌<◌, ◌≤◌, ℕ, true, [], All};
 ghost use Rattle.std.specs.Vec.{vec_capacity};
-ghost use Rattle.ert_defs.specs.Legal.{Legal};
-ghost use Rattle.ert_defs.specs.declared.entry.Actor.TheVariants.{Caller};
-ghost use Rattle.ert_locks.specs.Kinds.{scheds};
-ghost use Rattle.ert_locks.specs.Names.{IsDesk};
-ghost use Rattle.ert_service.specs.Gathering.{IsSeen, AreIn};
-ghost use Rattle.ert_service.specs.Joining.{AreNumbered};
-ghost use Rattle.ert_table.specs.Desks.{view_of, front_of, actors_of, Belongs};
-ghost use Rattle.ert_table.specs.Held.{is_held};
+ghost use Rattle.ert_defs.specs.{Legal.Legal, declared.entry.Actor.TheVariants.Caller};
+ghost use Rattle.ert_locks.specs.{Kinds.scheds, Names.IsDesk};
+ghost use Rattle.ert_service.specs.{Gathering.{IsSeen, AreIn}, Joining.AreNumbered};
+ghost use Rattle.ert_table.specs.{Desks.{view_of, front_of, actors_of, Belongs}, Held.is_held};
 
 use ert_locks::{CallerSeat, DeskName, SchedSeat};
 use ert_table::{Desk, Pass};

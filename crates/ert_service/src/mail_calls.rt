@@ -9,8 +9,7 @@ use std::sync::Wait;
 
 impl<'a, L: DeskName, R: Wait> CallerSession<'a, L, R> {
     ghost use Rattle.std.specs.Prelude.{◌≡◌, ◌<◌};
-    ghost use Rattle.ert_effects.specs.MailCalls.{Takes, Monitors, Demonitors, Notifies};
-    ghost use Rattle.ert_effects.specs.RequestCalls.{Asks, inbox_for};
+    ghost use Rattle.ert_effects.specs.{MailCalls.{Takes, Monitors, Demonitors, Notifies}, RequestCalls.{Asks, inbox_for}};
     ghost use Rattle.ert_defs.specs.declared.entry.Actor.TheVariants.{Inbox, MailOf, Caller};
     ghost use Rattle.ert_locks.specs.Passes.{StepsWith};
     ghost use Rattle.ert_service.specs.Fronts.{IsLegal};

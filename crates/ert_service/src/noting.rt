@@ -9,8 +9,7 @@ impl<'a, L: DeskName, R: Wait> CallerSession<'a, L, R> {
     ghost use Rattle.std.specs.Prelude.{◌≡◌};
     ghost use Rattle.ert_defs.specs.declared.entry.Actor.TheVariants.{Caller};
     ghost use Rattle.ert_service.specs.Fronts.{IsLegal, StepsAlone};
-    ghost use Rattle.ert_table.specs.Desks.{front_of};
-    ghost use Rattle.ert_table.specs.Views.{Begins, longer};
+    ghost use Rattle.ert_table.specs.{Desks.front_of, Views.{Begins, longer}};
     ghost use Rattle.ert_world.specs.Ways.{MakesNone};
 
     /// Takes a note of what the caller knows, for whoever the program gives it to. No entry is made, and it takes no lock.

@@ -1,11 +1,9 @@
 //! How a service is opened: each thread gets its seat.
 ghost use Rattle.std.specs.Prelude.{◌≡◌, ◌<◌, ℕ, true, IfOk};
 ghost use Rattle.ert_defs.specs.declared.entry.Actor.TheVariants.{Sched, Caller};
-ghost use Rattle.ert_locks.specs.Kinds.{scheds};
-ghost use Rattle.ert_locks.specs.Names.{IsDesk};
+ghost use Rattle.ert_locks.specs.{Kinds.scheds, Names.IsDesk};
 ghost use Rattle.ert_service.specs.Dividing.{AreFirst, AreSeated, KeepsBut};
-ghost use Rattle.ert_table.specs.Desks.{front_of, actors_of, Belongs};
-ghost use Rattle.ert_table.specs.Held.{is_held};
+ghost use Rattle.ert_table.specs.{Desks.{front_of, actors_of, Belongs}, Held.is_held};
 
 use ert_defs::{Actor, NoMemory};
 use ert_locks::{CallerSeat, DeskName, SchedSeat};

@@ -31,10 +31,8 @@ impl<P: DeskPart + Drop, L: DeskName> Room<P, L> {
     ghost use Rattle.std.specs.Sync.Mutex.{mutex_guard_value};
     ghost use Rattle.ert_defs.specs.Legal.{Legal};
     ghost use Rattle.ert_locks.specs.Names.{IsDesk};
-    ghost use Rattle.ert_service.specs.Dividing.{AreFirst, KeepsBut};
-    ghost use Rattle.ert_service.specs.Gathering.{AreIn, IsSeen};
-    ghost use Rattle.ert_table.specs.Desks.{actors_of, front_of, view_of, Belongs};
-    ghost use Rattle.ert_table.specs.Held.{is_held};
+    ghost use Rattle.ert_service.specs.{Dividing.{AreFirst, KeepsBut}, Gathering.{AreIn, IsSeen}};
+    ghost use Rattle.ert_table.specs.{Desks.{actors_of, front_of, view_of, Belongs}, Held.is_held};
 
     /// Gives each part its lock, with the pass that has its actor.
     pub(crate) fn lock_all(

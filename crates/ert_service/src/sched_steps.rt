@@ -13,14 +13,10 @@ use std::sync::Wait;
 
 impl<'a, L: DeskName, R: Wait> SchedSession<'a, L, R> {
     ghost use Rattle.std.specs.Prelude.{◌≡◌, None, IfOk};
-    ghost use Rattle.ert_effects.specs.Chains.{AdvancesWheel};
-    ghost use Rattle.ert_effects.specs.RequestCalls.{Picks};
-    ghost use Rattle.ert_effects.specs.Ways.{beside};
-    ghost use Rattle.ert_defs.specs.States.{state};
-    ghost use Rattle.ert_defs.specs.declared.entry.Actor.TheVariants.{Inbox, Sched};
+    ghost use Rattle.ert_effects.specs.{Chains.AdvancesWheel, RequestCalls.Picks, Ways.beside};
+    ghost use Rattle.ert_defs.specs.{States.state, declared.entry.Actor.TheVariants.{Inbox, Sched}};
     ghost use Rattle.ert_locks.specs.Passes.{FrontGrows, StepsWith};
-    ghost use Rattle.ert_service.specs.Fronts.{IsLegal};
-    ghost use Rattle.ert_service.specs.Settled.{NoneDue};
+    ghost use Rattle.ert_service.specs.{Fronts.IsLegal, Settled.NoneDue};
     ghost use Rattle.ert_table.specs.Desks.{front_of};
 
     /// Takes the first request of the inbox into the empty hand.

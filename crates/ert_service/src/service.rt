@@ -1,6 +1,5 @@
 ghost use Rattle.std.specs.Prelude.{◌≡◌, ◌≤◌, []};
-ghost use Rattle.std.specs.Arc.{arc_value};
-ghost use Rattle.std.specs.Vec.{vec_capacity};
+ghost use Rattle.std.specs.{Arc.arc_value, Vec.vec_capacity};
 ghost use Rattle.ert_locks.specs.Names.{IsDesk};
 
 use crate::joining::{join_callers, join_scheds};
@@ -44,15 +43,11 @@ pub struct Opened<L: DeskName> {
 impl<L: DeskName> Service<L> {
     ghost use Rattle.std.specs.Prelude.{◌≡◌, IfOk, All};
     ghost use Rattle.std.specs.Arc.{arc_value};
-    ghost use Rattle.ert_defs.specs.declared.entry.Actor.TheVariants.{Caller, Sched};
-    ghost use Rattle.ert_defs.specs.Settings.{IsChecked};
+    ghost use Rattle.ert_defs.specs.{declared.entry.Actor.TheVariants.{Caller, Sched}, Settings.IsChecked};
     ghost use Rattle.ert_laws.specs.KeptLaws.{KeepsLaws};
-    ghost use Rattle.ert_world.specs.Parts.{parts_of};
-    ghost use Rattle.ert_world.specs.Worlds.{AreFit};
-    ghost use Rattle.ert_service.specs.Dividing.{AreSeated, IsPassOf};
-    ghost use Rattle.ert_service.specs.Joining.{AreNumbered, HasOwn};
-    ghost use Rattle.ert_table.specs.Desks.{front_of};
-    ghost use Rattle.ert_table.specs.Views.{Begins};
+    ghost use Rattle.ert_world.specs.{Parts.parts_of, Worlds.AreFit};
+    ghost use Rattle.ert_service.specs.{Dividing.{AreSeated, IsPassOf}, Joining.{AreNumbered, HasOwn}};
+    ghost use Rattle.ert_table.specs.{Desks.front_of, Views.Begins};
 
     /// Opens a service on the desk of a world that was taken apart, which `L` names. Each part gets its lock
     /// and each thread its seat; no entry is made.

@@ -9,16 +9,11 @@ use std::sync::Wait;
 
 impl<'a, L: DeskName, R: Wait> CallerSession<'a, L, R> {
     ghost use Rattle.std.specs.Prelude.{◌≡◌, ◌≢◌, ◌<◌, Err, IfOk, None};
-    ghost use Rattle.ert_table.specs.Left.{TellsLeft};
-    ghost use Rattle.ert_effects.specs.TimerCalls.{Starts, Reads, Cancels};
-    ghost use Rattle.ert_effects.specs.declared.answers.StartErr.TheVariants.{NoMemory as OutOfMemory};
-    ghost use Rattle.ert_defs.specs.Legal.{names_timer};
-    ghost use Rattle.ert_defs.specs.States.{HasExited, state};
-    ghost use Rattle.ert_defs.specs.declared.entry.Actor.TheVariants.{Wheel, Caller};
+    ghost use Rattle.ert_table.specs.{Left.TellsLeft, Desks.{front_of, view_of}};
+    ghost use Rattle.ert_effects.specs.{TimerCalls.{Starts, Reads, Cancels}, declared.answers.StartErr.TheVariants.NoMemory as OutOfMemory};
+    ghost use Rattle.ert_defs.specs.{Legal.names_timer, States.{HasExited, state}, declared.entry.Actor.TheVariants.{Wheel, Caller}};
     ghost use Rattle.ert_locks.specs.Passes.{StepsWith};
-    ghost use Rattle.ert_service.specs.Fronts.{IsLegal, StepsAlone};
-    ghost use Rattle.ert_service.specs.Settled.{WasSettled};
-    ghost use Rattle.ert_table.specs.Desks.{front_of, view_of};
+    ghost use Rattle.ert_service.specs.{Fronts.{IsLegal, StepsAlone}, Settled.WasSettled};
     ghost use Rattle.ert_world.specs.Known.{WasStarted};
 
     /// Starts a timer on a wheel (`erlang` module reference, `start_timer` and `send_after`).

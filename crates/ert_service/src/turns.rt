@@ -10,13 +10,10 @@ use std::sync::Wait;
 
 impl<'a, L: DeskName, R: Wait> SchedSession<'a, L, R> {
     ghost use Rattle.std.specs.Prelude.{◌≡◌, OnOk};
-    ghost use Rattle.ert_effects.specs.Chains.{Serves, Delivers, Turns};
-    ghost use Rattle.ert_effects.specs.Ways.{beside};
-    ghost use Rattle.ert_defs.specs.States.{state};
-    ghost use Rattle.ert_defs.specs.declared.entry.Actor.TheVariants.{Sched};
+    ghost use Rattle.ert_effects.specs.{Chains.{Serves, Delivers, Turns}, Ways.beside};
+    ghost use Rattle.ert_defs.specs.{States.state, declared.entry.Actor.TheVariants.Sched};
     ghost use Rattle.ert_locks.specs.Passes.{FrontGrows};
-    ghost use Rattle.ert_service.specs.Fronts.{IsLegal};
-    ghost use Rattle.ert_service.specs.Settled.{NoneWaits};
+    ghost use Rattle.ert_service.specs.{Fronts.IsLegal, Settled.NoneWaits};
     ghost use Rattle.ert_table.specs.Desks.{front_of};
 
     /// Serves one request: that in the scheduler's hand, or the first of its inbox. False comes where there is

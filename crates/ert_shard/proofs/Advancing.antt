@@ -1,28 +1,14 @@
 -- What is told of the entries of an advance with a bound, and that they leave the hand.
 
 use Rattle.std.proofs.Common.{◌≡◌, ℕ, true, List, [], ◌∷◌, ◌++◌, Result, Ok, Err, refl, sym, ap, ◌∙◌, append-nil}
-use Rattle.ert_defs.specs.Actors.{has_actor}
-use Rattle.ert_defs.specs.Entries.{look_entry, advanced_entry}
-use Rattle.ert_defs.specs.Mails.{SchedState}
-use Rattle.ert_defs.specs.States.{State, next, run, state}
-use Rattle.ert_defs.specs.declared.entry.Actor.{Actor}
-use Rattle.ert_defs.specs.declared.entry.Actor.TheVariants.{Wheel, Sched}
-use Rattle.ert_defs.specs.declared.entry.Entry.{Entry}
-use Rattle.ert_defs.specs.declared.memory.NoMemory.{NoMemory}
-use Rattle.ert_defs.specs.declared.settings.Settings.{Settings}
-use Rattle.ert_effects.specs.SomeCalls.{AdvancesSome}
-use Rattle.ert_effects.specs.WheelCalls.{Advances, expiry_entries}
-use Rattle.ert_effects.specs.declared.answers.Left.{Left}
-use Rattle.ert_effects.specs.declared.answers.Left.TheVariants.{Nothing, Due, Moving}
+use Rattle.ert_defs.specs.{Actors.has_actor, Entries.{look_entry, advanced_entry}, Mails.SchedState, States.{State, next, run, state}, declared.entry.Actor.Actor, declared.entry.Actor.TheVariants.{Wheel, Sched}, declared.entry.Entry.Entry}
+use Rattle.ert_defs.specs.{declared.memory.NoMemory.NoMemory, declared.settings.Settings.Settings}
+use Rattle.ert_effects.specs.{SomeCalls.AdvancesSome, WheelCalls.{Advances, expiry_entries}, declared.answers.Left.Left, declared.answers.Left.TheVariants.{Nothing, Due, Moving}}
 use Rattle.ert_shard.specs.Shards.{Share, AreHome}
 use Rattle.ert_shard.proofs.Home.{advances_home}
 use Rattle.ert_table.proofs.Parts.{own_after, sched_own, AreByThemselves}
-use Rattle.ert_table.specs.Calls.{AreOnlyOf}
-use Rattle.ert_table.specs.Held.{is_held}
-use Rattle.ert_table.specs.Takes.{TakesPlace}
-use Rattle.ert_table.specs.declared.view.View.{View}
-use Rattle.ert_timers.proofs.LawsHold.{advances_only}
-use Rattle.ert_timers.proofs.SchedParts.{LeaveHand, hand_at, advances_leave}
+use Rattle.ert_table.specs.{Calls.AreOnlyOf, Held.is_held, Takes.TakesPlace, declared.view.View.View}
+use Rattle.ert_timers.proofs.{LawsHold.advances_only, SchedParts.{LeaveHand, hand_at, advances_leave}}
 
 -- what is told of the entries of an advance: they are of the scheduler, with its wheel, start no timer for another share, and
 -- leave the hand

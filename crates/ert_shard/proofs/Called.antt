@@ -2,32 +2,16 @@
 
 use Rattle.std.proofs.Common.{◌≡◌, ℕ, ◌+◌, ◌-◌, ◌<◌, false, Option, arith, ne_eqb, List, [], ◌∷◌, ◌++◌, filter, length, slice_index_or, refl, sym, ap, subst, ◌∙◌}
 use Rattle.std.specs.Prelude.{slice_set}
-use Rattle.std.proofs.Math.Nat.{le_refl, le_trans}
-use Rattle.std.proofs.lemmas.List.{length-set}
-use Rattle.ert_defs.specs.Actors.{of}
-use Rattle.ert_defs.specs.Legal.{Legal}
-use Rattle.ert_defs.specs.States.{State, state}
-use Rattle.ert_defs.specs.declared.entry.Actor.{Actor}
-use Rattle.ert_defs.specs.declared.entry.Actor.TheVariants.{Wheel, MailOf, Caller}
-use Rattle.ert_defs.specs.declared.entry.Entry.{Entry}
-use Rattle.ert_defs.specs.declared.settings.Settings.{Settings}
+use Rattle.std.proofs.{Math.Nat.{le_refl, le_trans}, lemmas.List.length-set}
+use Rattle.ert_defs.specs.{Actors.of, Legal.Legal, States.{State, state}, declared.entry.Actor.Actor, declared.entry.Actor.TheVariants.{Wheel, MailOf, Caller}, declared.entry.Entry.Entry, declared.settings.Settings.Settings}
 use Rattle.ert_effects.specs.Ways.{Growth, Way}
-use Rattle.ert_mail.specs.Mailboxes.{Mailbox, MailboxStands as MailStands}
+use Rattle.ert_mail.specs.{Mailboxes.{Mailbox, MailboxStands as MailStands}, Turns.TurnRow}
 use Rattle.ert_shard.specs.Shards.{Share, counted_from, IsHome, AreMails, is_of, Owned, owned, shard_way, ShardGoes, ShardSteps, ShardBy, HoldsShare, ShardParts, ShardPartsStand, AreHome, AreShardPartsFit}
-use Rattle.ert_shard.proofs.Home.{home_on}
-use Rattle.ert_shard.proofs.Kept.{AreOwn, own_by, same_of, others_stand, self_own, home_own}
-use Rattle.ert_table.specs.Calls.{AreOnlyOf, IsMade}
-use Rattle.ert_table.specs.Desks.{settings_of, view_of, front_of, Belongs}
-use Rattle.ert_table.specs.Held.{is_held}
-use Rattle.ert_table.specs.Takes.{TakesPlace}
-use Rattle.ert_table.specs.declared.desk.Desk.{Desk}
-use Rattle.ert_table.specs.declared.desk.Pass.{Pass}
-use Rattle.ert_timers.specs.Parts.{Part, PartStands as WheelStands}
-use Rattle.ert_timers.specs.Passed.{LosesRows}
-use Rattle.ert_mail.specs.Turns.{TurnRow}
-use Rattle.ert_world.specs.Stepping.{turns_same}
+use Rattle.ert_shard.proofs.{Home.home_on, Kept.{AreOwn, own_by, same_of, others_stand, self_own, home_own}}
+use Rattle.ert_table.specs.{Calls.{AreOnlyOf, IsMade}, Desks.{settings_of, view_of, front_of, Belongs}, Held.is_held, Takes.TakesPlace, declared.desk.Desk.Desk, declared.desk.Pass.Pass}
+use Rattle.ert_timers.specs.{Parts.{Part, PartStands as WheelStands}, Passed.LosesRows}
+use Rattle.ert_world.specs.{Stepping.turns_same, Worlds.{ListAll, TurnsGrow}}
 use Rattle.ert_world.proofs.Returned.{at_place}
-use Rattle.ert_world.specs.Worlds.{ListAll, TurnsGrow}
 use Rattle.ert_wheel.proofs.StandsOn.{stay_all, stay_then}
 
 -- the parts of a shard after a call: they fit, and what callers see of it goes on by the call

@@ -1,26 +1,14 @@
 -- Whose the timers of a wheel are that is left, and of one that is cut.
 
 use Rattle.std.proofs.Common.{◌≡◌, ℕ, ◌+◌, ◌-◌, ◌<◌, ◌≤◌, Bool, true, false, cond, ◌&&◌, nat_lt, List, [], ◌∷◌, take, length, slice_index_or, Some, inl, inr, refl, sym, ap, subst, ◌∙◌, arith}
-use Rattle.std.proofs.Math.Nat.{le_trans, lt_of_lt_of_le}
-use Rattle.std.proofs.lemmas.Bool.{ltb-true}
-use Rattle.std.proofs.lemmas.Bool.Decides.{nat_tests}
-use Rattle.std.proofs.lemmas.List.Sums.{sum_by-cons}
-use Rattle.std.proofs.lemmas.List.{get_or-take, length-take-le}
-use Rattle.std.proofs.lemmas.Option.{slice_get_within, get_or_from_slice_get}
+use Rattle.std.proofs.{Math.Nat.{le_trans, lt_of_lt_of_le}, lemmas.Bool.ltb-true, lemmas.Bool.Decides.nat_tests, lemmas.List.Sums.sum_by-cons, lemmas.List.{get_or-take, length-take-le}, lemmas.Option.slice_get_within}
+use Rattle.std.proofs.{lemmas.Option.get_or_from_slice_get}
 use Rattle.std.specs.List.{slice_get}
 use Rattle.std.specs.Prelude.{IsTrue, ◌↔◌}
-use Rattle.ert_defs.specs.Actors.{has_actor, of}
-use Rattle.ert_defs.specs.declared.entry.Actor.TheVariants.{Wheel}
-use Rattle.ert_defs.specs.declared.entry.Entry.{Entry}
-use Rattle.ert_defs.specs.declared.entry.Event.{Event}
-use Rattle.ert_defs.specs.declared.entry.Event.TheVariants.{Arm}
+use Rattle.ert_defs.specs.{Actors.{has_actor, of}, declared.entry.Actor.TheVariants.Wheel, declared.entry.Entry.Entry, declared.entry.Event.Event, declared.entry.Event.TheVariants.Arm}
 use Rattle.ert_laws.specs.Counts.{entries_of, is_arm}
-use Rattle.ert_shard.specs.Hubs.{Rest, share_at, share_below, HaveHomes, IsRest, AreKnown, IsAtHome}
-use Rattle.ert_shard.specs.Shards.{Share, share_of, IsHomeEvent, AreHome}
-use Rattle.ert_shard.specs.declared.hub.Home.{Home}
-use Rattle.ert_table.specs.Desks.{settings_of, front_of}
-use Rattle.ert_table.specs.declared.desk.Desk.{Desk}
-use Rattle.ert_table.specs.declared.desk.Pass.{Pass}
+use Rattle.ert_shard.specs.{Hubs.{Rest, share_at, share_below, HaveHomes, IsRest, AreKnown, IsAtHome}, Shards.{Share, share_of, IsHomeEvent, AreHome}, declared.hub.Home.Home}
+use Rattle.ert_table.specs.{Desks.{settings_of, front_of}, declared.desk.Desk.Desk, declared.desk.Pass.Pass}
 use Rattle.ert_timers.specs.Parts.{Part, PartStands as WheelStands}
 use Rattle.ert_world.specs.Parts.{AllParts}
 

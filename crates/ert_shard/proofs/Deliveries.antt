@@ -2,52 +2,21 @@
 
 use Rattle.std.proofs.Common.{◌≡◌, ℕ, ◌+◌, ◌-◌, ◌<◌, ◌≤◌, Bool, true, false, arith, length, List, [], ◌∷◌, ◌++◌, slice_index_or, Option, Some, None, Ok, Err, refl, sym, ap, subst, ◌∙◌, append-nil}
 use Rattle.std.specs.Prelude.{slice_set}
-use Rattle.ert_defs.specs.Mails.{MailState, SchedState, first_of, others_of}
-use Rattle.ert_defs.specs.Legal.{Legal}
-use Rattle.ert_defs.specs.States.{State, state, sched_of}
-use Rattle.ert_defs.specs.Timers.{Row}
-use Rattle.ert_defs.specs.declared.entry.Actor.{Actor}
-use Rattle.ert_defs.specs.declared.entry.Actor.TheVariants.{Wheel, Sched, MailOf}
-use Rattle.ert_defs.specs.declared.entry.Entry.{Entry}
-use Rattle.ert_defs.specs.declared.memory.NoMemory.{NoMemory}
-use Rattle.ert_defs.specs.declared.settings.Settings.{Settings}
+use Rattle.ert_defs.specs.{Mails.{MailState, SchedState, first_of, others_of}, Legal.Legal, States.{State, state, sched_of}, Timers.{Row, is_taken}, declared.entry.Actor.Actor, declared.entry.Actor.TheVariants.{Wheel, Sched, MailOf}}
+use Rattle.ert_defs.specs.{declared.entry.Entry.Entry, declared.memory.NoMemory.NoMemory, declared.settings.Settings.Settings, declared.timer.TimerRef.TimerRef}
 use Rattle.ert_effects.proofs.Growing.{grows_more, grows_then}
-use Rattle.ert_effects.specs.Chains.{Hands, HandsMany, Delivers, puts, drops}
-use Rattle.ert_effects.specs.MailCalls.{HandsOver}
-use Rattle.ert_effects.specs.Ways.{Growth, Way, Grows}
-use Rattle.ert_effects.specs.declared.answers.Handed.{Handed}
-use Rattle.ert_defs.specs.Timers.{is_taken}
-use Rattle.ert_defs.specs.declared.timer.TimerRef.{TimerRef}
+use Rattle.ert_effects.specs.{Chains.{Hands, HandsMany, Delivers, puts, drops}, MailCalls.HandsOver, Ways.{Growth, Way, Grows}, declared.answers.Handed.Handed}
 use Rattle.ert_laws.proofs.RowRanges.{first_placed}
 use Rattle.ert_laws.specs.Ranges.{IsPlaced}
 use Rattle.ert_mail.proofs.LawsHold.{handing_only}
-use Rattle.ert_mail.specs.Mailboxes.{Mailbox, HoldsMailboxAndSched, handed, MailboxStands as MailStands}
-use Rattle.ert_world.specs.Stepping.{turns_same, turns_then}
-use Rattle.ert_world.specs.Worlds.{TurnsGrow}
-use Rattle.ert_shard.specs.Turning.{shard_expired}
-use Rattle.ert_shard.specs.Shards.{Share, counted_from, IsHome, Owned, shard_way, ShardSteps, ShardParts, AreShardPartsFit}
-use Rattle.ert_shard.proofs.Home.{first_home}
-use Rattle.ert_shard.proofs.Kept.{self_own, home_own}
-use Rattle.ert_shard.proofs.Called.{Does, Did, Has, Makes, IsListedOn, finish, losing, same_rows, rows_then, home_kept, mail_named, mails_back, place_low}
-use Rattle.ert_shard.proofs.Stepped.{since}
-use Rattle.ert_shard.proofs.Turned.{Had, had}
-use Rattle.ert_table.specs.Calls.{IsMade}
-use Rattle.ert_table.specs.Desks.{settings_of, view_of, front_of, actors_of, Belongs}
-use Rattle.ert_table.specs.Held.{is_held}
-use Rattle.ert_table.specs.Takes.{TakesPlace}
-use Rattle.ert_table.specs.declared.desk.Desk.{Desk}
-use Rattle.ert_table.specs.declared.desk.Pass.{Pass}
+use Rattle.ert_mail.specs.{Mailboxes.{Mailbox, HoldsMailboxAndSched, handed, MailboxStands as MailStands}, Turns.TurnRow}
+use Rattle.ert_world.specs.{Stepping.{turns_same, turns_then}, Worlds.TurnsGrow, Bounded.{AreLeft, DeliversSome}}
+use Rattle.ert_shard.specs.{Turning.shard_expired, Shards.{Share, counted_from, IsHome, Owned, shard_way, ShardSteps, ShardParts, AreShardPartsFit}}
+use Rattle.ert_shard.proofs.{Home.first_home, Kept.{self_own, home_own}, Called.{Does, Did, Has, Makes, IsListedOn, finish, losing, same_rows, rows_then, home_kept, mail_named, mails_back, place_low}, Stepped.since, Turned.{Had, had}}
+use Rattle.ert_table.specs.{Calls.IsMade, Desks.{settings_of, view_of, front_of, actors_of, Belongs}, Held.is_held, Takes.TakesPlace, declared.desk.Desk.Desk, declared.desk.Pass.Pass}
 use Rattle.ert_timers.proofs.Settled.{expired_let_go, handed_free}
-use Rattle.ert_timers.specs.Freeing.{IsLetGo}
-use Rattle.ert_mail.specs.Turns.{TurnRow}
-use Rattle.ert_world.proofs.Bounding.{puts_drops}
-use Rattle.ert_world.proofs.Standing.{free_kept}
-use Rattle.ert_world.specs.Bounded.{AreLeft, DeliversSome}
-use Rattle.ert_timers.specs.Parts.{Part}
-use Rattle.ert_timers.specs.Passed.{LosesRows}
-use Rattle.ert_world.proofs.SchedCalls.{sched_stands}
-use Rattle.ert_timers.specs.SchedParts.{SchedStands}
-use Rattle.ert_timers.specs.declared.sched_part.SchedPart.{SchedPart}
+use Rattle.ert_timers.specs.{Freeing.IsLetGo, Parts.Part, Passed.LosesRows, SchedParts.SchedStands, declared.sched_part.SchedPart.SchedPart}
+use Rattle.ert_world.proofs.{Bounding.puts_drops, Standing.free_kept, SchedCalls.sched_stands}
 
 -- the first expired timer is of the shard's wheel and for a process of its share
 pub record IsOwnFirst (g : Settings) (s : Share) (expired : Row) : Type 0 where

@@ -1,15 +1,10 @@
 -- A start of a shard names a timer that was never named before, so no row comes of one that was.
 
 use Rattle.std.proofs.Common.{⊎_elim, ◌+◌, Result, ap, subst, ◌∙◌}
-use Rattle.ert_defs.specs.Legal.{Legal}
-use Rattle.ert_defs.specs.declared.settings.Settings.{Settings}
-use Rattle.ert_defs.specs.declared.timer.Start.{Start}
-use Rattle.ert_defs.specs.declared.timer.TimerRef.{TimerRef}
-use Rattle.ert_effects.specs.TimerCalls.{Starts}
-use Rattle.ert_effects.specs.declared.answers.StartErr.{StartErr}
+use Rattle.ert_defs.specs.{Legal.Legal, declared.settings.Settings.Settings, declared.timer.Start.Start, declared.timer.TimerRef.TimerRef}
+use Rattle.ert_effects.specs.{TimerCalls.Starts, declared.answers.StartErr.StartErr}
 use Rattle.ert_shard.specs.Shards.{Owned, Share, ShardBy, ShardGoes, ShardStayForgotten, is_of}
-use Rattle.ert_timers.specs.Parts.{PartStands as WheelStands}
-use Rattle.ert_timers.specs.Passed.{GainsOne}
+use Rattle.ert_timers.specs.{Parts.PartStands as WheelStands, Passed.GainsOne}
 use Rattle.ert_world.proofs.Started.{name_is_new, row_from}
 
 pub shard_forgotten : (a c : Owned) (start : Start) (answer : Result TimerRef StartErr) → Legal a.settings a.history

@@ -4,29 +4,15 @@ use Rattle.std.proofs.Common.{◌≡◌, ℕ, ◌+◌, ◌<◌, Bool, true, fals
 use Rattle.std.proofs.lemmas.Bool.{lt-ltb, le-leb}
 use Rattle.std.specs.Prelude.{nat_eq}
 use Rattle.ert_defs.proofs.Runs.{legal_then, state-append, exit_stays}
-use Rattle.ert_defs.specs.Actors.{same_actor, of}
-use Rattle.ert_defs.specs.Entries.{is_ours}
-use Rattle.ert_defs.specs.Legal.{Legal, LegalFrom}
-use Rattle.ert_defs.specs.States.{State, opening, next, state}
-use Rattle.ert_defs.specs.declared.entry.Actor.{Actor}
-use Rattle.ert_defs.specs.declared.entry.Actor.TheVariants.{Wheel, Inbox, Sched, MailOf}
-use Rattle.ert_defs.specs.declared.entry.Entry.{Entry}
-use Rattle.ert_defs.specs.declared.settings.Settings.{Settings}
-use Rattle.ert_mail.proofs.LawsHold.{inbox_on, mail_on}
-use Rattle.ert_mail.proofs.Listing.{listed_on}
-use Rattle.ert_mail.specs.Lists.{exited_from}
-use Rattle.ert_mail.specs.Mailboxes.{Mailbox}
+use Rattle.ert_defs.specs.{Actors.{same_actor, of}, Entries.is_ours, Legal.{Legal, LegalFrom}, States.{State, opening, next, state}, declared.entry.Actor.Actor, declared.entry.Actor.TheVariants.{Wheel, Inbox, Sched, MailOf}}
+use Rattle.ert_defs.specs.{declared.entry.Entry.Entry, declared.settings.Settings.Settings}
+use Rattle.ert_mail.proofs.{LawsHold.{inbox_on, mail_on}, Listing.listed_on}
+use Rattle.ert_mail.specs.{Lists.exited_from, Mailboxes.Mailbox, Turns.TurnRow}
 use Rattle.ert_shard.proofs.Partners.{none_any}
-use Rattle.ert_timers.proofs.SchedParts.{sched_on}
+use Rattle.ert_timers.proofs.{SchedParts.sched_on, LawsHold.stand_on as wheel_on}
 use Rattle.ert_shard.specs.Shards.{Share, IsHome, is_own, is_of, HoldsShare, ShardParts, ShardPartsStand, counted_from, has_any, is_with_any}
 use Rattle.ert_table.proofs.Holders.{held_maker, same_actor-true}
-use Rattle.ert_table.specs.Calls.{AreOnlyOf}
-use Rattle.ert_table.specs.Held.{is_held, IsActor}
-use Rattle.ert_table.specs.Takes.{TakesPlace}
-use Rattle.ert_table.specs.Views.{Begins}
-use Rattle.ert_table.specs.declared.view.View.{View}
-use Rattle.ert_timers.proofs.LawsHold.{stand_on as wheel_on}
-use Rattle.ert_mail.specs.Turns.{TurnRow}
+use Rattle.ert_table.specs.{Calls.AreOnlyOf, Held.{is_held, IsActor}, Takes.TakesPlace, Views.Begins, declared.view.View.View}
 use Rattle.ert_world.proofs.Standing.{grown_by, own_kept}
 use Rattle.ert_world.specs.Worlds.{ListAll}
 

@@ -1,21 +1,12 @@
 -- What a turn with a bound has left, and that it did as much as it may.
 
 use Rattle.std.proofs.Common.{◌≡◌, ℕ, Bool, true, false, List, length, Ok, inl, inr, sym, subst, ◌∙◌}
-use Rattle.ert_defs.specs.States.{sched_of}
-use Rattle.ert_defs.specs.declared.entry.Entry.{Entry}
-use Rattle.ert_defs.specs.declared.settings.Settings.{Settings}
-use Rattle.ert_effects.specs.SomeCalls.{is_more}
-use Rattle.ert_effects.specs.declared.answers.Left.{Left}
-use Rattle.ert_effects.specs.declared.answers.Left.TheVariants.{Nothing, Due, Moving}
+use Rattle.ert_defs.specs.{States.sched_of, declared.entry.Entry.Entry, declared.settings.Settings.Settings}
+use Rattle.ert_effects.specs.{SomeCalls.is_more, declared.answers.Left.Left, declared.answers.Left.TheVariants.{Nothing, Due, Moving}}
 use Rattle.ert_shard.proofs.Stepped.{fewer_after}
-use Rattle.ert_shard.specs.Shards.{Share, Owned, ShardSteps}
-use Rattle.ert_shard.specs.Turning.{shard_expired, HasTurnedMost, IsMoreLeft}
-use Rattle.ert_shard.specs.declared.turns.Turn.{Turn}
-use Rattle.ert_timers.specs.Parts.{Part}
-use Rattle.ert_timers.specs.Passed.{LosesRows}
-use Rattle.ert_timers.specs.Trying.{IsLeft, LosesSome}
-use Rattle.ert_world.specs.Bounded.{AreLeft, DeliversSome}
-use Rattle.ert_world.specs.Worlds.{KeepsRows}
+use Rattle.ert_shard.specs.{Shards.{Share, Owned, ShardSteps}, Turning.{shard_expired, HasTurnedMost, IsMoreLeft}, declared.turns.Turn.Turn}
+use Rattle.ert_timers.specs.{Parts.Part, Passed.LosesRows, Trying.{IsLeft, LosesSome}}
+use Rattle.ert_world.specs.{Bounded.{AreLeft, DeliversSome}, Worlds.KeepsRows}
 
 -- rows stay through steps through each of which they do
 pub keeps_then : (p q r : Part) → KeepsRows p q → KeepsRows q r → KeepsRows p r

@@ -1,19 +1,11 @@
 -- With whom an entry is made is in range, and no entry of others has an actor that a pass holds.
 
 use Rattle.std.proofs.Common.{◌≡◌, Bool, true, false, ◌||◌, List, [], ◌∷◌, Option, Some, None, refl, sym, ap, subst, ◌∙◌}
-use Rattle.ert_defs.specs.Actors.{same_actor, has_actor, is_with, IsCaller}
-use Rattle.ert_defs.specs.Entries.{is_ours}
-use Rattle.ert_defs.specs.Legal.{IsReader, IsWithCaller, IsWithMail, Keeps}
-use Rattle.ert_defs.specs.declared.entry.Actor.{Actor}
-use Rattle.ert_defs.specs.declared.entry.Actor.TheVariants.{Keeper, Wheel, Inbox, MailOf, Caller}
-use Rattle.ert_defs.specs.declared.entry.Entry.{Entry}
-use Rattle.ert_defs.specs.declared.entry.Event.{Event}
-use Rattle.ert_defs.specs.declared.entry.Event.TheVariants.{Tick, Shift, Look, Off, Arm, Probe, Peek, Cancel, Expire, Orphan, Deliver, Drop, Mark, Advanced, Ask, Pick, Answer, Take, Unwatch, Watch, Tell}
-use Rattle.ert_defs.specs.declared.settings.Settings.{Settings}
+use Rattle.ert_defs.specs.{Actors.{same_actor, has_actor, is_with, IsCaller}, Entries.is_ours, Legal.{IsReader, IsWithCaller, IsWithMail, Keeps}, declared.entry.Actor.Actor, declared.entry.Actor.TheVariants.{Keeper, Wheel, Inbox, MailOf}}
+use Rattle.ert_defs.specs.{declared.entry.Actor.TheVariants.Caller, declared.entry.Entry.Entry, declared.entry.Event.Event, declared.entry.Event.TheVariants.{Tick, Shift, Look, Off, Arm, Probe, Peek, Cancel, Expire, Orphan, Deliver, Drop}}
+use Rattle.ert_defs.specs.{declared.entry.Event.TheVariants.{Mark, Advanced, Ask, Pick, Answer, Take, Unwatch, Watch, Tell}, declared.settings.Settings.Settings}
 use Rattle.ert_shard.specs.Shards.{has_any, is_with_any}
-use Rattle.ert_table.proofs.Calls.{made_ours}
-use Rattle.ert_table.proofs.Closings.{maker_in_range}
-use Rattle.ert_table.proofs.Holders.{or_left, or_right, same_actor_self, same_actor-true}
+use Rattle.ert_table.proofs.{Calls.made_ours, Closings.maker_in_range, Holders.{or_left, or_right, same_actor_self, same_actor-true}}
 use Rattle.ert_table.specs.Held.{is_held, IsActor}
 
 -- an actor that there may be is in range

@@ -1,32 +1,15 @@
 -- A shard's scheduler probes slots of its wheel: what it has is the same.
 
 use Rattle.std.proofs.Common.{◌≡◌, ℕ, ◌<◌, true, List, [], ◌∷◌, Option, refl, sym, ap, subst, ◌∙◌}
-use Rattle.ert_defs.specs.Mails.{SchedState}
-use Rattle.ert_defs.specs.States.{State, state}
-use Rattle.ert_defs.specs.declared.entry.Actor.TheVariants.{Wheel, Sched}
-use Rattle.ert_defs.specs.declared.entry.Entry.{Entry}
-use Rattle.ert_defs.specs.declared.settings.Settings.{Settings}
+use Rattle.ert_defs.specs.{Mails.SchedState, States.{State, state}, declared.entry.Actor.TheVariants.{Wheel, Sched}, declared.entry.Entry.Entry, declared.settings.Settings.Settings}
 use Rattle.ert_effects.specs.Sleeping.{Probed, DropsSettled, ProbesForNext, probed_entries}
 use Rattle.ert_world.specs.Stepping.{turns_same}
-use Rattle.ert_shard.proofs.Called.{Did, Has, did_at, finish, has_at, losing, makes}
-use Rattle.ert_shard.proofs.Home.{home_on}
-use Rattle.ert_shard.proofs.Kept.{self_own}
-use Rattle.ert_shard.proofs.Turned.{Had, had}
+use Rattle.ert_shard.proofs.{Called.{Did, Has, did_at, finish, has_at, losing, makes}, Home.home_on, Kept.self_own, Turned.{Had, had}}
 use Rattle.ert_shard.specs.Shards.{AreHome, AreShardPartsFit, Owned, Share, ShardBy, ShardParts, owned}
-use Rattle.ert_table.specs.Calls.{IsMade}
-use Rattle.ert_table.specs.Desks.{settings_of, view_of, front_of, actors_of, Belongs}
-use Rattle.ert_table.specs.Held.{is_held}
-use Rattle.ert_table.specs.Takes.{TakesPlace}
-use Rattle.ert_table.specs.declared.desk.Desk.{Desk}
-use Rattle.ert_table.specs.declared.desk.Pass.{Pass}
+use Rattle.ert_table.specs.{Calls.IsMade, Desks.{settings_of, view_of, front_of, actors_of, Belongs}, Held.is_held, Takes.TakesPlace, declared.desk.Desk.Desk, declared.desk.Pass.Pass}
 use Rattle.ert_timers.proofs.LawsHold.{probed_only}
-use Rattle.ert_timers.specs.NextDue.{NoneArmedBefore}
-use Rattle.ert_timers.specs.Parts.{Part, PartStands as WheelStands}
-use Rattle.ert_timers.specs.Passed.{LosesRows}
-use Rattle.ert_timers.specs.Sleeping.{ProbesRows}
-use Rattle.ert_world.proofs.Probing.{sched_same}
-use Rattle.ert_world.proofs.SchedCalls.{sched_stands}
-use Rattle.ert_timers.specs.SchedParts.{SchedStands}
+use Rattle.ert_timers.specs.{NextDue.NoneArmedBefore, Parts.{Part, PartStands as WheelStands}, Passed.LosesRows, Sleeping.ProbesRows, SchedParts.SchedStands}
+use Rattle.ert_world.proofs.{Probing.sched_same, SchedCalls.sched_stands}
 
 -- probes start no timer
 probed_home : (s : Share) (w : ℕ) (probes : List Probed) → AreHome s (probed_entries w probes)

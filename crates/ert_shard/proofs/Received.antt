@@ -1,31 +1,14 @@
 -- A process of a shard with mail, and takes of several messages.
 
 use Rattle.std.proofs.Common.{◌≡◌, ◌≢◌, append-nil, ℕ, ◌+◌, ◌-◌, ◌<◌, true, false, Bool, nat_eq, eq-eqb, List, [], ◌∷◌, ◌++◌, length, Option, Some, None, slice_index_or, refl, sym, ap, subst, ◌∙◌, arith}
-use Rattle.ert_defs.specs.Mails.{MailState}
-use Rattle.ert_defs.specs.States.{State, state, HasExited}
-use Rattle.ert_defs.specs.declared.entry.Actor.TheVariants.{Caller}
-use Rattle.ert_defs.specs.declared.entry.Entry.{Entry}
-use Rattle.ert_defs.specs.declared.mail.Mail.{Mail}
-use Rattle.ert_defs.specs.declared.settings.Settings.{Settings}
+use Rattle.ert_defs.specs.{Mails.MailState, States.{State, state, HasExited}, declared.entry.Actor.TheVariants.Caller, declared.entry.Entry.Entry, declared.mail.Mail.Mail, declared.settings.Settings.Settings}
 use Rattle.ert_effects.proofs.Growing.{grows_more}
-use Rattle.ert_effects.specs.MailCalls.{Takes}
-use Rattle.ert_effects.specs.Ways.{Then, Way, Growth}
-use Rattle.ert_effects.specs.declared.answers.Taken.{Taken}
-use Rattle.ert_effects.specs.declared.answers.Taken.TheVariants.{Mail as Took, Empty, Exited}
-use Rattle.ert_mail.specs.Turns.{is_listed, TurnRow}
-use Rattle.ert_mail.specs.Lists.{AreListed, HaveMailFrom, IsNextIn, LooksForMail, exited_from, exits_seen, life_seen, with_mail}
-use Rattle.ert_mail.specs.Mailboxes.{Mailbox, MailboxStands, mailbox_seen as box}
-use Rattle.ert_world.specs.Stepping.{turns_same, turns_then}
-use Rattle.ert_world.specs.Mailing.{turns_of}
-use Rattle.ert_shard.proofs.Called.{Did, Has, alone_called, list_replaced, rows_then, place_low}
-use Rattle.ert_shard.proofs.Stepped.{since, steps_as, steps_then}
-use Rattle.ert_shard.specs.Receiving.{shard_mail, IsShardsNextMail, process_from, ShardFindsMail, CallerTakesMails, CallerTakesSome}
-use Rattle.ert_shard.specs.Shards.{Share, IsHome, Owned, owned, shard_way, ShardSteps, ShardBy, ShardParts, AreShardPartsFit}
-use Rattle.ert_table.specs.Calls.{AreOnlyOf, IsMade}
-use Rattle.ert_table.specs.Desks.{settings_of, view_of, front_of, state_of, Belongs}
-use Rattle.ert_table.specs.declared.desk.Desk.{Desk}
-use Rattle.ert_table.specs.declared.desk.Pass.{Pass}
-use Rattle.ert_world.specs.declared.mailing.TakeEnd.TheVariants.{Empty as FoundEmpty, Exited as HadExited}
+use Rattle.ert_effects.specs.{MailCalls.Takes, Ways.{Then, Way, Growth}, declared.answers.Taken.Taken, declared.answers.Taken.TheVariants.{Mail as Took, Empty, Exited}}
+use Rattle.ert_mail.specs.{Turns.{is_listed, TurnRow}, Lists.{AreListed, HaveMailFrom, IsNextIn, LooksForMail, exited_from, exits_seen, life_seen, with_mail}, Mailboxes.{Mailbox, MailboxStands, mailbox_seen as box}}
+use Rattle.ert_world.specs.{Stepping.{turns_same, turns_then}, Mailing.turns_of, declared.mailing.TakeEnd.TheVariants.{Empty as FoundEmpty, Exited as HadExited}}
+use Rattle.ert_shard.proofs.{Called.{Did, Has, alone_called, list_replaced, rows_then, place_low}, Stepped.{since, steps_as, steps_then}}
+use Rattle.ert_shard.specs.{Receiving.{shard_mail, IsShardsNextMail, process_from, ShardFindsMail, CallerTakesMails, CallerTakesSome}, Shards.{Share, IsHome, Owned, owned, shard_way, ShardSteps, ShardBy, ShardParts, AreShardPartsFit}}
+use Rattle.ert_table.specs.{Calls.{AreOnlyOf, IsMade}, Desks.{settings_of, view_of, front_of, state_of, Belongs}, declared.desk.Desk.Desk, declared.desk.Pass.Pass}
 
 -- looks are made by their caller alone
 looks_only : (first by : ℕ) (row after : List ℕ) (answer : Option ℕ) (st : State) (es : List Entry) → LooksForMail first by row answer after st es

@@ -1,36 +1,17 @@
 -- What is left of a world after a shard came back.
 
 use Rattle.std.proofs.Common.{◌≡◌, ℕ, ◌+◌, ◌-◌, ◌<◌, ◌≤◌, Bool, true, false, ◌||◌, nat_lt, List, [], ◌∷◌, ◌++◌, length, slice_index_or, refl, sym, ap, subst, ◌∙◌, arith, length-append}
-use Rattle.std.proofs.lemmas.Bool.{ltb-true}
-use Rattle.std.proofs.lemmas.List.{get_or_append_left, get_or-append_right}
-use Rattle.std.proofs.lemmas.Bool.Decides.{nat_tests}
-use Rattle.std.proofs.lemmas.List.Folds.{list_any-append}
-use Rattle.ert_defs.specs.Actors.{same_actor, of}
-use Rattle.ert_defs.specs.Legal.{Legal}
-use Rattle.ert_defs.specs.declared.entry.Actor.{Actor}
-use Rattle.ert_defs.specs.declared.entry.Actor.TheVariants.{Keeper, Wheel, Inbox, Sched, MailOf, Caller}
-use Rattle.ert_defs.specs.declared.entry.Entry.{Entry}
-use Rattle.ert_defs.specs.declared.settings.Settings.{Settings}
+use Rattle.std.proofs.lemmas.{Bool.ltb-true, List.{get_or_append_left, get_or-append_right}, Bool.Decides.nat_tests, List.Folds.list_any-append}
+use Rattle.ert_defs.specs.{Actors.{same_actor, of}, Legal.Legal, declared.entry.Actor.Actor, declared.entry.Actor.TheVariants.{Keeper, Wheel, Inbox, Sched, MailOf, Caller}, declared.entry.Entry.Entry, declared.settings.Settings.Settings}
 use Rattle.ert_mail.proofs.LawsHold.{inbox_on, mail_on}
-use Rattle.ert_mail.specs.Inboxes.{Waiting, InboxStands}
-use Rattle.ert_mail.specs.Mailboxes.{Mailbox, MailboxStands as MailStands}
-use Rattle.ert_shard.proofs.Cut.{homes_on}
+use Rattle.ert_mail.specs.{Inboxes.{Waiting, InboxStands}, Mailboxes.{Mailbox, MailboxStands as MailStands}}
+use Rattle.ert_shard.proofs.{Cut.homes_on, Kept.{self_own, home_own}}
 use Rattle.ert_table.proofs.StandOn.{keeper_on}
-use Rattle.ert_timers.proofs.SchedParts.{sched_on}
-use Rattle.ert_shard.specs.Hubs.{is_kept, share_at, HaveHomes, IsRest}
-use Rattle.ert_shard.specs.Shards.{Share, share_of, IsHome, is_own, HoldsShare, ShardParts, ShardPartsStand, AreHome, AreShardPartsFit}
-use Rattle.ert_shard.specs.declared.hub.Home.{Home}
-use Rattle.ert_shard.proofs.Kept.{self_own, home_own}
-use Rattle.ert_table.specs.Desks.{settings_of, view_of, front_of, actors_of, Belongs}
-use Rattle.ert_table.specs.Held.{is_held, IsActor}
-use Rattle.ert_table.specs.Views.{Joined, meeting}
-use Rattle.ert_table.specs.declared.desk.Desk.{Desk}
-use Rattle.ert_table.specs.declared.desk.Pass.{Pass}
-use Rattle.ert_timers.proofs.LawsHold.{stand_on as wheel_on}
-use Rattle.ert_timers.specs.Parts.{Part, PartStands as WheelStands}
-use Rattle.ert_timers.specs.SchedParts.{SchedStands}
+use Rattle.ert_timers.proofs.{SchedParts.sched_on, LawsHold.stand_on as wheel_on}
+use Rattle.ert_shard.specs.{Hubs.{is_kept, share_at, HaveHomes, IsRest}, Shards.{Share, share_of, IsHome, is_own, HoldsShare, ShardParts, ShardPartsStand, AreHome, AreShardPartsFit}, declared.hub.Home.Home}
+use Rattle.ert_table.specs.{Desks.{settings_of, view_of, front_of, actors_of, Belongs}, Held.{is_held, IsActor}, Views.{Joined, meeting}, declared.desk.Desk.Desk, declared.desk.Pass.Pass}
+use Rattle.ert_timers.specs.{Parts.{Part, PartStands as WheelStands}, SchedParts.SchedStands, declared.sched_part.SchedPart.SchedPart}
 use Rattle.ert_world.specs.Parts.{AllParts, parts_of, AreOrdered}
-use Rattle.ert_timers.specs.declared.sched_part.SchedPart.{SchedPart}
 
 -- parts in order, and more behind them
 ordered_append : {X : Type 0} (number : X → ℕ) (stands : X → Type 0) (actor : ℕ → Actor) (count total : ℕ) (xs ys : List X)

@@ -1,19 +1,10 @@
 -- A timer of a shard is given a new deadline.
 
 use Rattle.std.proofs.Common.{Bool, true, false, ℕ, List, [], Option, Some, None, Result, Ok, Err}
-use Rattle.ert_defs.specs.Legal.{names_timer}
-use Rattle.ert_defs.specs.States.{State}
-use Rattle.ert_defs.specs.declared.entry.Actor.TheVariants.{Caller}
-use Rattle.ert_defs.specs.declared.entry.Entry.{Entry}
-use Rattle.ert_defs.specs.declared.settings.Settings.{Settings}
-use Rattle.ert_defs.specs.declared.timer.Start.{Start}
-use Rattle.ert_defs.specs.declared.timer.TimerRef.{TimerRef}
-use Rattle.ert_effects.specs.RestartCalls.{HasRestarted, RestartEnds, Restarts, missed_entries}
-use Rattle.ert_effects.specs.declared.answers.RestartErr.{RestartErr}
-use Rattle.ert_effects.specs.declared.answers.RestartErr.TheVariants.{BadArg, NotArmed, Full}
+use Rattle.ert_defs.specs.{Legal.names_timer, States.State, declared.entry.Actor.TheVariants.Caller, declared.entry.Entry.Entry, declared.settings.Settings.Settings, declared.timer.Start.Start, declared.timer.TimerRef.TimerRef}
+use Rattle.ert_effects.specs.{RestartCalls.{HasRestarted, RestartEnds, Restarts, missed_entries}, declared.answers.RestartErr.RestartErr, declared.answers.RestartErr.TheVariants.{BadArg, NotArmed, Full}}
 use Rattle.ert_shard.proofs.Home.{closing_home, home_append, home_as, probes_home}
-use Rattle.ert_shard.specs.Renewing.{LetsGo}
-use Rattle.ert_shard.specs.Shards.{AreHome, IsHome, Owned, Share}
+use Rattle.ert_shard.specs.{Renewing.LetsGo, Shards.{AreHome, IsHome, Owned, Share}}
 use Rattle.ert_timers.specs.Restarting.{HasLetGo}
 
 missed_home : (s : Share) (by : ℕ) (timer : TimerRef) (found : Option ℕ) → AreHome s (missed_entries by timer found)

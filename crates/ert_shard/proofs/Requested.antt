@@ -3,35 +3,17 @@
 use Rattle.std.proofs.Common.{◌≡◌, ℕ, ◌+◌, ◌-◌, ◌<◌, true, List, [], ◌∷◌, slice_index_or, Option, Some, None, Result, Ok, refl, sym, ap, subst, ◌∙◌}
 use Rattle.std.specs.Option.{is_some}
 use Rattle.std.specs.Prelude.{slice_set}
-use Rattle.ert_defs.specs.Legal.{Legal}
-use Rattle.ert_defs.specs.Mails.{SchedState}
-use Rattle.ert_defs.specs.States.{State, state, sched_of}
-use Rattle.ert_defs.specs.declared.entry.Actor.{Actor}
-use Rattle.ert_defs.specs.declared.entry.Actor.TheVariants.{Inbox, Sched, MailOf, Caller}
-use Rattle.ert_defs.specs.declared.mail.Request.{Request}
-use Rattle.ert_defs.specs.declared.memory.NoMemory.{NoMemory}
-use Rattle.ert_defs.specs.declared.settings.Settings.{Settings}
+use Rattle.ert_defs.specs.{Legal.Legal, Mails.SchedState, States.{State, state, sched_of}, declared.entry.Actor.Actor, declared.entry.Actor.TheVariants.{Inbox, Sched, MailOf, Caller}, declared.mail.Request.Request}
+use Rattle.ert_defs.specs.{declared.memory.NoMemory.NoMemory, declared.settings.Settings.Settings}
 use Rattle.ert_effects.specs.RequestCalls.{Asks, Picks, Answers}
 use Rattle.ert_mail.proofs.LawsHold.{asks_only, picks_only, answers_only}
-use Rattle.ert_mail.specs.Inboxes.{Waiting, InboxStands, sched_after_pick}
-use Rattle.ert_mail.specs.Mailboxes.{Mailbox, sched_after_answer, MailboxStands as MailStands}
-use Rattle.ert_world.specs.Stepping.{turns_same}
-use Rattle.ert_shard.proofs.Called.{Did, Has, IsListedOn, finish, has_at, home_kept, losing, mail_named, mails_back, makes, place_low, same_rows, still}
-use Rattle.ert_shard.proofs.Gone.{IsGone, gone_by}
-use Rattle.ert_shard.proofs.Kept.{self_own, home_own}
-use Rattle.ert_shard.proofs.Turned.{Had, had}
+use Rattle.ert_mail.specs.{Inboxes.{Waiting, InboxStands, sched_after_pick}, Mailboxes.{Mailbox, sched_after_answer, MailboxStands as MailStands}, Turns.TurnRow}
+use Rattle.ert_world.specs.{Stepping.turns_same, Worlds.left_for}
+use Rattle.ert_shard.proofs.{Called.{Did, Has, IsListedOn, finish, has_at, home_kept, losing, mail_named, mails_back, makes, place_low, same_rows, still}, Gone.{IsGone, gone_by}, Kept.{self_own, home_own}, Turned.{Had, had}}
 use Rattle.ert_shard.specs.Shards.{Share, counted_from, IsHome, Owned, owned, ShardBy, ShardParts, AreShardPartsFit}
-use Rattle.ert_table.specs.Calls.{IsMade}
-use Rattle.ert_table.specs.Desks.{settings_of, view_of, front_of, Belongs}
-use Rattle.ert_table.specs.declared.desk.Desk.{Desk}
-use Rattle.ert_table.specs.declared.desk.Pass.{Pass}
-use Rattle.ert_timers.specs.ExpiredLists.{Queue}
-use Rattle.ert_mail.specs.Turns.{TurnRow}
-use Rattle.ert_world.proofs.Gone.{answers_hit}
-use Rattle.ert_world.proofs.SchedCalls.{sched_stands}
-use Rattle.ert_timers.specs.SchedParts.{SchedStands}
-use Rattle.ert_world.specs.Worlds.{left_for}
-use Rattle.ert_timers.specs.declared.sched_part.SchedPart.{SchedPart}
+use Rattle.ert_table.specs.{Calls.IsMade, Desks.{settings_of, view_of, front_of, Belongs}, declared.desk.Desk.Desk, declared.desk.Pass.Pass}
+use Rattle.ert_timers.specs.{ExpiredLists.Queue, SchedParts.SchedStands, declared.sched_part.SchedPart.SchedPart}
+use Rattle.ert_world.proofs.{Gone.answers_hit, SchedCalls.sched_stands}
 
 -- a request was put into the inbox, or there was no memory for it
 pub asked : (before : Owned) (d e : Desk) (p q : Pass) (s : Share) (parts : ShardParts) (new : Waiting) (request : Request) (answer : Result (Unit {0}) NoMemory) → d ≡ e

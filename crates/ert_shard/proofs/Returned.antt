@@ -1,12 +1,10 @@
 -- Shards that came back one after the other.
 
 use Rattle.std.proofs.Common.{◌≡◌, ℕ, zero, suc, List, [], ◌++◌, Some, refl, sym, subst, ◌∙◌, append-nil}
-use Rattle.std.proofs.lemmas.List.Elements.{All-append, All-take, All-drop}
-use Rattle.std.proofs.lemmas.List.{append_assoc}
+use Rattle.std.proofs.lemmas.List.{Elements.{All-append, All-take, All-drop}, append_assoc}
 use Rattle.std.specs.List.{All, slice_get, remove}
 use Rattle.ert_defs.specs.declared.entry.Entry.{Entry}
-use Rattle.ert_shard.specs.Hubs.{Rest, IsLastOut, TakesBack, AreOurs, ComeBack}
-use Rattle.ert_shard.specs.Shards.{Owned}
+use Rattle.ert_shard.specs.{Hubs.{Rest, IsLastOut, TakesBack, AreOurs, ComeBack}, Shards.Owned}
 use Rattle.ert_table.specs.Views.{Begins}
 
 -- one more came back

@@ -2,20 +2,14 @@
 
 use Rattle.std.proofs.Common.{◌≡◌, ℕ, ◌-◌, [], List, slice_index_or, refl, sym, ap, subst, ◌∙◌}
 use Rattle.std.specs.Prelude.{slice_set}
-use Rattle.ert_defs.specs.Mails.{MailState}
-use Rattle.ert_defs.specs.States.{state}
-use Rattle.ert_defs.specs.declared.entry.Entry.{Entry}
-use Rattle.ert_defs.specs.declared.settings.Settings.{Settings}
+use Rattle.ert_defs.specs.{Mails.MailState, States.state, declared.entry.Entry.Entry, declared.settings.Settings.Settings}
 use Rattle.ert_mail.proofs.Standing.{same_stands}
 use Rattle.ert_mail.specs.Mailboxes.{Mailbox, IsSame, MailboxStands as MailStands}
 use Rattle.ert_shard.proofs.Called.{mail_named, mails_back, place_low}
 use Rattle.ert_shard.specs.Shards.{Share, IsHome, counted_from, ShardParts, AreShardPartsFit}
-use Rattle.ert_table.specs.Desks.{settings_of, front_of}
-use Rattle.ert_table.specs.declared.desk.Desk.{Desk}
-use Rattle.ert_table.specs.declared.desk.Pass.{Pass}
+use Rattle.ert_table.specs.{Desks.{settings_of, front_of}, declared.desk.Desk.Desk, declared.desk.Pass.Pass}
 use Rattle.ert_timers.specs.ExpiredLists.{Queue}
-use Rattle.ert_world.proofs.Listed.{listed_kept}
-use Rattle.ert_world.proofs.RoomChanged.{with_list, list_stands}
+use Rattle.ert_world.proofs.{Listed.listed_kept, RoomChanged.{with_list, list_stands}}
 
 -- a shard keeps its parts where a mailbox is what it was but for its room
 pub room_changed : (d : Desk) (p : Pass) (s : Share) (parts : ShardParts) (process : ℕ) (old new : Mailbox) → AreShardPartsFit d p s parts → IsHome s process

@@ -1,20 +1,13 @@
 -- A start that was refused for want of a slot searched the shard's wheel.
 
 use Rattle.std.proofs.Common.{◌≡◌, ◌∙◌, ℕ, ◌+◌, ◌<◌, Err, ap, sym, subst}
-use Rattle.ert_defs.specs.declared.settings.Settings.{Settings}
-use Rattle.ert_defs.specs.declared.timer.Start.{Start}
+use Rattle.ert_defs.specs.declared.{settings.Settings.Settings, timer.Start.Start}
 use Rattle.ert_effects.specs.declared.answers.StartErr.TheVariants.{NoMemory}
-use Rattle.ert_shard.proofs.Called.{wheel_stepped}
-use Rattle.ert_shard.proofs.Home.{starts_home}
+use Rattle.ert_shard.proofs.{Called.wheel_stepped, Home.starts_home}
 use Rattle.ert_shard.specs.Shards.{AreShardPartsFit, IsHome, Owned, Share, ShardBy, ShardGoes, ShardParts, owned}
-use Rattle.ert_table.specs.Calls.{IsMade}
-use Rattle.ert_table.specs.Desks.{settings_of, view_of, front_of, Belongs}
-use Rattle.ert_table.specs.declared.desk.Desk.{Desk}
-use Rattle.ert_table.specs.declared.desk.Pass.{Pass}
-use Rattle.ert_timers.proofs.LawsHold.{starts_only}
-use Rattle.ert_timers.proofs.Searching.{searches_probe}
-use Rattle.ert_timers.specs.Parts.{Part, PartStands as WheelStands}
-use Rattle.ert_timers.specs.Searching.{Searches}
+use Rattle.ert_table.specs.{Calls.IsMade, Desks.{settings_of, view_of, front_of, Belongs}, declared.desk.Desk.Desk, declared.desk.Pass.Pass}
+use Rattle.ert_timers.proofs.{LawsHold.starts_only, Searching.searches_probe}
+use Rattle.ert_timers.specs.{Parts.{Part, PartStands as WheelStands}, Searching.Searches}
 
 abbrev numbered : Part → ℕ → Part
 numbered p n = record p { number = n }

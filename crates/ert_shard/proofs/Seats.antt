@@ -1,20 +1,12 @@
 -- What is left of a world after a caller was given a seat, or came back.
 
 use Rattle.std.proofs.Common.{◌≡◌, ℕ, ◌+◌, ◌<◌, Bool, true, false, ◌&&◌, ◌||◌, not, List, [], ◌∷◌, ◌++◌, refl, sym, ap, subst, ◌∙◌, arith}
-use Rattle.std.proofs.lemmas.Bool.Decides.{nat_tests}
-use Rattle.std.proofs.lemmas.List.Folds.{list_any-append}
+use Rattle.std.proofs.lemmas.{Bool.Decides.nat_tests, List.Folds.list_any-append}
 use Rattle.std.specs.Prelude.{nat_eq, nat_le, nat_lt}
-use Rattle.ert_defs.specs.Actors.{same_actor}
-use Rattle.ert_defs.specs.declared.entry.Actor.{Actor}
-use Rattle.ert_defs.specs.declared.entry.Actor.TheVariants.{Keeper, Wheel, Inbox, Sched, MailOf, Caller}
-use Rattle.ert_defs.specs.declared.settings.Settings.{Settings}
-use Rattle.ert_shard.specs.Hubs.{is_kept, HubHoldsRest, HaveHomes, StandLeft, IsRest}
-use Rattle.ert_shard.specs.declared.hub.Home.{Home}
+use Rattle.ert_defs.specs.{Actors.same_actor, declared.entry.Actor.Actor, declared.entry.Actor.TheVariants.{Keeper, Wheel, Inbox, Sched, MailOf, Caller}, declared.settings.Settings.Settings}
+use Rattle.ert_shard.specs.{Hubs.{is_kept, HubHoldsRest, HaveHomes, StandLeft, IsRest}, declared.hub.Home.Home}
 use Rattle.ert_table.proofs.Holders.{held_but}
-use Rattle.ert_table.specs.Desks.{settings_of, front_of, actors_of, Belongs}
-use Rattle.ert_table.specs.Held.{is_held, actors_but}
-use Rattle.ert_table.specs.declared.desk.Desk.{Desk}
-use Rattle.ert_table.specs.declared.desk.Pass.{Pass}
+use Rattle.ert_table.specs.{Desks.{settings_of, front_of, actors_of, Belongs}, Held.{is_held, actors_but}, declared.desk.Desk.Desk, declared.desk.Pass.Pass}
 use Rattle.ert_world.specs.Parts.{AllParts}
 
 -- who is left but for the next caller

@@ -1,31 +1,17 @@
 -- Requests of a shard that are served, one after the other.
 
 use Rattle.std.proofs.Common.{◌≡◌, ℕ, zero, suc, ◌+◌, ◌<◌, ◌≤◌, Bool, Result, cond, true, List, [], ◌∷◌, ◌++◌, filter, Option, Some, None, Ok, Err, refl, sym, ap, subst, ◌∙◌, arith, append-nil, append_assoc}
-use Rattle.std.proofs.lemmas.Bool.{lt-ltb}
-use Rattle.std.proofs.lemmas.List.Elements.{filter-append}
+use Rattle.std.proofs.lemmas.{Bool.lt-ltb, List.Elements.filter-append}
 use Rattle.std.specs.Option.{is_some}
-use Rattle.ert_defs.specs.Legal.{Legal}
-use Rattle.ert_defs.specs.States.{state, sched_of}
-use Rattle.ert_defs.specs.declared.entry.Actor.TheVariants.{MailOf}
-use Rattle.ert_defs.specs.declared.entry.Entry.{Entry}
-use Rattle.ert_defs.specs.declared.mail.Request.{Request}
-use Rattle.ert_defs.specs.declared.memory.NoMemory.{NoMemory}
-use Rattle.ert_defs.specs.declared.settings.Settings.{Settings}
-use Rattle.ert_defs.specs.declared.timer.TimerRef.{TimerRef}
+use Rattle.ert_defs.specs.{Legal.Legal, States.{state, sched_of}, declared.entry.Actor.TheVariants.MailOf, declared.entry.Entry.Entry, declared.mail.Request.Request, declared.memory.NoMemory.NoMemory, declared.settings.Settings.Settings}
+use Rattle.ert_defs.specs.{declared.timer.TimerRef.TimerRef}
 use Rattle.ert_effects.proofs.Growing.{grows_more}
-use Rattle.ert_effects.specs.Chains.{HoldsBy, HoldsRequest, Serves, ServesMany, units}
-use Rattle.ert_effects.specs.RequestCalls.{Answers}
-use Rattle.ert_effects.specs.Ways.{Then, Many}
-use Rattle.ert_world.specs.Stepping.{turns_same, turns_then}
-use Rattle.ert_shard.proofs.Called.{same_rows, rows_then}
-use Rattle.ert_shard.proofs.Stepped.{since, steps_as, steps_then, steps_then_share}
-use Rattle.ert_shard.specs.Serving.{EndsServing, ShardHasForgottenAll, ShardForgetsCancelled, ShardServes, ShardServesAll}
-use Rattle.ert_shard.specs.Shards.{Share, is_of, as_share, Owned, shard_way, ShardHasForgotten, ShardSteps}
-use Rattle.ert_shard.specs.declared.requests.ServeErr.{ServeErr}
-use Rattle.ert_shard.specs.declared.requests.ServeErr.TheVariants.{NoMemory as NoMemoryToServe}
-use Rattle.ert_world.proofs.Forgotten.{answer_cancels}
-use Rattle.ert_world.proofs.Sparing.{CancelOnly}
-use Rattle.ert_world.specs.Worlds.{left_for}
+use Rattle.ert_effects.specs.{Chains.{HoldsBy, HoldsRequest, Serves, ServesMany, units}, RequestCalls.Answers, Ways.{Then, Many}}
+use Rattle.ert_world.specs.{Stepping.{turns_same, turns_then}, Worlds.left_for}
+use Rattle.ert_shard.proofs.{Called.{same_rows, rows_then}, Stepped.{since, steps_as, steps_then, steps_then_share}}
+use Rattle.ert_shard.specs.{Serving.{EndsServing, ShardHasForgottenAll, ShardForgetsCancelled, ShardServes, ShardServesAll}, Shards.{Share, is_of, as_share, Owned, shard_way, ShardHasForgotten, ShardSteps}}
+use Rattle.ert_shard.specs.{declared.requests.ServeErr.ServeErr, declared.requests.ServeErr.TheVariants.NoMemory as NoMemoryToServe}
+use Rattle.ert_world.proofs.{Forgotten.answer_cancels, Sparing.CancelOnly}
 
 -- a request was in the hand
 pub held_before : (o : Owned) (request : Request) → Legal o.settings o.history → Some request ≡ (sched_of o.settings o.history o.share.number).hand

@@ -3,26 +3,14 @@
 use Rattle.std.proofs.Common.{◌≡◌, ℕ, ◌+◌, ◌≤◌, Bool, ◌||◌, List, count_by, Ok, Err, inl, inr, refl, subst, ◌∙◌, arith}
 use Rattle.std.proofs.Math.Nat.{lt_of_lt_of_le}
 use Rattle.std.specs.Option.{is_some}
-use Rattle.ert_defs.specs.declared.entry.Entry.{Entry}
-use Rattle.ert_defs.specs.declared.memory.NoMemory.{NoMemory}
-use Rattle.ert_defs.specs.declared.settings.Settings.{Settings}
+use Rattle.ert_defs.specs.declared.{entry.Entry.Entry, memory.NoMemory.NoMemory, settings.Settings.Settings}
 use Rattle.ert_effects.proofs.Growing.{grows_then}
-use Rattle.ert_effects.specs.Chains.{AdvancesWheel, Delivers}
-use Rattle.ert_effects.specs.SomeCalls.{AdvancesWheelSome, is_more}
-use Rattle.ert_effects.specs.Ways.{Growth, Way, Grows, Then}
-use Rattle.ert_effects.specs.declared.answers.Left.{Left}
-use Rattle.ert_effects.specs.declared.answers.Left.TheVariants.{Due}
-use Rattle.ert_world.specs.Stepping.{turns_then}
-use Rattle.ert_shard.specs.Serving.{ShardServesAll}
-use Rattle.ert_shard.specs.Shards.{Share, Owned, shard_way, as_share, ShardGoes, ShardSteps}
-use Rattle.ert_shard.specs.Turning.{ShardTurns, TurnsUpTo}
-use Rattle.ert_shard.specs.declared.turns.Turn.{Turn}
+use Rattle.ert_effects.specs.{Chains.{AdvancesWheel, Delivers}, SomeCalls.{AdvancesWheelSome, is_more}, Ways.{Growth, Way, Grows, Then}, declared.answers.Left.Left, declared.answers.Left.TheVariants.Due}
+use Rattle.ert_world.specs.{Stepping.turns_then, Bounded.DeliversSome}
+use Rattle.ert_shard.specs.{Serving.ShardServesAll, Shards.{Share, Owned, shard_way, as_share, ShardGoes, ShardSteps}, Turning.{ShardTurns, TurnsUpTo}, declared.turns.Turn.Turn}
 use Rattle.ert_shard.proofs.Called.{rows_then}
-use Rattle.ert_timers.specs.Parts.{Part}
-use Rattle.ert_timers.specs.Passed.{HasPassed, LosesRows}
-use Rattle.ert_timers.specs.Trying.{LosesSome}
+use Rattle.ert_timers.specs.{Parts.Part, Passed.{HasPassed, LosesRows}, Trying.LosesSome}
 use Rattle.ert_timers.proofs.Passing.{rows_lost}
-use Rattle.ert_world.specs.Bounded.{DeliversSome}
 
 -- a step of a later shard is one of its settings and its share at the start
 pub since_share : (old mid new : Owned) (call : Settings → Share → Way → Growth) → mid.settings ≡ old.settings → mid.share ≡ old.share

@@ -4,44 +4,21 @@ use Rattle.std.proofs.Common.{◌≡◌, ℕ, zero, suc, ◌<◌, Bool, true, fa
 use Rattle.std.proofs.lemmas.Bool.{lt-ltb, le-leb}
 use Rattle.ert_clock.specs.Shown.{Shown, ClockStands}
 use Rattle.ert_defs.proofs.Runs.{legal_then}
-use Rattle.ert_defs.specs.Actors.{same_actor, of, IsFree}
-use Rattle.ert_defs.specs.Clocks.{face}
+use Rattle.ert_defs.specs.{Actors.{same_actor, of, IsFree}, Clocks.face, Entries.is_ours, Legal.{Legal, LegalFrom}, States.{State, opening, next, state}, declared.entry.Actor.Actor, declared.entry.Actor.TheVariants.{Keeper, Wheel, Inbox}}
+use Rattle.ert_defs.specs.{declared.entry.Actor.TheVariants.{Sched, MailOf, Caller}, declared.entry.Entry.Entry, declared.settings.OffsetState.OffsetState, declared.settings.OffsetState.TheVariants.{Preliminary, Final, Volatile}}
+use Rattle.ert_defs.specs.{declared.settings.Settings.Settings}
 use Rattle.ert_effects.specs.ClockCalls.{TellsTime, TellsOffset, TellsSystemTime}
-use Rattle.ert_world.proofs.Calm.{time_quiet, offset_quiet, system_quiet}
-use Rattle.ert_defs.specs.Entries.{is_ours}
-use Rattle.ert_defs.specs.Legal.{Legal, LegalFrom}
-use Rattle.ert_defs.specs.States.{State, opening, next, state}
-use Rattle.ert_defs.specs.declared.entry.Actor.{Actor}
-use Rattle.ert_defs.specs.declared.entry.Actor.TheVariants.{Keeper, Wheel, Inbox, Sched, MailOf, Caller}
-use Rattle.ert_defs.specs.declared.entry.Entry.{Entry}
-use Rattle.ert_defs.specs.declared.settings.OffsetState.{OffsetState}
-use Rattle.ert_defs.specs.declared.settings.OffsetState.TheVariants.{Preliminary, Final, Volatile}
-use Rattle.ert_defs.specs.declared.settings.Settings.{Settings}
-use Rattle.ert_table.specs.Published.{ReadsByLeastCaller}
+use Rattle.ert_world.proofs.{Calm.{time_quiet, offset_quiet, system_quiet}, Standing.{own_kept, free_kept, grown_by}, Values.{time_seen, offset_seen, system_seen}}
+use Rattle.ert_table.specs.{Published.ReadsByLeastCaller, Calls.{AreOnlyOf, IsMade}, Desks.{settings_of, view_of, front_of, actors_of, Belongs}, Held.{is_held, IsActor, IsOurs, least_caller}, declared.desk.Desk.Desk}
+use Rattle.ert_table.specs.{declared.desk.Pass.Pass}
 use Rattle.ert_mail.proofs.LawsHold.{inbox_on, mail_on}
-use Rattle.ert_mail.specs.Inboxes.{Waiting, InboxStands}
-use Rattle.ert_mail.specs.Mailboxes.{Mailbox, MailboxStands as MailStands}
-use Rattle.ert_shard.proofs.Partners.{none_any}
-use Rattle.ert_shard.specs.Shards.{has_any, is_with_any}
-use Rattle.ert_shard.proofs.Cut.{homes_on}
-use Rattle.ert_shard.specs.Hubs.{Rest, rest, is_kept, HubHoldsRest, IsRest, HubGoes, HubSteps, HubBy}
-use Rattle.ert_shard.specs.declared.hub.Home.{Home}
-use Rattle.ert_shard.proofs.Rejoined.{ordered_kept}
-use Rattle.ert_table.proofs.Holders.{held_maker, same_actor-true}
-use Rattle.ert_table.specs.Calls.{AreOnlyOf, IsMade}
-use Rattle.ert_table.specs.Desks.{settings_of, view_of, front_of, actors_of, Belongs}
-use Rattle.ert_table.specs.Held.{is_held, IsActor, IsOurs, least_caller}
-use Rattle.ert_table.specs.declared.desk.Desk.{Desk}
-use Rattle.ert_table.specs.declared.desk.Pass.{Pass}
-use Rattle.ert_timers.proofs.LawsHold.{stand_on as wheel_on}
-use Rattle.ert_timers.specs.Parts.{Part, PartStands as WheelStands}
-use Rattle.ert_table.proofs.StandOn.{keeper_on}
-use Rattle.ert_timers.proofs.SchedParts.{sched_on}
-use Rattle.ert_world.proofs.Standing.{own_kept, free_kept, grown_by}
-use Rattle.ert_world.proofs.Values.{time_seen, offset_seen, system_seen}
-use Rattle.ert_timers.specs.SchedParts.{SchedStands}
+use Rattle.ert_mail.specs.{Inboxes.{Waiting, InboxStands}, Mailboxes.{Mailbox, MailboxStands as MailStands}}
+use Rattle.ert_shard.proofs.{Partners.none_any, Cut.homes_on, Rejoined.ordered_kept}
+use Rattle.ert_shard.specs.{Shards.{has_any, is_with_any}, Hubs.{Rest, rest, is_kept, HubHoldsRest, IsRest, HubGoes, HubSteps, HubBy}, declared.hub.Home.Home}
+use Rattle.ert_table.proofs.{Holders.{held_maker, same_actor-true}, StandOn.keeper_on}
+use Rattle.ert_timers.proofs.{LawsHold.stand_on as wheel_on, SchedParts.sched_on}
+use Rattle.ert_timers.specs.{Parts.{Part, PartStands as WheelStands}, SchedParts.SchedStands, declared.sched_part.SchedPart.SchedPart}
 use Rattle.ert_world.specs.Parts.{AllParts}
-use Rattle.ert_timers.specs.declared.sched_part.SchedPart.{SchedPart}
 
 -- the entries of those whose test a pass's actors pass, of what its front gains
 module _ (g : Settings) (actors : List Actor) (own : Actor → Bool) (holds : (a : Actor) → IsActor g a → is_held actors a ≡ own a) where

@@ -1,26 +1,13 @@
 -- An advance of a shard tries only timers whose rows its wheel held.
 
 use Rattle.std.proofs.Common.{◌≡◌, ℕ, List, [], ◌∷◌, ◌++◌, sym, ap, subst, ◌∙◌}
-use Rattle.ert_defs.specs.States.{State}
-use Rattle.ert_defs.specs.declared.entry.Actor.TheVariants.{Sched, Wheel}
-use Rattle.ert_defs.specs.declared.entry.Entry.{Entry}
-use Rattle.ert_defs.specs.declared.settings.Settings.{Settings}
+use Rattle.ert_defs.specs.{States.State, declared.entry.Actor.TheVariants.{Sched, Wheel}, declared.entry.Entry.Entry, declared.settings.Settings.Settings}
 use Rattle.ert_effects.specs.WheelCalls.{hits}
-use Rattle.ert_shard.proofs.Advancing.{AreOfTurn}
-use Rattle.ert_shard.proofs.Called.{Has, did_at, has_at}
-use Rattle.ert_shard.proofs.Home.{advance_home}
-use Rattle.ert_shard.proofs.Turned.{Had, advanced, had}
+use Rattle.ert_shard.proofs.{Advancing.AreOfTurn, Called.{Has, did_at, has_at}, Home.advance_home, Turned.{Had, advanced, had}}
 use Rattle.ert_shard.specs.Shards.{AreShardPartsFit, Owned, Share, ShardGoes, ShardParts, owned}
-use Rattle.ert_table.specs.Calls.{AreOnlyOf, IsMade}
-use Rattle.ert_table.specs.Desks.{settings_of, view_of, front_of, Belongs}
-use Rattle.ert_table.specs.declared.desk.Desk.{Desk}
-use Rattle.ert_table.specs.declared.desk.Pass.{Pass}
-use Rattle.ert_timers.specs.Expiring.{HasExpired, TriesHeld}
-use Rattle.ert_timers.specs.Parts.{Part, PartStands as WheelStands}
-use Rattle.ert_timers.specs.Passed.{LosesRows}
-use Rattle.ert_timers.specs.Trying.{expired_after}
+use Rattle.ert_table.specs.{Calls.{AreOnlyOf, IsMade}, Desks.{settings_of, view_of, front_of, Belongs}, declared.desk.Desk.Desk, declared.desk.Pass.Pass}
+use Rattle.ert_timers.specs.{Expiring.{HasExpired, TriesHeld}, Parts.{Part, PartStands as WheelStands}, Passed.LosesRows, Trying.expired_after, declared.sched_part.SchedPart.SchedPart}
 use Rattle.ert_world.proofs.TriedHeld.{held_are, held_is}
-use Rattle.ert_timers.specs.declared.sched_part.SchedPart.{SchedPart}
 
 are_of : (s : Share) (p : Part) (to : ℕ) (st : State) (es : List Entry) → p.number ≡ s.number → TriesHeld p to st es → AreOfTurn s es
 are_of s p to st es one held =

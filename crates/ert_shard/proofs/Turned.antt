@@ -1,39 +1,18 @@
 -- The steps of a shard's scheduler on its wheel: an advance, and a sweep.
 
 use Rattle.std.proofs.Common.{◌≡◌, ℕ, ◌+◌, ◌-◌, ◌<◌, ◌≤◌, true, arith, List, [], ◌∷◌, ◌++◌, length, Ok, Err, refl, sym, ap, subst, ◌∙◌}
-use Rattle.ert_defs.specs.States.{State, state}
-use Rattle.ert_defs.specs.Timers.{Row}
-use Rattle.ert_defs.specs.declared.entry.Actor.TheVariants.{Wheel, Sched, Caller}
-use Rattle.ert_defs.specs.declared.entry.Entry.{Entry}
-use Rattle.ert_defs.specs.declared.memory.NoMemory.{NoMemory}
-use Rattle.ert_defs.specs.declared.settings.Settings.{Settings}
-use Rattle.ert_effects.specs.Chains.{AdvancesWheel, SweepsWheel}
-use Rattle.ert_effects.specs.SomeCalls.{AdvancesSome, AdvancesWheelSome}
-use Rattle.ert_effects.specs.declared.answers.Left.{Left}
-use Rattle.ert_effects.specs.WheelCalls.{Advances, Sweeps, IsSwept}
+use Rattle.ert_defs.specs.{States.{State, state}, Timers.Row, declared.entry.Actor.TheVariants.{Wheel, Sched, Caller}, declared.entry.Entry.Entry, declared.memory.NoMemory.NoMemory, declared.settings.Settings.Settings}
+use Rattle.ert_defs.specs.{declared.settings.TheConstants.MOST_SLOTS}
+use Rattle.ert_effects.specs.{Chains.{AdvancesWheel, SweepsWheel}, SomeCalls.{AdvancesSome, AdvancesWheelSome}, declared.answers.Left.Left, WheelCalls.{Advances, Sweeps, IsSwept}}
 use Rattle.ert_laws.proofs.Few.{expired_few}
 use Rattle.ert_world.specs.Stepping.{turns_same}
-use Rattle.ert_shard.specs.Turning.{shard_expired}
-use Rattle.ert_shard.specs.Shards.{Share, Owned, ShardParts}
-use Rattle.ert_shard.proofs.Advancing.{AreOfTurn, all_are, some_are, hand_kept}
-use Rattle.ert_shard.proofs.Home.{home_on, sweeps_home}
-use Rattle.ert_shard.proofs.Kept.{self_own}
-use Rattle.ert_shard.proofs.Called.{Did, Has, finish, losing}
-use Rattle.ert_table.specs.Calls.{IsMade}
-use Rattle.ert_table.specs.Desks.{settings_of, view_of, front_of, actors_of, Belongs}
-use Rattle.ert_table.specs.Held.{is_held}
-use Rattle.ert_table.specs.declared.desk.Desk.{Desk}
-use Rattle.ert_table.specs.declared.desk.Pass.{Pass}
-use Rattle.ert_timers.proofs.LawsHold.{sweeps_only}
-use Rattle.ert_timers.specs.Expiring.{HasExpired, HasNotExpired}
-use Rattle.ert_timers.specs.Trying.{HasExpiredSome, HasRefusedSome, expired_after}
-use Rattle.ert_timers.specs.Parts.{Part, PartStands as WheelStands}
-use Rattle.ert_timers.specs.Passed.{LosesRows}
-use Rattle.ert_timers.proofs.SchedParts.{advance_still, difference}
+use Rattle.ert_shard.specs.{Turning.shard_expired, Shards.{Share, Owned, ShardParts}}
+use Rattle.ert_shard.proofs.{Advancing.{AreOfTurn, all_are, some_are, hand_kept}, Home.{home_on, sweeps_home}, Kept.self_own, Called.{Did, Has, finish, losing}}
+use Rattle.ert_table.specs.{Calls.IsMade, Desks.{settings_of, view_of, front_of, actors_of, Belongs}, Held.is_held, declared.desk.Desk.Desk, declared.desk.Pass.Pass}
+use Rattle.ert_timers.proofs.{LawsHold.sweeps_only, SchedParts.{advance_still, difference}}
+use Rattle.ert_timers.specs.{Expiring.{HasExpired, HasNotExpired}, Trying.{HasExpiredSome, HasRefusedSome, expired_after}, Parts.{Part, PartStands as WheelStands}, Passed.LosesRows, SchedParts.SchedStands}
+use Rattle.ert_timers.specs.{declared.sched_part.SchedPart.SchedPart}
 use Rattle.ert_world.proofs.SchedCalls.{sched_stands}
-use Rattle.ert_timers.specs.SchedParts.{SchedStands}
-use Rattle.ert_timers.specs.declared.sched_part.SchedPart.{SchedPart}
-use Rattle.ert_defs.specs.declared.settings.TheConstants.{MOST_SLOTS}
 
 -- what the scheduler's part has
 pub record Had (d : Desk) (p : Pass) (s : Share) (part : SchedPart) : Type 0 where

@@ -3,34 +3,14 @@
 use Rattle.std.specs.Prelude.{◌≡◌, ℕ, zero, suc, ◌+◌, ◌-◌, ◌<◌, ◌≤◌, ◌⊎◌, Bool, true, false, not, ◌&&◌, ◌||◌, nat_le, nat_lt, List, [], ◌∷◌, ◌++◌, length, take, remove, All, slice_get, Some, slice_index_or, None}
 use Rattle.atomic_table.specs.Seated.{TableId}
 use Rattle.ert_clock.specs.Shown.{Shown, ClockStands}
-use Rattle.ert_defs.specs.Actors.{of}
-use Rattle.ert_defs.specs.Legal.{Legal}
-use Rattle.ert_defs.specs.States.{State}
-use Rattle.ert_defs.specs.declared.entry.Actor.{Actor}
-use Rattle.ert_defs.specs.declared.entry.Actor.TheVariants.{Keeper, Wheel, Inbox, Sched, MailOf, Caller}
-use Rattle.ert_defs.specs.declared.entry.Entry.{Entry}
-use Rattle.ert_defs.specs.declared.settings.Settings.{Settings}
+use Rattle.ert_defs.specs.{Actors.of, Legal.Legal, States.State, declared.entry.Actor.Actor, declared.entry.Actor.TheVariants.{Keeper, Wheel, Inbox, Sched, MailOf, Caller}, declared.entry.Entry.Entry, declared.settings.Settings.Settings}
 use Rattle.ert_effects.specs.Ways.{Growth, Way, Grows}
-use Rattle.ert_mail.specs.Inboxes.{InboxStands}
-use Rattle.ert_mail.specs.Mailboxes.{MailboxStands as MailStands}
+use Rattle.ert_mail.specs.{Inboxes.InboxStands, Mailboxes.MailboxStands as MailStands}
 use Rattle.ert_laws.specs.Counts.{entries_of, is_arm}
-use Rattle.ert_shard.specs.Shards.{Share, share_of, Owned, AreHome, has_any}
-use Rattle.ert_shard.specs.declared.dividing.ShardErr.{ShardErr}
-use Rattle.ert_shard.specs.declared.dividing.ShardErr.TheVariants.{Used, NoMemory}
-use Rattle.ert_shard.specs.declared.hub.Home.{Home}
-use Rattle.ert_table.specs.Desks.{settings_of, front_of, actors_of, Belongs}
-use Rattle.ert_table.specs.Held.{is_held, IsActor, actors_but}
-use Rattle.ert_table.specs.Views.{Begins, longer}
-use Rattle.ert_table.specs.declared.desk.Desk.{Desk}
-use Rattle.ert_table.specs.declared.desk.Pass.{Pass}
-use Rattle.ert_timers.specs.Parts.{PartStands as WheelStands}
-use Rattle.ert_timers.specs.SchedParts.{SchedStands}
-use Rattle.ert_world.specs.Parts.{AllParts, AreOrdered}
-use Rattle.ert_world.specs.Seats.{Seated}
-use Rattle.ert_world.specs.Ways.{among}
-use Rattle.ert_world.specs.Worlds.{Seen}
-use Rattle.ert_world.specs.declared.seat_err.SeatErr.{SeatErr}
-use Rattle.ert_world.specs.declared.seat_err.SeatErr.TheVariants.{NoSeat, NoMemory as NoSeatMemory}
+use Rattle.ert_shard.specs.{Shards.{Share, share_of, Owned, AreHome, has_any}, declared.dividing.ShardErr.ShardErr, declared.dividing.ShardErr.TheVariants.{Used, NoMemory}, declared.hub.Home.Home}
+use Rattle.ert_table.specs.{Desks.{settings_of, front_of, actors_of, Belongs}, Held.{is_held, IsActor, actors_but}, Views.{Begins, longer}, declared.desk.Desk.Desk, declared.desk.Pass.Pass}
+use Rattle.ert_timers.specs.{Parts.PartStands as WheelStands, SchedParts.SchedStands}
+use Rattle.ert_world.specs.{Parts.{AllParts, AreOrdered}, Seats.Seated, Ways.among, Worlds.Seen, declared.seat_err.SeatErr.SeatErr, declared.seat_err.SeatErr.TheVariants.{NoSeat, NoMemory as NoSeatMemory}}
 
 -- what callers see of the rest of a world: which desk it is of, with its settings, the history that it knows, what its
 -- clock shows, how many schedulers and processes are left, the caller that is to get the next seat, and, for the last of

@@ -2,13 +2,10 @@
 
 use Rattle.std.specs.Prelude.{◌≡◌, List, Option, Some}
 use Rattle.atomic_table.specs.Seated.{TableId}
-use Rattle.ert_defs.specs.declared.entry.Entry.{Entry}
-use Rattle.ert_defs.specs.declared.settings.Settings.{Settings}
-use Rattle.ert_shard.specs.Hubs.{Rest}
-use Rattle.ert_shard.specs.Shards.{Owned}
+use Rattle.ert_defs.specs.declared.{entry.Entry.Entry, settings.Settings.Settings}
+use Rattle.ert_shard.specs.{Hubs.Rest, Shards.Owned}
 use Rattle.ert_table.specs.Order.{AreOfOne}
-use Rattle.ert_world.specs.Seats.{Seated}
-use Rattle.ert_world.specs.Worlds.{Seen}
+use Rattle.ert_world.specs.{Seats.Seated, Worlds.Seen}
 
 -- what stands behind a handle: on which desk, with its settings, and the beginning of the history that it knows
 pub record Knower : Type 0 where

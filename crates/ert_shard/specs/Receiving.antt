@@ -1,18 +1,11 @@
 -- A process of a shard with mail, and takes of several messages.
 
 use Rattle.std.specs.Prelude.{◌≡◌, ◌≢◌, ℕ, ◌+◌, ◌-◌, ◌<◌, true, List, [], ◌++◌, length, Option, Some, None, option_map}
-use Rattle.ert_defs.specs.States.{state, HasExited}
-use Rattle.ert_defs.specs.declared.mail.Mail.{Mail}
-use Rattle.ert_defs.specs.declared.settings.Settings.{Settings}
-use Rattle.ert_effects.specs.MailCalls.{Takes}
-use Rattle.ert_effects.specs.Ways.{Growth, Way, Then, Many}
-use Rattle.ert_effects.specs.declared.answers.Taken.TheVariants.{Mail as Took, Empty, Exited}
-use Rattle.ert_mail.specs.Turns.{is_listed, TurnRow}
-use Rattle.ert_mail.specs.Lists.{LooksForMail}
+use Rattle.ert_defs.specs.{States.{state, HasExited}, declared.mail.Mail.Mail, declared.settings.Settings.Settings}
+use Rattle.ert_effects.specs.{MailCalls.Takes, Ways.{Growth, Way, Then, Many}, declared.answers.Taken.TheVariants.{Mail as Took, Empty, Exited}}
+use Rattle.ert_mail.specs.{Turns.{is_listed, TurnRow}, Lists.LooksForMail}
 use Rattle.ert_shard.specs.Shards.{Owned, ShardSteps, ShardBy, IsHome}
-use Rattle.ert_world.specs.Mailing.{turns_of}
-use Rattle.ert_world.specs.declared.mailing.TakeEnd.{TakeEnd}
-use Rattle.ert_world.specs.declared.mailing.TakeEnd.TheVariants.{Most, Empty as FoundEmpty, Exited as HadExited}
+use Rattle.ert_world.specs.{Mailing.turns_of, declared.mailing.TakeEnd.TakeEnd, declared.mailing.TakeEnd.TheVariants.{Most, Empty as FoundEmpty, Exited as HadExited}}
 
 -- the messages of a process in the history that a shard knows
 abbrev pub shard_mail : Owned → ℕ → List Mail

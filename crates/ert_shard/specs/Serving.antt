@@ -1,17 +1,9 @@
 -- How a shard's scheduler serves asynchronous requests.
 
 use Rattle.std.specs.Prelude.{◌≡◌, ◌⊎◌, ℕ, ◌<◌, ◌≤◌, Bool, false, cond, nat_lt, List, [], ◌∷◌, ◌++◌, filter, Some, Result, Ok, Err}
-use Rattle.ert_defs.specs.declared.entry.Entry.{Entry}
-use Rattle.ert_defs.specs.declared.entry.Event.TheVariants.{Cancel}
-use Rattle.ert_defs.specs.declared.mail.Request.{Request}
-use Rattle.ert_defs.specs.declared.memory.NoMemory.{NoMemory as OutOfMemory}
-use Rattle.ert_defs.specs.declared.settings.Settings.{Settings}
-use Rattle.ert_defs.specs.declared.timer.TimerRef.{TimerRef}
-use Rattle.ert_effects.specs.Chains.{HoldsRequest, Serves, ServesMany}
-use Rattle.ert_effects.specs.Ways.{Growth, Way, Then}
-use Rattle.ert_shard.specs.Shards.{Share, is_of, IsHome, Owned, ShardHasForgotten}
-use Rattle.ert_shard.specs.declared.requests.ServeErr.{ServeErr}
-use Rattle.ert_shard.specs.declared.requests.ServeErr.TheVariants.{NotHome, NoMemory}
+use Rattle.ert_defs.specs.declared.{entry.Entry.Entry, entry.Event.TheVariants.Cancel, mail.Request.Request, memory.NoMemory.NoMemory as OutOfMemory, settings.Settings.Settings, timer.TimerRef.TimerRef}
+use Rattle.ert_effects.specs.{Chains.{HoldsRequest, Serves, ServesMany}, Ways.{Growth, Way, Then}}
+use Rattle.ert_shard.specs.{Shards.{Share, is_of, IsHome, Owned, ShardHasForgotten}, declared.requests.ServeErr.ServeErr, declared.requests.ServeErr.TheVariants.{NotHome, NoMemory}}
 
 -- a request is held whose answer is for a process of another shard: it stays in the hand
 pub record HoldsForAnother (g : Settings) (way : Way) (s : Share) (h m : List Entry) : Type 0 where

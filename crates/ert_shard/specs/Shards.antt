@@ -2,32 +2,13 @@
 
 use Rattle.std.specs.Prelude.{◌≡◌, ◌≢◌, ℕ, ◌+◌, ◌<◌, ◌≤◌, Bool, false, ◌&&◌, ◌||◌, nat_eq, nat_le, nat_lt, List, [], ◌∷◌, length, Option, Some, None, slice_index_or}
 use Rattle.atomic_table.specs.Seated.{TableId}
-use Rattle.ert_defs.specs.Actors.{of}
-use Rattle.ert_defs.specs.Legal.{Legal}
-use Rattle.ert_defs.specs.States.{State, state}
-use Rattle.ert_defs.specs.declared.entry.Actor.{Actor}
-use Rattle.ert_defs.specs.declared.entry.Actor.TheVariants.{Keeper, Wheel, Inbox, Sched, MailOf, Caller}
-use Rattle.ert_defs.specs.declared.entry.Entry.{Entry}
-use Rattle.ert_defs.specs.declared.entry.Event.{Event}
-use Rattle.ert_defs.specs.declared.entry.Event.TheVariants.{Arm}
-use Rattle.ert_defs.specs.declared.settings.Settings.{Settings}
-use Rattle.ert_defs.specs.declared.timer.TimerRef.{TimerRef}
+use Rattle.ert_defs.specs.{Actors.of, Legal.Legal, States.{State, state}, declared.entry.Actor.Actor, declared.entry.Actor.TheVariants.{Keeper, Wheel, Inbox, Sched, MailOf, Caller}, declared.entry.Entry.Entry, declared.entry.Event.Event}
+use Rattle.ert_defs.specs.{declared.entry.Event.TheVariants.Arm, declared.settings.Settings.Settings, declared.timer.TimerRef.TimerRef}
 use Rattle.ert_effects.specs.Ways.{Growth, Way, Grows}
-use Rattle.ert_mail.specs.Inboxes.{Waiting, InboxStands}
-use Rattle.ert_mail.specs.Lists.{exited_from}
-use Rattle.ert_mail.specs.Mailboxes.{Mailbox, MailboxStands as MailStands}
-use Rattle.ert_table.specs.Desks.{settings_of, front_of, actors_of, Belongs}
-use Rattle.ert_table.specs.Held.{is_held, IsActor}
-use Rattle.ert_table.specs.declared.desk.Desk.{Desk}
-use Rattle.ert_table.specs.declared.desk.Pass.{Pass}
-use Rattle.ert_timers.specs.Freeing.{IsHeld}
-use Rattle.ert_timers.specs.Parts.{Part, PartStands as WheelStands}
-use Rattle.ert_timers.specs.Passed.{LosesRows}
-use Rattle.ert_mail.specs.Turns.{TurnRow}
-use Rattle.ert_timers.specs.SchedParts.{SchedStands}
-use Rattle.ert_world.specs.Ways.{among}
-use Rattle.ert_world.specs.Worlds.{ListAll, TurnsGrow}
-use Rattle.ert_timers.specs.declared.sched_part.SchedPart.{SchedPart}
+use Rattle.ert_mail.specs.{Inboxes.{Waiting, InboxStands}, Lists.exited_from, Mailboxes.{Mailbox, MailboxStands as MailStands}, Turns.TurnRow}
+use Rattle.ert_table.specs.{Desks.{settings_of, front_of, actors_of, Belongs}, Held.{is_held, IsActor}, declared.desk.Desk.Desk, declared.desk.Pass.Pass}
+use Rattle.ert_timers.specs.{Freeing.IsHeld, Parts.{Part, PartStands as WheelStands}, Passed.LosesRows, SchedParts.SchedStands, declared.sched_part.SchedPart.SchedPart}
+use Rattle.ert_world.specs.{Ways.among, Worlds.{ListAll, TurnsGrow}}
 
 -- what a shard has: the scheduler of this number, and the processes from one on, below another
 pub record Share : Type 0 where

@@ -3,23 +3,11 @@
 
 use Rattle.std.specs.Option.{is_some}
 use Rattle.std.specs.Prelude.{◌≡◌, ◌≢◌, ℕ, ◌+◌, ◌≤◌, ◌⊎◌, Bool, true, false, ◌||◌, List, [], count_by, Result, Ok, Err}
-use Rattle.ert_defs.specs.States.{sched_of}
-use Rattle.ert_defs.specs.Timers.{Row}
-use Rattle.ert_defs.specs.declared.entry.Actor.TheVariants.{Caller}
-use Rattle.ert_defs.specs.declared.entry.Entry.{Entry}
-use Rattle.ert_defs.specs.declared.memory.NoMemory.{NoMemory}
-use Rattle.ert_defs.specs.declared.settings.Settings.{Settings}
-use Rattle.ert_effects.specs.Chains.{AdvancesWheel, Delivers, SweepsWheel}
-use Rattle.ert_effects.specs.SomeCalls.{AdvancesWheelSome, is_more}
-use Rattle.ert_effects.specs.WheelCalls.{MarksExit}
-use Rattle.ert_effects.specs.Ways.{Growth, Way, Then}
-use Rattle.ert_effects.specs.declared.answers.Left.{Left}
-use Rattle.ert_effects.specs.declared.answers.Left.TheVariants.{Nothing, Due, Moving}
-use Rattle.ert_shard.specs.Serving.{ShardServesAll}
-use Rattle.ert_shard.specs.Shards.{Share, Owned}
-use Rattle.ert_shard.specs.declared.turns.Turn.{Turn}
-use Rattle.ert_timers.specs.Parts.{Part}
-use Rattle.ert_timers.specs.Trying.{IsLeft}
+use Rattle.ert_defs.specs.{States.sched_of, Timers.Row, declared.entry.Actor.TheVariants.Caller, declared.entry.Entry.Entry, declared.memory.NoMemory.NoMemory, declared.settings.Settings.Settings}
+use Rattle.ert_effects.specs.{Chains.{AdvancesWheel, Delivers, SweepsWheel}, SomeCalls.{AdvancesWheelSome, is_more}, WheelCalls.MarksExit, Ways.{Growth, Way, Then}, declared.answers.Left.Left, declared.answers.Left.TheVariants.Nothing}
+use Rattle.ert_effects.specs.{declared.answers.Left.TheVariants.{Due, Moving}}
+use Rattle.ert_shard.specs.{Serving.ShardServesAll, Shards.{Share, Owned}, declared.turns.Turn.Turn}
+use Rattle.ert_timers.specs.{Parts.Part, Trying.IsLeft}
 use Rattle.ert_world.specs.Bounded.{DeliversSome}
 
 -- the expired timers of a shard

@@ -8,11 +8,9 @@ use ert_mail::Handed;
 impl Shard {
     ghost use Rattle.std.specs.Prelude.{◌≡◌, true, IfOk};
     ghost use Rattle.ert_effects.specs.SomeCalls.{AdvancesWheelSome};
-    ghost use Rattle.ert_shard.specs.Shards.{ShardSteps};
-    ghost use Rattle.ert_shard.specs.Turning.{HasTurnedMost, IsMoreLeft, TurnsUpTo};
+    ghost use Rattle.ert_shard.specs.{Shards.ShardSteps, Turning.{HasTurnedMost, IsMoreLeft, TurnsUpTo}};
     ghost use Rattle.ert_timers.specs.Trying.{IsLeft, LosesSome};
-    ghost use Rattle.ert_world.specs.Bounded.{DeliversSome};
-    ghost use Rattle.ert_world.specs.Worlds.{KeepsRows};
+    ghost use Rattle.ert_world.specs.{Bounded.DeliversSome, Worlds.KeepsRows};
 
     /// Lets so many timers at most of the shard's wheel expire that are due, and answers the time, in whole
     /// milliseconds since the start time, how many expired, and what is left.

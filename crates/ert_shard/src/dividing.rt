@@ -1,7 +1,6 @@
 //! Shards that are given, and that come back.
 ghost use Rattle.std.specs.Prelude.{◌≡◌, ◌≤◌, true};
-ghost use Rattle.ert_table.specs.Desks.{front_of, actors_of, Belongs};
-ghost use Rattle.ert_table.specs.Held.{is_held};
+ghost use Rattle.ert_table.specs.{Desks.{front_of, actors_of, Belongs}, Held.is_held};
 ghost use Rattle.ert_shard.specs.Hubs.{MovesActor, MovesMails, HoldsMails};
 
 use crate::hub::{Home, Hub};
@@ -22,10 +21,8 @@ pub enum ShardErr {
 
 impl Hub {
     ghost use Rattle.std.specs.Prelude.{◌≡◌, ◌↔◌, ◌<◌, ◌≤◌, ℕ, IfOk, OnOk, OnErr, IfErr, IsTrue};
-    ghost use Rattle.ert_defs.specs.Actors.{of};
-    ghost use Rattle.ert_defs.specs.declared.entry.Actor.TheVariants.{Wheel};
-    ghost use Rattle.ert_shard.specs.Hubs.{GivesShard, AreKnown, IsAtHome, IsShardRefused, IsLastOut, TakesBack, share_below};
-    ghost use Rattle.ert_shard.specs.Shards.{AreHome};
+    ghost use Rattle.ert_defs.specs.{Actors.of, declared.entry.Actor.TheVariants.Wheel};
+    ghost use Rattle.ert_shard.specs.{Hubs.{GivesShard, AreKnown, IsAtHome, IsShardRefused, IsLastOut, TakesBack, share_below}, Shards.AreHome};
 
     /// Gives the last scheduler that is left, with so many of the last processes that are left, to a shard.
     ///

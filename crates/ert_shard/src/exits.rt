@@ -4,12 +4,9 @@ use ert_defs::Actor;
 
 impl Shard {
     ghost use Rattle.std.specs.Prelude.{◌≡◌, ◌+◌, true};
-    ghost use Rattle.ert_effects.specs.Chains.{SweepsWheel};
-    ghost use Rattle.ert_effects.specs.WheelCalls.{MarksExit};
-    ghost use Rattle.ert_defs.specs.States.{HasExited};
-    ghost use Rattle.ert_defs.specs.declared.entry.Actor.TheVariants.{Caller};
-    ghost use Rattle.ert_shard.specs.Shards.{ShardSteps, ShardBy, IsHome};
-    ghost use Rattle.ert_shard.specs.Turning.{ShardExits};
+    ghost use Rattle.ert_effects.specs.{Chains.SweepsWheel, WheelCalls.MarksExit};
+    ghost use Rattle.ert_defs.specs.{States.HasExited, declared.entry.Actor.TheVariants.Caller};
+    ghost use Rattle.ert_shard.specs.{Shards.{ShardSteps, ShardBy, IsHome}, Turning.ShardExits};
 
     /// Lets a process of the shard exit, cancels its timers, and returns true; false, and no more, if it had exited
     /// before (`exit`). All its timers are in the shard's wheel, see `Hub::shard`.

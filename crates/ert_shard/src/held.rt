@@ -5,8 +5,7 @@ impl Shard {
     ghost use Rattle.std.specs.Prelude.{◌≡◌, length, count_by};
     ghost use Rattle.std.specs.Option.{is_some};
     ghost use Rattle.ert_defs.specs.States.{state};
-    ghost use Rattle.ert_shard.specs.Shards.{IsHome};
-    ghost use Rattle.ert_shard.specs.Turning.{shard_expired};
+    ghost use Rattle.ert_shard.specs.{Shards.IsHome, Turning.shard_expired};
 
     /// How many timers the shard's wheel holds: those that are armed, and those that other threads cancelled and that
     /// would not be due yet. No entry is made.

@@ -56,8 +56,7 @@ pub struct Hub {
 
 impl Model for Hub {
     ghost use Rattle.std.specs.Prelude.{◌+◌, ◌-◌, ◌≤◌};
-    ghost use Rattle.std.specs.Arc.{arc_value};
-    ghost use Rattle.std.specs.Vec.{vec_len, vec_capacity};
+    ghost use Rattle.std.specs.{Arc.arc_value, Vec.{vec_len, vec_capacity}};
     ghost use Rattle.ert_table.specs.Desks.{settings_of};
     ghost use Rattle.ert_world.specs.Parts.{parts_of};
     ghost use Rattle.ert_shard.specs.Hubs.{Rest, rest, IsRest, HasRoomForAll};

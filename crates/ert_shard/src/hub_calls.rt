@@ -10,9 +10,7 @@ impl Hub {
     ghost use Rattle.std.specs.Prelude.{◌≡◌, ◌<◌, ◌+ℤ◌};
     ghost use Rattle.ert_clock.specs.Ticks.{act_of, Gives, ClockFinalizesFrom};
     ghost use Rattle.ert_defs.specs.declared.entry.Actor.TheVariants.{Caller};
-    ghost use Rattle.ert_effects.specs.ClockCalls.{Ticks, Finalizes, TellsTime, TellsOffset, TellsSystemTime};
-    ghost use Rattle.ert_effects.specs.TimerCalls.{Reads, Cancels};
-    ghost use Rattle.ert_effects.specs.WheelCalls.{TellsAlive};
+    ghost use Rattle.ert_effects.specs.{ClockCalls.{Ticks, Finalizes, TellsTime, TellsOffset, TellsSystemTime}, TimerCalls.{Reads, Cancels}, WheelCalls.TellsAlive};
     ghost use Rattle.ert_shard.specs.Hubs.{HubGoes, HubSteps, HubBy};
 
     /// Takes one reading of the OS clocks. `force` asks for a check of the clock, as if one were due.

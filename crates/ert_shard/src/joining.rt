@@ -4,8 +4,7 @@ use crate::shard::Shard;
 
 impl Hub {
     ghost use Rattle.std.specs.Prelude.{◌≡◌, ◌<◌, All, length, IfSome, None, slice_index_or};
-    ghost use Rattle.ert_shard.specs.Hubs.{IsLastOut, AreOurs, TakesAll};
-    ghost use Rattle.ert_shard.specs.Shards.{Owned};
+    ghost use Rattle.ert_shard.specs.{Hubs.{IsLastOut, AreOurs, TakesAll}, Shards.Owned};
 
     /// Takes shards back, in whatever order they stand: each as soon as it is the next (`is_next`). What is left of them
     /// waits for a shard that is still out. It takes no memory.

@@ -16,9 +16,7 @@ impl Hub {
 }
 
 impl Shard {
-    ghost use Rattle.ert_defs.specs.Actors.{of};
-    ghost use Rattle.ert_defs.specs.Legal.{Legal};
-    ghost use Rattle.ert_defs.specs.declared.entry.Actor.TheVariants.{Wheel};
+    ghost use Rattle.ert_defs.specs.{Actors.of, Legal.Legal, declared.entry.Actor.TheVariants.Wheel};
     ghost use Rattle.ert_laws.specs.KeptLaws.{KeepsLaws};
     ghost use Rattle.ert_shard.specs.Shards.{AreHome};
 

@@ -20,8 +20,7 @@ pub(crate) fn may_get_mail(list: &mut Option<MailList>, place: u32)
 impl Shard {
     ghost use Rattle.std.specs.Prelude.{◌≡◌, ◌+◌, ◌≤◌, None, IfOk, OnErr, vec_len};
     ghost use Rattle.std.specs.Vec.{vec_capacity};
-    ghost use Rattle.ert_shard.specs.Receiving.{ShardFindsMail, ShardTakesInto};
-    ghost use Rattle.ert_shard.specs.Shards.{IsHome};
+    ghost use Rattle.ert_shard.specs.{Receiving.{ShardFindsMail, ShardTakesInto}, Shards.IsHome};
 
     /// A process of the shard that hasn't exited and whose mailbox has mail; None exactly where there is none. Each has its
     /// turn: the next call tells another, where another has mail. The messages of one that has exited can't be taken, and

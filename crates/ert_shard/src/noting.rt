@@ -5,8 +5,7 @@ use ert_table::Note;
 
 impl Shard {
     ghost use Rattle.std.specs.Prelude.{◌≡◌};
-    ghost use Rattle.ert_table.specs.Notes.{IsNoteOf};
-    ghost use Rattle.ert_table.specs.Views.{Begins, longer};
+    ghost use Rattle.ert_table.specs.{Notes.IsNoteOf, Views.{Begins, longer}};
     ghost use Rattle.ert_shard.specs.Shards.{ShardSteps, ShardBy};
     ghost use Rattle.ert_world.specs.Ways.{MakesNone};
 
@@ -35,8 +34,7 @@ impl Shard {
 
 impl Hub {
     ghost use Rattle.std.specs.Prelude.{◌≡◌};
-    ghost use Rattle.ert_table.specs.Notes.{IsNoteOf};
-    ghost use Rattle.ert_table.specs.Views.{Begins, longer};
+    ghost use Rattle.ert_table.specs.{Notes.IsNoteOf, Views.{Begins, longer}};
     ghost use Rattle.ert_shard.specs.Hubs.{HubSteps, HubBy};
     ghost use Rattle.ert_world.specs.Ways.{MakesNone};
 

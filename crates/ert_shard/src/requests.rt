@@ -19,12 +19,9 @@ pub enum ServeErr {
 
 impl Shard {
     ghost use Rattle.std.specs.Prelude.{◌≡◌, ◌+◌, ◌↔◌, [], ◌∷◌, Some, None, IfOk, IsTrue, true};
-    ghost use Rattle.ert_defs.specs.States.{sched_of};
-    ghost use Rattle.ert_defs.specs.declared.entry.Actor.TheVariants.{Inbox, MailOf};
-    ghost use Rattle.ert_effects.specs.Chains.{HoldsRequest};
-    ghost use Rattle.ert_effects.specs.RequestCalls.{Asks, Picks, Answers};
-    ghost use Rattle.ert_shard.specs.Serving.{ShardForgetsCancelled, ShardServes, ShardServesAll};
-    ghost use Rattle.ert_shard.specs.Shards.{ShardHasForgotten, ShardSteps, ShardBy, IsHome};
+    ghost use Rattle.ert_defs.specs.{States.sched_of, declared.entry.Actor.TheVariants.{Inbox, MailOf}};
+    ghost use Rattle.ert_effects.specs.{Chains.HoldsRequest, RequestCalls.{Asks, Picks, Answers}};
+    ghost use Rattle.ert_shard.specs.{Serving.{ShardForgetsCancelled, ShardServes, ShardServesAll}, Shards.{ShardHasForgotten, ShardSteps, ShardBy, IsHome}};
 
     /// Asks the shard's scheduler to cancel or to read a timer, and to answer to a process of the shard (`erlang` module
     /// reference, `cancel_timer` and `read_timer`, option `async`). It does so in one of its next turns.

@@ -5,10 +5,8 @@ use ert_effects::RestartErr;
 
 impl Shard {
     ghost use Rattle.std.specs.Prelude.{◌≡◌, ◌+◌, Err};
-    ghost use Rattle.ert_effects.specs.RestartCalls.{Restarts};
-    ghost use Rattle.ert_effects.specs.declared.answers.RestartErr.TheVariants.{Full};
-    ghost use Rattle.ert_shard.specs.Renewing.{LetsGo};
-    ghost use Rattle.ert_shard.specs.Shards.{ShardGoes, ShardBy, IsHome};
+    ghost use Rattle.ert_effects.specs.{RestartCalls.Restarts, declared.answers.RestartErr.TheVariants.Full};
+    ghost use Rattle.ert_shard.specs.{Renewing.LetsGo, Shards.{ShardGoes, ShardBy, IsHome}};
     ghost use Rattle.ert_timers.specs.Frees.{IsUsedUp, UsesFree};
 
     /// Gives an armed timer, of whatever wheel, a new deadline, and answers its new name (as `uv_timer_again` of libuv):

@@ -32,8 +32,7 @@ pub struct Shard {
 }
 
 impl Model for Shard {
-    ghost use Rattle.std.specs.Arc.{arc_value};
-    ghost use Rattle.std.specs.Coded.{codes};
+    ghost use Rattle.std.specs.{Arc.arc_value, Coded.codes};
     ghost use Rattle.ert_shard.specs.Shards.{Owned, owned, share_of, shard_parts_of, AreShardPartsFit};
     ghost use Rattle.ert_timers.specs.Parts.{part_code};
     ghost use Rattle.ert_mail.specs.Turns.{row_code};
@@ -49,14 +48,9 @@ impl Model for Shard {
 
 impl Shard {
     ghost use Rattle.std.specs.Prelude.{◌≡◌, ◌≢◌, ◌+◌, ◌<◌, Err, OnSome};
-    ghost use Rattle.ert_effects.specs.ClockCalls.{TellsTime, TellsOffset, TellsSystemTime};
-    ghost use Rattle.ert_effects.specs.TimerCalls.{Reads, Cancels, Starts};
-    ghost use Rattle.ert_effects.specs.WheelCalls.{TellsAlive};
-    ghost use Rattle.ert_effects.specs.declared.answers.StartErr.TheVariants.{Full, NoMemory};
-    ghost use Rattle.ert_defs.specs.States.{state};
-    ghost use Rattle.ert_timers.specs.Frees.{IsUsedUp, UsesFree};
-    ghost use Rattle.ert_timers.specs.Searching.{HasOpenSlot, Searches};
-    ghost use Rattle.ert_defs.specs.declared.entry.Actor.TheVariants.{Caller};
+    ghost use Rattle.ert_effects.specs.{ClockCalls.{TellsTime, TellsOffset, TellsSystemTime}, TimerCalls.{Reads, Cancels, Starts}, WheelCalls.TellsAlive, declared.answers.StartErr.TheVariants.{Full, NoMemory}};
+    ghost use Rattle.ert_defs.specs.{States.state, declared.entry.Actor.TheVariants.Caller};
+    ghost use Rattle.ert_timers.specs.{Frees.{IsUsedUp, UsesFree}, Searching.{HasOpenSlot, Searches}};
     ghost use Rattle.ert_shard.specs.Shards.{ShardGoes, ShardSteps, ShardBy, IsHome, ShardHasForgotten, ShardStayForgotten};
 
     /// The number of its scheduler, and of its wheel.

@@ -5,10 +5,8 @@ impl Shard {
     ghost use Rattle.std.specs.Prelude.{◌≡◌};
     ghost use Rattle.ert_defs.specs.States.{state};
     ghost use Rattle.ert_effects.specs.Sleeping.{ProbesForNext};
-    ghost use Rattle.ert_shard.specs.Shards.{ShardBy, ShardSteps};
-    ghost use Rattle.ert_shard.specs.Sleeping.{ShardDropsSettled};
-    ghost use Rattle.ert_timers.specs.NextDue.{NoneArmedBefore, IsNextHeld};
-    ghost use Rattle.ert_timers.specs.Sleeping.{IsFoundNext};
+    ghost use Rattle.ert_shard.specs.{Shards.{ShardBy, ShardSteps}, Sleeping.ShardDropsSettled};
+    ghost use Rattle.ert_timers.specs.{NextDue.{NoneArmedBefore, IsNextHeld}, Sleeping.IsFoundNext};
 
     /// How early a timer of the shard's wheel may be due, in whole milliseconds since the start time, as `turn`
     /// answers; None where no timer is held.

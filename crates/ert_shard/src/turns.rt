@@ -22,16 +22,10 @@ pub struct Turn {
 impl Shard {
     ghost use Rattle.std.specs.Prelude.{◌≡◌, ◌≤◌, Some, [], ◌∷◌, length, IfOk, OnOk};
     ghost use Rattle.ert_effects.specs.Chains.{AdvancesWheel, Hands, Delivers};
-    ghost use Rattle.ert_defs.specs.Legal.{Legal};
-    ghost use Rattle.ert_defs.specs.Mails.{first_of, others_of};
-    ghost use Rattle.ert_defs.specs.States.{state};
-    ghost use Rattle.ert_defs.specs.declared.entry.Actor.TheVariants.{Wheel};
-    ghost use Rattle.ert_shard.specs.Shards.{ShardGoes, ShardSteps};
-    ghost use Rattle.ert_shard.specs.Turning.{shard_expired, ShardTurns};
-    ghost use Rattle.ert_timers.specs.Expiring.{TriesHeld};
-    ghost use Rattle.ert_timers.specs.Passed.{HasPassed};
+    ghost use Rattle.ert_defs.specs.{Legal.Legal, Mails.{first_of, others_of}, States.state, declared.entry.Actor.TheVariants.Wheel, declared.settings.TheConstants.MOST_SLOTS};
+    ghost use Rattle.ert_shard.specs.{Shards.{ShardGoes, ShardSteps}, Turning.{shard_expired, ShardTurns}};
+    ghost use Rattle.ert_timers.specs.{Expiring.TriesHeld, Passed.HasPassed};
     ghost use Rattle.ert_world.specs.Worlds.{KeepsRows};
-    ghost use Rattle.ert_defs.specs.declared.settings.TheConstants.{MOST_SLOTS};
 
     /// Lets every timer of the shard's wheel expire that is due, and answers the time, in whole milliseconds
     /// since the start time, and how many expired.

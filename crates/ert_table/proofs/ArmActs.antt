@@ -1,41 +1,14 @@
 -- A store of the word of a slot takes place as the start of a timer.
 
 use Rattle.std.proofs.Common.{◌≡◌, ◌≢◌, ⊎_elim, ℕ, ℤ, ◌≤◌, Bool, true, false, cond, ◌&&◌, nat_eq, List, [], ◌∷◌, ◌++◌, All, Option, Some, None, option_map, refl, sym, ap, subst, ◌∙◌, append-nil, eq-eqb, eqb-true}
-use Rattle.std.proofs.lemmas.Bool.{and_parts, and_right}
-use Rattle.ert_defs.specs.Actors.{has_actor}
-use Rattle.std.proofs.Props.{props}
-use Rattle.ert_defs.specs.Legal.{CanArm, IsSlot, Legal}
-use Rattle.ert_defs.specs.Milliseconds.{natural, down, deadline_of}
-use Rattle.ert_defs.specs.States.{State, uses_at, next, state}
-use Rattle.ert_defs.specs.Timers.{IsNextUse, Row, Uses, deadline_told, row_from, row_of, same_timer, timer_at}
-use Rattle.ert_defs.specs.Words.{timer_word, slot_word, word_of, word_of_slot}
-use Rattle.ert_defs.proofs.ExpiredTimers.{row_named, same_timer_self}
-use Rattle.ert_defs.proofs.Standing.{of_row}
-use Rattle.ert_defs.proofs.Rows.{IsRow, rows_hold}
-use Rattle.ert_defs.proofs.Runs.{legal_one_more}
-use Rattle.ert_defs.proofs.Slots.{IsOrdered, ordered, same_timer-true}
-use Rattle.ert_defs.proofs.Uses.{IsBefore, Use, due as due_of, before_self, fresh, told_high as told_later, told_is}
-use Rattle.ert_defs.specs.declared.entry.Actor.{Actor}
-use Rattle.ert_defs.specs.declared.entry.Actor.TheVariants.{Wheel, Caller}
-use Rattle.ert_defs.specs.declared.entry.Entry.{Entry}
-use Rattle.ert_defs.specs.declared.settings.Settings.{Settings}
-use Rattle.ert_defs.specs.declared.timer.Start.{Start}
-use Rattle.ert_defs.specs.declared.timer.Status.{Status}
-use Rattle.ert_defs.specs.declared.timer.Status.TheVariants.{Armed}
-use Rattle.ert_defs.specs.declared.timer.TimerRef.{TimerRef}
-use Rattle.ert_table.specs.Ranges.{IsTimer}
-use Rattle.ert_table.specs.Acts.{Acts, IsHistoryAtStep}
-use Rattle.ert_table.specs.Places.{slot_place}
-use Rattle.ert_defs.specs.Entries.{arm_entry}
-use Rattle.ert_table.specs.Takes.{MayStep}
-use Rattle.ert_table.proofs.Holders.{tells}
-use Rattle.ert_table.proofs.AtSteps.{look_then}
-use Rattle.ert_table.proofs.Hits.{other_timer}
-use Rattle.ert_table.specs.Rule.{IsLegalBy}
-use Rattle.ert_table.proofs.OneStep.{grows, legal_by}
-use Rattle.ert_table.proofs.WordPlaces.{word_of-slot}
-use Rattle.ert_table.proofs.WordSteps.{cond_same, word_same}
-use Rattle.ert_table.specs.declared.view.View.{View}
+use Rattle.std.proofs.{lemmas.Bool.{and_parts, and_right}, Props.props}
+use Rattle.ert_defs.specs.{Actors.has_actor, Legal.{CanArm, IsSlot, Legal}, Milliseconds.{natural, down, deadline_of}, States.{State, uses_at, next, state}, Timers.{IsNextUse, Row, Uses, deadline_told, row_from, row_of, same_timer}}
+use Rattle.ert_defs.specs.{Timers.timer_at, Words.{timer_word, slot_word, word_of, word_of_slot}, declared.entry.Actor.Actor, declared.entry.Actor.TheVariants.{Wheel, Caller}, declared.entry.Entry.Entry, declared.settings.Settings.Settings}
+use Rattle.ert_defs.specs.{declared.timer.Start.Start, declared.timer.Status.Status, declared.timer.Status.TheVariants.Armed, declared.timer.TimerRef.TimerRef, Entries.arm_entry}
+use Rattle.ert_defs.proofs.{ExpiredTimers.{row_named, same_timer_self}, Standing.of_row, Rows.{IsRow, rows_hold}, Runs.legal_one_more, Slots.{IsOrdered, ordered, same_timer-true}, Uses.{IsBefore, Use, due as due_of, before_self, fresh}}
+use Rattle.ert_defs.proofs.{Uses.{told_high as told_later, told_is}}
+use Rattle.ert_table.specs.{Ranges.IsTimer, Acts.{Acts, IsHistoryAtStep}, Places.slot_place, Takes.MayStep, Rule.IsLegalBy, declared.view.View.View}
+use Rattle.ert_table.proofs.{Holders.tells, AtSteps.look_then, Hits.other_timer, OneStep.{grows, legal_by}, WordPlaces.word_of-slot, WordSteps.{cond_same, word_same}}
 
 -- a start that has a deadline
 record HasDeadline (timer : TimerRef) (o : Option ℕ) (deadline : ℕ) : Type 0 where

@@ -1,13 +1,8 @@
 -- The word of an armed timer, compared as a whole.
 
 use Rattle.std.proofs.Common.{◌≡◌, ℕ, ◌<◌, ◌≤◌, ◌+◌, ◌-◌, ◌*◌, ◌/◌, ◌%◌, Bool, true, false, ◌&&◌, nat_lt, nat_le, Some, None, inl, inr, ◌⊎◌, refl, sym, ap, ◌∙◌, arith}
-use Rattle.std.proofs.lemmas.Bool.{leb-true, ltb-true, or_cases, and_parts}
-use Rattle.std.proofs.lemmas.Bool.Decides.{nat_tests}
-use Rattle.ert_defs.specs.Legal.{is_generation}
-use Rattle.ert_defs.specs.Timers.{use_of}
-use Rattle.ert_defs.specs.Words.{status_code, timer_word}
-use Rattle.ert_defs.specs.declared.timer.Status.{Status}
-use Rattle.ert_defs.specs.declared.timer.Status.TheVariants.{Armed}
+use Rattle.std.proofs.lemmas.Bool.{leb-true, ltb-true, or_cases, and_parts, Decides.nat_tests}
+use Rattle.ert_defs.specs.{Legal.is_generation, Timers.use_of, Words.{status_code, timer_word}, declared.timer.Status.Status, declared.timer.Status.TheVariants.Armed}
 use Rattle.ert_table.specs.Ranges.{IsTimer, TellsArmed}
 
 pub use_low : (n : ℕ) → n < 8796093022208 → use_of n ≡ n

@@ -1,23 +1,11 @@
 -- What a pass knew at its front still holds when it steps.
 
 use Rattle.std.proofs.Common.{◌≡◌, ℕ, true, List, [], ◌∷◌, Some, sym, ap, subst, ◌∙◌}
-use Rattle.ert_defs.specs.Actors.{has_actor}
-use Rattle.ert_defs.specs.Legal.{IsSlot}
-use Rattle.ert_defs.specs.States.{State, next, run, state, uses_at}
-use Rattle.ert_defs.specs.Timers.{Row, row_of}
-use Rattle.ert_defs.specs.Words.{word_of_slot}
-use Rattle.ert_defs.proofs.ExpiredTimers.{row_kept}
-use Rattle.ert_defs.proofs.Runs.{last_stays, look_stays, rows_stay, state-append, uses_stay}
-use Rattle.ert_defs.specs.declared.entry.Actor.{Actor}
-use Rattle.ert_defs.specs.declared.entry.Actor.TheVariants.{Wheel}
-use Rattle.ert_defs.specs.declared.entry.Entry.{Entry}
-use Rattle.ert_defs.specs.declared.settings.Settings.{Settings}
-use Rattle.ert_defs.specs.declared.timer.TimerRef.{TimerRef}
-use Rattle.ert_table.specs.Acts.{IsHistoryAtStep}
-use Rattle.ert_table.specs.Held.{is_held}
-use Rattle.ert_table.specs.Places.{slot_place}
+use Rattle.ert_defs.specs.{Actors.has_actor, Legal.IsSlot, States.{State, next, run, state, uses_at}, Timers.{Row, row_of}, Words.word_of_slot, declared.entry.Actor.Actor, declared.entry.Actor.TheVariants.Wheel, declared.entry.Entry.Entry}
+use Rattle.ert_defs.specs.{declared.settings.Settings.Settings, declared.timer.TimerRef.TimerRef}
+use Rattle.ert_defs.proofs.{ExpiredTimers.row_kept, Runs.{last_stays, look_stays, rows_stay, state-append, uses_stay}}
+use Rattle.ert_table.specs.{Acts.IsHistoryAtStep, Held.is_held, Places.slot_place, declared.view.View.View}
 use Rattle.ert_table.proofs.WordPlaces.{word_of-slot}
-use Rattle.ert_table.specs.declared.view.View.{View}
 
 -- a row stands on
 row_stands : (g : Settings) (r : TimerRef) (row : Row) (s : State) (m : List Entry) → row_of (s.rows r.wheel) r ≡ Some row

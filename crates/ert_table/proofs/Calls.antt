@@ -2,20 +2,10 @@
 
 use Rattle.std.proofs.Common.{◌≡◌, Bool, true, false, List, [], ◌∷◌, ◌++◌, filter, refl, sym, ap, subst, ◌∙◌, append_assoc}
 use Rattle.std.proofs.lemmas.List.Elements.{filter-append}
-use Rattle.ert_defs.specs.Actors.{same_actor, has_actor, IsFree}
-use Rattle.ert_defs.specs.Legal.{LegalFrom, Legal}
-use Rattle.ert_defs.specs.States.{State, opening, next, state}
+use Rattle.ert_defs.specs.{Actors.{same_actor, has_actor, IsFree}, Legal.{LegalFrom, Legal}, States.{State, opening, next, state}, declared.entry.Actor.Actor, declared.entry.Entry.Entry, declared.settings.Settings.Settings, Entries.is_ours}
 use Rattle.ert_defs.proofs.Runs.{free_first, free_rest, legal_then}
-use Rattle.ert_defs.specs.declared.entry.Actor.{Actor}
-use Rattle.ert_defs.specs.declared.entry.Entry.{Entry}
-use Rattle.ert_defs.specs.declared.settings.Settings.{Settings}
-use Rattle.ert_table.specs.Held.{is_held, IsWhole}
-use Rattle.ert_defs.specs.Entries.{is_ours}
-use Rattle.ert_table.specs.Laws.{LawOfSteps, LawOfCalls, LawOfWholePasses}
-use Rattle.ert_table.specs.Takes.{Appends}
-use Rattle.ert_table.proofs.Closings.{maker_in_range}
-use Rattle.ert_table.proofs.Holders.{held_maker, or_left, or_right, same_actor-true, same_actor_self}
-use Rattle.ert_table.specs.declared.view.View.{View}
+use Rattle.ert_table.specs.{Held.{is_held, IsWhole}, Laws.{LawOfSteps, LawOfCalls, LawOfWholePasses}, Takes.Appends, declared.view.View.View}
+use Rattle.ert_table.proofs.{Closings.maker_in_range, Holders.{held_maker, or_left, or_right, same_actor-true, same_actor_self}}
 
 -- an entry with none of these actors isn't theirs
 not_ours : (actors : List Actor) (e : Entry) → ((a : Actor) → is_held actors a ≡ true → has_actor e a ≡ false) → is_ours actors e ≡ false

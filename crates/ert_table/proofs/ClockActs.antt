@@ -1,44 +1,16 @@
 -- Steps on the words of the time and of the offset take place with their entries.
 
 use Rattle.std.proofs.Common.{◌≡◌, ℕ, ℤ, pos, negsuc, ◌+◌, ◌*◌, ◌/◌, ◌%◌, cond, nat_eq, ◌+ℤ◌, ◌-ℤ◌, ◌≤ℤ◌, ◌<ℤ◌, Bool, true, false, List, [], ◌∷◌, ◌++◌, Some, refl, sym, ap, subst, ◌∙◌, arith}
-use Rattle.std.proofs.lemmas.Int.{ints}
-use Rattle.std.proofs.Props.{props}
-use Rattle.ert_defs.specs.Actors.{has_actor}
-use Rattle.ert_defs.specs.Clocks.{Clock, face}
-use Rattle.ert_defs.specs.Legal.{Found, Legal}
-use Rattle.ert_defs.specs.Lines.{IsOffset}
-use Rattle.ert_defs.specs.Milliseconds.{natural}
-use Rattle.ert_defs.specs.Settings.{IsChecked}
-use Rattle.ert_defs.specs.Sound.{MayShift}
-use Rattle.ert_defs.specs.States.{State, opening, next, state}
-use Rattle.ert_defs.specs.Words.{time_word, offset_word, is_final}
-use Rattle.ert_defs.proofs.Bounds.{time_fits}
-use Rattle.ert_defs.proofs.Modes.{IsOfMode, KeepsMode, mode_opening, mode_when}
-use Rattle.ert_defs.proofs.Runs.{kept_from, legal_more, state-append}
-use Rattle.ert_defs.proofs.Times.{kept, state_in_range}
-use Rattle.ert_defs.specs.declared.entry.Act.{Act}
-use Rattle.ert_defs.specs.declared.entry.Actor.{Actor}
-use Rattle.ert_defs.specs.declared.entry.Actor.TheVariants.{Keeper}
-use Rattle.ert_defs.specs.declared.entry.Entry.{Entry}
-use Rattle.ert_defs.specs.declared.settings.Mode.{Mode}
-use Rattle.ert_defs.specs.declared.settings.Mode.TheVariants.{No, Single, Multi}
-use Rattle.ert_defs.specs.declared.settings.OffsetState.{OffsetState}
-use Rattle.ert_defs.specs.declared.settings.OffsetState.TheVariants.{Preliminary, Final, Volatile}
-use Rattle.ert_defs.specs.declared.settings.Reading.{Reading}
-use Rattle.ert_defs.specs.declared.settings.Settings.{Settings}
-use Rattle.ert_table.specs.Ranges.{IsTime, IsTimeWord, IsOffsetWord}
-use Rattle.ert_table.specs.Acts.{Acts}
-use Rattle.ert_defs.specs.Entries.{tick_entry, shift_entry}
-use Rattle.ert_table.specs.Entries.{time_entry, time_in, offset_entry, offset_in, state_where, state_in}
-use Rattle.ert_table.specs.Rule.{IsLegalBy}
-use Rattle.ert_table.specs.Takes.{MayStep}
-use Rattle.ert_table.proofs.OneStep.{legal_by}
-use Rattle.ert_table.proofs.WordSteps.{is_quiet, word_quiet, word_same}
-use Rattle.ert_table.specs.declared.carry.TimeCarry.{TimeCarry}
-use Rattle.ert_table.specs.declared.carry.TimeCarry.TheVariants.{Look, Advanced, Ask, Pick, Answer, Take, Unwatch}
-use Rattle.ert_table.specs.declared.carry.OffsetCarry.{OffsetCarry}
-use Rattle.ert_table.specs.declared.carry.OffsetCarry.TheVariants.{Off as ToOff, Watch as ToWatch, Tell as ToTell}
-use Rattle.ert_table.specs.declared.view.View.{View}
+use Rattle.std.proofs.{lemmas.Int.ints, Props.props}
+use Rattle.ert_defs.specs.{Actors.has_actor, Clocks.{Clock, face}, Legal.{Found, Legal}, Lines.IsOffset, Milliseconds.natural, Settings.IsChecked, Sound.MayShift, States.{State, opening, next, state}, Words.{time_word, offset_word}}
+use Rattle.ert_defs.specs.{Words.is_final, declared.entry.Act.Act, declared.entry.Actor.Actor, declared.entry.Actor.TheVariants.Keeper, declared.entry.Entry.Entry, declared.settings.Mode.Mode, declared.settings.Mode.TheVariants.No}
+use Rattle.ert_defs.specs.{declared.settings.Mode.TheVariants.{Single, Multi}, declared.settings.OffsetState.OffsetState, declared.settings.OffsetState.TheVariants.{Preliminary, Final, Volatile}, declared.settings.Reading.Reading}
+use Rattle.ert_defs.specs.{declared.settings.Settings.Settings, Entries.{tick_entry, shift_entry}}
+use Rattle.ert_defs.proofs.{Bounds.time_fits, Modes.{IsOfMode, KeepsMode, mode_opening, mode_when}, Runs.{kept_from, legal_more, state-append}, Times.{kept, state_in_range}}
+use Rattle.ert_table.specs.{Ranges.{IsTime, IsTimeWord, IsOffsetWord}, Acts.Acts, Entries.{time_entry, time_in, offset_entry, offset_in, state_where, state_in}, Rule.IsLegalBy, Takes.MayStep, declared.carry.TimeCarry.TimeCarry}
+use Rattle.ert_table.specs.{declared.carry.TimeCarry.TheVariants.{Look, Advanced, Ask, Pick, Answer, Take, Unwatch}, declared.carry.OffsetCarry.OffsetCarry, declared.carry.OffsetCarry.TheVariants.{Off as ToOff, Watch as ToWatch}}
+use Rattle.ert_table.specs.{declared.carry.OffsetCarry.TheVariants.Tell as ToTell, declared.view.View.View}
+use Rattle.ert_table.proofs.{OneStep.legal_by, WordSteps.{is_quiet, word_quiet, word_same}}
 
 -- the time after a legal history has a word
 pub time_is : (g : Settings) (h : List Entry) → IsChecked g → Legal g h → IsTime (state g h).clock.now g.start

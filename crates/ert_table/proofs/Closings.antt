@@ -4,26 +4,13 @@ use Rattle.std.proofs.Common.{◌≡◌, ℕ, zero, suc, vec_len, ◌+◌, ◌*�
 use lib.ListN.{get_elem?}
 use mathlib.Core.Option.{some, some-injective, some-ne-none}
 use Rattle.atomic_table.specs.Table.{Final, Seen}
-use Rattle.ert_defs.specs.Actors.{same_actor, has_actor, IsFree, IsCaller, IsUser}
-use Rattle.ert_defs.specs.Legal.{IsProber, IsReader, Keeps, LegalFrom, Legal}
-use Rattle.ert_defs.specs.States.{State, opening, state}
-use Rattle.ert_defs.specs.Words.{word_of, word_count}
+use Rattle.ert_defs.specs.{Actors.{same_actor, has_actor, IsFree, IsCaller, IsUser}, Legal.{IsProber, IsReader, Keeps, LegalFrom, Legal}, States.{State, opening, state}, Words.{word_of, word_count}, declared.entry.Actor.Actor}
+use Rattle.ert_defs.specs.{declared.entry.Actor.TheVariants.{Keeper, Sched, Caller}, declared.entry.Entry.Entry, declared.entry.Event.Event, declared.entry.Event.TheVariants.{Tick, Shift, Look, Off, Arm, Probe, Peek, Cancel, Expire}}
+use Rattle.ert_defs.specs.{declared.entry.Event.TheVariants.{Orphan, Deliver, Drop, Mark, Advanced, Ask, Pick, Answer, Take, Unwatch, Watch, Tell}, declared.settings.Settings.Settings}
 use Rattle.ert_defs.proofs.Runs.{legal_then, free_first}
-use Rattle.ert_defs.specs.declared.entry.Actor.{Actor}
-use Rattle.ert_defs.specs.declared.entry.Actor.TheVariants.{Keeper, Sched, Caller}
-use Rattle.ert_defs.specs.declared.entry.Entry.{Entry}
-use Rattle.ert_defs.specs.declared.entry.Event.{Event}
-use Rattle.ert_defs.specs.declared.entry.Event.TheVariants.{Tick, Shift, Look, Off, Arm, Probe, Peek, Cancel, Expire, Orphan, Deliver, Drop, Mark, Advanced, Ask, Pick, Answer, Take, Unwatch, Watch, Tell}
-use Rattle.ert_defs.specs.declared.settings.Settings.{Settings}
-use Rattle.ert_table.specs.Held.{IsActor, IsWhole}
-use Rattle.ert_table.specs.Places.{slot_place, process_place, AreWords}
-use Rattle.ert_table.specs.Rule.{Fits, Holds}
-use Rattle.ert_table.proofs.Holders.{or_left, same_actor_self}
-use Rattle.ert_table.proofs.OneStep.{Ruled}
-use Rattle.ert_table.proofs.WordPlaces.{slot_place-high, word_of-slot, process_place-high, word_of-process}
+use Rattle.ert_table.specs.{Held.{IsActor, IsWhole}, Places.{slot_place, process_place, AreWords}, Rule.{Fits, Holds}, declared.desk.Words.Words, declared.view.View.View}
+use Rattle.ert_table.proofs.{Holders.{or_left, same_actor_self}, OneStep.Ruled, WordPlaces.{slot_place-high, word_of-slot, process_place-high, word_of-process}}
 use Rattle.std.proofs.lemmas.Nat.{div-mul-add, mod-mul-add, mul-add-lt}
-use Rattle.ert_table.specs.declared.desk.Words.{Words}
-use Rattle.ert_table.specs.declared.view.View.{View}
 
 caller_in_range : (g : Settings) (a : Actor) → IsCaller g a → IsActor g a
 caller_in_range g (Caller n) h = h

@@ -1,8 +1,7 @@
 -- A pass may be divided by any test of actors.
 
 use Rattle.std.proofs.Common.{◌≡◌, Bool, true, false, not, ◌&&◌, List, [], ◌∷◌, filter, refl, sym, ap, ◌∙◌}
-use Rattle.ert_defs.specs.Actors.{same_actor}
-use Rattle.ert_defs.specs.declared.entry.Actor.{Actor}
+use Rattle.ert_defs.specs.{Actors.same_actor, declared.entry.Actor.Actor}
 use Rattle.ert_table.proofs.Holders.{same_actor-true}
 use Rattle.ert_table.specs.Held.{is_held, AreShared}
 

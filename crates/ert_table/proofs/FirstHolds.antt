@@ -1,21 +1,12 @@
 -- The rule holds at the opening.
 
 use Rattle.std.proofs.Common.{◌≡◌, ◌≢◌, ⊎_elim, ℕ, ℤ, pos, zero, suc, ◌<◌, ◌-ℤ◌, [], ◌∷◌, replicate, slice_index, refl, sym, ap, subst, ◌∙◌, arith, length-set, get_or-set_same, get_or-set_other}
-use Rattle.std.proofs.Math.ListN.{length-replicate, get_or-replicate}
-use Rattle.std.proofs.lemmas.Bool.{cases_eq}
-use Rattle.std.proofs.lemmas.Int.{ints}
+use Rattle.std.proofs.{Math.ListN.{length-replicate, get_or-replicate}, lemmas.Bool.cases_eq, lemmas.Int.ints}
 use mathlib.Core.Option.{some, some-injective, some-ne-none}
 use lib.ListN.{get_elem?}
-use Rattle.ert_defs.specs.Milliseconds.{natural}
-use Rattle.ert_defs.specs.States.{opening}
-use Rattle.ert_defs.specs.Words.{word_of, word_count, time_word}
-use Rattle.ert_defs.specs.declared.settings.Settings.{Settings}
-use Rattle.ert_table.specs.Openings.{first_words}
-use Rattle.ert_table.specs.Rule.{Fits, Holds}
-use Rattle.ert_table.specs.Views.{first_view}
-use Rattle.ert_table.specs.Places.{slot_place, process_place}
+use Rattle.ert_defs.specs.{Milliseconds.natural, States.opening, Words.{word_of, word_count, time_word}, declared.settings.Settings.Settings}
+use Rattle.ert_table.specs.{Openings.first_words, Rule.{Fits, Holds}, Views.first_view, Places.{slot_place, process_place}, declared.view.View.View}
 use Rattle.ert_table.proofs.WordPlaces.{Use, for_time, for_offset, for_slot, for_process, for_gap, use_of, word_of-slot, word_of-process}
-use Rattle.ert_table.specs.declared.view.View.{View}
 
 no_time : (start : ℤ) → time_word start start ≡ 0
 no_time start =

@@ -1,27 +1,12 @@
 -- An exchange that finds the word that it expects settles its timer or hands it over.
 
 use Rattle.std.proofs.Common.{◌≡◌, ◌≢◌, ⊎_elim, ℕ, Bool, true, false, Option, Some, refl, sym, ap, ◌∙◌}
-use Rattle.ert_defs.specs.Actors.{has_actor}
-use Rattle.ert_defs.specs.Legal.{IsSlot, Keeps, Found, left_by}
-use Rattle.ert_defs.specs.Milliseconds.{left}
-use Rattle.ert_defs.specs.States.{State, next}
-use Rattle.ert_defs.specs.Timers.{Row, row_of, same_timer, status_after, is_taken, timer_at}
-use Rattle.ert_defs.specs.Words.{word_of, timer_word, slot_word, word_of_slot}
-use Rattle.ert_defs.proofs.ExpiredTimers.{same_timer_self}
-use Rattle.ert_defs.proofs.Slots.{same_timer-true}
-use Rattle.ert_defs.specs.declared.entry.Actor.{Actor}
-use Rattle.ert_defs.specs.declared.entry.Actor.TheVariants.{Wheel}
-use Rattle.ert_defs.specs.declared.entry.Entry.{Entry}
-use Rattle.ert_defs.specs.declared.settings.Settings.{Settings}
-use Rattle.ert_defs.specs.declared.timer.Status.{Status}
-use Rattle.ert_defs.specs.declared.timer.Status.TheVariants.{Armed}
-use Rattle.ert_defs.specs.declared.timer.TimerRef.{TimerRef}
-use Rattle.ert_table.specs.Places.{slot_place}
-use Rattle.ert_table.specs.Settlings.{status_from, status_to, hit_entry}
-use Rattle.ert_table.proofs.Holders.{tells}
-use Rattle.ert_table.proofs.WordSteps.{is_calm, calm_last, calm_rows, word_calm}
-use Rattle.ert_table.specs.declared.carry.Settle.{Settle}
-use Rattle.ert_table.specs.declared.carry.Settle.TheVariants.{Cancel, Expire, Orphan}
+use Rattle.ert_defs.specs.{Actors.has_actor, Legal.{IsSlot, Keeps, Found, left_by}, Milliseconds.left, States.{State, next}, Timers.{Row, row_of, same_timer, status_after, is_taken, timer_at}, Words.{word_of, timer_word, slot_word}}
+use Rattle.ert_defs.specs.{Words.word_of_slot, declared.entry.Actor.Actor, declared.entry.Actor.TheVariants.Wheel, declared.entry.Entry.Entry, declared.settings.Settings.Settings, declared.timer.Status.Status}
+use Rattle.ert_defs.specs.{declared.timer.Status.TheVariants.Armed, declared.timer.TimerRef.TimerRef}
+use Rattle.ert_defs.proofs.{ExpiredTimers.same_timer_self, Slots.same_timer-true}
+use Rattle.ert_table.specs.{Places.slot_place, Settlings.{status_from, status_to, hit_entry}, declared.carry.Settle.Settle, declared.carry.Settle.TheVariants.{Cancel, Expire, Orphan}}
+use Rattle.ert_table.proofs.{Holders.tells, WordSteps.{is_calm, calm_last, calm_rows, word_calm}}
 
 -- each timer of another place is another timer
 pub other_timer : (g : Settings) (timer : TimerRef) (j w k m : ℕ) → j ≢ slot_place g timer.wheel timer.slot → j ≡ slot_place g w k

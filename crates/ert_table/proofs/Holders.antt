@@ -1,16 +1,10 @@
 -- What a list of actors holds, and which entries are free of it.
 
 use Rattle.std.proofs.Common.{◌≡◌, ◌⊎◌, inl, inr, ⊎_elim, ℕ, zero, suc, ◌<◌, Bool, true, false, not, ◌||◌, ◌&&◌, List, [], ◌∷◌, ◌++◌, Option, Some, None, refl, sym, ap, subst, ◌∙◌, arith, eqb-true, eq-eqb}
-use Rattle.std.proofs.lemmas.List.Elements.{filter-append}
-use Rattle.std.proofs.lemmas.Bool.{and_parts, cases_eq}
-use Rattle.std.proofs.lemmas.List.Folds.{list_any-append}
-use Rattle.std.proofs.lemmas.Map.Views.{any-filter_same}
-use Rattle.ert_defs.specs.Actors.{same_actor, is_with, has_actor, of, IsFree, IsFreeOf}
+use Rattle.std.proofs.lemmas.{List.Elements.filter-append, Bool.{and_parts, cases_eq}, List.Folds.list_any-append, Map.Views.any-filter_same}
+use Rattle.ert_defs.specs.{Actors.{same_actor, is_with, has_actor, of, IsFree, IsFreeOf}, declared.entry.Actor.Actor, declared.entry.Actor.TheVariants.{Keeper, Wheel, Inbox, Sched, MailOf, Caller}, declared.entry.Entry.Entry}
+use Rattle.ert_defs.specs.{declared.settings.Settings.Settings}
 use Rattle.ert_defs.proofs.Runs.{free_first, free_rest}
-use Rattle.ert_defs.specs.declared.entry.Actor.{Actor}
-use Rattle.ert_defs.specs.declared.entry.Actor.TheVariants.{Keeper, Wheel, Inbox, Sched, MailOf, Caller}
-use Rattle.ert_defs.specs.declared.entry.Entry.{Entry}
-use Rattle.ert_defs.specs.declared.settings.Settings.{Settings}
 use Rattle.ert_table.specs.Held.{is_held, IsOurs, actors_but, IsWhole, upto, everyone}
 
 -- a test has an answer

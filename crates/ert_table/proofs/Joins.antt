@@ -1,28 +1,15 @@
 -- Passes that are put together, and told what they were put together of.
 
 use Rattle.std.proofs.Common.{◌≡◌, ◌≢◌, ◌⊎◌, inl, inr, ⊎_elim, ℕ, ◌<◌, ◌≤◌, Bool, true, false, cond, nat_le, List, [], ◌∷◌, ◌++◌, length, set, slice_index, refl, sym, ap, subst, ◌∙◌, arith, append-nil, length-set, get_or-set_same, get_or-set_other}
-use Rattle.std.proofs.lemmas.Bool.{cases_eq}
-use Rattle.std.proofs.lemmas.Bool.Decides.{nat_tests}
-use Rattle.std.proofs.lemmas.List.Elements.{filter-append}
+use Rattle.std.proofs.lemmas.{Bool.cases_eq, Bool.Decides.nat_tests, List.Elements.filter-append}
 use mathlib.Core.Option.{some}
 use lib.ListN.{get_elem?}
 use Rattle.atomic_table.specs.Table.{keeps, Allows, Joins}
 use Rattle.atomic_table.proofs.Lists.{at_set, set_else, set_again}
-use Rattle.ert_defs.specs.Actors.{has_actor, of, IsFree}
-use Rattle.ert_defs.specs.Legal.{Legal}
-use Rattle.ert_defs.specs.States.{opening}
+use Rattle.ert_defs.specs.{Actors.{has_actor, of, IsFree}, Legal.Legal, States.opening, declared.entry.Actor.Actor, declared.entry.Entry.Entry, declared.settings.Settings.Settings}
 use Rattle.ert_defs.proofs.Runs.{legal_first}
-use Rattle.ert_defs.specs.declared.entry.Actor.{Actor}
-use Rattle.ert_defs.specs.declared.entry.Entry.{Entry}
-use Rattle.ert_defs.specs.declared.settings.Settings.{Settings}
-use Rattle.ert_table.specs.Acts.{Sitter, SittersMeet}
-use Rattle.ert_table.specs.Held.{is_held}
-use Rattle.ert_table.specs.Rule.{Fits, Holds}
-use Rattle.ert_table.specs.Views.{Begins, longer, both, spent}
-use Rattle.ert_table.proofs.Holders.{held-append, free_then, free_front}
-use Rattle.ert_table.proofs.OneStep.{Ruled}
-use Rattle.ert_table.specs.declared.view.View.{View}
-use Rattle.ert_table.proofs.Splits.{AreApart}
+use Rattle.ert_table.specs.{Acts.{Sitter, SittersMeet}, Held.is_held, Rule.{Fits, Holds}, Views.{Begins, longer, both, spent}, declared.view.View.View}
+use Rattle.ert_table.proofs.{Holders.{held-append, free_then, free_front}, OneStep.Ruled, Splits.AreApart}
 
 -- of two beginnings of one list the longer one goes on from the other
 pub record GoesOn (f f' l l' : List Entry) : Type 0 where

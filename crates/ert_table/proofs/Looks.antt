@@ -3,24 +3,11 @@
 use Rattle.std.proofs.Common.{◌≡◌, ℤ, Bool, true, false, not, cond, List, [], ◌∷◌, ◌++◌, refl, sym, ap, subst, ◌∙◌, append_assoc}
 use Rattle.std.specs.Prelude.{◌+ℤ◌, FitsSigned}
 use Rattle.std.specs.Int.{w64}
-use Rattle.ert_defs.specs.Actors.{IsUser}
-use Rattle.ert_defs.specs.Entries.{off_entry}
-use Rattle.ert_defs.specs.Legal.{Can, Legal}
-use Rattle.ert_defs.specs.Settings.{IsChecked}
-use Rattle.ert_defs.specs.States.{State, look_after, opening, next, state}
-use Rattle.ert_defs.proofs.Runs.{state-append, legal_then, look_stays}
-use Rattle.ert_defs.proofs.Times.{state_sum_fits}
-use Rattle.ert_defs.specs.declared.entry.Actor.{Actor}
-use Rattle.ert_defs.specs.declared.entry.Actor.TheVariants.{Sched, Caller}
-use Rattle.ert_defs.specs.declared.entry.Entry.{Entry}
-use Rattle.ert_defs.specs.declared.settings.OffsetState.{OffsetState}
-use Rattle.ert_defs.specs.declared.settings.Settings.{Settings}
-use Rattle.ert_table.specs.Entries.{offset_entry}
-use Rattle.ert_table.specs.Held.{is_held}
-use Rattle.ert_table.specs.Takes.{Appends}
+use Rattle.ert_defs.specs.{Actors.IsUser, Entries.off_entry, Legal.{Can, Legal}, Settings.IsChecked, States.{State, look_after, opening, next, state}, declared.entry.Actor.Actor, declared.entry.Actor.TheVariants.{Sched, Caller}}
+use Rattle.ert_defs.specs.{declared.entry.Entry.Entry, declared.settings.OffsetState.OffsetState, declared.settings.Settings.Settings}
+use Rattle.ert_defs.proofs.{Runs.{state-append, legal_then, look_stays}, Times.state_sum_fits}
+use Rattle.ert_table.specs.{Entries.offset_entry, Held.is_held, Takes.Appends, declared.carry.OffsetCarry.TheVariants.Off as ToOff, declared.view.View.View}
 use Rattle.ert_table.proofs.Holders.{same_actor_self}
-use Rattle.ert_table.specs.declared.carry.OffsetCarry.TheVariants.{Off as ToOff}
-use Rattle.ert_table.specs.declared.view.View.{View}
 
 -- a caller or a scheduler reads the offset alone
 pub off_alone : (g : Settings) (actors : List Actor) (by : Actor) (offset : ℤ) (offset_state : OffsetState) → IsUser g by

@@ -1,14 +1,9 @@
 -- Calls of one step and of none, with entries that they may make.
 
 use Rattle.std.proofs.Common.{◌≡◌, List, [], ◌∷◌, ◌++◌, None, Result, Ok, Err, refl, sym, ap, subst, ◌∙◌, append_assoc, append-nil}
-use Rattle.ert_defs.specs.Legal.{Legal}
-use Rattle.ert_defs.specs.States.{State, opening, state}
-use Rattle.ert_defs.specs.declared.entry.Entry.{Entry}
-use Rattle.ert_defs.specs.declared.settings.Settings.{Settings}
+use Rattle.ert_defs.specs.{Legal.Legal, States.{State, opening, state}, declared.entry.Entry.Entry, declared.settings.Settings.Settings}
 use Rattle.ert_defs.proofs.Runs.{legal_first}
-use Rattle.ert_table.specs.Calls.{AppendsAll, IsMade, IsMadeIfOk}
-use Rattle.ert_table.specs.Takes.{Appends, TakesPlace}
-use Rattle.ert_table.specs.declared.view.View.{View}
+use Rattle.ert_table.specs.{Calls.{AppendsAll, IsMade, IsMadeIfOk}, Takes.{Appends, TakesPlace}, declared.view.View.View}
 use Rattle.ert_table.proofs.Calls.{step_takes_place}
 
 -- a step that a call may make alone

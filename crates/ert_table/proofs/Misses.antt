@@ -2,26 +2,13 @@
 -- that has expired always finds what it expects.
 
 use Rattle.std.proofs.Common.{◌≡◌, ◌≢◌, ℕ, ℤ, Bool, true, false, cond, Option, Some, None, refl, sym, subst}
-use Rattle.ert_defs.specs.Actors.{IsCaller}
-use Rattle.ert_defs.specs.Legal.{IsProber, Found, left_by}
-use Rattle.ert_defs.specs.States.{State, next, state}
-use Rattle.ert_defs.specs.Timers.{Row, row_of, same_timer, settled_as, timer_at}
-use Rattle.ert_defs.specs.Words.{word_of}
+use Rattle.ert_defs.specs.{Actors.IsCaller, Legal.{IsProber, Found, left_by}, States.{State, next, state}, Timers.{Row, row_of, same_timer, settled_as, timer_at}, Words.word_of, declared.entry.Actor.Actor}
+use Rattle.ert_defs.specs.{declared.entry.Actor.TheVariants.{Sched, Wheel, Caller}, declared.entry.Entry.Entry, declared.settings.Settings.Settings, declared.timer.Status.Status, declared.timer.Status.TheVariants.{Armed, Cancelled}}
+use Rattle.ert_defs.specs.{declared.timer.TimerRef.TimerRef}
 use Rattle.ert_defs.proofs.Slots.{same_timer-true}
-use Rattle.ert_defs.specs.declared.entry.Actor.{Actor}
-use Rattle.ert_defs.specs.declared.entry.Actor.TheVariants.{Sched, Wheel, Caller}
-use Rattle.ert_defs.specs.declared.entry.Entry.{Entry}
-use Rattle.ert_defs.specs.declared.settings.Settings.{Settings}
-use Rattle.ert_defs.specs.declared.timer.Status.{Status}
-use Rattle.ert_defs.specs.declared.timer.Status.TheVariants.{Armed, Cancelled}
-use Rattle.ert_defs.specs.declared.timer.TimerRef.{TimerRef}
-use Rattle.ert_table.specs.Held.{is_held}
-use Rattle.ert_table.specs.Settlings.{status_from, status_in, hit_entry, miss_entry, Misses}
-use Rattle.ert_table.specs.Takes.{MayStep, Appends}
+use Rattle.ert_table.specs.{Held.is_held, Settlings.{status_from, status_in, hit_entry, miss_entry, Misses}, Takes.{MayStep, Appends}, declared.carry.Settle.Settle, declared.carry.Settle.TheVariants.{Cancel, Expire, Orphan, Deliver, Drop}}
+use Rattle.ert_table.specs.{declared.view.View.View}
 use Rattle.ert_table.proofs.WordSteps.{is_calm, word_calm}
-use Rattle.ert_table.specs.declared.carry.Settle.{Settle}
-use Rattle.ert_table.specs.declared.carry.Settle.TheVariants.{Cancel, Expire, Orphan, Deliver, Drop}
-use Rattle.ert_table.specs.declared.view.View.{View}
 
 -- whether an exchange can miss
 abbrev pub can_miss : Settle → Bool

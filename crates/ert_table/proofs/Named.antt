@@ -1,11 +1,8 @@
 -- References that name a timer: a slot, and a generation that a timer can have.
 
 use Rattle.std.proofs.Common.{◌≡◌, ◌&&◌, arith, true, false, inl, inr, nat_lt}
-use Rattle.std.proofs.lemmas.Bool.{and_right, cases_Bool}
-use Rattle.std.proofs.lemmas.Bool.Decides.{nat_tests}
-use Rattle.ert_defs.specs.Legal.{IsSlot, is_generation, names_timer}
-use Rattle.ert_defs.specs.declared.settings.Settings.{Settings}
-use Rattle.ert_defs.specs.declared.timer.TimerRef.{TimerRef}
+use Rattle.std.proofs.lemmas.Bool.{and_right, cases_Bool, Decides.nat_tests}
+use Rattle.ert_defs.specs.{Legal.{IsSlot, is_generation, names_timer}, declared.settings.Settings.Settings, declared.timer.TimerRef.TimerRef}
 
 pub slot_of_named : (g : Settings) (r : TimerRef) → names_timer g r ≡ true → IsSlot g r.wheel r.slot
 slot_of_named g r named = record {

@@ -1,13 +1,9 @@
 -- A pass that learns what a note knows.
 
 use Rattle.std.proofs.Common.{◌≡◌, [], ◌++◌, ap, ◌∙◌, append-nil}
-use Rattle.ert_defs.specs.Legal.{Legal}
-use Rattle.ert_defs.specs.declared.settings.Settings.{Settings}
-use Rattle.ert_table.specs.Notes.{HasLearned}
-use Rattle.ert_table.specs.Views.{Joined, longer, meeting}
-use Rattle.ert_table.specs.declared.view.View.{View}
-use Rattle.ert_table.proofs.Calls.{none_ours}
-use Rattle.ert_table.proofs.Parts.{free_later}
+use Rattle.ert_defs.specs.{Legal.Legal, declared.settings.Settings.Settings}
+use Rattle.ert_table.specs.{Notes.HasLearned, Views.{Joined, longer, meeting}, declared.view.View.View}
+use Rattle.ert_table.proofs.{Calls.none_ours, Parts.free_later}
 
 -- the pass took in another one without actors
 pub learned : (g : Settings) (v u w : View) → u.actors ≡ [] → w.actors ≡ v.actors ++ u.actors → w.front ≡ longer v.front u.front

@@ -1,28 +1,16 @@
 -- A step keeps the rule, and tells what its entry says. It doesn't know the events.
 
 use Rattle.std.proofs.Common.{◌≡◌, ◌≢◌, ⊎_elim, ℕ, ◌<◌, arith, true, false, List, [], ◌∷◌, ◌++◌, length, set, slice_index, Option, Some, None, refl, sym, ap, subst, ◌∙◌, append_assoc, append-nil, length-set, get_or-set_same, get_or-set_other}
-use Rattle.std.proofs.Math.Logic.{∥∥₁_elim}
-use Rattle.std.proofs.lemmas.Bool.{cases_eq}
+use Rattle.std.proofs.{Math.Logic.∥∥₁_elim, lemmas.Bool.cases_eq}
 use mathlib.Core.Option.{some}
 use lib.ListN.{get_elem?}
 use Rattle.atomic_table.specs.Table.{State, Step, keeps, Allows}
 use Rattle.atomic_table.proofs.Lists.{at_set}
-use Rattle.ert_defs.specs.Actors.{IsFree, has_actor}
-use Rattle.ert_defs.specs.Legal.{Keeps, Known, Found, Legal}
-use Rattle.ert_defs.specs.States.{state}
-use Rattle.ert_defs.specs.Words.{word_of, word_count}
-use Rattle.ert_defs.proofs.Locality.{locality}
-use Rattle.ert_defs.proofs.Runs.{state-append}
-use Rattle.ert_defs.specs.declared.entry.Actor.{Actor}
-use Rattle.ert_defs.specs.declared.entry.Entry.{Entry}
-use Rattle.ert_defs.specs.declared.settings.Settings.{Settings}
-use Rattle.ert_table.specs.Acts.{Acts, ActsAll, IsHistoryAtStep, FindsNumber, FindsAll, Sitter, Told, Read, Compared, ComparedAll}
-use Rattle.ert_table.specs.Calls.{AppendsAll, AreOnlyOf}
-use Rattle.ert_table.specs.Held.{is_held, IsOurs}
-use Rattle.ert_table.specs.Rule.{Fits, Holds, IsLegalBy}
-use Rattle.ert_table.specs.Takes.{Appends}
+use Rattle.ert_defs.specs.{Actors.{IsFree, has_actor}, Legal.{Keeps, Known, Found, Legal}, States.state, Words.{word_of, word_count}, declared.entry.Actor.Actor, declared.entry.Entry.Entry, declared.settings.Settings.Settings}
+use Rattle.ert_defs.proofs.{Locality.locality, Runs.state-append}
+use Rattle.ert_table.specs.{Acts.{Acts, ActsAll, IsHistoryAtStep, FindsNumber, FindsAll, Sitter, Told, Read, Compared, ComparedAll}, Calls.{AppendsAll, AreOnlyOf}, Held.{is_held, IsOurs}, Rule.{Fits, Holds, IsLegalBy}, Takes.Appends}
+use Rattle.ert_table.specs.{declared.view.View.View}
 use Rattle.ert_table.proofs.Holders.{tells, held_of, free_of, free-append, free_one}
-use Rattle.ert_table.specs.declared.view.View.{View}
 
 -- the rule, of a table with its settings
 abbrev pub Ruled : Settings → State (Unit {0}) View → Type 0

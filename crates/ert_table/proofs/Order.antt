@@ -5,17 +5,11 @@ use Rattle.std.proofs.lemmas.Bool.{cases_eq}
 use mathlib.Core.Option.{some, some-injective, some-ne-none}
 use lib.ListN.{get_elem?}
 use Rattle.atomic_table.proofs.Lists.{at_longer, set_here, set_else}
-use Rattle.ert_defs.specs.Actors.{has_actor, IsFree}
+use Rattle.ert_defs.specs.{Actors.{has_actor, IsFree}, declared.entry.Entry.Entry, declared.settings.Settings.Settings}
 use Rattle.ert_defs.proofs.Runs.{free_first}
-use Rattle.ert_defs.specs.declared.entry.Entry.{Entry}
-use Rattle.ert_defs.specs.declared.settings.Settings.{Settings}
-use Rattle.ert_table.specs.Held.{is_held}
-use Rattle.ert_table.specs.Order.{Moment, IsRuled, IsKnown, StaysKnown, StepsBetween, PassDivides, PassesUnite, TableMoves, LawOfOneHistory, LawOfKnowledge, LawOfStepOrder, LawOfTwoSteps}
-use Rattle.ert_table.specs.Rule.{Fits}
-use Rattle.ert_table.specs.Views.{Begins, both, holding, spent}
-use Rattle.ert_table.proofs.Holders.{held_maker, or_left, same_actor_self, free_then}
-use Rattle.ert_table.proofs.Joins.{goes_on, both_begin}
-use Rattle.ert_table.specs.declared.view.View.{View}
+use Rattle.ert_table.specs.{Held.is_held, Order.{Moment, IsRuled, IsKnown, StaysKnown, StepsBetween, PassDivides, PassesUnite, TableMoves, LawOfOneHistory, LawOfKnowledge, LawOfStepOrder, LawOfTwoSteps}, Rule.Fits, Views.{Begins, both}}
+use Rattle.ert_table.specs.{Views.{holding, spent}, declared.view.View.View}
+use Rattle.ert_table.proofs.{Holders.{held_maker, or_left, same_actor_self, free_then}, Joins.{goes_on, both_begin}}
 
 begins_self : (f : List Entry) → Begins f f
 begins_self f = record { later = []; grown = sym (append-nil f) }

@@ -2,24 +2,12 @@
 -- next step, and after a call it is what the call's own entries make of it.
 
 use Rattle.std.proofs.Common.{◌≡◌, ℕ, Bool, true, false, cond, ◌||◌, List, [], ◌∷◌, ◌++◌, length, filter, drop, option_to_list, Option, Some, None, refl, sym, ap, subst, ◌∙◌, append-nil, arith}
-use Rattle.std.proofs.lemmas.List.{append_cancel_left}
-use Rattle.std.proofs.lemmas.List.Elements.{filter-append}
-use Rattle.ert_defs.specs.Actors.{same_actor, is_with, has_actor, of, IsFree}
-use Rattle.ert_defs.specs.Mails.{first_of, others_of}
-use Rattle.ert_defs.specs.States.{State, next, run, state}
+use Rattle.std.proofs.lemmas.List.{append_cancel_left, Elements.filter-append}
+use Rattle.ert_defs.specs.{Actors.{same_actor, is_with, has_actor, of, IsFree}, Mails.{first_of, others_of}, States.{State, next, run, state}, declared.entry.Actor.Actor, declared.entry.Actor.TheVariants.{Sched, MailOf}}
+use Rattle.ert_defs.specs.{declared.entry.Entry.Entry, declared.settings.Settings.Settings, Entries.is_ours}
 use Rattle.ert_defs.proofs.Runs.{state-append, own_stays}
-use Rattle.ert_defs.specs.declared.entry.Actor.{Actor}
-use Rattle.ert_defs.specs.declared.entry.Actor.TheVariants.{Sched, MailOf}
-use Rattle.ert_defs.specs.declared.entry.Entry.{Entry}
-use Rattle.ert_defs.specs.declared.settings.Settings.{Settings}
-use Rattle.ert_table.specs.Calls.{AreOnlyOf}
-use Rattle.ert_table.specs.Held.{is_held, IsOurs}
-use Rattle.ert_defs.specs.Entries.{is_ours}
-use Rattle.ert_table.specs.Takes.{Appends, TakesPlace}
-use Rattle.ert_table.specs.Views.{Begins}
-use Rattle.ert_table.proofs.Calls.{step_takes_place, takes_place_then}
-use Rattle.ert_table.proofs.Holders.{or_false, or_left, or_right, same_actor-true, same_actor_self}
-use Rattle.ert_table.specs.declared.view.View.{View}
+use Rattle.ert_table.specs.{Calls.AreOnlyOf, Held.{is_held, IsOurs}, Takes.{Appends, TakesPlace}, Views.Begins, declared.view.View.View}
+use Rattle.ert_table.proofs.{Calls.{step_takes_place, takes_place_then}, Holders.{or_false, or_left, or_right, same_actor-true, same_actor_self}}
 
 -- an entry that isn't of these actors has none of them
 pub not_of : (actors : List Actor) (e : Entry) (a : Actor) → is_ours actors e ≡ false → is_held actors a ≡ true → has_actor e a ≡ false

@@ -2,32 +2,11 @@
 
 use Rattle.std.proofs.Common.{◌≡◌, ◌≢◌, ⊎_elim, ℕ, ℤ, Bool, true, ◌&&◌, nat_lt, cond, Option, Some, None, refl, sym, ap, subst, ◌∙◌, arith, eq-eqb, ne_eqb}
 use Rattle.std.proofs.lemmas.Bool.{and_parts, ltb-true}
-use Rattle.ert_defs.specs.Actors.{IsUser}
-use Rattle.ert_defs.specs.Entries.{peek_entry}
-use Rattle.ert_defs.specs.Legal.{IsSlot, is_generation, names_timer}
-use Rattle.ert_defs.specs.Milliseconds.{left}
-use Rattle.ert_defs.specs.States.{State, state}
-use Rattle.ert_defs.specs.Timers.{row_of, timer_at}
-use Rattle.ert_defs.specs.Words.{word_of_slot, timer_word}
-use Rattle.ert_defs.specs.declared.entry.Actor.{Actor}
-use Rattle.ert_defs.specs.declared.settings.Settings.{Settings}
-use Rattle.ert_defs.specs.declared.timer.Status.{Status}
-use Rattle.ert_defs.specs.declared.timer.Status.TheVariants.{Armed, Expired, Delivered, Cancelled, Orphaned, Dropped}
-use Rattle.ert_defs.specs.declared.timer.TimerRef.{TimerRef}
-use Rattle.ert_table.specs.Ranges.{IsTimer, TellsArmed, shown_generation, word_deadline}
-use Rattle.ert_table.proofs.Armed.{code_low}
-use Rattle.ert_table.specs.Held.{is_held}
-use Rattle.ert_table.specs.Peeking.{Peeks, PeeksAndCancels}
-use Rattle.ert_table.specs.Renewals.{PeeksWord}
-use Rattle.ert_table.specs.Settlings.{ShownWord, HasRow, left_of_shown, left_shown, read_entry, hit_entry, parts_in, Settles}
-use Rattle.ert_table.specs.Takes.{MayStep, Appends}
-use Rattle.ert_table.specs.declared.carry.Settle.TheVariants.{Cancel}
-use Rattle.ert_table.specs.declared.carry.TimerCarry.TheVariants.{Peek}
-use Rattle.ert_table.specs.declared.view.View.{View}
-use Rattle.ert_table.proofs.ReadActs.{parts_used}
-use Rattle.ert_table.proofs.SlotFacts.{KeepsSlots, slots_kept}
-use Rattle.ert_table.proofs.SlotWords.{IsIdle, IsUsed, armed_by_word, slot_cases}
-use Rattle.ert_table.proofs.TimerWords.{same_parts, word_parts}
+use Rattle.ert_defs.specs.{Actors.IsUser, Entries.peek_entry, Legal.{IsSlot, is_generation, names_timer}, Milliseconds.left, States.{State, state}, Timers.{row_of, timer_at}, Words.{word_of_slot, timer_word}, declared.entry.Actor.Actor}
+use Rattle.ert_defs.specs.{declared.settings.Settings.Settings, declared.timer.Status.Status, declared.timer.Status.TheVariants.{Armed, Expired, Delivered, Cancelled, Orphaned, Dropped}, declared.timer.TimerRef.TimerRef}
+use Rattle.ert_table.specs.{Ranges.{IsTimer, TellsArmed, shown_generation, word_deadline}, Held.is_held, Peeking.{Peeks, PeeksAndCancels}, Renewals.PeeksWord, Settlings.{ShownWord, HasRow, left_of_shown, left_shown, read_entry, hit_entry}}
+use Rattle.ert_table.specs.{Settlings.{parts_in, Settles}, Takes.{MayStep, Appends}, declared.carry.Settle.TheVariants.Cancel, declared.carry.TimerCarry.TheVariants.Peek, declared.view.View.View}
+use Rattle.ert_table.proofs.{Armed.code_low, ReadActs.parts_used, SlotFacts.{KeepsSlots, slots_kept}, SlotWords.{IsIdle, IsUsed, armed_by_word, slot_cases}, TimerWords.{same_parts, word_parts}}
 
 -- the word of an armed timer shows what is left of it
 armed_shown : (g : Settings) (look : ℤ) (timer : TimerRef) (n deadline : ℕ) → IsTimer deadline timer.generation

@@ -2,22 +2,10 @@
 
 use Rattle.std.proofs.Common.{◌≡◌, ◌≢◌, ℕ, ◌<◌, Bool, true, false, ◌||◌, ◌&&◌, nat_eq, List, refl, sym, ap, subst, ◌∙◌, eq-eqb, ne_eqb}
 use Rattle.std.specs.Prelude.{bit_or}
-use Rattle.ert_defs.specs.Actors.{has_actor}
-use Rattle.ert_defs.specs.Clocks.{Clock}
-use Rattle.ert_defs.specs.States.{next, state}
-use Rattle.ert_defs.specs.Timers.{row_of, timer_at}
-use Rattle.ert_defs.specs.Words.{offset_word, is_final, process_word}
-use Rattle.ert_defs.specs.declared.entry.Actor.{Actor}
-use Rattle.ert_defs.specs.declared.entry.Actor.TheVariants.{Keeper, Wheel}
-use Rattle.ert_defs.specs.declared.entry.Entry.{Entry}
-use Rattle.ert_defs.specs.declared.settings.Settings.{Settings}
-use Rattle.ert_table.specs.Acts.{Acts, IsHistoryAtStep}
-use Rattle.ert_defs.specs.Entries.{mark_entry}
-use Rattle.ert_table.specs.Places.{process_place}
-use Rattle.ert_table.specs.Takes.{MayStep}
-use Rattle.ert_table.proofs.WordPlaces.{word_of-process}
-use Rattle.ert_table.proofs.WordSteps.{cond_same, word_same}
-use Rattle.ert_table.specs.declared.view.View.{View}
+use Rattle.ert_defs.specs.{Actors.has_actor, Clocks.Clock, States.{next, state}, Timers.{row_of, timer_at}, Words.{offset_word, is_final, process_word}, declared.entry.Actor.Actor, declared.entry.Actor.TheVariants.{Keeper, Wheel}}
+use Rattle.ert_defs.specs.{declared.entry.Entry.Entry, declared.settings.Settings.Settings, Entries.mark_entry}
+use Rattle.ert_table.specs.{Acts.{Acts, IsHistoryAtStep}, Places.process_place, Takes.MayStep, declared.view.View.View}
+use Rattle.ert_table.proofs.{WordPlaces.word_of-process, WordSteps.{cond_same, word_same}}
 
 was_found : (exited : Bool) (n : ℕ) → process_word exited ≡ n → nat_eq n 1 ≡ exited
 was_found true n is = subst (λ (k : ℕ). nat_eq k 1 ≡ true) is refl

@@ -3,32 +3,12 @@
 use Rattle.std.proofs.Common.{◌≡◌, ◌≢◌, inl, inr, ⊎_elim, ℕ, ℤ, true, Option, Some, None, option_map, refl, sym, ap, subst, ◌∙◌, eq-eqb, ne_eqb}
 use Rattle.std.specs.Prelude.{IsNone}
 use Rattle.std.proofs.lemmas.Bool.{cases_eq}
-use Rattle.ert_defs.specs.Legal.{IsSlot, Keeps, Found, left_by}
-use Rattle.ert_defs.specs.States.{State, state}
-use Rattle.ert_defs.specs.Timers.{Row, row_of, timer_at}
-use Rattle.ert_defs.specs.Words.{word_of_slot, timer_word}
-use Rattle.ert_defs.specs.declared.entry.Actor.{Actor}
-use Rattle.ert_defs.specs.declared.entry.Entry.{Entry}
-use Rattle.ert_defs.specs.declared.settings.Settings.{Settings}
-use Rattle.ert_defs.specs.declared.timer.Status.{Status}
-use Rattle.ert_defs.specs.declared.timer.Status.TheVariants.{Armed, Expired, Delivered, Cancelled, Orphaned, Dropped}
-use Rattle.ert_defs.specs.declared.timer.TimerRef.{TimerRef}
-use Rattle.ert_table.specs.Ranges.{IsTimer, IsTimerWord, shown_generation, word_deadline, word_generation}
-use Rattle.ert_table.specs.Acts.{Acts}
-use Rattle.ert_table.specs.Held.{is_held}
-use Rattle.ert_table.specs.Places.{slot_place}
-use Rattle.ert_table.specs.Settlings.{ShownWord, wheel_in, slot_in, shown_by, shown_in, left_of_shown, left_shown, read_entry, status_in, parts_in}
-use Rattle.ert_table.specs.Takes.{MayStep}
-use Rattle.ert_table.proofs.SlotFacts.{KeepsSlots, slots_kept}
-use Rattle.ert_table.proofs.SlotWords.{IsIdle, IsUsed, slot_cases, slot_found, taken_is_last}
-use Rattle.ert_table.proofs.TimerWords.{word_parts}
-use Rattle.ert_table.proofs.AtSteps.{look_then, slot_then}
-use Rattle.ert_table.proofs.Holders.{held_maker}
-use Rattle.ert_table.proofs.Misses.{left_none}
-use Rattle.ert_table.proofs.WordSteps.{is_quiet, word_quiet}
-use Rattle.ert_table.specs.declared.carry.TimerCarry.{TimerCarry}
-use Rattle.ert_table.specs.declared.carry.TimerCarry.TheVariants.{Probe, Peek}
-use Rattle.ert_table.specs.declared.view.View.{View}
+use Rattle.ert_defs.specs.{Legal.{IsSlot, Keeps, Found, left_by}, States.{State, state}, Timers.{Row, row_of, timer_at}, Words.{word_of_slot, timer_word}, declared.entry.Actor.Actor, declared.entry.Entry.Entry}
+use Rattle.ert_defs.specs.{declared.settings.Settings.Settings, declared.timer.Status.Status, declared.timer.Status.TheVariants.{Armed, Expired, Delivered, Cancelled, Orphaned, Dropped}, declared.timer.TimerRef.TimerRef}
+use Rattle.ert_table.specs.{Ranges.{IsTimer, IsTimerWord, shown_generation, word_deadline, word_generation}, Acts.Acts, Held.is_held, Places.slot_place, Settlings.{ShownWord, wheel_in, slot_in, shown_by, shown_in, left_of_shown}}
+use Rattle.ert_table.specs.{Settlings.{left_shown, read_entry, status_in, parts_in}, Takes.MayStep, declared.carry.TimerCarry.TimerCarry, declared.carry.TimerCarry.TheVariants.{Probe, Peek}, declared.view.View.View}
+use Rattle.ert_table.proofs.{SlotFacts.{KeepsSlots, slots_kept}, SlotWords.{IsIdle, IsUsed, slot_cases, slot_found, taken_is_last}, TimerWords.word_parts, AtSteps.{look_then, slot_then}, Holders.held_maker, Misses.left_none}
+use Rattle.ert_table.proofs.{WordSteps.{is_quiet, word_quiet}}
 
 -- what a word shows of a timer
 pub parts_used : (status : Status) (deadline generation : ℕ) → IsTimer deadline generation

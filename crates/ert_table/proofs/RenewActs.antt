@@ -2,37 +2,14 @@
 
 use Rattle.std.proofs.Common.{◌≡◌, ◌≢◌, ℕ, ℤ, ◌<◌, Bool, true, false, cond, nat_eq, List, [], ◌∷◌, ◌++◌, length, Some, None, option_map, refl, sym, ap, subst, ◌∙◌, append_assoc, eqb-true}
 use prog.Atomic.{either}
-use Rattle.ert_defs.specs.Actors.{has_actor, same_actor}
-use Rattle.ert_defs.specs.Entries.{arm_entry, cancel_entry}
-use Rattle.ert_defs.specs.Legal.{CanArm, Legal}
-use Rattle.ert_defs.specs.Milliseconds.{natural, down, left, deadline_of}
-use Rattle.ert_defs.specs.States.{State, next, state, uses_at}
-use Rattle.ert_defs.specs.Timers.{IsNextUse, Row, Uses, deadline_told, is_taken, status_after, timer_at}
-use Rattle.ert_defs.specs.Words.{timer_word, word_count, word_of}
+use Rattle.ert_defs.specs.{Actors.{has_actor, same_actor}, Entries.{arm_entry, cancel_entry}, Legal.{CanArm, Legal}, Milliseconds.{natural, down, left, deadline_of}, States.{State, next, state, uses_at}, Timers.{IsNextUse, Row, Uses}}
+use Rattle.ert_defs.specs.{Timers.{deadline_told, is_taken, status_after, timer_at}, Words.{timer_word, word_count, word_of}, declared.entry.Actor.TheVariants.{Caller, Wheel}, declared.entry.Entry.Entry, declared.settings.Settings.Settings}
+use Rattle.ert_defs.specs.{declared.timer.Start.Start, declared.timer.Status.TheVariants.{Armed, Cancelled}, declared.timer.TimerRef.TimerRef}
 use Rattle.ert_defs.proofs.Runs.{legal_more, state-append}
-use Rattle.ert_defs.specs.declared.entry.Actor.TheVariants.{Caller, Wheel}
-use Rattle.ert_defs.specs.declared.entry.Entry.{Entry}
-use Rattle.ert_defs.specs.declared.settings.Settings.{Settings}
-use Rattle.ert_defs.specs.declared.timer.Start.{Start}
-use Rattle.ert_defs.specs.declared.timer.Status.TheVariants.{Armed, Cancelled}
-use Rattle.ert_defs.specs.declared.timer.TimerRef.{TimerRef}
-use Rattle.ert_table.specs.Ranges.{IsTimer}
-use Rattle.ert_table.specs.Acts.{Acts, ActsAll, IsHistoryAtStep}
-use Rattle.ert_table.specs.Calls.{AreOnlyOf}
-use Rattle.ert_table.specs.Places.{slot_place}
-use Rattle.ert_table.specs.Renewals.{MayRenew, renewal}
-use Rattle.ert_table.specs.Settlings.{HasRow, hit_entry, settle_entry}
-use Rattle.ert_table.specs.Takes.{MayStep}
-use Rattle.ert_table.proofs.ArmActs.{arm_here, arm_others}
-use Rattle.ert_table.proofs.AtSteps.{look_then, row_then, rows_then, slot_then, uses_then}
-use Rattle.ert_table.proofs.Hits.{hit_others, hit_status}
-use Rattle.ert_table.proofs.OneStep.{grows}
-use Rattle.ert_table.proofs.SettleActs.{settle_acts}
-use Rattle.ert_table.proofs.SlotFacts.{row_in_range, slots_kept}
-use Rattle.ert_table.proofs.SlotWords.{armed_by_word}
-use Rattle.ert_table.proofs.WordSteps.{cond_same}
-use Rattle.ert_table.specs.declared.carry.Settle.TheVariants.{Cancel}
-use Rattle.ert_table.specs.declared.view.View.{View}
+use Rattle.ert_table.specs.{Ranges.IsTimer, Acts.{Acts, ActsAll, IsHistoryAtStep}, Calls.AreOnlyOf, Places.slot_place, Renewals.{MayRenew, renewal}, Settlings.{HasRow, hit_entry, settle_entry}, Takes.MayStep}
+use Rattle.ert_table.specs.{declared.carry.Settle.TheVariants.Cancel, declared.view.View.View}
+use Rattle.ert_table.proofs.{ArmActs.{arm_here, arm_others}, AtSteps.{look_then, row_then, rows_then, slot_then, uses_then}, Hits.{hit_others, hit_status}, OneStep.grows, SettleActs.settle_acts, SlotFacts.{row_in_range, slots_kept}}
+use Rattle.ert_table.proofs.{SlotWords.armed_by_word, WordSteps.cond_same}
 
 module _ (g : Settings) (v : View) (by : ℕ) (timer : TimerRef) (deadline generation : ℕ) (start : Start) (coming : ℕ)
     (may : MayRenew g v by timer generation start) (has : HasRow (state g v.front) timer deadline)

@@ -2,37 +2,13 @@
 
 use Rattle.std.proofs.Common.{◌≡◌, ◌≢◌, ℕ, Bool, true, false, cond, nat_eq, List, [], ◌∷◌, ◌++◌, Some, refl, sym, ap, subst, ◌∙◌, eqb-true, eq-eqb}
 use prog.Atomic.{either}
-use Rattle.ert_defs.specs.Actors.{has_actor}
-use Rattle.ert_defs.specs.Legal.{IsSlot, Found, Legal}
-use Rattle.ert_defs.specs.States.{State, opening, next, state}
-use Rattle.ert_defs.specs.Timers.{row_of, status_after, timer_at}
-use Rattle.ert_defs.specs.Words.{word_of, timer_word}
-use Rattle.ert_defs.proofs.ExpiredLists.{delivery_hits, drop_hits}
-use Rattle.ert_defs.proofs.Runs.{legal_first, state-append}
-use Rattle.ert_defs.specs.declared.entry.Actor.{Actor}
-use Rattle.ert_defs.specs.declared.entry.Actor.TheVariants.{Wheel}
-use Rattle.ert_defs.specs.declared.entry.Entry.{Entry}
-use Rattle.ert_defs.specs.declared.settings.Settings.{Settings}
-use Rattle.ert_table.specs.Ranges.{IsTimer}
-use Rattle.ert_defs.specs.declared.timer.Status.{Status}
-use Rattle.ert_defs.specs.declared.timer.Status.TheVariants.{Armed}
-use Rattle.ert_defs.specs.declared.timer.TimerRef.{TimerRef}
-use Rattle.ert_table.specs.Acts.{Acts, IsHistoryAtStep, FindsNumber}
-use Rattle.ert_table.specs.Held.{is_held}
-use Rattle.ert_table.specs.Places.{slot_place}
-use Rattle.ert_table.specs.Settlings.{HasRow, status_from, status_to, status_in, hit_entry, Settles, miss_entry, settle_entry}
-use Rattle.ert_table.specs.Takes.{MayStep, Appends}
-use Rattle.ert_table.proofs.AtSteps.{look_then, last_then, row_then, slot_then}
-use Rattle.ert_table.proofs.Hits.{from_taken, to_settled, hit_by, hit_slot, hit_status, hit_others, hit_found, hit_word}
-use Rattle.ert_table.proofs.Holders.{held_maker}
-use Rattle.ert_table.proofs.Misses.{can_miss, missed_from, miss_may, miss_found, miss_status, miss_word, missed}
-use Rattle.ert_table.proofs.OneStep.{grows}
-use Rattle.ert_table.proofs.SlotFacts.{KeepsSlots, slots_kept, row_in_range}
-use Rattle.ert_table.proofs.SlotWords.{slot_found, armed_by_word, not_by_word, taken_is_last}
-use Rattle.ert_table.proofs.WordPlaces.{word_of-slot}
-use Rattle.ert_table.specs.declared.carry.Settle.{Settle}
-use Rattle.ert_table.specs.declared.carry.Settle.TheVariants.{Deliver, Drop}
-use Rattle.ert_table.specs.declared.view.View.{View}
+use Rattle.ert_defs.specs.{Actors.has_actor, Legal.{IsSlot, Found, Legal}, States.{State, opening, next, state}, Timers.{row_of, status_after, timer_at}, Words.{word_of, timer_word}, declared.entry.Actor.Actor}
+use Rattle.ert_defs.specs.{declared.entry.Actor.TheVariants.Wheel, declared.entry.Entry.Entry, declared.settings.Settings.Settings, declared.timer.Status.Status, declared.timer.Status.TheVariants.Armed, declared.timer.TimerRef.TimerRef}
+use Rattle.ert_defs.proofs.{ExpiredLists.{delivery_hits, drop_hits}, Runs.{legal_first, state-append}}
+use Rattle.ert_table.specs.{Ranges.IsTimer, Acts.{Acts, IsHistoryAtStep, FindsNumber}, Held.is_held, Places.slot_place, Settlings.{HasRow, status_from, status_to, status_in, hit_entry, Settles, miss_entry, settle_entry}, Takes.MayStep}
+use Rattle.ert_table.specs.{Takes.Appends, declared.carry.Settle.Settle, declared.carry.Settle.TheVariants.{Deliver, Drop}, declared.view.View.View}
+use Rattle.ert_table.proofs.{AtSteps.{look_then, last_then, row_then, slot_then}, Hits.{from_taken, to_settled, hit_by, hit_slot, hit_status, hit_others, hit_found, hit_word}, Holders.held_maker, Misses.{can_miss, missed_from, miss_may}}
+use Rattle.ert_table.proofs.{Misses.{miss_found, miss_status, miss_word, missed}, OneStep.grows, SlotFacts.{KeepsSlots, slots_kept, row_in_range}, SlotWords.{slot_found, armed_by_word, not_by_word, taken_is_last}, WordPlaces.word_of-slot}
 
 module _ (g : Settings) (v : View) (by : Actor) (timer : TimerRef) (deadline : ℕ) where
   abbrev front : State

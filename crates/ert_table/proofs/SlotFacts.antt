@@ -1,35 +1,14 @@
 -- What holds of the slots and their timers after each legal history.
 
 use Rattle.std.proofs.Common.{◌≡◌, ◌⊎◌, inl, inr, ◌<◌, ◌%◌, nat_lt, sym, ℕ, ℤ, pos, negsuc, ◌+ℤ◌, ◌-ℤ◌, ◌≤◌, Bool, true, false, cond, nat_eq, nat_le, List, ◌++◌, All, Option, Some, None, refl, subst, arith, append-nil}
-use Rattle.std.proofs.Props.{props}
-use Rattle.std.proofs.lemmas.Bool.Decides.{nat_tests}
-use Rattle.std.proofs.lemmas.List.Elements.{All-nil, All-push}
+use Rattle.std.proofs.{Props.props, lemmas.Bool.Decides.nat_tests, lemmas.List.Elements.{All-nil, All-push}}
 use Rattle.std.specs.Int.{int_div_euclid}
-use Rattle.ert_defs.specs.Actors.{has_actor}
-use Rattle.ert_defs.specs.Legal.{Can, Legal}
-use Rattle.ert_defs.specs.Milliseconds.{up, deadline_at, deadline_when, deadline_of}
-use Rattle.ert_defs.specs.States.{State, uses_at, opening, next, state}
-use Rattle.ert_defs.specs.Timers.{Row, Uses, deadline_told, row_from, rows_after, row_of}
-use Rattle.ert_defs.proofs.ExpiredTimers.{row_named}
-use Rattle.ert_defs.proofs.Rows.{IsRow, rows_hold}
-use Rattle.ert_defs.proofs.Runs.{kept_from}
-use Rattle.ert_defs.proofs.Slots.{IsOrdered, ordered}
-use Rattle.ert_defs.proofs.Standing.{AllStand, all_stand, of_row}
-use Rattle.ert_defs.specs.declared.entry.Actor.TheVariants.{Wheel}
-use Rattle.ert_defs.specs.declared.entry.Entry.{Entry}
-use Rattle.ert_defs.specs.declared.entry.Event.{Event}
-use Rattle.ert_defs.specs.declared.entry.Event.TheVariants.{Arm}
-use Rattle.ert_defs.specs.declared.settings.Settings.{Settings}
-use Rattle.ert_defs.specs.declared.timer.Start.{Start}
-use Rattle.ert_defs.specs.declared.timer.TimerRef.{TimerRef}
-use Rattle.ert_defs.specs.declared.timer.When.{When}
-use Rattle.ert_defs.specs.declared.timer.When.TheVariants.{After, At}
-use Rattle.ert_defs.proofs.Uses.{IsBefore}
-use Rattle.ert_table.specs.Ranges.{IsTimer}
-use Rattle.ert_table.specs.Rule.{IsLegalBy}
+use Rattle.ert_defs.specs.{Actors.has_actor, Legal.{Can, Legal}, Milliseconds.{up, deadline_at, deadline_when, deadline_of}, States.{State, uses_at, opening, next, state}, Timers.{Row, Uses, deadline_told, row_from, rows_after, row_of}}
+use Rattle.ert_defs.specs.{declared.entry.Actor.TheVariants.Wheel, declared.entry.Entry.Entry, declared.entry.Event.Event, declared.entry.Event.TheVariants.Arm, declared.settings.Settings.Settings, declared.timer.Start.Start}
+use Rattle.ert_defs.specs.{declared.timer.TimerRef.TimerRef, declared.timer.When.When, declared.timer.When.TheVariants.{After, At}}
+use Rattle.ert_defs.proofs.{ExpiredTimers.row_named, Rows.{IsRow, rows_hold}, Runs.kept_from, Slots.{IsOrdered, ordered}, Standing.{AllStand, all_stand, of_row}, Uses.IsBefore}
+use Rattle.ert_table.specs.{Ranges.IsTimer, Rule.IsLegalBy, declared.view.View.View, Settlings.HasRow}
 use Rattle.ert_table.proofs.OneStep.{legal_by}
-use Rattle.ert_table.specs.declared.view.View.{View}
-use Rattle.ert_table.specs.Settlings.{HasRow}
 
 -- a deadline is within its limits
 abbrev Bounded : ℕ → Option ℕ → Type 0

@@ -1,19 +1,11 @@
 -- What the word of a slot tells of its last timer, and of an older one.
 
 use Rattle.std.proofs.Common.{◌≡◌, ◌≢◌, ◌⊎◌, inl, inr, ⊎_elim, ℕ, true, Option, Some, None, refl, sym, ap, subst, ◌∙◌, arith}
-use Rattle.ert_defs.specs.States.{State, uses_at}
-use Rattle.ert_defs.specs.Timers.{Row, row_of, is_taken, timer_at}
-use Rattle.ert_defs.specs.Words.{timer_word, slot_word, word_of_slot}
-use Rattle.ert_defs.proofs.ExpiredLists.{taken_last}
-use Rattle.ert_defs.proofs.ExpiredTimers.{row_named}
-use Rattle.ert_defs.specs.declared.timer.Status.{Status}
-use Rattle.ert_defs.specs.declared.timer.Status.TheVariants.{Armed}
-use Rattle.ert_defs.specs.declared.timer.TimerRef.{TimerRef}
-use Rattle.ert_table.specs.Ranges.{IsTimer, shown_generation}
-use Rattle.ert_table.specs.Settlings.{status_in}
-use Rattle.ert_table.proofs.SlotFacts.{KeepsSlots, row_soon, used_in_range}
-use Rattle.ert_table.proofs.Armed.{code_low}
-use Rattle.ert_table.proofs.TimerWords.{word_parts, same_parts}
+use Rattle.ert_defs.specs.{States.{State, uses_at}, Timers.{Row, row_of, is_taken, timer_at}, Words.{timer_word, slot_word, word_of_slot}, declared.timer.Status.Status, declared.timer.Status.TheVariants.Armed}
+use Rattle.ert_defs.specs.{declared.timer.TimerRef.TimerRef}
+use Rattle.ert_defs.proofs.{ExpiredLists.taken_last, ExpiredTimers.row_named}
+use Rattle.ert_table.specs.{Ranges.{IsTimer, shown_generation}, Settlings.status_in}
+use Rattle.ert_table.proofs.{SlotFacts.{KeepsSlots, row_soon, used_in_range}, Armed.code_low, TimerWords.{word_parts, same_parts}}
 
 -- a slot that was never used, and its word
 pub record IsIdle (s : State) (w k n : ℕ) : Type 0 where

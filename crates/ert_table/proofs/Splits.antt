@@ -5,16 +5,9 @@ use mathlib.Core.Option.{some, some-injective, some-ne-none}
 use lib.ListN.{get_elem?}
 use Rattle.atomic_table.specs.Table.{Splits}
 use Rattle.atomic_table.proofs.Lists.{at_set}
-use Rattle.ert_defs.specs.Actors.{same_actor}
-use Rattle.ert_defs.specs.declared.entry.Actor.{Actor}
-use Rattle.ert_defs.specs.declared.entry.Entry.{Entry}
-use Rattle.ert_defs.specs.declared.settings.Settings.{Settings}
-use Rattle.ert_table.specs.Held.{is_held, AreShared, actors_but}
-use Rattle.ert_table.specs.Rule.{Fits}
-use Rattle.ert_table.specs.Views.{holding}
-use Rattle.ert_table.proofs.Holders.{same_actor_self, held_one, held_but_parts}
-use Rattle.ert_table.proofs.OneStep.{Ruled}
-use Rattle.ert_table.specs.declared.view.View.{View}
+use Rattle.ert_defs.specs.{Actors.same_actor, declared.entry.Actor.Actor, declared.entry.Entry.Entry, declared.settings.Settings.Settings}
+use Rattle.ert_table.specs.{Held.{is_held, AreShared, actors_but}, Rule.Fits, Views.holding, declared.view.View.View}
+use Rattle.ert_table.proofs.{Holders.{same_actor_self, held_one, held_but_parts}, OneStep.Ruled}
 
 -- what stands in a list with one more at its end
 pub at_snoc_at : {X : Type 0} (l : List X) (a b : X) (j : ℕ) → get_elem? (l ++ a ∷ []) j ≡ some b

@@ -3,11 +3,7 @@
 use Rattle.std.proofs.Common.{◌≡◌, List, sym, subst}
 use Rattle.ert_clock.proofs.Stand.{stands_on}
 use Rattle.ert_clock.specs.Shown.{Shown, ClockStands}
-use Rattle.ert_defs.specs.Actors.{of}
-use Rattle.ert_defs.specs.Legal.{Legal}
-use Rattle.ert_defs.specs.declared.entry.Actor.TheVariants.{Keeper}
-use Rattle.ert_defs.specs.declared.entry.Entry.{Entry}
-use Rattle.ert_defs.specs.declared.settings.Settings.{Settings}
+use Rattle.ert_defs.specs.{Actors.of, Legal.Legal, declared.entry.Actor.TheVariants.Keeper, declared.entry.Entry.Entry, declared.settings.Settings.Settings}
 use Rattle.ert_table.proofs.Parts.{free_later}
 use Rattle.ert_table.specs.Views.{Begins}
 

@@ -4,34 +4,14 @@ use Rattle.std.proofs.Common.{◌≡◌, ℕ, ℤ, Bool, true, false, List, [], 
 use Rattle.std.specs.Prelude.{option_map, Err}
 use Rattle.ert_effects.specs.ClockCalls.{RefusesTick, ActsOnReading, Finalizes}
 use Rattle.ert_clock.proofs.Stand.{shown_is, owed, stands_none, stands_some, stands_kept}
-use Rattle.ert_clock.specs.Shown.{Shown, ClockStands}
-use Rattle.ert_defs.specs.Entries.{keeper_entry, tick_entry}
-use Rattle.ert_clock.specs.Ticks.{act_of, state_by, tick_entries, due_of, IsWide, Gives, ClockFinalizesFrom}
-use Rattle.ert_clock.specs.declared.clock.ClockErr.{ClockErr}
-use Rattle.ert_clock.specs.declared.clock.ClockErr.TheVariants.{BadReading, OffsetWide}
-use Rattle.ert_clock.specs.declared.clock.Moved.{Moved}
+use Rattle.ert_clock.specs.{Shown.{Shown, ClockStands}, Ticks.{act_of, state_by, tick_entries, due_of, IsWide, Gives, ClockFinalizesFrom}, declared.clock.ClockErr.ClockErr, declared.clock.ClockErr.TheVariants.{BadReading, OffsetWide}}
+use Rattle.ert_clock.specs.{declared.clock.Moved.Moved}
+use Rattle.ert_defs.specs.{Entries.{keeper_entry, tick_entry}, Clocks.{Clock, clock_after}, Lines.{Face, MayAct}, States.{State, state}, declared.entry.Act.Act, declared.entry.Act.TheVariants.Finalize, declared.entry.Actor.Actor}
+use Rattle.ert_defs.specs.{declared.entry.Actor.TheVariants.{Keeper, Caller}, declared.entry.Entry.Entry, declared.entry.Event.Event, declared.entry.Event.TheVariants.{Tick, Shift, Off}, declared.settings.OffsetState.OffsetState}
+use Rattle.ert_defs.specs.{declared.settings.OffsetState.TheVariants.{Preliminary, Final, Volatile}, declared.settings.Reading.Reading, declared.settings.Settings.Settings}
 use Rattle.ert_defs.proofs.Runs.{state-append, clock_stays}
-use Rattle.ert_defs.specs.Clocks.{Clock, clock_after}
-use Rattle.ert_defs.specs.Lines.{Face, MayAct}
-use Rattle.ert_defs.specs.States.{State, state}
-use Rattle.ert_defs.specs.declared.entry.Act.{Act}
-use Rattle.ert_defs.specs.declared.entry.Act.TheVariants.{Finalize}
-use Rattle.ert_defs.specs.declared.entry.Actor.{Actor}
-use Rattle.ert_defs.specs.declared.entry.Actor.TheVariants.{Keeper, Caller}
-use Rattle.ert_defs.specs.declared.entry.Entry.{Entry}
-use Rattle.ert_defs.specs.declared.entry.Event.{Event}
-use Rattle.ert_defs.specs.declared.entry.Event.TheVariants.{Tick, Shift, Off}
-use Rattle.ert_defs.specs.declared.settings.OffsetState.{OffsetState}
-use Rattle.ert_defs.specs.declared.settings.OffsetState.TheVariants.{Preliminary, Final, Volatile}
-use Rattle.ert_defs.specs.declared.settings.Reading.{Reading}
-use Rattle.ert_defs.specs.declared.settings.Settings.{Settings}
-use Rattle.ert_table.proofs.Calls.{step_takes_place, takes_place_then}
-use Rattle.ert_table.proofs.Makings.{none_made}
-use Rattle.ert_table.specs.Held.{is_held, least_caller}
-use Rattle.ert_table.specs.Calls.{IsMade}
-use Rattle.ert_table.specs.Takes.{MayStep, Appends, TakesPlace}
-use Rattle.ert_table.specs.declared.view.View.{View}
-use Rattle.ert_table.specs.Published.{HoldsKeeper, IsAhead, IsStill}
+use Rattle.ert_table.proofs.{Calls.{step_takes_place, takes_place_then}, Makings.none_made}
+use Rattle.ert_table.specs.{Held.{is_held, least_caller}, Calls.IsMade, Takes.{MayStep, Appends, TakesPlace}, declared.view.View.View, Published.{HoldsKeeper, IsAhead, IsStill}}
 
 -- after the clock's own step its clock is that of the front before, moved by that step
 pub keeper_front : (g : Settings) (v w : View) (n : ℕ) (event : Event) → is_held v.actors Keeper ≡ true

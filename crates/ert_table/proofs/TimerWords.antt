@@ -2,13 +2,9 @@
 
 use Rattle.std.proofs.Common.{◌≡◌, ℕ, nat_eq, cond, true, false, inl, inr, ◌+◌, ◌*◌, ◌/◌, ◌%◌, ◌≤◌, Some, refl, sym, ap, ◌∙◌, arith}
 use Rattle.std.proofs.lemmas.Bool.Decides.{nat_tests}
-use Rattle.ert_defs.specs.Timers.{use_of}
-use Rattle.ert_defs.specs.Words.{status_code, timer_word}
-use Rattle.ert_defs.specs.declared.timer.Status.{Status}
-use Rattle.ert_defs.specs.declared.timer.Status.TheVariants.{Armed, Expired, Delivered, Cancelled, Orphaned, Dropped}
-use Rattle.ert_table.specs.Ranges.{IsTimer, shown_generation, word_deadline, word_generation}
+use Rattle.ert_defs.specs.{Timers.use_of, Words.{status_code, timer_word}, declared.timer.Status.Status, declared.timer.Status.TheVariants.{Armed, Expired, Delivered, Cancelled, Orphaned, Dropped}}
+use Rattle.ert_table.specs.{Ranges.{IsTimer, shown_generation, word_deadline, word_generation}, Settlings.{status_by, status_in}}
 use Rattle.ert_table.proofs.Armed.{use_low, use_high, armed_first, armed_later, order_of, code_high}
-use Rattle.ert_table.specs.Settlings.{status_by, status_in}
 
 by_code : (status : Status) (generation : ℕ) → status_by (status_code status generation) ≡ Some status
 by_code Armed n = elim (order_of n) [ inl low ↦ ap status_by (armed_first n low) | inr high ↦ ap status_by (armed_later n high) ]

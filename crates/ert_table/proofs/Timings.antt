@@ -4,28 +4,13 @@ use Rattle.std.proofs.Common.{◌≡◌, ◌≢◌, ℕ, ◌-◌, ℤ, pos, negs
 use Rattle.std.proofs.lemmas.Int.{ints}
 use Rattle.std.specs.Prelude.{IsSome}
 use Rattle.ert_effects.specs.TimerCalls.{read_entries, Reads, cancel_entries, Cancels}
-use Rattle.ert_defs.specs.Entries.{look_entry, peek_entry, cancel_entry}
-use Rattle.ert_defs.specs.Legal.{Legal, left_by, left_of, names_timer}
-use Rattle.ert_defs.specs.Milliseconds.{natural, left}
-use Rattle.ert_defs.specs.States.{opening, state}
-use Rattle.ert_defs.specs.Timers.{Row, row_of}
+use Rattle.ert_defs.specs.{Entries.{look_entry, peek_entry, cancel_entry}, Legal.{Legal, left_by, left_of, names_timer}, Milliseconds.{natural, left}, States.{opening, state}, Timers.{Row, row_of}, declared.entry.Actor.Actor}
+use Rattle.ert_defs.specs.{declared.entry.Entry.Entry, declared.settings.Settings.Settings, declared.timer.Status.Status, declared.timer.Status.TheVariants.{Armed, Expired, Delivered, Cancelled, Orphaned, Dropped}}
+use Rattle.ert_defs.specs.{declared.timer.TimerRef.TimerRef}
 use Rattle.ert_defs.proofs.Runs.{legal_first}
-use Rattle.ert_defs.specs.declared.entry.Actor.{Actor}
-use Rattle.ert_defs.specs.declared.entry.Entry.{Entry}
-use Rattle.ert_defs.specs.declared.settings.Settings.{Settings}
-use Rattle.ert_defs.specs.declared.timer.Status.{Status}
-use Rattle.ert_defs.specs.declared.timer.Status.TheVariants.{Armed, Expired, Delivered, Cancelled, Orphaned, Dropped}
-use Rattle.ert_defs.specs.declared.timer.TimerRef.{TimerRef}
-use Rattle.ert_table.specs.Held.{is_held}
-use Rattle.ert_table.specs.Peeking.{Peeks, CancelsFound, PeeksAndCancels}
-use Rattle.ert_table.specs.Settlings.{Settles}
-use Rattle.ert_table.specs.Takes.{Appends, TakesPlace}
-use Rattle.ert_table.specs.declared.carry.Settle.TheVariants.{Cancel as ToCancel}
-use Rattle.ert_table.specs.declared.view.View.{View}
-use Rattle.ert_table.proofs.Calls.{step_takes_place, takes_place_then}
-use Rattle.ert_table.proofs.SlotFacts.{slots_kept}
-use Rattle.ert_table.specs.Left.{AtLastStep, IsLeftByLook, TellsLeft, IsMadeTellingLeft}
-use Rattle.ert_table.proofs.Looks.{can_step, look_stepped}
+use Rattle.ert_table.specs.{Held.is_held, Peeking.{Peeks, CancelsFound, PeeksAndCancels}, Settlings.Settles, Takes.{Appends, TakesPlace}, declared.carry.Settle.TheVariants.Cancel as ToCancel, declared.view.View.View, Left.AtLastStep}
+use Rattle.ert_table.specs.{Left.{IsLeftByLook, TellsLeft, IsMadeTellingLeft}}
+use Rattle.ert_table.proofs.{Calls.{step_takes_place, takes_place_then}, SlotFacts.slots_kept, Looks.{can_step, look_stepped}}
 
 -- a difference, or 0 where it is negative
 pub natural_sub : (x : ℤ) (m n : ℕ) → x ≡ (pos m -ℤ pos n) → natural x ≡ m - n

@@ -4,16 +4,9 @@ use Rattle.std.proofs.Common.{◌≡◌, ⊎_elim, ℕ, ◌<◌, List, [], lengt
 use Rattle.std.proofs.lemmas.Bool.{cases_eq}
 use Rattle.atomic_table.specs.Table.{Step, keeps, Allows}
 use Rattle.atomic_table.proofs.Lists.{set_again}
-use Rattle.ert_defs.specs.Legal.{Legal}
-use Rattle.ert_defs.specs.States.{state}
-use Rattle.ert_defs.specs.Words.{word_of, word_count}
-use Rattle.ert_defs.specs.declared.settings.Settings.{Settings}
-use Rattle.ert_table.specs.Acts.{Sitter, Sees}
-use Rattle.ert_table.specs.Held.{IsWhole}
-use Rattle.ert_table.specs.Rule.{Holds}
-use Rattle.ert_table.proofs.Closings.{whole_front}
-use Rattle.ert_table.proofs.OneStep.{Ruled}
-use Rattle.ert_table.specs.declared.view.View.{View}
+use Rattle.ert_defs.specs.{Legal.Legal, States.state, Words.{word_of, word_count}, declared.settings.Settings.Settings}
+use Rattle.ert_table.specs.{Acts.{Sitter, Sees}, Held.IsWhole, Rule.Holds, declared.view.View.View}
+use Rattle.ert_table.proofs.{Closings.whole_front, OneStep.Ruled}
 
 -- a word is written as it was
 same_word : (words : List ℕ) (i j : ℕ) → i < length words → slice_index (set words i (slice_index words i)) j ≡ slice_index words j

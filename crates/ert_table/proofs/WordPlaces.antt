@@ -1,12 +1,8 @@
 -- Which word stands at which place.
 
 use Rattle.std.proofs.Common.{◌≡◌, ◌≢◌, ⊎_elim, ℕ, ◌+◌, ◌-◌, ◌*◌, ◌/◌, ◌%◌, ◌<◌, ◌≤◌, true, false, nat_lt, refl, ap, ◌∙◌, arith, div-add-mod', ne_eqb}
-use Rattle.std.proofs.lemmas.Bool.{cases_eq, cases_lt}
-use Rattle.std.proofs.lemmas.Bool.Decides.{nat_tests}
-use Rattle.std.proofs.lemmas.Nat.{div-mul-add, mod-mul-add, mul-add-lt, div_below}
-use Rattle.ert_defs.specs.States.{State}
-use Rattle.ert_defs.specs.Words.{word_of, later_word, word_of_wheel, word_of_process, word_of_slot, process_word, wheel_width, wheels_width, word_count}
-use Rattle.ert_defs.specs.declared.settings.Settings.{Settings}
+use Rattle.std.proofs.lemmas.{Bool.{cases_eq, cases_lt}, Bool.Decides.nat_tests, Nat.{div-mul-add, mod-mul-add, mul-add-lt, div_below}}
+use Rattle.ert_defs.specs.{States.State, Words.{word_of, later_word, word_of_wheel, word_of_process, word_of_slot, process_word, wheel_width, wheels_width, word_count}, declared.settings.Settings.Settings}
 use Rattle.ert_table.specs.Places.{slot_place, process_place}
 
 below_true : (m n : ℕ) → m < n → nat_lt m n ≡ true

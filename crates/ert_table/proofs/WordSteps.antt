@@ -2,18 +2,9 @@
 
 use Rattle.std.proofs.Common.{◌≡◌, ℕ, ℤ, ◌<◌, Bool, true, false, cond, ◌&&◌, List, Option, refl, sym, ap, subst, ◌∙◌}
 use Rattle.std.proofs.lemmas.Bool.{and_parts}
-use Rattle.ert_defs.specs.Actors.{has_actor}
-use Rattle.ert_defs.specs.Clocks.{Clock, clock_after}
-use Rattle.ert_defs.specs.States.{State, next, exited_after}
-use Rattle.ert_defs.specs.Timers.{Row, row_of, rows_after, last_after, status_after, timer_at}
-use Rattle.ert_defs.specs.Words.{time_word, offset_word, is_final, slot_word, process_word, word_of, word_of_slot}
-use Rattle.ert_defs.specs.declared.entry.Actor.TheVariants.{Keeper, Wheel}
-use Rattle.ert_defs.specs.declared.entry.Entry.{Entry}
-use Rattle.ert_defs.specs.declared.entry.Event.{Event}
-use Rattle.ert_defs.specs.declared.entry.Event.TheVariants.{Tick, Shift, Arm, Cancel, Expire, Orphan, Deliver, Drop, Mark}
-use Rattle.ert_defs.specs.declared.settings.Settings.{Settings}
-use Rattle.ert_defs.specs.declared.timer.Status.{Status}
-use Rattle.ert_defs.specs.declared.timer.TimerRef.{TimerRef}
+use Rattle.ert_defs.specs.{Actors.has_actor, Clocks.{Clock, clock_after}, States.{State, next, exited_after}, Timers.{Row, row_of, rows_after, last_after, status_after, timer_at}, Words.{time_word, offset_word, is_final, slot_word}}
+use Rattle.ert_defs.specs.{Words.{process_word, word_of, word_of_slot}, declared.entry.Actor.TheVariants.{Keeper, Wheel}, declared.entry.Entry.Entry, declared.entry.Event.Event, declared.entry.Event.TheVariants.{Tick, Shift, Arm, Cancel}}
+use Rattle.ert_defs.specs.{declared.entry.Event.TheVariants.{Expire, Orphan, Deliver, Drop, Mark}, declared.settings.Settings.Settings, declared.timer.Status.Status, declared.timer.TimerRef.TimerRef}
 use Rattle.ert_table.specs.Places.{slot_place, process_place}
 use Rattle.ert_table.proofs.WordPlaces.{Use, for_time, for_offset, for_slot, for_process, for_gap, use_of, word_of-slot, word_of-process}
 

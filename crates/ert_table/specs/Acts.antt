@@ -2,20 +2,9 @@
 
 use Rattle.std.specs.Prelude.{◌≡◌, ◌≢◌, ℕ, pos, ◌<◌, true, List, [], ◌++◌, None}
 use Rattle.atomic_table.specs.Table.{Me, Step}
-use Rattle.ert_defs.specs.Actors.{IsFree}
-use Rattle.ert_defs.specs.Legal.{Keeps, Known, Found, Legal}
-use Rattle.ert_defs.specs.States.{next, state}
-use Rattle.ert_defs.specs.Words.{word_of, word_count}
-use Rattle.ert_defs.specs.declared.entry.Actor.{Actor}
-use Rattle.ert_defs.specs.declared.entry.Actor.TheVariants.{Keeper}
-use Rattle.ert_defs.specs.declared.entry.Entry.{Entry}
-use Rattle.ert_defs.specs.declared.entry.Event.TheVariants.{Look}
-use Rattle.ert_defs.specs.declared.settings.Settings.{Settings}
-use Rattle.ert_table.specs.Calls.{AppendsAll, AreOnlyOf}
-use Rattle.ert_table.specs.Held.{is_held, IsOurs}
-use Rattle.ert_table.specs.Takes.{Appends}
-use Rattle.ert_table.specs.Views.{HasMet}
-use Rattle.ert_table.specs.declared.view.View.{View}
+use Rattle.ert_defs.specs.{Actors.IsFree, Legal.{Keeps, Known, Found, Legal}, States.{next, state}, Words.{word_of, word_count}, declared.entry.Actor.Actor, declared.entry.Actor.TheVariants.Keeper, declared.entry.Entry.Entry}
+use Rattle.ert_defs.specs.{declared.entry.Event.TheVariants.Look, declared.settings.Settings.Settings}
+use Rattle.ert_table.specs.{Calls.{AppendsAll, AreOnlyOf}, Held.{is_held, IsOurs}, Takes.Appends, Views.HasMet, declared.view.View.View}
 
 -- the history at a pass's step: the pass fits it, and its state gives the word that was found
 pub record IsHistoryAtStep (g : Settings) (v : View) (i n : ℕ) (h : List Entry) : Type 0 where

@@ -1,28 +1,10 @@
 -- What callers see of a desk and of a pass.
 
 use Rattle.std.specs.Prelude.{◌≡◌, ℕ, ℤ, Bool, List, Option, Some, option_map}
-use Rattle.ert_defs.specs.Milliseconds.{deadline_of}
-use Rattle.ert_defs.specs.States.{State, state}
-use Rattle.ert_defs.specs.Timers.{deadline_told}
-use Rattle.ert_defs.specs.declared.entry.Entry.{Entry}
-use Rattle.ert_defs.specs.declared.entry.Actor.{Actor}
-use Rattle.ert_defs.specs.declared.entry.Actor.TheVariants.{Caller}
-use Rattle.ert_defs.specs.declared.settings.OffsetState.{OffsetState}
-use Rattle.ert_defs.specs.declared.settings.Settings.{Settings}
-use Rattle.ert_defs.specs.declared.timer.Start.{Start}
-use Rattle.ert_defs.specs.declared.timer.TimerRef.{TimerRef}
-use Rattle.ert_table.specs.Entries.{time_entry, offset_entry, offset_in, state_in}
-use Rattle.ert_defs.specs.Entries.{mark_entry}
-use Rattle.ert_table.specs.Held.{IsWhole}
-use Rattle.ert_table.specs.Settlings.{ShownWord, read_entry, hit_entry, Settles}
-use Rattle.ert_table.specs.Takes.{MayStep, Appends}
-use Rattle.ert_table.specs.declared.carry.OffsetCarry.{OffsetCarry}
-use Rattle.ert_table.specs.declared.carry.Settle.{Settle}
-use Rattle.ert_table.specs.declared.carry.TimeCarry.{TimeCarry}
-use Rattle.ert_table.specs.declared.carry.TimerCarry.{TimerCarry}
-use Rattle.ert_table.specs.declared.desk.Desk.{Desk}
-use Rattle.ert_table.specs.declared.desk.Pass.{Pass}
-use Rattle.ert_table.specs.declared.view.View.{View}
+use Rattle.ert_defs.specs.{Milliseconds.deadline_of, States.{State, state}, Timers.deadline_told, declared.entry.Entry.Entry, declared.entry.Actor.Actor, declared.entry.Actor.TheVariants.Caller, declared.settings.OffsetState.OffsetState}
+use Rattle.ert_defs.specs.{declared.settings.Settings.Settings, declared.timer.Start.Start, declared.timer.TimerRef.TimerRef, Entries.mark_entry}
+use Rattle.ert_table.specs.{Entries.{time_entry, offset_entry, offset_in, state_in}, Held.IsWhole, Settlings.{ShownWord, read_entry, hit_entry, Settles}, Takes.{MayStep, Appends}, declared.carry.OffsetCarry.OffsetCarry}
+use Rattle.ert_table.specs.{declared.carry.Settle.Settle, declared.carry.TimeCarry.TimeCarry, declared.carry.TimerCarry.TimerCarry, declared.desk.Desk.Desk, declared.desk.Pass.Pass, declared.view.View.View}
 
 -- the settings that a desk was opened with
 abbrev pub settings_of : Desk → Settings

@@ -1,21 +1,11 @@
 -- The entries that the steps make.
 
 use Rattle.std.specs.Prelude.{ℕ, ℤ, pos, ◌+ℤ◌, ◌-ℤ◌, ◌/◌, ◌%◌, Bool, true, false, nat_eq, List, Option, Some, None, option_map}
-use Rattle.ert_defs.specs.Entries.{entry_by}
-use Rattle.ert_defs.specs.Lines.{first_state}
-use Rattle.ert_defs.specs.declared.entry.Actor.{Actor}
-use Rattle.ert_defs.specs.declared.entry.Actor.TheVariants.{Keeper, Wheel, Inbox, Sched, MailOf, Caller}
-use Rattle.ert_defs.specs.declared.entry.Entry.{Entry}
-use Rattle.ert_defs.specs.declared.entry.Event.TheVariants.{Look, Off, Advanced, Ask, Pick, Answer, Take, Unwatch, Watch, Tell}
-use Rattle.ert_defs.specs.declared.settings.Mode.{Mode}
-use Rattle.ert_defs.specs.declared.settings.OffsetState.{OffsetState}
-use Rattle.ert_defs.specs.declared.settings.OffsetState.TheVariants.{Final}
-use Rattle.ert_defs.specs.declared.settings.Settings.{Settings}
-use Rattle.ert_table.specs.Held.{least_caller}
-use Rattle.ert_table.specs.declared.carry.OffsetCarry.{OffsetCarry}
-use Rattle.ert_table.specs.declared.carry.OffsetCarry.TheVariants.{Off as ToOff, Watch as ToWatch, Tell as ToTell}
-use Rattle.ert_table.specs.declared.carry.TimeCarry.{TimeCarry}
-use Rattle.ert_table.specs.declared.carry.TimeCarry.TheVariants.{Look as ToLook, Advanced as ToAdvance, Ask as ToAsk, Pick as ToPick, Answer as ToAnswer, Take as ToTake, Unwatch as ToUnwatch}
+use Rattle.ert_defs.specs.{Entries.entry_by, Lines.first_state, declared.entry.Actor.Actor, declared.entry.Actor.TheVariants.{Keeper, Wheel, Inbox, Sched, MailOf, Caller}, declared.entry.Entry.Entry, declared.entry.Event.TheVariants.Look}
+use Rattle.ert_defs.specs.{declared.entry.Event.TheVariants.{Off, Advanced, Ask, Pick, Answer, Take, Unwatch, Watch, Tell}, declared.settings.Mode.Mode, declared.settings.OffsetState.OffsetState}
+use Rattle.ert_defs.specs.{declared.settings.OffsetState.TheVariants.Final, declared.settings.Settings.Settings}
+use Rattle.ert_table.specs.{Held.least_caller, declared.carry.OffsetCarry.OffsetCarry, declared.carry.OffsetCarry.TheVariants.{Off as ToOff, Watch as ToWatch, Tell as ToTell}, declared.carry.TimeCarry.TimeCarry}
+use Rattle.ert_table.specs.{declared.carry.TimeCarry.TheVariants.{Look as ToLook, Advanced as ToAdvance, Ask as ToAsk, Pick as ToPick, Answer as ToAnswer, Take as ToTake, Unwatch as ToUnwatch}}
 
 -- the wheel of a scheduler
 abbrev pub wheel_of : Actor → ℕ

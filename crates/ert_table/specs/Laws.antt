@@ -2,11 +2,8 @@
 -- they are proved.
 
 use Rattle.std.specs.Prelude.{◌≡◌, List, [], ◌∷◌, ◌++◌}
-use Rattle.ert_defs.specs.declared.entry.Entry.{Entry}
-use Rattle.ert_defs.specs.declared.settings.Settings.{Settings}
-use Rattle.ert_table.specs.Held.{IsWhole}
-use Rattle.ert_table.specs.Takes.{Appends, TakesPlace}
-use Rattle.ert_table.specs.declared.view.View.{View}
+use Rattle.ert_defs.specs.declared.{entry.Entry.Entry, settings.Settings.Settings}
+use Rattle.ert_table.specs.{Held.IsWhole, Takes.{Appends, TakesPlace}, declared.view.View.View}
 
 -- a step is a call with one entry
 abbrev pub LawOfSteps : Type 0

@@ -2,13 +2,8 @@
 
 use Rattle.std.specs.Prelude.{◌≡◌, List, [], Option, Some}
 use Rattle.atomic_table.specs.Seated.{TableId}
-use Rattle.ert_defs.specs.declared.entry.Entry.{Entry}
-use Rattle.ert_defs.specs.declared.settings.Settings.{Settings}
-use Rattle.ert_table.specs.Desks.{front_of}
-use Rattle.ert_table.specs.Takes.{TakesPlace}
-use Rattle.ert_table.specs.Views.{Begins, longer}
-use Rattle.ert_table.specs.declared.desk.Pass.{Pass}
-use Rattle.ert_table.specs.declared.view.View.{View}
+use Rattle.ert_defs.specs.declared.{entry.Entry.Entry, settings.Settings.Settings}
+use Rattle.ert_table.specs.{Desks.front_of, Takes.TakesPlace, Views.{Begins, longer}, declared.desk.Pass.Pass, declared.view.View.View}
 
 -- what callers see of a note: which table it is of, with the settings of its desk, and a beginning of the history
 pub record Noted : Type 0 where

@@ -1,9 +1,7 @@
 -- The words of a desk at its opening.
 
 use Rattle.std.specs.Prelude.{ℕ, List, replicate, slice_set}
-use Rattle.ert_defs.specs.Lines.{first_offset, first_state}
-use Rattle.ert_defs.specs.Words.{offset_word, is_final, word_count}
-use Rattle.ert_defs.specs.declared.settings.Settings.{Settings}
+use Rattle.ert_defs.specs.{Lines.{first_offset, first_state}, Words.{offset_word, is_final, word_count}, declared.settings.Settings.Settings}
 
 -- each word is 0, but for the offset
 abbrev pub first_words : Settings → List ℕ

@@ -4,14 +4,8 @@
 use Rattle.std.specs.Prelude.{◌≡◌, ◌≢◌, ◌⊎◌, ℕ, List, [], ◌∷◌, ◌++◌, slice_set}
 use mathlib.Core.Option.{some}
 use lib.ListN.{get_elem?}
-use Rattle.ert_defs.specs.Legal.{Legal}
-use Rattle.ert_defs.specs.declared.entry.Actor.{Actor}
-use Rattle.ert_defs.specs.declared.entry.Entry.{Entry}
-use Rattle.ert_defs.specs.declared.settings.Settings.{Settings}
-use Rattle.ert_table.specs.Calls.{AppendsAll}
-use Rattle.ert_table.specs.Rule.{Holds}
-use Rattle.ert_table.specs.Views.{Begins, both, holding, spent}
-use Rattle.ert_table.specs.declared.view.View.{View}
+use Rattle.ert_defs.specs.{Legal.Legal, declared.entry.Actor.Actor, declared.entry.Entry.Entry, declared.settings.Settings.Settings}
+use Rattle.ert_table.specs.{Calls.AppendsAll, Rule.Holds, Views.{Begins, both, holding, spent}, declared.view.View.View}
 
 -- a moment between two steps: the words of the table, and what each pass knows
 pub record Moment : Type 0 where

@@ -1,16 +1,8 @@
 -- A timer that is read, and one that is cancelled where it was armed when it was read.
 
 use Rattle.std.specs.Prelude.{◌≡◌, ℕ, Bool, cond, Option, Some, None, option_map}
-use Rattle.ert_defs.specs.Entries.{peek_entry}
-use Rattle.ert_defs.specs.Milliseconds.{left}
-use Rattle.ert_defs.specs.States.{State, state}
-use Rattle.ert_defs.specs.declared.entry.Actor.{Actor}
-use Rattle.ert_defs.specs.declared.settings.Settings.{Settings}
-use Rattle.ert_defs.specs.declared.timer.TimerRef.{TimerRef}
-use Rattle.ert_table.specs.Settlings.{HasRow, Settles}
-use Rattle.ert_table.specs.Takes.{Appends}
-use Rattle.ert_table.specs.declared.carry.Settle.TheVariants.{Cancel as ToCancel}
-use Rattle.ert_table.specs.declared.view.View.{View}
+use Rattle.ert_defs.specs.{Entries.peek_entry, Milliseconds.left, States.{State, state}, declared.entry.Actor.Actor, declared.settings.Settings.Settings, declared.timer.TimerRef.TimerRef}
+use Rattle.ert_table.specs.{Settlings.{HasRow, Settles}, Takes.Appends, declared.carry.Settle.TheVariants.Cancel as ToCancel, declared.view.View.View}
 
 -- a deadline that was read is that of the timer
 abbrev pub HasDeadline : State → TimerRef → Option ℕ → Type 0

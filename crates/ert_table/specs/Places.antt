@@ -1,11 +1,8 @@
 -- The places of the words in the table.
 
 use Rattle.std.specs.Prelude.{◌≡◌, ℕ, ◌+◌, ◌*◌, ◌/◌, ◌%◌, ◌<◌, vec_len, slice_index}
-use Rattle.ert_defs.specs.States.{State}
-use Rattle.ert_defs.specs.Words.{time_word, offset_word, is_final, word_of_slot, process_word, wheel_width, wheels_width}
-use Rattle.ert_defs.specs.declared.settings.Settings.{Settings}
-use Rattle.ert_table.specs.declared.desk.Words.{Words}
-use Rattle.ert_table.specs.declared.places.SlotPlace.{SlotPlace}
+use Rattle.ert_defs.specs.{States.State, Words.{time_word, offset_word, is_final, word_of_slot, process_word, wheel_width, wheels_width}, declared.settings.Settings.Settings}
+use Rattle.ert_table.specs.declared.{desk.Words.Words, places.SlotPlace.SlotPlace}
 
 -- the place of the word of a slot of a wheel
 abbrev pub slot_place : Settings → ℕ → ℕ → ℕ

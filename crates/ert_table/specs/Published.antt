@@ -1,21 +1,10 @@
 -- What the clock's part publishes on a desk.
 
 use Rattle.std.specs.Prelude.{◌≡◌, ℕ, ◌<◌, true, List, [], ◌∷◌, Some, Ok}
-use Rattle.ert_clock.specs.Shown.{Shown, ClockStands}
-use Rattle.ert_defs.specs.Entries.{keeper_entry}
-use Rattle.ert_clock.specs.Ticks.{Gives}
-use Rattle.ert_clock.specs.declared.clock.Moved.{Moved}
-use Rattle.ert_defs.specs.Lines.{MayAct}
-use Rattle.ert_defs.specs.declared.entry.Act.{Act}
-use Rattle.ert_defs.specs.declared.entry.Actor.TheVariants.{Keeper, Caller}
-use Rattle.ert_defs.specs.declared.entry.Entry.{Entry}
-use Rattle.ert_defs.specs.declared.entry.Event.TheVariants.{Off}
-use Rattle.ert_defs.specs.declared.settings.OffsetState.{OffsetState}
-use Rattle.ert_defs.specs.declared.settings.OffsetState.TheVariants.{Preliminary, Final, Volatile}
-use Rattle.ert_defs.specs.declared.settings.Reading.{Reading}
-use Rattle.ert_defs.specs.declared.settings.Settings.{Settings}
-use Rattle.ert_table.specs.Held.{is_held, least_caller}
-use Rattle.ert_table.specs.declared.view.View.{View}
+use Rattle.ert_clock.specs.{Shown.{Shown, ClockStands}, Ticks.Gives, declared.clock.Moved.Moved}
+use Rattle.ert_defs.specs.{Entries.keeper_entry, Lines.MayAct, declared.entry.Act.Act, declared.entry.Actor.TheVariants.{Keeper, Caller}, declared.entry.Entry.Entry, declared.entry.Event.TheVariants.Off}
+use Rattle.ert_defs.specs.{declared.settings.OffsetState.OffsetState, declared.settings.OffsetState.TheVariants.{Preliminary, Final, Volatile}, declared.settings.Reading.Reading, declared.settings.Settings.Settings}
+use Rattle.ert_table.specs.{Held.{is_held, least_caller}, declared.view.View.View}
 
 -- a pass holds the clock's part, and a caller in range with whom its entries are made
 pub record HoldsKeeper (g : Settings) (v : View) (by : ℕ) : Type 0 where

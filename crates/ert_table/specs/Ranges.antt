@@ -2,11 +2,7 @@
 
 use Rattle.std.specs.Prelude.{◌≡◌, ◌⊎◌, ℕ, ℤ, pos, ◌<◌, ◌≤◌, ◌/◌, ◌%◌, ◌+ℤ◌, ◌≤ℤ◌, Bool, cond, nat_eq, Option, Some, IfSome, FitsSigned}
 use Rattle.std.specs.Int.{w64}
-use Rattle.ert_defs.specs.Lines.{IsOffset}
-use Rattle.ert_defs.specs.Timers.{use_of}
-use Rattle.ert_defs.specs.Words.{time_word, offset_word, timer_word}
-use Rattle.ert_defs.specs.declared.timer.Status.{Status}
-use Rattle.ert_defs.specs.declared.timer.Status.TheVariants.{Armed}
+use Rattle.ert_defs.specs.{Lines.IsOffset, Timers.use_of, Words.{time_word, offset_word, timer_word}, declared.timer.Status.Status, declared.timer.Status.TheVariants.Armed}
 
 -- a time that has a word: from the start time to the last millisecond that a deadline can name
 pub record IsTime (now start : ℤ) : Type 0 where

@@ -1,25 +1,10 @@
 -- A timer whose word is read, and one that is cancelled and gives its slot to another by one step.
 
 use Rattle.std.specs.Prelude.{◌≡◌, ℕ, ◌<◌, ℤ, Bool, true, false, length, List, [], ◌∷◌, Option, Some, None, option_map}
-use Rattle.ert_defs.specs.Entries.{peek_entry, cancel_entry, arm_entry}
-use Rattle.ert_defs.specs.Legal.{IsSlot}
-use Rattle.ert_defs.specs.Milliseconds.{natural, down, left, deadline_of}
-use Rattle.ert_defs.specs.States.{State, uses_at, state}
-use Rattle.ert_defs.specs.Timers.{IsNextUse, timer_at}
-use Rattle.ert_defs.specs.Words.{timer_word}
-use Rattle.ert_defs.specs.declared.entry.Actor.{Actor}
-use Rattle.ert_defs.specs.declared.entry.Actor.TheVariants.{Caller, Wheel}
-use Rattle.ert_defs.specs.declared.entry.Entry.{Entry}
-use Rattle.ert_defs.specs.declared.settings.Settings.{Settings}
-use Rattle.ert_defs.specs.declared.timer.Start.{Start}
-use Rattle.ert_defs.specs.declared.timer.Status.TheVariants.{Armed}
-use Rattle.ert_defs.specs.declared.timer.TimerRef.{TimerRef}
-use Rattle.ert_table.specs.Held.{is_held}
-use Rattle.ert_table.specs.Settlings.{HasRow}
-use Rattle.ert_table.specs.Takes.{Appends}
-use Rattle.ert_table.specs.declared.renew_steps.ArmedWord.{ArmedWord}
-use Rattle.ert_table.specs.declared.view.View.{View}
-use Rattle.ert_table.specs.Ranges.{word_deadline}
+use Rattle.ert_defs.specs.{Entries.{peek_entry, cancel_entry, arm_entry}, Legal.IsSlot, Milliseconds.{natural, down, left, deadline_of}, States.{State, uses_at, state}, Timers.{IsNextUse, timer_at}, Words.timer_word}
+use Rattle.ert_defs.specs.{declared.entry.Actor.Actor, declared.entry.Actor.TheVariants.{Caller, Wheel}, declared.entry.Entry.Entry, declared.settings.Settings.Settings, declared.timer.Start.Start, declared.timer.Status.TheVariants.Armed}
+use Rattle.ert_defs.specs.{declared.timer.TimerRef.TimerRef}
+use Rattle.ert_table.specs.{Held.is_held, Settlings.HasRow, Takes.Appends, declared.renew_steps.ArmedWord.ArmedWord, declared.view.View.View, Ranges.word_deadline}
 
 -- a word that was read is that of a timer, armed, and has the deadline of its row
 pub record IsWordOf (s : State) (timer : TimerRef) (read : ArmedWord) : Type 0 where

@@ -3,16 +3,8 @@
 use Rattle.std.specs.Prelude.{◌≡◌, ℕ, ◌<◌, true, List, ◌++◌, length, slice_index, Option, Some, None}
 use mathlib.Core.Option.{some}
 use lib.ListN.{get_elem?}
-use Rattle.ert_defs.specs.Actors.{IsFree}
-use Rattle.ert_defs.specs.Legal.{Legal}
-use Rattle.ert_defs.specs.States.{state}
-use Rattle.ert_defs.specs.Words.{word_of, word_count}
-use Rattle.ert_defs.specs.declared.entry.Actor.{Actor}
-use Rattle.ert_defs.specs.declared.entry.Entry.{Entry}
-use Rattle.ert_defs.specs.declared.settings.Settings.{Settings}
-use Rattle.ert_table.specs.Held.{is_held}
-use Rattle.ert_table.specs.Views.{HasMet}
-use Rattle.ert_table.specs.declared.view.View.{View}
+use Rattle.ert_defs.specs.{Actors.IsFree, Legal.Legal, States.state, Words.{word_of, word_count}, declared.entry.Actor.Actor, declared.entry.Entry.Entry, declared.settings.Settings.Settings}
+use Rattle.ert_table.specs.{Held.is_held, Views.HasMet, declared.view.View.View}
 
 -- settings, where there are any, are those of the desk
 abbrev pub IsOf : Settings → Option Settings → Type 0

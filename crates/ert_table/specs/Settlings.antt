@@ -1,26 +1,11 @@
 -- What a word of a slot has, and the entries of the steps on it.
 
 use Rattle.std.specs.Prelude.{◌≡◌, ◌≢◌, ℕ, ℤ, ◌%◌, Bool, true, false, cond, nat_eq, Option, Some, None, option_map}
-use Rattle.ert_defs.specs.Milliseconds.{left}
-use Rattle.ert_defs.specs.States.{State, state}
-use Rattle.ert_defs.specs.Timers.{Row, row_of, timer_at}
-use Rattle.ert_defs.specs.Words.{timer_word}
-use Rattle.ert_defs.specs.declared.entry.Actor.{Actor}
-use Rattle.ert_defs.specs.declared.entry.Actor.TheVariants.{Wheel, MailOf}
-use Rattle.ert_defs.specs.declared.entry.Entry.{Entry}
-use Rattle.ert_defs.specs.declared.entry.Event.TheVariants.{Peek, Cancel, Expire, Orphan, Deliver, Drop}
-use Rattle.ert_defs.specs.declared.settings.Settings.{Settings}
-use Rattle.ert_defs.specs.declared.timer.Status.{Status}
-use Rattle.ert_defs.specs.declared.timer.Status.TheVariants.{Armed, Expired, Delivered, Cancelled, Orphaned, Dropped}
-use Rattle.ert_defs.specs.declared.timer.TimerRef.{TimerRef}
-use Rattle.ert_defs.specs.Entries.{entry_by, probe_entry}
-use Rattle.ert_table.specs.Takes.{Appends}
-use Rattle.ert_table.specs.declared.carry.Settle.{Settle}
-use Rattle.ert_table.specs.declared.carry.Settle.TheVariants.{Cancel as ToCancel, Expire as ToExpire, Orphan as ToOrphan, Deliver as ToDeliver, Drop as ToDrop}
-use Rattle.ert_table.specs.declared.carry.TimerCarry.{TimerCarry}
-use Rattle.ert_table.specs.declared.carry.TimerCarry.TheVariants.{Probe as ToProbe, Peek as ToPeek}
-use Rattle.ert_table.specs.declared.view.View.{View}
-use Rattle.ert_table.specs.Ranges.{shown_generation, word_deadline, word_generation}
+use Rattle.ert_defs.specs.{Milliseconds.left, States.{State, state}, Timers.{Row, row_of, timer_at}, Words.timer_word, declared.entry.Actor.Actor, declared.entry.Actor.TheVariants.{Wheel, MailOf}, declared.entry.Entry.Entry}
+use Rattle.ert_defs.specs.{declared.entry.Event.TheVariants.{Peek, Cancel, Expire, Orphan, Deliver, Drop}, declared.settings.Settings.Settings, declared.timer.Status.Status, declared.timer.Status.TheVariants.{Armed, Expired, Delivered}}
+use Rattle.ert_defs.specs.{declared.timer.Status.TheVariants.{Cancelled, Orphaned, Dropped}, declared.timer.TimerRef.TimerRef, Entries.{entry_by, probe_entry}}
+use Rattle.ert_table.specs.{Takes.Appends, declared.carry.Settle.Settle, declared.carry.Settle.TheVariants.{Cancel as ToCancel, Expire as ToExpire, Orphan as ToOrphan, Deliver as ToDeliver, Drop as ToDrop}}
+use Rattle.ert_table.specs.{declared.carry.TimerCarry.TimerCarry, declared.carry.TimerCarry.TheVariants.{Probe as ToProbe, Peek as ToPeek}, declared.view.View.View, Ranges.{shown_generation, word_deadline, word_generation}}
 
 -- the status of a code
 abbrev pub status_by : ℕ → Option Status

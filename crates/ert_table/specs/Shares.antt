@@ -1,11 +1,8 @@
 -- Which actors a share of a desk has.
 
 use Rattle.std.specs.Prelude.{ℕ, ◌<◌, ◌≤◌, Bool, ◌&&◌, ◌||◌, nat_eq, nat_le, nat_lt}
-use Rattle.ert_defs.specs.declared.entry.Actor.{Actor}
-use Rattle.ert_defs.specs.declared.entry.Actor.TheVariants.{Keeper, Wheel, Inbox, Sched, MailOf, Caller}
-use Rattle.ert_defs.specs.declared.settings.Settings.{Settings}
-use Rattle.ert_table.specs.declared.share.Share.{Share}
-use Rattle.ert_table.specs.declared.share.Span.{Span}
+use Rattle.ert_defs.specs.declared.{entry.Actor.Actor, entry.Actor.TheVariants.{Keeper, Wheel, Inbox, Sched, MailOf, Caller}, settings.Settings.Settings}
+use Rattle.ert_table.specs.declared.share.{Share.Share, Span.Span}
 
 -- the numbers from one on, below another
 abbrev pub span : ℕ → ℕ → Span

@@ -1,15 +1,8 @@
 -- What a step and a call tell: how a pass's front grows.
 
 use Rattle.std.specs.Prelude.{◌≡◌, true, List, [], ◌∷◌, ◌++◌, filter}
-use Rattle.ert_defs.specs.Actors.{IsFree}
-use Rattle.ert_defs.specs.Legal.{Keeps, Known, Legal}
-use Rattle.ert_defs.specs.States.{state}
-use Rattle.ert_defs.specs.declared.entry.Actor.{Actor}
-use Rattle.ert_defs.specs.declared.entry.Entry.{Entry}
-use Rattle.ert_defs.specs.declared.settings.Settings.{Settings}
-use Rattle.ert_table.specs.Held.{is_held, IsOurs}
-use Rattle.ert_defs.specs.Entries.{is_ours}
-use Rattle.ert_table.specs.declared.view.View.{View}
+use Rattle.ert_defs.specs.{Actors.IsFree, Legal.{Keeps, Known, Legal}, States.state, declared.entry.Actor.Actor, declared.entry.Entry.Entry, declared.settings.Settings.Settings, Entries.is_ours}
+use Rattle.ert_table.specs.{Held.{is_held, IsOurs}, declared.view.View.View}
 
 -- a pass may step with an entry: it holds the entry's actors, the entry is in range, and its front shows
 -- what the maker of the entry must know

@@ -1,13 +1,8 @@
 -- What a pass knows, and how that is divided and put together.
 
 use Rattle.std.specs.Prelude.{◌≡◌, true, cond, nat_le, List, [], ◌++◌, length, Option, Some, None}
-use Rattle.ert_defs.specs.Actors.{of}
-use Rattle.ert_defs.specs.declared.entry.Actor.{Actor}
-use Rattle.ert_defs.specs.declared.entry.Entry.{Entry}
-use Rattle.ert_defs.specs.declared.settings.Settings.{Settings}
-use Rattle.ert_table.specs.Held.{is_held, everyone}
-use Rattle.ert_table.specs.declared.view.Met.{Met}
-use Rattle.ert_table.specs.declared.view.View.{View}
+use Rattle.ert_defs.specs.{Actors.of, declared.entry.Actor.Actor, declared.entry.Entry.Entry, declared.settings.Settings.Settings}
+use Rattle.ert_table.specs.{Held.{is_held, everyone}, declared.view.Met.Met, declared.view.View.View}
 
 -- a history begins with these entries
 pub record Begins (front h : List Entry) : Type 0 where

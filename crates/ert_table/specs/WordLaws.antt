@@ -1,9 +1,7 @@
 -- That two values have two words.
 
 use Rattle.std.specs.Prelude.{◌≡◌, ◌≢◌, ℕ, ℤ, Bool}
-use Rattle.ert_defs.specs.Lines.{IsOffset}
-use Rattle.ert_defs.specs.Words.{time_word, offset_word, timer_word}
-use Rattle.ert_defs.specs.declared.timer.Status.{Status}
+use Rattle.ert_defs.specs.{Lines.IsOffset, Words.{time_word, offset_word, timer_word}, declared.timer.Status.Status}
 use Rattle.ert_table.specs.Ranges.{IsTime, IsTimer, shown_generation}
 
 -- times of one word are one

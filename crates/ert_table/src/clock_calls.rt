@@ -1,13 +1,7 @@
 //! Calls that tell the time.
 ghost use Rattle.std.specs.Prelude.{◌≡◌, ◌≤ℤ◌, ◌<ℤ◌, true};
-ghost use Rattle.ert_defs.specs.Actors.{IsUser};
-ghost use Rattle.ert_defs.specs.Lines.{end_time};
-ghost use Rattle.ert_defs.specs.States.{state};
-ghost use Rattle.ert_table.specs.Desks.{settings_of, view_of, front_of, actors_of, Belongs};
-ghost use Rattle.ert_table.specs.Held.{is_held};
-ghost use Rattle.ert_table.specs.Takes.{Appends};
-ghost use Rattle.ert_table.specs.Calls.{IsMade};
-ghost use Rattle.ert_defs.specs.Entries.{look_entry};
+ghost use Rattle.ert_defs.specs.{Actors.IsUser, Lines.end_time, States.state, Entries.look_entry};
+ghost use Rattle.ert_table.specs.{Desks.{settings_of, view_of, front_of, actors_of, Belongs}, Held.is_held, Takes.Appends, Calls.IsMade};
 ghost use Rattle.ert_effects.specs.ClockCalls.{TellsTime, TellsOffset, TellsSystemTime};
 
 use crate::carry::{OffsetCarry, TimeCarry};

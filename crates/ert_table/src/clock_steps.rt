@@ -1,9 +1,7 @@
 //! Steps on the words of the time and of the offset.
 ghost use Rattle.std.specs.Prelude.{◌≡◌};
-ghost use Rattle.ert_defs.specs.Words.{time_word, offset_word, is_final};
-ghost use Rattle.ert_table.specs.Desks.{settings_of, state_of, Belongs, MayMake, Makes, MayLoadTime, MayLoadOffset, offset_made, offset_loaded};
-ghost use Rattle.ert_defs.specs.Entries.{tick_entry, shift_entry};
-ghost use Rattle.ert_table.specs.Entries.{time_entry, time_in, state_where};
+ghost use Rattle.ert_defs.specs.{Words.{time_word, offset_word, is_final}, Entries.{tick_entry, shift_entry}};
+ghost use Rattle.ert_table.specs.{Desks.{settings_of, state_of, Belongs, MayMake, Makes, MayLoadTime, MayLoadOffset, offset_made, offset_loaded}, Entries.{time_entry, time_in, state_where}};
 
 use crate::carry::{OffsetCarry, TimeCarry};
 use crate::clock_words::{offset_of, offset_word, time_of, time_word};

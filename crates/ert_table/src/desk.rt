@@ -1,6 +1,5 @@
 ghost use Rattle.std.specs.Prelude.{◌≡◌, ◌+◌, []};
-ghost use Rattle.ert_defs.specs.Settings.{IsChecked};
-ghost use Rattle.ert_defs.specs.Words.{word_count, wheel_width, wheels_width};
+ghost use Rattle.ert_defs.specs.{Settings.IsChecked, Words.{word_count, wheel_width, wheels_width}};
 ghost use Rattle.ert_table.specs.Rule.{IsLegalBy};
 
 use crate::view::{HistoryRule, View};

@@ -37,13 +37,9 @@ impl KeeperPart {
     ghost use Rattle.std.specs.Prelude.{◌≡◌, []};
     ghost use Rattle.std.specs.Result.{IfErr};
     ghost use Rattle.ert_effects.specs.ClockCalls.{Ticks, Finalizes};
-    ghost use Rattle.ert_table.specs.Calls.{IsMade};
+    ghost use Rattle.ert_table.specs.{Calls.IsMade, Desks.{settings_of, view_of, front_of, Belongs}, Takes.TakesPlace, Published.{HoldsKeeper, ReadsByLeastCaller, IsAhead, IsStill, unmoved_entries}};
     ghost use Rattle.ert_defs.specs.Settings.{IsChecked};
-    ghost use Rattle.ert_clock.specs.Shown.{ClockStands, opening_shown};
-    ghost use Rattle.ert_clock.specs.Ticks.{act_of, Gives, ClockFinalizesFrom, tick_entries};
-    ghost use Rattle.ert_table.specs.Desks.{settings_of, view_of, front_of, Belongs};
-    ghost use Rattle.ert_table.specs.Takes.{TakesPlace};
-    ghost use Rattle.ert_table.specs.Published.{HoldsKeeper, ReadsByLeastCaller, IsAhead, IsStill, unmoved_entries};
+    ghost use Rattle.ert_clock.specs.{Shown.{ClockStands, opening_shown}, Ticks.{act_of, Gives, ClockFinalizesFrom, tick_entries}};
 
     /// The part of a desk that has just been opened: its clock is that of the opening.
     pub fn open(settings: &Settings) -> KeeperPart

@@ -1,6 +1,5 @@
 //! Laws of calls that take several steps, and of the order of steps.
-ghost use Rattle.ert_table.specs.Laws.{LawOfSteps, LawOfCalls, LawOfWholePasses};
-ghost use Rattle.ert_table.specs.Order.{LawOfOneHistory, LawOfKnowledge, LawOfStepOrder, LawOfTwoSteps};
+ghost use Rattle.ert_table.specs.{Laws.{LawOfSteps, LawOfCalls, LawOfWholePasses}, Order.{LawOfOneHistory, LawOfKnowledge, LawOfStepOrder, LawOfTwoSteps}};
 
 /// A step is a call with one entry, and calls one after the other are a call with the entries of both. The
 /// front of a pass that holds every actor grows by just the entries of a call.

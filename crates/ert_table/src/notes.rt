@@ -1,7 +1,6 @@
 //! Notes: what a pass knew, for another thread.
 ghost use Rattle.std.specs.Prelude.{◌≡◌};
-ghost use Rattle.ert_table.specs.Desks.{settings_of, view_of, front_of, actors_of, Belongs};
-ghost use Rattle.ert_table.specs.Notes.{IsNoteOf, HasLearned};
+ghost use Rattle.ert_table.specs.{Desks.{settings_of, view_of, front_of, actors_of, Belongs}, Notes.{IsNoteOf, HasLearned}};
 
 use crate::desk::{Desk, Pass};
 use crate::plays::Notes;
@@ -19,8 +18,7 @@ pub struct Note {
 
 impl Model for Note {
     ghost use Rattle.std.specs.Prelude.{◌≡◌, []};
-    ghost use Rattle.ert_table.specs.Desks.{actors_of};
-    ghost use Rattle.ert_table.specs.Notes.{Noted, noted};
+    ghost use Rattle.ert_table.specs.{Desks.actors_of, Notes.{Noted, noted}};
 
     ghost Value = { Noted };
 

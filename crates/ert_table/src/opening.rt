@@ -1,16 +1,10 @@
 //! How a desk is opened and closed.
 ghost use Rattle.std.specs.Prelude.{◌≡◌, ◌*◌, ◌<◌, ℕ, [], slice_index, vec_len, replicate, IfOk};
 ghost use Rattle.std.specs.Mem.Slots.{slots_items, slots_len, IsFull};
-ghost use Rattle.ert_defs.specs.Lines.{first_offset, first_state};
-ghost use Rattle.ert_defs.specs.Settings.{IsChecked};
-ghost use Rattle.ert_defs.specs.States.{state};
+ghost use Rattle.ert_defs.specs.{Lines.{first_offset, first_state}, Settings.IsChecked, States.state, Words.is_final};
 ghost use Rattle.ert_defs.specs.Words as words;
-ghost use Rattle.ert_defs.specs.Words.{is_final};
-ghost use Rattle.ert_table.specs.Desks.{settings_of, front_of, actors_of, Belongs};
-ghost use Rattle.ert_table.specs.Held.{IsWhole};
-ghost use Rattle.ert_table.specs.Openings.{first_words};
+ghost use Rattle.ert_table.specs.{Desks.{settings_of, front_of, actors_of, Belongs}, Held.IsWhole, Openings.first_words, Places.AreWords};
 ghost use Rattle.ert_table.specs.Places as places;
-ghost use Rattle.ert_table.specs.Places.{AreWords};
 
 use crate::clock_words::offset_word;
 use crate::desk::{Desk, Pass, Words};

@@ -1,10 +1,7 @@
 //! Passes that are divided and put together.
 ghost use Rattle.std.specs.Prelude.{◌≡◌, ◌++◌, true, not, filter, [], ◌∷◌};
 ghost use Rattle.ert_defs.specs.Legal.{Legal};
-ghost use Rattle.ert_table.specs.Desks.{settings_of, view_of, front_of, actors_of, Belongs};
-ghost use Rattle.ert_table.specs.Held.{is_held, actors_but};
-ghost use Rattle.ert_table.specs.Shares.{is_of_share};
-ghost use Rattle.ert_table.specs.Views.{HasMet, Joined, both, holding, longer, meeting};
+ghost use Rattle.ert_table.specs.{Desks.{settings_of, view_of, front_of, actors_of, Belongs}, Held.{is_held, actors_but}, Shares.is_of_share, Views.{HasMet, Joined, both, holding, longer, meeting}};
 
 use crate::desk::{Desk, Pass};
 use crate::places::TIME;

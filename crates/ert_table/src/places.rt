@@ -1,7 +1,6 @@
 //! The places of the words in the table.
 ghost use Rattle.std.specs.Prelude.{◌≡◌, ◌+◌, ◌<◌};
-ghost use Rattle.ert_defs.specs.Legal.{IsSlot};
-ghost use Rattle.ert_defs.specs.Settings.{IsChecked};
+ghost use Rattle.ert_defs.specs.{Legal.IsSlot, Settings.IsChecked};
 ghost use Rattle.ert_defs.specs.Words as words;
 ghost use Rattle.ert_table.specs.Places as places;
 

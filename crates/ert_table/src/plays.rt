@@ -1,14 +1,8 @@
 //! What a step on the table tells a pass, for entries, actors and settings that a call picks. They stand in
 //! proofs alone.
 ghost use Rattle.std.specs.Prelude.{ℕ, Bool, false, not, filter, List, [], ◌∷◌};
-ghost use Rattle.ert_defs.specs.declared.entry.Actor.{Actor};
-ghost use Rattle.ert_defs.specs.declared.entry.Actor.TheVariants.{Keeper};
-ghost use Rattle.ert_defs.specs.declared.entry.Entry.{Entry};
-ghost use Rattle.ert_defs.specs.Settings.{any_settings};
-ghost use Rattle.ert_defs.specs.declared.settings.Settings.{Settings};
-ghost use Rattle.ert_table.specs.Acts.{Told, Read, Compared, ComparedAll, SittersMeet, Sees, any_entry};
-ghost use Rattle.ert_table.specs.Held.{actors_but};
-ghost use Rattle.ert_table.specs.Views.{holding, both, spent};
+ghost use Rattle.ert_defs.specs.{declared.entry.Actor.Actor, declared.entry.Actor.TheVariants.Keeper, declared.entry.Entry.Entry, Settings.any_settings, declared.settings.Settings.Settings};
+ghost use Rattle.ert_table.specs.{Acts.{Told, Read, Compared, ComparedAll, SittersMeet, Sees, any_entry}, Held.actors_but, Views.{holding, both, spent}};
 
 use crate::view::View;
 use atomic_table::{Join, Play, Split};

@@ -1,9 +1,7 @@
 //! Calls on the exits of processes.
 ghost use Rattle.std.specs.Prelude.{◌≡◌, ◌<◌, true};
 ghost use Rattle.ert_defs.specs.Actors.{IsUser};
-ghost use Rattle.ert_table.specs.Desks.{settings_of, view_of, actors_of, Belongs};
-ghost use Rattle.ert_table.specs.Held.{is_held};
-ghost use Rattle.ert_table.specs.Calls.{IsMade};
+ghost use Rattle.ert_table.specs.{Desks.{settings_of, view_of, actors_of, Belongs}, Held.is_held, Calls.IsMade};
 ghost use Rattle.ert_effects.specs.WheelCalls.{TellsAlive, MarksExit};
 
 use crate::desk::{Desk, Pass};

@@ -1,18 +1,9 @@
 //! The steps of a restart: a timer's word is read, and exchanged for that of the next timer of its slot.
 ghost use Rattle.std.specs.Prelude.{◌≡◌, nat_eq, true};
-ghost use Rattle.ert_defs.specs.Actors.{IsUser};
-ghost use Rattle.ert_defs.specs.Legal.{names_timer};
-ghost use Rattle.ert_defs.specs.Timers.{timer_at};
-ghost use Rattle.ert_defs.specs.declared.entry.Actor.TheVariants.{Caller};
+ghost use Rattle.ert_defs.specs.{Actors.IsUser, Legal.names_timer, Timers.timer_at, declared.entry.Actor.TheVariants.Caller, declared.timer.Status.TheVariants.Armed};
 ghost use Rattle.ert_defs.specs.Words as words;
-ghost use Rattle.ert_defs.specs.declared.timer.Status.TheVariants.{Armed};
-ghost use Rattle.ert_table.specs.Calls.{AppendsAll};
-ghost use Rattle.ert_table.specs.Desks.{settings_of, view_of, actors_of, state_of, Belongs, IsDeadlineOf, SettlesOrMisses};
-ghost use Rattle.ert_table.specs.Held.{is_held};
-ghost use Rattle.ert_table.specs.Places.{IsPlaceOf};
-ghost use Rattle.ert_table.specs.Renewals.{IsWordOf, MayRenew, PeeksWord, renewal};
-ghost use Rattle.ert_table.specs.declared.carry.Settle.TheVariants.{Cancel as ToCancel};
-ghost use Rattle.ert_table.specs.Ranges.{word_deadline};
+ghost use Rattle.ert_table.specs.{Calls.AppendsAll, Desks.{settings_of, view_of, actors_of, state_of, Belongs, IsDeadlineOf, SettlesOrMisses}, Held.is_held, Places.IsPlaceOf, Renewals.{IsWordOf, MayRenew, PeeksWord, renewal}};
+ghost use Rattle.ert_table.specs.{declared.carry.Settle.TheVariants.Cancel as ToCancel, Ranges.word_deadline};
 
 use crate::carry::{Settle, TimerCarry};
 use crate::desk::{Desk, Pass};

@@ -1,10 +1,7 @@
 //! Loads that are recorded nowhere.
 ghost use Rattle.std.specs.Prelude.{◌≡◌};
-ghost use Rattle.ert_defs.specs.Legal.{Legal, IsSlot};
-ghost use Rattle.ert_defs.specs.Words.{word_of_slot};
-ghost use Rattle.ert_table.specs.Desks.{settings_of, view_of, front_of, actors_of, state_of, Belongs};
-ghost use Rattle.ert_table.specs.Held.{IsWhole};
-ghost use Rattle.ert_table.specs.Settlings.{shown_in};
+ghost use Rattle.ert_defs.specs.{Legal.{Legal, IsSlot}, Words.word_of_slot};
+ghost use Rattle.ert_table.specs.{Desks.{settings_of, view_of, front_of, actors_of, state_of, Belongs}, Held.IsWhole, Settlings.shown_in};
 
 use crate::desk::{Desk, Pass};
 use crate::plays::{Named, Shows};

@@ -4,13 +4,10 @@
 //! a whole: so it waits until all writes before it are done, among them those that miss the caches. In a run of
 //! cancels these are those of the one before.
 ghost use Rattle.std.specs.Prelude.{◌≡◌, ◌≤ℤ◌, ◌<ℤ◌, true};
-ghost use Rattle.ert_defs.specs.Actors.{IsUser};
-ghost use Rattle.ert_defs.specs.Lines.{end_time};
+ghost use Rattle.ert_defs.specs.{Actors.IsUser, Lines.end_time};
 ghost use Rattle.ert_defs.specs.Milliseconds as milliseconds;
-ghost use Rattle.ert_table.specs.Desks.{settings_of, view_of, actors_of, Belongs};
-ghost use Rattle.ert_table.specs.Held.{is_held};
+ghost use Rattle.ert_table.specs.{Desks.{settings_of, view_of, actors_of, Belongs}, Held.is_held, Left.IsMadeTellingLeft};
 ghost use Rattle.ert_effects.specs.TimerCalls.{Reads, Cancels};
-ghost use Rattle.ert_table.specs.Left.{IsMadeTellingLeft};
 
 use crate::desk::{Desk, Pass};
 use ert_defs::milliseconds::rounded_up;

@@ -1,16 +1,10 @@
 //! Steps on the words of slots.
 ghost use Rattle.std.specs.Prelude.{◌≡◌, ◌≢◌, true, Some};
-ghost use Rattle.ert_defs.specs.Actors.{IsUser};
-ghost use Rattle.ert_defs.specs.Legal.{IsSlot, names_timer};
+ghost use Rattle.ert_defs.specs.{Actors.IsUser, Legal.{IsSlot, names_timer}, declared.timer.Status.TheVariants.Armed, Entries.arm_entry};
 ghost use Rattle.ert_defs.specs.Words as words;
-ghost use Rattle.ert_defs.specs.declared.timer.Status.TheVariants.{Armed};
-ghost use Rattle.ert_table.specs.Desks.{settings_of, view_of, actors_of, state_of, Belongs, MayMake, Makes, MayLoadTimer, read_made, settled_made, SettlesOrMisses, IsDeadlineOf};
-ghost use Rattle.ert_table.specs.Held.{is_held};
-ghost use Rattle.ert_table.specs.Peeking.{Peeks, PeeksAndCancels};
+ghost use Rattle.ert_table.specs.{Desks.{settings_of, view_of, actors_of, state_of, Belongs, MayMake, Makes, MayLoadTimer, read_made, settled_made, SettlesOrMisses, IsDeadlineOf}, Held.is_held, Peeking.{Peeks, PeeksAndCancels}};
+ghost use Rattle.ert_table.specs.{Places.IsPlaceOf, Settlings.{HasRow, status_from, status_to, settle_entry, parts_in, shown_in, wheel_in, slot_in}};
 ghost use Rattle.ert_table.specs.Places as places;
-ghost use Rattle.ert_table.specs.Places.{IsPlaceOf};
-ghost use Rattle.ert_table.specs.Settlings.{HasRow, status_from, status_to, settle_entry, parts_in, shown_in, wheel_in, slot_in};
-ghost use Rattle.ert_defs.specs.Entries.{arm_entry};
 
 use crate::carry::{Settle, TimerCarry};
 use crate::desk::{Desk, Pass};

@@ -1,7 +1,5 @@
 ghost use Rattle.std.specs.Prelude.{◌≡◌, ◌≤◌, ◌<◌, ◌↔◌, ℕ, true, IsNone, IfSome};
-ghost use Rattle.ert_defs.specs.Legal.{is_generation};
-ghost use Rattle.ert_defs.specs.declared.timer.Status.{Status};
-ghost use Rattle.ert_defs.specs.declared.timer.Status.TheVariants.{Armed};
+ghost use Rattle.ert_defs.specs.{Legal.is_generation, declared.timer.Status.Status, declared.timer.Status.TheVariants.Armed};
 ghost use Rattle.ert_table.specs.Ranges.{IsTimer, IsTimerWord, TellsArmed, shown_generation};
 ghost use Rattle.ert_defs.specs.Words as words;
 ghost use Rattle.ert_table.specs.Ranges as ranges;

@@ -1,5 +1,4 @@
-ghost use Rattle.ert_table.specs.Rule.{Holds};
-ghost use Rattle.ert_table.specs.Views.{first_view};
+ghost use Rattle.ert_table.specs.{Rule.Holds, Views.first_view};
 
 use atomic_table::TableRule;
 use ert_defs::{Actor, Entry, Settings};

@@ -2,16 +2,11 @@
 
 use Rattle.std.proofs.Common.{◌≡◌, ℕ, false, List, [], length, Option, None, Some, sym, ap, subst, ◌∙◌, arith}
 use Rattle.ert_defs.specs.declared.settings.Settings.{Settings}
-use Rattle.ert_io.specs.Reads.{Input}
-use Rattle.ert_io.specs.Told.{SinkTold, sink_told}
-use Rattle.ert_ops.specs.declared.op.Op.{Op}
-use Rattle.ert_ops.specs.Plain.{plain_text}
-use Rattle.ert_program.proofs.Ends.{NeverBoth, all_taken}
-use Rattle.ert_program.proofs.InMemory.{OneScenario}
-use Rattle.ert_program.specs.Inputs.{WritesAll}
-use Rattle.ert_program.specs.Runs.{RunWrites, InputFits}
-use Rattle.ert_scenario.specs.Acceptance.{IsRunnable, plan_alone}
-use Rattle.ert_scenario.specs.Scenarios.{Plan, IsScenario, HasRefusal}
+use Rattle.ert_io.specs.{Reads.Input, Told.{SinkTold, sink_told}}
+use Rattle.ert_ops.specs.{declared.op.Op.Op, Plain.plain_text}
+use Rattle.ert_program.proofs.{Ends.{NeverBoth, all_taken}, InMemory.OneScenario}
+use Rattle.ert_program.specs.{Inputs.WritesAll, Runs.{RunWrites, InputFits}}
+use Rattle.ert_scenario.specs.{Acceptance.{IsRunnable, plan_alone}, Scenarios.{Plan, IsScenario, HasRefusal}}
 
 -- bytes that are accepted are a scenario
 abbrev pub AreScenarios : Type 0

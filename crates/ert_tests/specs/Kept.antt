@@ -1,8 +1,7 @@
 -- Which desk a shard and its hub are of.
 
 use Rattle.std.specs.Prelude.{◌≡◌}
-use Rattle.ert_shard.specs.Hubs.{Rest}
-use Rattle.ert_shard.specs.Shards.{Owned}
+use Rattle.ert_shard.specs.{Hubs.Rest, Shards.Owned}
 
 -- a shard is of the same desk as a hub
 abbrev pub IsOfHub : Rest → Owned → Type 0

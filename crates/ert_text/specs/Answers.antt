@@ -1,19 +1,13 @@
 -- What the commands over texts answer.
 
 use Rattle.std.specs.Prelude.{◌≡◌, ◌⊎◌, ℕ, false, List, []}
-use Rattle.ert_audit.specs.Audits.{status_telling as audit_status}
-use Rattle.ert_audit.specs.Explained.{IsMessage}
-use Rattle.ert_audit.specs.Verdicts.{HasVerdict, verdict_line}
-use Rattle.ert_audit.specs.declared.verdict.Verdict.{Verdict}
+use Rattle.ert_audit.specs.{Audits.status_telling as audit_status, Explained.IsMessage, Verdicts.{HasVerdict, verdict_line}, declared.verdict.Verdict.Verdict}
 use Rattle.ert_audit.specs.declared.verdict.Verdict.TheVariants as verdicts
 use Rattle.ert_explain.specs.Telling.{IsMessageOn}
-use Rattle.ert_program.specs.Refusals.{refusal_line}
-use Rattle.ert_program.specs.declared.ending.Refusal.{Refusal}
-use Rattle.ert_scenario.specs.Scenarios.{Plan, IsScenario, HasRefusal}
-use Rattle.ert_scenario.specs.declared.scenario.ScenarioErr.{ScenarioErr}
+use Rattle.ert_program.specs.{Refusals.refusal_line, declared.ending.Refusal.Refusal}
+use Rattle.ert_scenario.specs.{Scenarios.{Plan, IsScenario, HasRefusal}, declared.scenario.ScenarioErr.ScenarioErr}
 use Rattle.ert_ops.specs.Scripts.{IsTranscript}
-use Rattle.ert_text.specs.declared.answer.TextStatus.{TextStatus}
-use Rattle.ert_text.specs.declared.answer.TextStatus.TheVariants.{Done, Illegal, Refused, NoMemory, TooLong}
+use Rattle.ert_text.specs.declared.answer.TextStatus.{TextStatus, TheVariants.{Done, Illegal, Refused, NoMemory, TooLong}}
 
 -- the number of a status
 abbrev pub text_code : TextStatus → ℕ

@@ -1,9 +1,7 @@
 -- What the exported calls tell of an answer.
 
 use Rattle.std.specs.Prelude.{◌≡◌, ℕ, List, [], ◌++◌, length, take, drop}
-use Rattle.ert_text.specs.Answers.{RunsTo, RefusesTo, JudgesTo, text_code}
-use Rattle.ert_text.specs.declared.answer.TextStatus.{TextStatus}
-use Rattle.ert_text.specs.declared.exports.ErtTold.{ErtTold}
+use Rattle.ert_text.specs.{Answers.{RunsTo, RefusesTo, JudgesTo, text_code}, declared.answer.TextStatus.TextStatus, declared.exports.ErtTold.ErtTold}
 
 -- a text is copied into a buffer: its whole length is told, as much of it as fits stands at the front, and behind it
 -- the buffer is as it was

@@ -2,10 +2,8 @@
 ghost use Rattle.std.specs.Prelude.{◌≡◌, ◌⊎◌, ◌↔◌, ◌<◌, ◌≤◌, false, length};
 ghost use Rattle.ert_audit.specs.Verdicts.{HasVerdict};
 ghost use Rattle.ert_audit.specs.declared.verdict.Verdict as verdicts;
-ghost use Rattle.ert_text.specs.Answers.{text_code, text_status};
-ghost use Rattle.ert_scenario.specs.Scenarios.{Plan, IsScenario, HasRefusal};
-ghost use Rattle.ert_scenario.specs.declared.scenario.ScenarioErr.{ScenarioErr as Why};
-ghost use Rattle.ert_text.specs.Texts.{TellsBoth, TellsRun, TellsRefusal, TellsJudged, TellsNothing};
+ghost use Rattle.ert_text.specs.{Answers.{text_code, text_status}, Texts.{TellsBoth, TellsRun, TellsRefusal, TellsJudged, TellsNothing}};
+ghost use Rattle.ert_scenario.specs.{Scenarios.{Plan, IsScenario, HasRefusal}, declared.scenario.ScenarioErr.ScenarioErr as Why};
 
 use crate::answer::Answer;
 use crate::copying::copy_over;

@@ -1,7 +1,6 @@
 //! What `ertaudit` does.
 ghost use Rattle.std.specs.Prelude.{◌≡◌, ◌⊎◌, ◌↔◌, ◌<◌, ◌≤◌, [], length, IfOk};
-ghost use Rattle.ert_audit.specs.Findings.{IsFound, finding_verdict};
-ghost use Rattle.ert_audit.specs.Verdicts.{HasVerdict, verdict_line};
+ghost use Rattle.ert_audit.specs.{Findings.{IsFound, finding_verdict}, Verdicts.{HasVerdict, verdict_line}};
 ghost use Rattle.ert_audit.specs.declared.verdict.Verdict as verdicts;
 ghost use Rattle.ert_text.specs.Answers.{JudgesTo, TellsReason, JudgeAnswers, text_status};
 

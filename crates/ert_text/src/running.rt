@@ -1,11 +1,9 @@
 //! What `ertime run` does.
 ghost use Rattle.std.specs.Prelude.{◌≡◌, ◌⊎◌, ◌↔◌, ◌<◌, ◌≤◌, [], false, length, IfOk, IfSome, IsSomeAnd};
-ghost use Rattle.ert_text.specs.Answers.{RunAnswers, RunsTo, IsRefusedWith};
-ghost use Rattle.ert_text.specs.Sinks.{text_of};
+ghost use Rattle.ert_text.specs.{Answers.{RunAnswers, RunsTo, IsRefusedWith}, Sinks.text_of};
 ghost use Rattle.ert_explain.specs.Telling.{IsMessageOn};
 ghost use Rattle.ert_program.specs.Endings.{HasItsRefusal};
-ghost use Rattle.ert_scenario.specs.Scenarios.{Plan, IsScenario, HasRefusal};
-ghost use Rattle.ert_scenario.specs.declared.scenario.ScenarioErr.{ScenarioErr as Why};
+ghost use Rattle.ert_scenario.specs.{Scenarios.{Plan, IsScenario, HasRefusal}, declared.scenario.ScenarioErr.ScenarioErr as Why};
 
 use crate::answer::{Answer, TextStatus, bare, copied};
 use crate::sink::TextSink;

@@ -1,15 +1,10 @@
 -- What is kept of all slots, by what is kept of those that are written.
 
 use Rattle.std.proofs.Common.{◌≡◌, ℕ, zero, suc, ◌<◌, ◌≤◌, List, [], ◌∷◌, ◌++◌, length, map, replicate, Some, get_or, set, slice_get, refl, sym, ap, ◌∙◌, arith, inl, inr, get_or-set_same, get_or-set_other}
-use Rattle.std.proofs.Math.ListN.{get_or-eq_default}
-use Rattle.std.proofs.lemmas.Bool.{cases_eq}
-use Rattle.std.proofs.lemmas.List.{get_or-replicate, length-replicate, length-set}
-use Rattle.std.proofs.lemmas.List.FromFn.{fill_by_all, get_or-map-range_with_len, length-map-range_with_len}
-use Rattle.std.proofs.lemmas.Option.{get_or_from_slice_get, slice_get_within}
+use Rattle.std.proofs.{Math.ListN.get_or-eq_default, lemmas.Bool.cases_eq, lemmas.List.{get_or-replicate, length-replicate, length-set}, lemmas.List.FromFn.{fill_by_all, get_or-map-range_with_len, length-map-range_with_len}}
+use Rattle.std.proofs.{lemmas.Option.{get_or_from_slice_get, slice_get_within}}
 use Rattle.std.specs.List.{range_with_len}
-use Rattle.ert_timers.specs.Parts.{all_slots, slot_at, written_slot, unused}
-use Rattle.ert_timers.specs.Slots.{stored_slot, nothing}
-use Rattle.ert_timers.specs.declared.slot.Stored.{Stored}
+use Rattle.ert_timers.specs.{Parts.{all_slots, slot_at, written_slot, unused}, Slots.{stored_slot, nothing}, declared.slot.Stored.Stored}
 
 pub all_len : (values : List Stored) (n : ℕ) → length (all_slots values n) ≡ n
 unfolding all_slots

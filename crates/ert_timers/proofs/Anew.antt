@@ -1,25 +1,11 @@
 -- A timer is started in the place of one that was settled: as if the row of that had gone before.
 
 use Rattle.std.proofs.Common.{◌≡◌, ◌≢◌, ℕ, zero, suc, ◌+◌, false, List, [], ◌∷◌, Option, Some, None, refl, sym, ap, ◌∙◌, set, get_or-set_same}
-use Rattle.ert_defs.specs.States.{state}
-use Rattle.ert_defs.specs.Timers.{is_taken}
-use Rattle.ert_defs.specs.declared.entry.Entry.{Entry}
-use Rattle.ert_defs.specs.declared.settings.Settings.{Settings}
-use Rattle.ert_defs.specs.declared.timer.Start.{Start}
-use Rattle.ert_defs.specs.declared.timer.Status.TheVariants.{Armed}
-use Rattle.ert_defs.specs.declared.timer.TimerRef.{TimerRef}
-use Rattle.ert_timers.proofs.Fit.{some_key}
-use Rattle.ert_timers.proofs.Later.{live_unexpired}
-use Rattle.ert_timers.proofs.Forgotten.{stands_dropped}
-use Rattle.ert_timers.proofs.Standing.{takes_none}
-use Rattle.ert_timers.specs.Changes.{MayBecomeFree, dropped, kept, slot_for}
-use Rattle.ert_timers.specs.Freeing.{IsLast}
-use Rattle.ert_timers.specs.Parts.{Part, PartStands, last_timer, slot_at}
-use Rattle.ert_timers.specs.Restarting.{CanRenew}
-use Rattle.ert_timers.specs.declared.part.Use.{Use}
+use Rattle.ert_defs.specs.{States.state, Timers.is_taken, declared.entry.Entry.Entry, declared.settings.Settings.Settings, declared.timer.Start.Start, declared.timer.Status.TheVariants.Armed, declared.timer.TimerRef.TimerRef}
+use Rattle.ert_timers.proofs.{Fit.some_key, Later.live_unexpired, Forgotten.stands_dropped, Standing.takes_none}
+use Rattle.ert_timers.specs.{Changes.{MayBecomeFree, dropped, kept, slot_for}, Freeing.IsLast, Parts.{Part, PartStands, last_timer, slot_at}, Restarting.CanRenew, declared.part.Use.Use}
 use Rattle.ert_wheel.proofs.Looking.{key_low}
-use Rattle.ert_wheel.specs.Rows.{key_in}
-use Rattle.ert_wheel.specs.declared.row.Key.{Key}
+use Rattle.ert_wheel.specs.{Rows.key_in, declared.row.Key.Key}
 
 -- a place of a list that is written twice
 pub set_twice : {X : Type 0} (xs : List X) (k : ℕ) (x y : X) → set (set xs k x) k y ≡ set xs k y

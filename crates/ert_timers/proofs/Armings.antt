@@ -1,43 +1,22 @@
 -- A timer is armed in a slot that a part holds free.
 
 use Rattle.std.proofs.Common.{◌≡◌, ◌≢◌, ℕ, zero, suc, ◌+◌, ◌<◌, Bool, true, false, cond, ◌&&◌, nat_eq, max, List, [], ◌∷◌, ◌++◌, length, Option, Some, None, Ok, inl, inr, refl, sym, ap, subst, ◌∙◌, arith, set, get_or-set_same, get_or-set_other, length-append, eq-eqb, ne_eqb}
-use Rattle.std.proofs.lemmas.Bool.{cases_eq}
-use Rattle.std.proofs.lemmas.List.{length-set}
+use Rattle.std.proofs.lemmas.{Bool.cases_eq, List.length-set}
 use Rattle.std.specs.FinSet as sets
 use Rattle.std.specs.List.{slice_get}
-use Rattle.ert_defs.specs.Actors.{has_actor}
-use Rattle.ert_defs.specs.Entries.{arm_entry}
-use Rattle.ert_defs.specs.Legal.{Legal}
-use Rattle.ert_defs.specs.Milliseconds.{deadline_of}
-use Rattle.ert_defs.specs.States.{State, uses_at, next, state}
-use Rattle.ert_defs.specs.Timers.{Row, Uses, above_with, deadline_told, row_from, is_taken, same_timer, timer_at}
-use Rattle.ert_defs.proofs.ExpiredTimers.{same_timer_self, same_timer-false}
-use Rattle.ert_defs.proofs.Runs.{look_stays, state-append}
-use Rattle.ert_defs.specs.declared.entry.Actor.TheVariants.{Wheel, Caller}
-use Rattle.ert_defs.specs.declared.entry.Entry.{Entry}
-use Rattle.ert_defs.specs.declared.settings.Settings.{Settings}
-use Rattle.ert_defs.specs.declared.timer.Start.{Start}
-use Rattle.ert_defs.specs.declared.timer.Status.TheVariants.{Armed}
-use Rattle.ert_defs.specs.declared.timer.TimerRef.{TimerRef}
-use Rattle.ert_table.specs.Takes.{Appends, MayStep}
-use Rattle.ert_table.specs.declared.view.View.{View}
+use Rattle.ert_defs.specs.{Actors.has_actor, Entries.arm_entry, Legal.Legal, Milliseconds.deadline_of, States.{State, uses_at, next, state}, Timers.{Row, Uses, above_with, deadline_told, row_from, is_taken, same_timer, timer_at}}
+use Rattle.ert_defs.specs.{declared.entry.Actor.TheVariants.{Wheel, Caller}, declared.entry.Entry.Entry, declared.settings.Settings.Settings, declared.timer.Start.Start, declared.timer.Status.TheVariants.Armed}
+use Rattle.ert_defs.specs.{declared.timer.TimerRef.TimerRef}
+use Rattle.ert_defs.proofs.{ExpiredTimers.{same_timer_self, same_timer-false}, Runs.{look_stays, state-append}}
+use Rattle.ert_table.specs.{Takes.{Appends, MayStep}, declared.view.View.View}
 use Rattle.ert_table.proofs.Parts.{stepped}
-use Rattle.ert_timers.specs.Changes.{MayBecomeFree, kept, slot_for}
+use Rattle.ert_timers.specs.{Changes.{MayBecomeFree, kept, slot_for}, Parts.{HoldsCaller, IsLive, Part, HoldsRows, PartStands, slot_at, last_timer, held_row, unused}, Starting.{Arms, HoldsTimer, IsUseFor}, Passed.GainsOne, Slots.Slot}
+use Rattle.ert_timers.specs.{declared.part.Use.Use}
 use Rattle.ert_laws.specs.Counts.{is_arm, is_expire, is_orphan}
-use Rattle.ert_timers.specs.Parts.{HoldsCaller, IsLive, Part, HoldsRows, PartStands, slot_at, last_timer, held_row, unused}
-use Rattle.ert_timers.specs.Starting.{Arms, HoldsTimer, IsUseFor}
 use Rattle.ert_effects.specs.declared.answers.StartErr.{StartErr}
-use Rattle.ert_timers.specs.Passed.{GainsOne}
-use Rattle.ert_timers.specs.Slots.{Slot}
-use Rattle.ert_timers.specs.declared.part.Use.{Use}
-use Rattle.ert_timers.proofs.Keeping.{key_kept, key_new}
-use Rattle.ert_timers.proofs.Later.{IsLater, later_before, live_before}
-use Rattle.ert_timers.proofs.NextUses.{use_of, told_of, new_generation, old_apart}
-use Rattle.ert_timers.proofs.Rows.{row_wheel}
-use Rattle.ert_timers.proofs.Standing.{clock_at, clock_stepped, count_same, same_since}
-use Rattle.ert_timers.proofs.Tried.{count_more}
-use Rattle.ert_wheel.specs.Rows.{key_in}
-use Rattle.ert_wheel.specs.declared.row.Key.{Key}
+use Rattle.ert_timers.proofs.{Keeping.{key_kept, key_new}, Later.{IsLater, later_before, live_before}, NextUses.{use_of, told_of, new_generation, old_apart}, Rows.row_wheel, Standing.{clock_at, clock_stepped, count_same, same_since}}
+use Rattle.ert_timers.proofs.{Tried.count_more}
+use Rattle.ert_wheel.specs.{Rows.key_in, declared.row.Key.Key}
 
 -- a place is one of the old, or the last
 data Place {X : Type 0} (xs : List X) (x : X) (n : ℕ) (y : X) : Type 0 where

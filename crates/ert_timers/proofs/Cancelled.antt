@@ -1,32 +1,15 @@
 -- A cancel by a pass that holds every actor settles one timer at most, and says by its answer whether it did.
 
 use Rattle.std.proofs.Common.{◌≡◌, ◌≢◌, ℕ, ℤ, Bool, true, false, cond, List, [], ◌∷◌, ◌++◌, Option, Some, None, option_map, refl, sym, ap, subst, ◌∙◌, append_assoc}
-use Rattle.ert_defs.specs.Actors.{has_actor}
-use Rattle.ert_defs.specs.Entries.{look_entry, peek_entry, cancel_entry}
-use Rattle.ert_defs.specs.Legal.{Can, Legal, left_by, left_of, names_timer}
-use Rattle.ert_defs.specs.Milliseconds.{left}
-use Rattle.ert_defs.specs.States.{State, next, opening, run, state}
-use Rattle.ert_defs.specs.Timers.{Row, row_of, same_timer, settled_as}
-use Rattle.ert_defs.proofs.ExpiredTimers.{same_timer_self}
-use Rattle.ert_defs.proofs.Runs.{legal_then, state-append}
-use Rattle.ert_defs.proofs.Slots.{same_timer-true}
-use Rattle.ert_defs.specs.declared.entry.Actor.{Actor}
-use Rattle.ert_defs.specs.declared.entry.Actor.TheVariants.{Wheel}
-use Rattle.ert_defs.specs.declared.entry.Entry.{Entry}
-use Rattle.ert_defs.specs.declared.settings.Settings.{Settings}
-use Rattle.ert_defs.specs.declared.timer.Status.{Status}
-use Rattle.ert_defs.specs.declared.timer.Status.TheVariants.{Armed, Expired, Delivered, Cancelled, Orphaned, Dropped}
-use Rattle.ert_defs.specs.declared.timer.TimerRef.{TimerRef}
+use Rattle.ert_defs.specs.{Actors.has_actor, Entries.{look_entry, peek_entry, cancel_entry}, Legal.{Can, Legal, left_by, left_of, names_timer}, Milliseconds.left, States.{State, next, opening, run, state}, Timers.{Row, row_of, same_timer}}
+use Rattle.ert_defs.specs.{Timers.settled_as, declared.entry.Actor.Actor, declared.entry.Actor.TheVariants.Wheel, declared.entry.Entry.Entry, declared.settings.Settings.Settings, declared.timer.Status.Status}
+use Rattle.ert_defs.specs.{declared.timer.Status.TheVariants.{Armed, Expired, Delivered, Cancelled, Orphaned, Dropped}, declared.timer.TimerRef.TimerRef}
+use Rattle.ert_defs.proofs.{ExpiredTimers.same_timer_self, Runs.{legal_then, state-append}, Slots.same_timer-true}
 use Rattle.ert_effects.specs.TimerCalls.{cancel_entries}
 use Rattle.ert_table.proofs.Calls.{whole_exact}
-use Rattle.ert_timers.specs.Laws.{LawOfWholeCancels}
-use Rattle.ert_timers.specs.Parts.{Part, last_timer, held_row}
-use Rattle.ert_timers.specs.Tidy.{IsTidy}
-use Rattle.ert_timers.proofs.Later.{later_entry}
-use Rattle.ert_timers.proofs.StayArmed.{settles, stays_armed}
-use Rattle.ert_timers.proofs.Tried.{held_found}
-use Rattle.ert_wheel.specs.Rows.{key_in}
-use Rattle.ert_wheel.specs.declared.row.Key.{Key}
+use Rattle.ert_timers.specs.{Laws.LawOfWholeCancels, Parts.{Part, last_timer, held_row}, Tidy.IsTidy}
+use Rattle.ert_timers.proofs.{Later.later_entry, StayArmed.{settles, stays_armed}, Tried.held_found}
+use Rattle.ert_wheel.specs.{Rows.key_in, declared.row.Key.Key}
 
 stays_next : (g : Settings) (s : State) (e : Entry) (r : TimerRef) → settles e.event r ≡ false → s.status r ≡ Some Armed
     → (next g s e).status r ≡ Some Armed

@@ -3,21 +3,12 @@
 
 use Rattle.std.proofs.Common.{◌≡◌, ℕ, zero, suc, ◌+◌, ◌<◌, ◌≤◌, Bool, true, false, cond, List, [], ◌∷◌, length, map, count_by, sum_by, Option, Some, None, unwrap_or, option_map, refl, sym, ap, subst, ◌∙◌, arith, set, get_or, get_or-set_other}
 use Rattle.std.proofs.lemmas.List.Sums.{sum_by-cons, sum_by-set}
-use Rattle.std.specs.List.{slice_get}
-use Rattle.std.specs.Option.{is_some}
-use Rattle.ert_defs.specs.Laws.{is_armed}
-use Rattle.ert_defs.specs.States.{State, state}
-use Rattle.ert_defs.specs.Timers.{Row}
-use Rattle.ert_defs.specs.declared.timer.Status.{Status}
-use Rattle.ert_defs.specs.declared.timer.Status.TheVariants.{Armed}
-use Rattle.ert_defs.specs.declared.timer.TimerRef.{TimerRef}
+use Rattle.std.specs.{List.slice_get, Option.is_some}
+use Rattle.ert_defs.specs.{Laws.is_armed, States.{State, state}, Timers.Row, declared.timer.Status.Status, declared.timer.Status.TheVariants.Armed, declared.timer.TimerRef.TimerRef}
 use Rattle.ert_laws.specs.Counts.{count_of, has_status}
-use Rattle.ert_timers.specs.Laws.{LawOfTidyCounts}
-use Rattle.ert_timers.specs.Parts.{HoldsRows, Part, held_row}
-use Rattle.ert_timers.specs.Tidy.{IsTidy}
+use Rattle.ert_timers.specs.{Laws.LawOfTidyCounts, Parts.{HoldsRows, Part, held_row}, Tidy.IsTidy}
 use Rattle.ert_timers.proofs.Dropped.{armed_is}
-use Rattle.ert_wheel.specs.Rows.{key_in}
-use Rattle.ert_wheel.specs.declared.row.Key.{Key}
+use Rattle.ert_wheel.specs.{Rows.key_in, declared.row.Key.Key}
 
 -- how many timers of a wheel are armed
 abbrev armed_of : State → ℕ → ℕ

@@ -2,27 +2,12 @@
 
 use Rattle.std.proofs.Common.{◌≡◌, ◌≢◌, ℕ, ◌+◌, ◌<◌, ◌≤◌, true, false, List, length, Option, Some, None, option_map, inl, inr, refl, sym, ap, subst, ◌∙◌, arith}
 use Rattle.std.proofs.lemmas.Bool.{cases_eq}
-use Rattle.ert_defs.specs.Laws.{is_armed}
-use Rattle.ert_defs.specs.States.{State, state}
-use Rattle.ert_defs.specs.Timers.{Row, row_of, timer_at}
-use Rattle.ert_defs.specs.declared.entry.Entry.{Entry}
-use Rattle.ert_defs.specs.declared.settings.Settings.{Settings}
-use Rattle.ert_defs.specs.declared.timer.Status.{Status}
-use Rattle.ert_defs.specs.declared.timer.Status.TheVariants.{Armed, Expired, Delivered, Cancelled, Orphaned, Dropped}
-use Rattle.ert_defs.specs.declared.timer.TimerRef.{TimerRef}
+use Rattle.ert_defs.specs.{Laws.is_armed, States.{State, state}, Timers.{Row, row_of, timer_at}, declared.entry.Entry.Entry, declared.settings.Settings.Settings, declared.timer.Status.Status, declared.timer.Status.TheVariants.Armed}
+use Rattle.ert_defs.specs.{declared.timer.Status.TheVariants.{Expired, Delivered, Cancelled, Orphaned, Dropped}, declared.timer.TimerRef.TimerRef}
 use Rattle.ert_table.specs.Settlings.{shown_by, shown_in}
-use Rattle.ert_timers.specs.Changes.{given_back}
-use Rattle.ert_timers.specs.Dropping.{DropsRow, DropsRows}
-use Rattle.ert_timers.specs.Freeing.{IsHeld}
-use Rattle.ert_timers.specs.Parts.{Part, PartStands, last_timer}
-use Rattle.ert_timers.specs.Passed.{LosesRows}
-use Rattle.ert_timers.specs.Starting.{status_shown}
-use Rattle.ert_timers.specs.Tidy.{IsTidy}
-use Rattle.ert_timers.proofs.Freed.{frees_given, frees_none, frees_then}
-use Rattle.ert_timers.proofs.Passing.{loses_none, loses_then, same_last}
-use Rattle.ert_timers.proofs.Tried.{held_found}
-use Rattle.ert_wheel.specs.Rows.{key_in}
-use Rattle.ert_wheel.specs.declared.row.Key.{Key}
+use Rattle.ert_timers.specs.{Changes.given_back, Dropping.{DropsRow, DropsRows}, Freeing.IsHeld, Parts.{Part, PartStands, last_timer}, Passed.LosesRows, Starting.status_shown, Tidy.IsTidy}
+use Rattle.ert_timers.proofs.{Freed.{frees_given, frees_none, frees_then}, Passing.{loses_none, loses_then, same_last}, Tried.held_found}
+use Rattle.ert_wheel.specs.{Rows.key_in, declared.row.Key.Key}
 use Rattle.ert_wheel.proofs.Looking.{key_low}
 
 pub armed_is : (x : Option Status) → is_armed x ≡ true → x ≡ Some Armed

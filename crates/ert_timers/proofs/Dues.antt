@@ -1,35 +1,16 @@
 -- The rows that are due, while they are tried one after the other.
 
 use Rattle.std.proofs.Common.{◌≡◌, ◌≢◌, ℕ, zero, suc, ◌+◌, ◌<◌, ◌≤◌, ℤ, pos, ◌≤ℤ◌, Bool, true, false, cond, nat_eq, nat_lt, nat_le, List, [], ◌∷◌, ◌++◌, length, take, drop, All, Option, Some, None, IfSome, refl, sym, ap, subst, ◌∙◌, arith, drop-cons, set, get_or, get_or-set_same, get_or-set_other, inl, inr, eq-eqb, ne_eqb, ◌⊎◌}
-use Rattle.std.proofs.lemmas.Bool.{cases_eq, cases_lt, le-leb, leb-true, ltb-true}
-use Rattle.std.proofs.lemmas.Bool.Decides.{nat_tests, leb_tells}
-use Rattle.std.proofs.lemmas.Int.{ints}
-use Rattle.std.proofs.lemmas.List.{get_or-map, length-map}
-use Rattle.std.proofs.lemmas.List.Elements.{All-head, All-tail, All-cons, All-nil}
-use Rattle.std.specs.Bool.{OnTrue}
-use Rattle.std.specs.List.{slice_get}
+use Rattle.std.proofs.lemmas.{Bool.{cases_eq, cases_lt, le-leb, leb-true, ltb-true}, Bool.Decides.{nat_tests, leb_tells}, Int.ints, List.{get_or-map, length-map}, List.Elements.{All-head, All-tail, All-cons, All-nil}}
+use Rattle.std.specs.{Bool.OnTrue, List.slice_get}
 use Rattle.std.specs.Prelude.{MatchBool, not}
-use Rattle.ert_defs.specs.Legal.{AllSettled, IsNext}
-use Rattle.ert_defs.specs.Milliseconds.{down}
-use Rattle.ert_defs.specs.States.{State, state}
-use Rattle.ert_defs.specs.Timers.{Row}
+use Rattle.ert_defs.specs.{Legal.{AllSettled, IsNext}, Milliseconds.down, States.{State, state}, Timers.Row, declared.entry.Actor.TheVariants.Sched, declared.entry.Entry.Entry, declared.settings.Settings.Settings}
+use Rattle.ert_defs.specs.{declared.timer.Status.Status, declared.timer.Status.TheVariants.Armed, declared.timer.TimerRef.TimerRef}
 use Rattle.ert_defs.proofs.Lists.{pairs_head, pairs_tail}
-use Rattle.ert_defs.specs.declared.entry.Actor.TheVariants.{Sched}
-use Rattle.ert_defs.specs.declared.entry.Entry.{Entry}
-use Rattle.ert_defs.specs.declared.settings.Settings.{Settings}
-use Rattle.ert_defs.specs.declared.timer.Status.{Status}
-use Rattle.ert_defs.specs.declared.timer.Status.TheVariants.{Armed}
-use Rattle.ert_defs.specs.declared.timer.TimerRef.{TimerRef}
-use Rattle.ert_timers.specs.Changes.{let_go}
-use Rattle.ert_timers.specs.Expiring.{AreDue, IsReady, timer_of}
-use Rattle.ert_timers.specs.Parts.{Part, PartStands, last_timer}
-use Rattle.ert_wheel.specs.FirstDue.{NoRowDue, IsFirstRowDue, MayBeDue}
-use Rattle.ert_wheel.specs.Rows.{key_in, key_of, order_of_key, row_told, rows_told, times, due_count, comes_before, row_at}
-use Rattle.ert_wheel.specs.declared.row.Key.{Key}
-use Rattle.ert_wheel.specs.declared.row.HeldRow.{HeldRow}
-use Rattle.ert_wheel.specs.declared.row.Row.{Row as WheelRow}
-use Rattle.ert_wheel.proofs.Looking.{key_low}
-use Rattle.ert_wheel.proofs.Lists.{times-cons}
+use Rattle.ert_timers.specs.{Changes.let_go, Expiring.{AreDue, IsReady, timer_of}, Parts.{Part, PartStands, last_timer}}
+use Rattle.ert_wheel.specs.{FirstDue.{NoRowDue, IsFirstRowDue, MayBeDue}, Rows.{key_in, key_of, order_of_key, row_told, rows_told, times, due_count, comes_before, row_at}, declared.row.Key.Key, declared.row.HeldRow.HeldRow}
+use Rattle.ert_wheel.specs.{declared.row.Row.Row as WheelRow}
+use Rattle.ert_wheel.proofs.{Looking.key_low, Lists.times-cons}
 
 -- a list is what stands before a place, what stands at it, and what stands behind
 parted : (rows : List Row) (n : ℕ) (row : Row) → slice_get rows n ≡ Some row → rows ≡ take n rows ++ (row ∷ drop (n + 1) rows)

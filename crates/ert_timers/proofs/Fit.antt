@@ -1,24 +1,13 @@
 -- What the fields of a part keep, as each of its small calls changes them.
 
 use Rattle.std.proofs.Common.{◌≡◌, ◌≢◌, ℕ, ◌+◌, ◌<◌, ◌≤◌, Bool, true, false, not, ◌&&◌, ◌||◌, nat_eq, List, length, count_by, Option, Some, None, IfSome, IsNone, IsSome, refl, sym, ap, subst, ◌∙◌, arith, inl, inr, set, get_or-set_same, get_or-set_other, eqb-true, eq-eqb}
-use Rattle.std.proofs.lemmas.Bool.{and_parts, cases_eq, cases_lt, ne_eqb}
-use Rattle.std.proofs.lemmas.List.{length-set, set-get_or}
-use Rattle.std.specs.Cmp.{nat_cmp_total, unsigned_tied}
+use Rattle.std.proofs.lemmas.{Bool.{and_parts, cases_eq, cases_lt, ne_eqb}, List.{length-set, set-get_or}}
+use Rattle.std.specs.{Cmp.{nat_cmp_total, unsigned_tied}, Option.is_some, Ordering.nat_cmp}
 use Rattle.std.specs.FinSet as sets
-use Rattle.std.specs.Option.{is_some}
-use Rattle.std.specs.Ordering.{nat_cmp}
-use Rattle.ert_timers.specs.Changes.{LostRow, dropped}
-use Rattle.ert_timers.specs.Freeing.{IsInUse}
-use Rattle.ert_timers.specs.Parts.{AreFieldsFit, AreOwned, Part}
-use Rattle.ert_timers.specs.Slots.{Slot}
+use Rattle.ert_timers.specs.{Changes.{LostRow, dropped}, Freeing.IsInUse, Parts.{AreFieldsFit, AreOwned, Part}, Slots.Slot, Free.FreeSet}
 use Rattle.ert_timers.proofs.Rows.{key_left}
-use Rattle.ert_wheel.specs.Rings.{Rings, MayTake}
-use Rattle.ert_wheel.specs.Rows.{key_in}
-use Rattle.ert_wheel.specs.declared.row.Key.{Key}
-use Rattle.ert_wheel.proofs.Looking.{key_low}
-use Rattle.ert_wheel.proofs.Parts.{chains_written}
-use Rattle.ert_wheel.proofs.Views.{counts_less}
-use Rattle.ert_timers.specs.Free.{FreeSet}
+use Rattle.ert_wheel.specs.{Rings.{Rings, MayTake}, Rows.key_in, declared.row.Key.Key}
+use Rattle.ert_wheel.proofs.{Looking.key_low, Parts.chains_written, Views.counts_less}
 
 -- a slot without a row has none to drop
 pub set_none : (keys : List (Option Key)) (k : ℕ) → key_in keys k ≡ None → set keys k None ≡ keys

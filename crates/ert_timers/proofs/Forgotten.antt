@@ -2,18 +2,10 @@
 
 use Rattle.std.proofs.Common.{◌≡◌, ◌≢◌, ℕ, ◌<◌, false, List, length, Some, None, refl, arith, set}
 use Rattle.std.proofs.lemmas.List.{length-set}
-use Rattle.ert_defs.specs.States.{State, state}
-use Rattle.ert_defs.specs.Timers.{is_taken}
-use Rattle.ert_defs.specs.declared.entry.Entry.{Entry}
-use Rattle.ert_defs.specs.declared.settings.Settings.{Settings}
-use Rattle.ert_defs.specs.declared.timer.Status.TheVariants.{Armed}
-use Rattle.ert_timers.specs.Changes.{dropped, reused}
-use Rattle.ert_timers.specs.Parts.{Part, PartStands, last_timer}
-use Rattle.ert_timers.proofs.Later.{IsLater, live_unexpired}
-use Rattle.ert_timers.proofs.Rows.{key_left, rows_dropped}
-use Rattle.ert_timers.proofs.Standing.{holds_back, holds_with, takes_none}
-use Rattle.ert_wheel.specs.Rows.{key_in}
-use Rattle.ert_wheel.specs.declared.row.Key.{Key}
+use Rattle.ert_defs.specs.{States.{State, state}, Timers.is_taken, declared.entry.Entry.Entry, declared.settings.Settings.Settings, declared.timer.Status.TheVariants.Armed}
+use Rattle.ert_timers.specs.{Changes.{dropped, reused}, Parts.{Part, PartStands, last_timer}}
+use Rattle.ert_timers.proofs.{Later.{IsLater, live_unexpired}, Rows.{key_left, rows_dropped}, Standing.{holds_back, holds_with, takes_none}}
+use Rattle.ert_wheel.specs.{Rows.key_in, declared.row.Key.Key}
 use Rattle.ert_wheel.proofs.Looking.{key_low}
 
 same_state : (w : ℕ) (s : State) → IsLater w s s

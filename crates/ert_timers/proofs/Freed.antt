@@ -3,22 +3,12 @@
 use Rattle.std.proofs.Common.{◌≡◌, ◌⊎◌, ℕ, Bool, true, false, cond, not, ◌&&◌, get_or-set_other, List, Option, Some, None, Result, Ok, Err, MatchResult, inl, inr, refl, sym, ap, subst, ◌∙◌, ne_eqb}
 use Rattle.std.proofs.lemmas.Bool.{cases_eq}
 use Rattle.std.specs.FinSet as sets
-use Rattle.ert_defs.specs.declared.settings.Settings.{Settings}
-use Rattle.ert_defs.specs.declared.timer.Start.{Start}
-use Rattle.ert_defs.specs.declared.timer.TimerRef.{TimerRef}
+use Rattle.ert_defs.specs.declared.{settings.Settings.Settings, timer.Start.Start, timer.TimerRef.TimerRef}
 use Rattle.ert_table.specs.declared.view.View.{View}
-use Rattle.ert_timers.specs.Changes.{freed, given_back, has_uses, picked, reused}
-use Rattle.ert_timers.specs.Frees.{FreesRows, HoldsNoneFree, KeepsFree, TakesFree, UsesFree}
-use Rattle.ert_timers.specs.Parts.{Part, last_timer, slot_at}
-use Rattle.ert_timers.specs.Passed.{LosesRows}
-use Rattle.ert_timers.specs.Slots.{Slot}
-use Rattle.ert_timers.specs.Starting.{Arms, Ends, TakesSlot}
-use Rattle.ert_timers.specs.declared.part.Use.{Use}
-use Rattle.ert_timers.proofs.Fit.{put_keeps, taken_and}
-use Rattle.ert_timers.proofs.Lookings.{put_here}
-use Rattle.ert_timers.proofs.Passing.{same_last}
-use Rattle.ert_wheel.specs.Rows.{key_in}
-use Rattle.ert_wheel.specs.declared.row.Key.{Key}
+use Rattle.ert_timers.specs.{Changes.{freed, given_back, has_uses, picked, reused}, Frees.{FreesRows, HoldsNoneFree, KeepsFree, TakesFree, UsesFree}, Parts.{Part, last_timer, slot_at}, Passed.LosesRows, Slots.Slot, Starting.{Arms, Ends}}
+use Rattle.ert_timers.specs.{Starting.TakesSlot, declared.part.Use.Use}
+use Rattle.ert_timers.proofs.{Fit.{put_keeps, taken_and}, Lookings.put_here, Passing.same_last}
+use Rattle.ert_wheel.specs.{Rows.key_in, declared.row.Key.Key}
 
 -- a slot was taken out
 pub taken_free : (p q : Part) (k j : ℕ) → q ≡ picked p k → sets.contains p.free j ≡ true → (sets.contains q.free j ≡ true) ⊎ (Some k ≡ Some j)

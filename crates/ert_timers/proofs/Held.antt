@@ -1,14 +1,9 @@
 -- The slots that are held, as a list without repeats and as a set.
 
 use Rattle.std.proofs.Common.{◌↔◌, Option, Some, None, IsNone, IsSome, IfSome, subst, ◌≡◌, ℕ, ◌+◌, ◌<◌, ◌≤◌, true, false, Bool, ◌||◌, ◌&&◌, not, List, [], ◌∷◌, ◌++◌, length, nat_eq, nat_lt, nat_le, refl, sym, ap, ◌∙◌, arith, zero, suc, inl, inr, length-append}
-use Rattle.std.proofs.lemmas.Bool.{eqb-true, ltb-true, true≢false}
-use Rattle.std.proofs.lemmas.Bool.Decides.{eqb_tells}
-use Rattle.std.proofs.lemmas.Map.Keys.{IsDistinct-push}
-use Rattle.std.proofs.lemmas.Map.Steps.{length-le_from_distinct_below}
-use Rattle.std.specs.Cmp.{nat_cmp_total, nat_eq_equiv, unsigned_tied}
+use Rattle.std.proofs.lemmas.{Bool.{eqb-true, ltb-true, true≢false}, Bool.Decides.eqb_tells, Map.Keys.IsDistinct-push, Map.Steps.length-le_from_distinct_below}
+use Rattle.std.specs.{Cmp.{nat_cmp_total, nat_eq_equiv, unsigned_tied}, List.{IsDistinct, AllByRecursion, list_any, range_with_len}, Ordering.nat_cmp}
 use Rattle.std.specs.FinSet as set
-use Rattle.std.specs.List.{IsDistinct, AllByRecursion, list_any, range_with_len}
-use Rattle.std.specs.Ordering.{nat_cmp}
 use Rattle.ert_timers.specs.Free.{FreeSet, HasRoom}
 
 -- a slot is in the set exactly where it is in the list

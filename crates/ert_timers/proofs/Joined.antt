@@ -1,19 +1,11 @@
 -- A slot of which it is noted stands in the chain of its process.
 
 use Rattle.std.proofs.Common.{◌≡◌, ◌≢◌, ℕ, ◌<◌, true, false, List, [], ◌++◌, length, replicate, get_or, set, slice_get, Option, Some, None, refl, sym, ap, subst, subst₂, ◌∙◌, arith, inl, inr, get_or-set_same, get_or-set_other}
-use Rattle.std.proofs.Math.ListN.{get_or-eq_default}
-use Rattle.std.proofs.lemmas.Bool.{cases_eq, cases_lt}
-use Rattle.std.proofs.lemmas.List.{length-set}
-use Rattle.std.proofs.lemmas.Option.{get_or_from_slice_get, slice_get-get_or, slice_get_within}
-use Rattle.ert_timers.proofs.AllSlots.{padded}
-use Rattle.ert_timers.proofs.Owners.{not_alone}
-use Rattle.ert_timers.specs.Owners.{Joins}
-use Rattle.ert_timers.specs.Parts.{AreJoined}
-use Rattle.ert_timers.specs.Slots.{is_joined, nothing}
-use Rattle.ert_timers.specs.declared.slot.Stored.{Stored}
+use Rattle.std.proofs.{Math.ListN.get_or-eq_default, lemmas.Bool.{cases_eq, cases_lt}, lemmas.List.length-set, lemmas.Option.{get_or_from_slice_get, slice_get-get_or, slice_get_within}}
+use Rattle.ert_timers.proofs.{AllSlots.padded, Owners.not_alone}
+use Rattle.ert_timers.specs.{Owners.Joins, Parts.AreJoined, Slots.{is_joined, nothing}, declared.slot.Stored.Stored}
 use Rattle.ert_wheel.proofs.Parts.{with_place_here, with_place_there}
-use Rattle.ert_wheel.specs.Links.{next_at}
-use Rattle.ert_wheel.specs.Rings.{Rings, Place, AreChains, StandsIn, with_place}
+use Rattle.ert_wheel.specs.{Links.next_at, Rings.{Rings, Place, AreChains, StandsIn, with_place}}
 
 -- a slot that isn't alone has a place
 has_place : (owners : Rings) (places : ℕ → Option Place) (k : ℕ) → AreChains owners places → k < owners.slots → next_at owners.links k ≢ k

@@ -1,32 +1,16 @@
 -- A timer is put in; the newest row of a process; a part of a new desk.
 
 use Rattle.std.proofs.Common.{◌≡◌, ◌≢◌, ℕ, ◌+◌, ◌<◌, ◌≤◌, Bool, true, false, List, length, Option, Some, None, IsNone, IfNone, IfSome, refl, sym, ap, subst, ◌∙◌, arith, inl, inr, set, slice_get, get_or-set_same, get_or-set_other}
-use Rattle.std.proofs.lemmas.Bool.{cases_eq}
-use Rattle.std.proofs.lemmas.List.{length-set}
-use Rattle.std.proofs.lemmas.Option.{slice_get_within}
-use Rattle.std.specs.Bool.{OnTrue}
+use Rattle.std.proofs.lemmas.{Bool.cases_eq, List.length-set, Option.slice_get_within}
+use Rattle.std.specs.{Bool.OnTrue, Ordering.nat_cmp}
 use Rattle.std.specs.FinSet as sets
-use Rattle.std.specs.Ordering.{nat_cmp}
-use Rattle.ert_defs.specs.Timers.{timer_at}
-use Rattle.ert_defs.specs.declared.timer.Start.{Start}
-use Rattle.ert_timers.specs.Changes.{MayBecomeFree, LostRow, NextOf, picked, slot_for, kept}
-use Rattle.ert_timers.specs.Owners.{Joins, Thinned, FindsRow}
-use Rattle.ert_timers.specs.Parts.{AreFieldsFit, AreOwned, IsWritten, Part, all_slots, last_timer, slot_at, unused}
-use Rattle.ert_timers.specs.Slots.{Slot, stored_slot}
-use Rattle.ert_timers.specs.declared.slot.Stored.{Stored}
-use Rattle.ert_timers.specs.declared.part.Use.{Use}
+use Rattle.ert_defs.specs.{Timers.timer_at, declared.timer.Start.Start, declared.settings.TheConstants.MOST_SLOTS}
+use Rattle.ert_timers.specs.{Changes.{MayBecomeFree, LostRow, NextOf, picked, slot_for, kept}, Owners.{Joins, Thinned, FindsRow}, Parts.{AreFieldsFit, AreOwned, IsWritten, Part, all_slots, last_timer, slot_at, unused}, Slots.Slot}
+use Rattle.ert_timers.specs.{Slots.stored_slot, declared.slot.Stored.Stored, declared.part.Use.Use, Free.FreeSet}
 use mir.Val.{bool_byte}
-use Rattle.ert_timers.proofs.AllSlots.{all_set, read_at}
-use Rattle.ert_timers.proofs.Fit.{fit_picked, fit_same, taken_out}
-use Rattle.ert_wheel.specs.Rings.{Rings, Place, StandsIn, with_place}
-use Rattle.ert_wheel.specs.Rows.{Held, key_in, key_of}
-use Rattle.ert_wheel.specs.declared.row.Key.{Key}
-use Rattle.ert_wheel.specs.declared.row.Row.{Row}
-use Rattle.ert_wheel.proofs.Looking.{key_low}
-use Rattle.ert_wheel.proofs.Parts.{with_place_here, with_place_there}
-use Rattle.ert_wheel.proofs.Views.{counts_more}
-use Rattle.ert_timers.specs.Free.{FreeSet}
-use Rattle.ert_defs.specs.declared.settings.TheConstants.{MOST_SLOTS}
+use Rattle.ert_timers.proofs.{AllSlots.{all_set, read_at}, Fit.{fit_picked, fit_same, taken_out}}
+use Rattle.ert_wheel.specs.{Rings.{Rings, Place, StandsIn, with_place}, Rows.{Held, key_in, key_of}, declared.row.Key.Key, declared.row.Row.Row}
+use Rattle.ert_wheel.proofs.{Looking.key_low, Parts.{with_place_here, with_place_there}, Views.counts_more}
 
 pub on_true : (b : Bool) (P : Type 0) → b ≡ true → OnTrue b P → P
 on_true true P is h = h

@@ -2,26 +2,14 @@
 
 use Rattle.std.proofs.Common.{◌≡◌, ◌≢◌, ℕ, ◌+◌, Bool, true, false, cond, ◌&&◌, ◌||◌, List, [], ◌∷◌, ◌++◌, Option, Some, None, refl, sym, ap, subst, ◌∙◌, arith, eq-eqb}
 use Rattle.std.proofs.lemmas.List.Sums.{sum_by-append}
-use Rattle.ert_defs.specs.Actors.{same_actor, is_with, has_actor, IsFree}
-use Rattle.ert_defs.specs.Legal.{Keeps, LegalFrom, Legal}
-use Rattle.ert_defs.specs.States.{State, uses_at, opening, next, run, state}
-use Rattle.ert_defs.specs.Timers.{Row, Uses, rows_after, last_after, since_after, above_after, status_after, settled_as, handed_as, same_timer, is_taken}
-use Rattle.ert_defs.proofs.Runs.{free_first, free_rest, legal_first, legal_then, rows_stay, last_stays, uses_stay, state-append}
-use Rattle.ert_defs.proofs.Slots.{same_timer-true}
-use Rattle.ert_defs.proofs.Statuses.{Forward, arms, forward_after, forward_not_armed, forward_free, forward_stays, free_stays}
-use Rattle.ert_defs.specs.declared.entry.Actor.{Actor}
-use Rattle.ert_defs.specs.declared.entry.Actor.TheVariants.{Wheel}
-use Rattle.ert_defs.specs.declared.entry.Entry.{Entry}
-use Rattle.ert_defs.specs.declared.entry.Event.{Event}
-use Rattle.ert_defs.specs.declared.entry.Event.TheVariants.{Arm, Cancel, Expire, Orphan, Deliver, Drop}
-use Rattle.ert_defs.specs.declared.settings.Settings.{Settings}
-use Rattle.ert_defs.specs.declared.timer.Status.{Status}
-use Rattle.ert_defs.specs.declared.timer.Status.TheVariants.{Armed, Expired, Delivered, Cancelled, Orphaned, Dropped}
-use Rattle.ert_defs.specs.declared.timer.TimerRef.{TimerRef}
-use Rattle.ert_table.specs.Held.{is_held}
-use Rattle.ert_table.specs.Takes.{Appends}
+use Rattle.ert_defs.specs.{Actors.{same_actor, is_with, has_actor, IsFree}, Legal.{Keeps, LegalFrom, Legal}, States.{State, uses_at, opening, next, run, state}, Timers.{Row, Uses, rows_after, last_after, since_after, above_after}}
+use Rattle.ert_defs.specs.{Timers.{status_after, settled_as, handed_as, same_timer, is_taken}, declared.entry.Actor.Actor, declared.entry.Actor.TheVariants.Wheel, declared.entry.Entry.Entry, declared.entry.Event.Event}
+use Rattle.ert_defs.specs.{declared.entry.Event.TheVariants.{Arm, Cancel, Expire, Orphan, Deliver, Drop}, declared.settings.Settings.Settings, declared.timer.Status.Status, declared.timer.Status.TheVariants.{Armed, Expired, Delivered}}
+use Rattle.ert_defs.specs.{declared.timer.Status.TheVariants.{Cancelled, Orphaned, Dropped}, declared.timer.TimerRef.TimerRef}
+use Rattle.ert_defs.proofs.{Runs.{free_first, free_rest, legal_first, legal_then, rows_stay, last_stays, uses_stay, state-append}, Slots.same_timer-true, Statuses.{Forward, arms, forward_after, forward_not_armed, forward_free}}
+use Rattle.ert_defs.proofs.{Statuses.{forward_stays, free_stays}}
+use Rattle.ert_table.specs.{Held.is_held, Takes.Appends, declared.view.View.View}
 use Rattle.ert_table.proofs.Parts.{stepped}
-use Rattle.ert_table.specs.declared.view.View.{View}
 use Rattle.ert_laws.specs.Counts.{entries_of, is_arm}
 use Rattle.ert_timers.specs.Parts.{IsLive}
 

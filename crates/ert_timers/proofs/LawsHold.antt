@@ -2,37 +2,18 @@
 
 use Rattle.std.proofs.Common.{◌≡◌, ℕ, zero, suc, ◌≤◌, Bool, true, false, cond, ◌&&◌, List, [], ◌∷◌, ◌++◌, Option, Some, None, Result, Ok, Err, inl, inr, refl, sym, ap, subst, ◌∙◌, arith}
 use Rattle.std.proofs.lemmas.List.Sums.{sum_by-append}
-use Rattle.ert_defs.specs.Actors.{has_actor, IsFree}
-use Rattle.ert_defs.specs.Legal.{Legal, LegalFrom, names_timer}
-use Rattle.ert_defs.specs.Milliseconds.{natural, down}
-use Rattle.ert_defs.specs.States.{State, opening, state}
+use Rattle.ert_defs.specs.{Actors.{has_actor, IsFree}, Legal.{Legal, LegalFrom, names_timer}, Milliseconds.{natural, down}, States.{State, opening, state}, declared.entry.Actor.Actor, declared.entry.Actor.TheVariants.{Wheel, Sched, Caller}}
+use Rattle.ert_defs.specs.{declared.entry.Entry.Entry, declared.entry.Event.Event, declared.settings.Settings.Settings, declared.timer.Start.Start, declared.timer.Status.Status, declared.timer.TimerRef.TimerRef}
 use Rattle.ert_defs.proofs.Runs.{legal_then, state-append}
-use Rattle.ert_defs.specs.declared.entry.Actor.{Actor}
-use Rattle.ert_defs.specs.declared.entry.Actor.TheVariants.{Wheel, Sched, Caller}
-use Rattle.ert_defs.specs.declared.entry.Entry.{Entry}
-use Rattle.ert_defs.specs.declared.entry.Event.{Event}
-use Rattle.ert_defs.specs.declared.settings.Settings.{Settings}
-use Rattle.ert_defs.specs.declared.timer.Start.{Start}
-use Rattle.ert_defs.specs.declared.timer.Status.{Status}
-use Rattle.ert_defs.specs.declared.timer.TimerRef.{TimerRef}
-use Rattle.ert_effects.proofs.Advanced.{IsAdvance, advance_is}
-use Rattle.ert_effects.specs.RestartCalls.{HasRestarted, RestartEnds, missed_entries}
-use Rattle.ert_effects.specs.RoomCalls.{ShowsRoom, no_room, with_found}
-use Rattle.ert_effects.specs.declared.answers.Room.{Room}
-use Rattle.ert_effects.proofs.Told.{round_probes}
-use Rattle.ert_effects.specs.TimerCalls.{AreProbes, Closes}
-use Rattle.ert_effects.specs.WheelCalls.{Try, expires_by, expiry_entries, orphans_by, orphan_entries}
-use Rattle.ert_effects.specs.declared.answers.RestartErr.{RestartErr}
-use Rattle.ert_effects.specs.declared.answers.RestartErr.TheVariants.{BadArg as NoDeadline, NotArmed, Full as WantsSlot}
-use Rattle.ert_effects.specs.declared.answers.StartErr.TheVariants.{BadArg, Full, NoMemory}
+use Rattle.ert_effects.proofs.{Advanced.{IsAdvance, advance_is}, Told.round_probes}
+use Rattle.ert_effects.specs.{RestartCalls.{HasRestarted, RestartEnds, missed_entries}, RoomCalls.{ShowsRoom, no_room, with_found}, declared.answers.Room.Room, TimerCalls.{AreProbes, Closes}, WheelCalls.{Try, expires_by, expiry_entries}}
+use Rattle.ert_effects.specs.{WheelCalls.{orphans_by, orphan_entries}, declared.answers.RestartErr.RestartErr, declared.answers.RestartErr.TheVariants.{BadArg as NoDeadline, NotArmed, Full as WantsSlot}}
+use Rattle.ert_effects.specs.{declared.answers.StartErr.TheVariants.{BadArg, Full, NoMemory}}
 use Rattle.ert_table.specs.Held.{IsOurs}
 use Rattle.ert_table.proofs.Parts.{free_later, of_one, of_both}
-use Rattle.ert_timers.specs.Laws.{AreWithWheel, LawOfStandingParts, LawOfStartEntries, LawOfRestartEntries, LawOfAdvanceEntries, LawOfSweeps, LawOfRooms, LawOfProbes}
+use Rattle.ert_timers.specs.{Laws.{AreWithWheel, LawOfStandingParts, LawOfStartEntries, LawOfRestartEntries, LawOfAdvanceEntries, LawOfSweeps, LawOfRooms, LawOfProbes}, Parts.{IsLive, last_timer}}
 use Rattle.ert_laws.specs.Counts.{entries_of, is_arm, is_expire, is_orphan}
-use Rattle.ert_timers.specs.Parts.{IsLive, last_timer}
-use Rattle.ert_timers.proofs.Later.{IsLater, later_free, none_counted, live_free}
-use Rattle.ert_timers.proofs.Rows.{rows_later}
-use Rattle.ert_timers.proofs.Standing.{clock_at, clock_rises, holds_with}
+use Rattle.ert_timers.proofs.{Later.{IsLater, later_free, none_counted, live_free}, Rows.rows_later, Standing.{clock_at, clock_rises, holds_with}}
 
 -- a count of the entries of a wheel is the same without more of them
 same_count : (test : Event → Bool) (w : ℕ) (f m : List Entry) → IsFree m (Wheel w) → entries_of test w (f ++ m) ≡ entries_of test w f

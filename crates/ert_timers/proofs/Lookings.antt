@@ -1,36 +1,16 @@
 -- A slot is looked at.
 
 use Rattle.std.proofs.Common.{◌≡◌, ◌≢◌, ℕ, ◌<◌, ◌≤◌, true, false, ◌||◌, ◌++◌, Option, Some, None, option_map, inl, inr, refl, sym, ap, subst, ◌∙◌, arith, eq-eqb, ne_eqb}
-use Rattle.std.specs.Cmp.{nat_cmp_total, unsigned_tied}
+use Rattle.std.specs.{Cmp.{nat_cmp_total, unsigned_tied}, Ordering.nat_cmp}
 use Rattle.std.specs.FinSet as sets
-use Rattle.std.specs.Ordering.{nat_cmp}
-use Rattle.ert_defs.specs.Entries.{probe_entry}
-use Rattle.ert_defs.specs.States.{State, state}
-use Rattle.ert_defs.specs.Timers.{Uses, is_taken, timer_at}
-use Rattle.ert_defs.specs.declared.entry.Actor.{Actor}
-use Rattle.ert_defs.specs.declared.entry.Actor.TheVariants.{Wheel, Caller}
-use Rattle.ert_defs.specs.declared.entry.Entry.{Entry}
-use Rattle.ert_defs.specs.declared.settings.Settings.{Settings}
-use Rattle.ert_defs.specs.declared.timer.Status.{Status}
-use Rattle.ert_defs.specs.declared.timer.Status.TheVariants.{Armed}
-use Rattle.ert_table.proofs.Looks.{can_step}
-use Rattle.ert_table.specs.Held.{is_held}
-use Rattle.ert_table.specs.Settlings.{ShownWord}
-use Rattle.ert_table.specs.Takes.{Appends}
-use Rattle.ert_table.specs.declared.view.View.{View}
-use Rattle.ert_table.proofs.Parts.{stepped}
-use Rattle.ert_timers.specs.Changes.{is_resting, dropped, freed}
+use Rattle.ert_defs.specs.{Entries.probe_entry, States.{State, state}, Timers.{Uses, is_taken, timer_at}, declared.entry.Actor.Actor, declared.entry.Actor.TheVariants.{Wheel, Caller}, declared.entry.Entry.Entry}
+use Rattle.ert_defs.specs.{declared.settings.Settings.Settings, declared.timer.Status.Status, declared.timer.Status.TheVariants.Armed}
+use Rattle.ert_table.proofs.{Looks.can_step, Parts.stepped}
+use Rattle.ert_table.specs.{Held.is_held, Settlings.ShownWord, Takes.Appends, declared.view.View.View}
+use Rattle.ert_timers.specs.{Changes.{is_resting, dropped, freed}, Parts.{HoldsCaller, Part, PartStands, slot_at, last_timer}, Starting.{IsUntaken, LooksAt, status_shown}, Passed.LosesRows}
 use Rattle.ert_laws.proofs.Since.{rounds_begun}
 use Rattle.ert_laws.specs.Counts.{is_expire, is_orphan}
-use Rattle.ert_timers.specs.Parts.{HoldsCaller, Part, PartStands, slot_at, last_timer}
-use Rattle.ert_timers.specs.Starting.{IsUntaken, LooksAt, status_shown}
-use Rattle.ert_timers.specs.Passed.{LosesRows}
-use Rattle.ert_timers.proofs.Later.{later_before, later_step}
-use Rattle.ert_timers.proofs.Resting.{later_awake, rested_by}
-use Rattle.ert_timers.proofs.Standing.{clock_at, clock_stepped, count_same, holds_freed, stands_step}
-use Rattle.ert_timers.proofs.Fit.{put_keeps}
-use Rattle.ert_timers.proofs.Passing.{loses_none, loses_row}
-use Rattle.ert_timers.proofs.Tried.{stands_gone}
+use Rattle.ert_timers.proofs.{Later.{later_before, later_step}, Resting.{later_awake, rested_by}, Standing.{clock_at, clock_stepped, count_same, holds_freed, stands_step}, Fit.put_keeps, Passing.{loses_none, loses_row}, Tried.stands_gone}
 
 -- what a load of a slot found
 pub status_is : (shown : Option ShownWord) → option_map (λ (x : ShownWord). x.0) shown ≡ status_shown shown

@@ -2,54 +2,21 @@
 
 use Rattle.std.proofs.Common.{◌≡◌, ◌≢◌, ⊎_elim, ℕ, zero, suc, ◌<◌, ◌≤◌, Bool, true, false, cond, List, [], ◌∷◌, ◌++◌, length, Option, Some, None, Result, Ok, Err, inl, inr, refl, sym, ap, subst, ◌∙◌, arith, get_or-set_other, append-nil}
 use Rattle.std.specs.FinSet as sets
-use Rattle.ert_table.proofs.Looks.{look_stepped}
+use Rattle.ert_table.proofs.{Looks.look_stepped, Calls.{step_takes_place, takes_place_then}}
 use Rattle.ert_defs.proofs.Slots.{ordered}
-use Rattle.ert_defs.specs.Entries.{cancel_entry, look_entry, peek_entry}
-use Rattle.ert_defs.specs.Legal.{Legal, names_timer}
-use Rattle.ert_defs.specs.Milliseconds.{natural, down, deadline_of, left}
-use Rattle.ert_defs.specs.States.{State, state, uses_at}
-use Rattle.ert_defs.specs.Timers.{IsNextUse, Uses, deadline_in, timer_at, turned}
-use Rattle.ert_defs.specs.declared.entry.Actor.TheVariants.{Caller}
-use Rattle.ert_defs.specs.declared.entry.Entry.{Entry}
-use Rattle.ert_defs.specs.declared.settings.Settings.{Settings}
-use Rattle.ert_defs.specs.declared.timer.Start.{Start}
-use Rattle.ert_defs.specs.declared.timer.TimerRef.{TimerRef}
-use Rattle.ert_effects.specs.RestartCalls.{HasRestarted, IsFullFor, RestartEnds, Restarts}
-use Rattle.ert_effects.specs.TimerCalls.{AreProbes, AreTaken, Rests}
-use Rattle.ert_effects.specs.declared.answers.RestartErr.{RestartErr}
-use Rattle.ert_effects.specs.declared.answers.RestartErr.TheVariants.{BadArg, NotArmed, Full}
+use Rattle.ert_defs.specs.{Entries.{cancel_entry, look_entry, peek_entry}, Legal.{Legal, names_timer}, Milliseconds.{natural, down, deadline_of, left}, States.{State, state, uses_at}, Timers.{IsNextUse, Uses, deadline_in, timer_at, turned}}
+use Rattle.ert_defs.specs.{declared.entry.Actor.TheVariants.Caller, declared.entry.Entry.Entry, declared.settings.Settings.Settings, declared.timer.Start.Start, declared.timer.TimerRef.TimerRef, declared.timer.Status.TheVariants.Armed}
+use Rattle.ert_effects.specs.{RestartCalls.{HasRestarted, IsFullFor, RestartEnds, Restarts}, TimerCalls.{AreProbes, AreTaken, Rests}, declared.answers.RestartErr.RestartErr, declared.answers.RestartErr.TheVariants.{BadArg, NotArmed, Full}}
+use Rattle.ert_effects.specs.{declared.answers.StartErr.StartErr}
 use Rattle.ert_laws.proofs.SlotUses.{timers_few}
-use Rattle.ert_table.proofs.Calls.{step_takes_place, takes_place_then}
-use Rattle.ert_table.specs.Calls.{IsMade}
-use Rattle.ert_table.specs.Takes.{Appends, TakesPlace}
-use Rattle.ert_table.specs.declared.view.View.{View}
-use Rattle.ert_timers.proofs.Later.{later_step}
-use Rattle.ert_timers.proofs.Passing.{fewer_last, same_last}
-use Rattle.ert_timers.proofs.Renewed.{IsRead, IsStanding, IsToldStill, armed_stands, cancel_calm, cancel_settles, told_still, use_still}
-use Rattle.ert_timers.proofs.Orphaned.{still_caller}
-use Rattle.ert_table.specs.Settlings.{Settles}
-use Rattle.ert_table.specs.declared.carry.Settle.TheVariants.{Cancel as ToCancel}
-use Rattle.ert_table.specs.declared.renew_steps.ArmedWord.{ArmedWord}
-use Rattle.ert_effects.specs.declared.answers.StartErr.{StartErr}
-use Rattle.ert_defs.specs.declared.timer.Status.TheVariants.{Armed}
-use Rattle.ert_timers.proofs.Resting.{next_is as next_is_of}
-use Rattle.ert_timers.proofs.Standing.{clock_at, clock_rises, clock_stepped, holds_freed, same_since}
-use Rattle.ert_timers.proofs.Starts.{is_ahead, now_is}
-use Rattle.ert_timers.specs.Changes.{MayBecomeFree, freed, given_back, has_uses, kept, next_use}
-use Rattle.ert_timers.specs.Slots.{Slot}
-use Rattle.ert_timers.proofs.Lookings.{put_other}
+use Rattle.ert_table.specs.{Calls.IsMade, Takes.{Appends, TakesPlace}, declared.view.View.View, Settlings.Settles, declared.carry.Settle.TheVariants.Cancel as ToCancel, declared.renew_steps.ArmedWord.ArmedWord, Ranges.word_deadline}
+use Rattle.ert_timers.proofs.{Later.later_step, Passing.{fewer_last, same_last}, Renewed.{IsRead, IsStanding, IsToldStill, armed_stands, cancel_calm, cancel_settles, told_still, use_still}, Orphaned.still_caller}
+use Rattle.ert_timers.proofs.{Resting.next_is as next_is_of, Standing.{clock_at, clock_rises, clock_stepped, holds_freed, same_since}, Starts.{is_ahead, now_is}, Lookings.put_other}
+use Rattle.ert_timers.specs.{Changes.{MayBecomeFree, freed, given_back, has_uses, kept, next_use}, Slots.Slot, Freeing.{IsHeld, IsLast}, Looking.{LooksAhead, now_in}, Parts.{HoldsCaller, Part, PartStands, last_timer, slot_at, unused}}
+use Rattle.ert_timers.specs.{Passed.{HasFewerRows, GainsOne, LosesRows}, Restarting.{EndsAfter, HasLooked, HasSlotFor}, Starting.TakesSlot, declared.looking.Ahead.Ahead, declared.part.Use.Use}
 use Rattle.ert_laws.specs.Counts.{is_arm}
 use Rattle.std.proofs.lemmas.List.{length-set}
-use Rattle.ert_timers.specs.Freeing.{IsHeld, IsLast}
-use Rattle.ert_timers.specs.Looking.{LooksAhead, now_in}
-use Rattle.ert_timers.specs.Parts.{HoldsCaller, Part, PartStands, last_timer, slot_at, unused}
-use Rattle.ert_timers.specs.Passed.{HasFewerRows, GainsOne, LosesRows}
-use Rattle.ert_timers.specs.Restarting.{EndsAfter, HasLooked, HasSlotFor}
-use Rattle.ert_timers.specs.Starting.{TakesSlot}
-use Rattle.ert_timers.specs.declared.looking.Ahead.{Ahead}
-use Rattle.ert_timers.specs.declared.part.Use.{Use}
 use Rattle.ert_wheel.specs.Rows.{key_in}
-use Rattle.ert_table.specs.Ranges.{word_deadline}
 
 -- what a start was told by the look just before
 pub has_looked : (g : Settings) (v : View) (by : ℕ) (start : Start) (ahead : Option Ahead) (a : Ahead) (u : View) (w : ℕ) → ahead ≡ Some a

@@ -1,13 +1,9 @@
 -- What the rows of a part tell of the armed timers of its wheel.
 
 use Rattle.std.proofs.Common.{◌≡◌, ℕ, Option, Some, None, inl, inr, sym, ◌∙◌}
-use Rattle.ert_defs.specs.States.{State}
-use Rattle.ert_defs.specs.declared.settings.Settings.{Settings}
-use Rattle.ert_timers.specs.NextDue.{IsArmed, NoneArmedBefore, IsNearest, IsNextHeld}
-use Rattle.ert_timers.specs.Parts.{Part, FitsState, held_row}
-use Rattle.ert_timers.specs.Tidy.{IsTidy}
-use Rattle.ert_wheel.specs.Rows.{key_in}
-use Rattle.ert_wheel.specs.declared.row.Key.{Key}
+use Rattle.ert_defs.specs.{States.State, declared.settings.Settings.Settings}
+use Rattle.ert_timers.specs.{NextDue.{IsArmed, NoneArmedBefore, IsNearest, IsNextHeld}, Parts.{Part, FitsState, held_row}, Tidy.IsTidy}
+use Rattle.ert_wheel.specs.{Rows.key_in, declared.row.Key.Key}
 
 -- each armed timer is held
 pub none_armed_before : (g : Settings) (s : State) (p : Part) (answer : Option ℕ) → FitsState g s p

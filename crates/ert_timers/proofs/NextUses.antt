@@ -1,27 +1,13 @@
 -- The next use of a slot tells the deadline of its timer, and no timer before had its reference.
 
 use Rattle.std.proofs.Common.{◌≡◌, ◌≢◌, ℕ, ◌<◌, List, length, Some, option_map, refl, sym, ap, subst, ◌∙◌, get_or-set_same}
-use Rattle.std.proofs.lemmas.List.Elements.{All-get_or}
-use Rattle.std.proofs.lemmas.Option.{get_or_from_slice_get, slice_get_within}
+use Rattle.std.proofs.lemmas.{List.Elements.All-get_or, Option.{get_or_from_slice_get, slice_get_within}}
 use Rattle.std.specs.List.{slice_get}
-use Rattle.ert_defs.specs.Legal.{Legal}
-use Rattle.ert_defs.specs.Milliseconds.{natural, down, deadline_of}
-use Rattle.ert_defs.specs.States.{State, uses_at, state}
-use Rattle.ert_defs.specs.Timers.{Row, deadline_told, timer_at}
-use Rattle.ert_defs.proofs.Rows.{IsRow, rows_hold}
-use Rattle.ert_defs.proofs.Slots.{ordered}
-use Rattle.ert_defs.proofs.Uses.{IsBefore, Use as UseOf, CanUse, fresh, told_is}
-use Rattle.ert_defs.specs.declared.entry.Actor.TheVariants.{Caller}
-use Rattle.ert_defs.specs.declared.entry.Entry.{Entry}
-use Rattle.ert_defs.specs.declared.settings.Settings.{Settings}
-use Rattle.ert_defs.specs.declared.timer.Start.{Start}
-use Rattle.ert_defs.specs.declared.timer.TimerRef.{TimerRef}
+use Rattle.ert_defs.specs.{Legal.Legal, Milliseconds.{natural, down, deadline_of}, States.{State, uses_at, state}, Timers.{Row, deadline_told, timer_at}, declared.entry.Actor.TheVariants.Caller, declared.entry.Entry.Entry}
+use Rattle.ert_defs.specs.{declared.settings.Settings.Settings, declared.timer.Start.Start, declared.timer.TimerRef.TimerRef}
+use Rattle.ert_defs.proofs.{Rows.{IsRow, rows_hold}, Slots.ordered, Uses.{IsBefore, Use as UseOf, CanUse, fresh, told_is}}
 use Rattle.ert_table.proofs.ArmActs.{in_range_at}
-use Rattle.ert_timers.specs.Changes.{kept, slot_for}
-use Rattle.ert_timers.specs.Parts.{Part, slot_at, last_timer, unused}
-use Rattle.ert_timers.specs.Starting.{IsUseFor}
-use Rattle.ert_timers.specs.Slots.{Slot}
-use Rattle.ert_timers.specs.declared.part.Use.{Use}
+use Rattle.ert_timers.specs.{Changes.{kept, slot_for}, Parts.{Part, slot_at, last_timer, unused}, Starting.IsUseFor, Slots.Slot, declared.part.Use.Use}
 use Rattle.ert_table.specs.Ranges.{IsTimer}
 
 -- what the model takes of the next use of a slot

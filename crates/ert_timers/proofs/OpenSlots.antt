@@ -3,31 +3,13 @@
 use Rattle.std.proofs.Common.{◌≡◌, ℕ, ◌<◌, ◌≤◌, Bool, true, false, nat_lt, if◌then◌else◌, [], ◌∷◌, ◌++◌, length, Option, Some, None, refl, sym, ap, subst, ◌∙◌, arith}
 use Rattle.std.proofs.lemmas.Bool.Decides.{nat_tests}
 use Rattle.ert_table.proofs.Looks.{can_step}
-use Rattle.ert_defs.specs.Entries.{look_entry, probe_entry}
-use Rattle.ert_defs.specs.Legal.{Legal}
-use Rattle.ert_defs.specs.Milliseconds.{natural, down}
-use Rattle.ert_defs.specs.Settings.{IsChecked}
-use Rattle.ert_defs.specs.States.{state}
-use Rattle.ert_defs.specs.Timers.{is_taken}
-use Rattle.ert_defs.specs.declared.entry.Actor.{Actor}
-use Rattle.ert_defs.specs.declared.entry.Actor.TheVariants.{Caller}
-use Rattle.ert_defs.specs.declared.entry.Entry.{Entry}
-use Rattle.ert_defs.specs.declared.settings.Settings.{Settings}
-use Rattle.ert_defs.specs.declared.timer.Status.{Status}
-use Rattle.ert_effects.specs.RoomCalls.{with_slot}
-use Rattle.ert_effects.specs.declared.answers.Room.{Room}
+use Rattle.ert_defs.specs.{Entries.{look_entry, probe_entry}, Legal.Legal, Milliseconds.{natural, down}, Settings.IsChecked, States.state, Timers.is_taken, declared.entry.Actor.Actor, declared.entry.Actor.TheVariants.Caller}
+use Rattle.ert_defs.specs.{declared.entry.Entry.Entry, declared.settings.Settings.Settings, declared.timer.Status.Status}
+use Rattle.ert_effects.specs.{RoomCalls.with_slot, declared.answers.Room.Room}
 use Rattle.ert_laws.proofs.Since.{rounds_begun}
-use Rattle.ert_table.specs.Takes.{Appends}
-use Rattle.ert_table.specs.declared.view.View.{View}
-use Rattle.ert_timers.specs.Changes.{is_resting}
-use Rattle.ert_timers.specs.Looking.{LooksDown}
-use Rattle.ert_timers.specs.Parts.{HoldsCaller, Part, PartStands, slot_at}
-use Rattle.ert_timers.specs.Rooms.{FindsFree, SeesSlot, first_with}
-use Rattle.ert_timers.specs.Searching.{CanTake, HasOpenSlot}
-use Rattle.ert_timers.proofs.Lookings.{found_is}
-use Rattle.ert_timers.proofs.Resting.{later_awake, rested_by}
-use Rattle.ert_timers.proofs.Searched.{can_stays}
-use Rattle.ert_timers.proofs.Standing.{clock_at, clock_rises, clock_stepped, stands_step}
+use Rattle.ert_table.specs.{Takes.Appends, declared.view.View.View}
+use Rattle.ert_timers.specs.{Changes.is_resting, Looking.LooksDown, Parts.{HoldsCaller, Part, PartStands, slot_at}, Rooms.{FindsFree, SeesSlot, first_with}, Searching.{CanTake, HasOpenSlot}}
+use Rattle.ert_timers.proofs.{Lookings.found_is, Resting.{later_awake, rested_by}, Searched.can_stays, Standing.{clock_at, clock_rises, clock_stepped, stands_step}}
 
 -- the clock shows no earlier time than was looked at
 pub looked_past : (g : Settings) (v : View) (by : Actor) (now : ℕ) (u : View) → IsChecked g → LooksDown g v by now u → now ≤ clock_at g (state g u.front)

@@ -1,21 +1,12 @@
 -- The part of a new desk.
 
 use Rattle.std.proofs.Common.{◌≡◌, ℕ, ◌<◌, ◌≤◌, cond, nat_lt, List, [], length, replicate, count_by, Option, Some, None, refl, sym, ap, subst, ◌∙◌, arith, inl, inr}
-use Rattle.std.proofs.lemmas.Bool.{cases_lt, lt-ltb, ltb-true}
-use Rattle.std.proofs.lemmas.List.{get_or-replicate, length-replicate}
-use Rattle.std.proofs.Math.ListN.{get_or-eq_default}
-use Rattle.std.proofs.lemmas.List.Folds.{sum_by-replicate}
+use Rattle.std.proofs.{lemmas.Bool.{cases_lt, lt-ltb, ltb-true}, lemmas.List.{get_or-replicate, length-replicate}, Math.ListN.get_or-eq_default, lemmas.List.Folds.sum_by-replicate}
 use Rattle.std.specs.FinSet as sets
 use Rattle.std.specs.Option.{is_some}
-use Rattle.ert_defs.specs.Settings.{IsChecked}
-use Rattle.ert_defs.specs.declared.settings.Settings.{Settings}
-use Rattle.ert_timers.specs.Parts.{AreFieldsFit, Part, PartStands, slot_at, unused}
-use Rattle.ert_timers.specs.Slots.{Slot}
-use Rattle.ert_wheel.specs.Rings.{Rings, AreChains}
-use Rattle.ert_wheel.specs.Rows.{key_in}
-use Rattle.ert_wheel.specs.declared.row.Key.{Key}
-use Rattle.ert_timers.specs.Free.{FreeSet}
-use Rattle.ert_defs.specs.declared.settings.TheConstants.{MOST_SLOTS, MOST_PROCESSES}
+use Rattle.ert_defs.specs.{Settings.IsChecked, declared.settings.Settings.Settings, declared.settings.TheConstants.{MOST_SLOTS, MOST_PROCESSES}}
+use Rattle.ert_timers.specs.{Parts.{AreFieldsFit, Part, PartStands, slot_at, unused}, Slots.Slot, Free.FreeSet}
+use Rattle.ert_wheel.specs.{Rings.{Rings, AreChains}, Rows.key_in, declared.row.Key.Key}
 
 -- there is no key
 pub key_nowhere : (n k : ℕ) → key_in (replicate n None) k ≡ None

@@ -1,36 +1,16 @@
 -- A timer is cancelled for the exit of its destination.
 
 use Rattle.std.proofs.Common.{◌≡◌, ◌≢◌, ℕ, ◌+◌, ◌<◌, Bool, true, false, cond, ◌||◌, [], ◌∷◌, ◌++◌, Option, Some, None, inl, inr, refl, sym, ap, subst, ◌∙◌, arith, set}
-use Rattle.ert_defs.specs.Entries.{probe_entry, orphan_entry, mark_entry}
-use Rattle.ert_defs.specs.States.{State, state}
-use Rattle.ert_defs.specs.declared.entry.Actor.TheVariants.{Wheel, Caller}
-use Rattle.ert_defs.specs.declared.entry.Entry.{Entry}
-use Rattle.ert_defs.specs.declared.settings.Settings.{Settings}
-use Rattle.ert_defs.specs.declared.timer.Status.{Status}
-use Rattle.ert_defs.specs.declared.timer.Status.TheVariants.{Armed, Expired}
-use Rattle.ert_defs.specs.declared.timer.TimerRef.{TimerRef}
-use Rattle.ert_effects.specs.TimerCalls.{Closes}
-use Rattle.ert_effects.specs.WheelCalls.{orphans_by, IsSettled}
-use Rattle.ert_table.proofs.Looks.{can_step}
-use Rattle.ert_table.specs.Held.{is_held}
-use Rattle.ert_table.specs.Settlings.{Settles, hit_entry}
-use Rattle.ert_table.specs.Takes.{Appends, MayStep}
-use Rattle.ert_table.specs.declared.carry.Settle.TheVariants.{Orphan as ToOrphan}
-use Rattle.ert_table.specs.declared.view.View.{View}
-use Rattle.ert_table.proofs.Calls.{step_takes_place, takes_place_then}
-use Rattle.ert_table.proofs.Parts.{stepped}
-use Rattle.ert_timers.specs.Changes.{given_back}
+use Rattle.ert_defs.specs.{Entries.{probe_entry, orphan_entry, mark_entry}, States.{State, state}, declared.entry.Actor.TheVariants.{Wheel, Caller}, declared.entry.Entry.Entry, declared.settings.Settings.Settings}
+use Rattle.ert_defs.specs.{declared.timer.Status.Status, declared.timer.Status.TheVariants.{Armed, Expired}, declared.timer.TimerRef.TimerRef}
+use Rattle.ert_effects.specs.{TimerCalls.Closes, WheelCalls.{orphans_by, IsSettled}}
+use Rattle.ert_table.proofs.{Looks.can_step, Calls.{step_takes_place, takes_place_then}, Parts.stepped}
+use Rattle.ert_table.specs.{Held.is_held, Settlings.{Settles, hit_entry}, Takes.{Appends, MayStep}, declared.carry.Settle.TheVariants.Orphan as ToOrphan, declared.view.View.View}
+use Rattle.ert_timers.specs.{Changes.given_back, Parts.{HoldsCaller, Part, PartStands, slot_at, last_timer, held_row}, Starting.{HoldsTimer, Orphans, Ends}, Expiring.is_hit}
 use Rattle.ert_laws.specs.Counts.{is_expire, is_orphan}
-use Rattle.ert_timers.specs.Parts.{HoldsCaller, Part, PartStands, slot_at, last_timer, held_row}
-use Rattle.ert_timers.specs.Starting.{HoldsTimer, Orphans, Ends}
-use Rattle.ert_timers.specs.Expiring.{is_hit}
-use Rattle.ert_timers.proofs.Freed.{given_keeps}
-use Rattle.ert_timers.proofs.Later.{live_step, live_unexpired, unexpired_step}
-use Rattle.ert_timers.proofs.Passing.{loses_none, loses_row}
-use Rattle.ert_timers.proofs.Standing.{count_same, holds_back, takes_none, stands_step}
-use Rattle.ert_timers.proofs.Tried.{count_more, held_found, self, stands_gone, two_slots}
-use Rattle.ert_wheel.specs.Rows.{key_in}
-use Rattle.ert_wheel.specs.declared.row.Key.{Key}
+use Rattle.ert_timers.proofs.{Freed.given_keeps, Later.{live_step, live_unexpired, unexpired_step}, Passing.{loses_none, loses_row}, Standing.{count_same, holds_back, takes_none, stands_step}, Tried.{count_more, held_found, self}}
+use Rattle.ert_timers.proofs.{Tried.{stands_gone, two_slots}}
+use Rattle.ert_wheel.specs.{Rows.key_in, declared.row.Key.Key}
 use Rattle.ert_wheel.proofs.Looking.{key_low}
 
 -- the part once the slot of a timer that takes it no more is held free

@@ -2,18 +2,11 @@
 
 use Rattle.std.proofs.Common.{◌≡◌, ◌≢◌, ℕ, zero, suc, ◌+◌, ◌^◌, ◌<◌, ◌≤◌, ◌↔◌, Bool, cond, nat_eq, List, length, Option, Some, None, option_map, refl, sym, ap, subst, ◌∙◌, arith, inl, inr}
 use Rattle.std.proofs.lemmas.Bool.{cases_eq, eq-eqb, ne_eqb}
-use Rattle.std.specs.Bool.{IsTrue}
-use Rattle.std.specs.Option.{IsSome}
+use Rattle.std.specs.{Bool.IsTrue, Option.IsSome}
 use Rattle.ert_timers.specs.Owners.{MayJoin, Joins, Thinned, IsIn, FindsRow}
-use Rattle.ert_wheel.proofs.Looking.{told_alone}
-use Rattle.ert_wheel.proofs.Parts.{IsSlot, slot_is, with_place_here, with_place_there, kept_place}
-use Rattle.ert_wheel.specs.Chained.{Shape}
-use Rattle.ert_wheel.specs.Links.{next_at}
-use Rattle.ert_wheel.specs.Rings.{Rings, Place, AreChains, StandsIn, Finds, MayTake, GivesUpPlace, MayPut, Puts, shape, with_place}
-use Rattle.ert_wheel.specs.Rows.{key_in, row_at, row_told, told_at}
-use Rattle.ert_wheel.specs.declared.row.Key.{Key}
-use Rattle.ert_wheel.specs.declared.row.HeldRow.{HeldRow}
-use Rattle.ert_wheel.specs.declared.row.Row.{Row}
+use Rattle.ert_wheel.proofs.{Looking.told_alone, Parts.{IsSlot, slot_is, with_place_here, with_place_there, kept_place}}
+use Rattle.ert_wheel.specs.{Chained.Shape, Links.next_at, Rings.{Rings, Place, AreChains, StandsIn, Finds, MayTake, GivesUpPlace, MayPut, Puts, shape, with_place}, Rows.{key_in, row_at, row_told, told_at}, declared.row.Key.Key}
+use Rattle.ert_wheel.specs.{declared.row.HeldRow.HeldRow, declared.row.Row.Row}
 
 -- how many slots aren't alone
 unfoldable pub linked_below : (ℕ → ℕ) → ℕ → ℕ

@@ -3,19 +3,12 @@
 use Rattle.std.proofs.Common.{◌≡◌, ◌≢◌, ℕ, zero, suc, ◌<◌, ◌≤◌, cond, count_by, List, [], ◌∷◌, ◌++◌, length, Option, Some, None, IfSome, refl, sym, ap, subst, ◌∙◌, set, inl, arith, get_or-set_other}
 use Rattle.std.proofs.lemmas.List.Sums.{sum_by-cons}
 use Rattle.std.specs.Option.{is_some}
-use Rattle.ert_defs.specs.Timers.{Row}
-use Rattle.ert_defs.specs.declared.timer.TimerRef.{TimerRef}
+use Rattle.ert_defs.specs.{Timers.Row, declared.timer.TimerRef.TimerRef}
 use Rattle.ert_effects.specs.WheelCalls.{Try, AllDue, AreOnce, IsDueBy, IsUntried}
-use Rattle.ert_timers.specs.Parts.{Part, last_timer}
-use Rattle.ert_timers.specs.Freeing.{IsHeld}
-use Rattle.ert_timers.specs.Frees.{KeepsFree}
-use Rattle.ert_timers.specs.Passed.{HasFewerRows, HasPassed, HoldsEach, HoldsNone, LosesRows}
+use Rattle.ert_timers.specs.{Parts.{Part, last_timer}, Freeing.IsHeld, Frees.KeepsFree, Passed.{HasFewerRows, HasPassed, HoldsEach, HoldsNone, LosesRows}}
 use Rattle.ert_timers.proofs.Rows.{key_left}
-use Rattle.ert_wheel.proofs.Looking.{key_low}
-use Rattle.ert_wheel.specs.Rows.{key_in}
-use Rattle.ert_wheel.specs.declared.row.Key.{Key}
-use Rattle.ert_wheel.proofs.StandsOn.{stay_all, stay_then}
-use Rattle.ert_wheel.specs.Standing.{bucket_in}
+use Rattle.ert_wheel.proofs.{Looking.key_low, StandsOn.{stay_all, stay_then}}
+use Rattle.ert_wheel.specs.{Rows.key_in, declared.row.Key.Key, Standing.bucket_in}
 
 pub loses_none : (p : Part) → LosesRows p p
 loses_none p = record { number = refl; slots = refl; left = λ k key is. is; time = omega arith; frees = λ k was. was; stands = stay_all p.keys p.passed p.stands }

@@ -4,39 +4,17 @@ use Rattle.std.proofs.Common.{◌≡◌, ◌≢◌, ℕ, ◌+◌, ◌<◌, ◌�
 use Rattle.std.proofs.lemmas.Bool.{cases_eq}
 use Rattle.std.specs.Option.{is_some}
 use Rattle.std.specs.Prelude.{MatchBool}
-use Rattle.ert_defs.specs.Entries.{probe_entry}
-use Rattle.ert_defs.specs.Laws.{is_armed}
-use Rattle.ert_defs.specs.States.{State, state}
-use Rattle.ert_defs.specs.declared.entry.Actor.TheVariants.{Sched, Wheel}
-use Rattle.ert_defs.specs.declared.entry.Entry.{Entry}
-use Rattle.ert_defs.specs.declared.settings.Settings.{Settings}
-use Rattle.ert_defs.specs.declared.timer.Status.{Status}
-use Rattle.ert_defs.specs.declared.timer.Status.TheVariants.{Armed}
+use Rattle.ert_defs.specs.{Entries.probe_entry, Laws.is_armed, States.{State, state}, declared.entry.Actor.TheVariants.{Sched, Wheel}, declared.entry.Entry.Entry, declared.settings.Settings.Settings, declared.timer.Status.Status}
+use Rattle.ert_defs.specs.{declared.timer.Status.TheVariants.Armed}
 use Rattle.ert_effects.specs.Sleeping.{Probed, probed_entries, ProbesInOrder, AreSettledButLast, FindsArmed, settled_of}
 use Rattle.ert_table.proofs.Calls.{step_takes_place, takes_place_then}
-use Rattle.ert_table.specs.Held.{is_held}
-use Rattle.ert_table.specs.Settlings.{ShownWord}
-use Rattle.ert_table.specs.Takes.{Appends, TakesPlace}
-use Rattle.ert_table.specs.declared.view.View.{View}
-use Rattle.ert_timers.proofs.Dropped.{armed_is, told_none, told_some}
-use Rattle.ert_timers.proofs.Freed.{frees_given, frees_none, frees_then, given_keeps}
-use Rattle.ert_timers.proofs.Lookings.{found_is, status_is}
-use Rattle.ert_timers.proofs.Passing.{loses_none, loses_row, loses_then}
-use Rattle.ert_timers.proofs.Rows.{key_left}
-use Rattle.ert_timers.proofs.Standing.{stands_step}
-use Rattle.ert_timers.specs.Asking.{AsksOn, IsFoundWithin}
-use Rattle.ert_timers.specs.Changes.{given_back}
-use Rattle.ert_timers.specs.NextDue.{IsArmed, IsNearest, IsNextHeld}
-use Rattle.ert_timers.specs.Parts.{FitsState, HoldsSched, Part, PartStands, held_row, last_timer}
-use Rattle.ert_timers.specs.Passed.{LosesRows}
-use Rattle.ert_timers.specs.Sleeping.{AreSettled, AsksNext, DropsNext, HasLost, IsFoundNext, ProbesRow, ProbesRows, ProbesSome}
-use Rattle.ert_timers.specs.Starting.{status_shown}
-use Rattle.ert_wheel.proofs.Looking.{key_low}
-use Rattle.ert_wheel.proofs.Views.{counts_less}
-use Rattle.ert_wheel.specs.NextDue.{TellsNext}
-use Rattle.ert_wheel.specs.Rows.{key_in, told_at}
-use Rattle.ert_wheel.specs.declared.row.HeldRow.{HeldRow}
-use Rattle.ert_wheel.specs.declared.row.Key.{Key}
+use Rattle.ert_table.specs.{Held.is_held, Settlings.ShownWord, Takes.{Appends, TakesPlace}, declared.view.View.View}
+use Rattle.ert_timers.proofs.{Dropped.{armed_is, told_none, told_some}, Freed.{frees_given, frees_none, frees_then, given_keeps}, Lookings.{found_is, status_is}, Passing.{loses_none, loses_row, loses_then}, Rows.key_left}
+use Rattle.ert_timers.proofs.{Standing.stands_step}
+use Rattle.ert_timers.specs.{Asking.{AsksOn, IsFoundWithin}, Changes.given_back, NextDue.{IsArmed, IsNearest, IsNextHeld}, Parts.{FitsState, HoldsSched, Part, PartStands, held_row, last_timer}, Passed.LosesRows, Sleeping.AreSettled}
+use Rattle.ert_timers.specs.{Sleeping.{AsksNext, DropsNext, HasLost, IsFoundNext, ProbesRow, ProbesRows, ProbesSome}, Starting.status_shown}
+use Rattle.ert_wheel.proofs.{Looking.key_low, Views.counts_less}
+use Rattle.ert_wheel.specs.{NextDue.TellsNext, Rows.{key_in, told_at}, declared.row.HeldRow.HeldRow, declared.row.Key.Key}
 
 -- what a load of a slot found, by its scheduler
 pub probed_is : (g : Settings) (v : View) (w w' k : ℕ) (shown : Option ShownWord) (u : View) → w' ≡ w

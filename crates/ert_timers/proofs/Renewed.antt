@@ -2,65 +2,23 @@
 
 use Rattle.std.proofs.Common.{◌≡◌, ◌≢◌, ℕ, suc, ◌<◌, ◌≤◌, ℤ, Bool, true, false, cond, nat_lt, List, [], ◌∷◌, ◌++◌, length, Option, Some, None, Result, Ok, Err, inl, inr, refl, sym, ap, subst, ◌∙◌, arith}
 use Rattle.std.specs.FinSet as sets
-use Rattle.std.specs.List.{slice_get}
-use Rattle.std.specs.Option.{IsSome}
-use Rattle.ert_table.proofs.Looks.{look_stepped}
-use Rattle.ert_defs.proofs.Slots.{ordered}
-use Rattle.ert_defs.specs.Entries.{arm_entry, cancel_entry, mark_entry, peek_entry}
-use Rattle.ert_defs.specs.Legal.{IsSlot}
-use Rattle.ert_defs.specs.Milliseconds.{natural, down, deadline_of, left}
-use Rattle.ert_defs.specs.States.{State, state, uses_at}
-use Rattle.ert_defs.specs.Timers.{IsNextUse, Row, Uses, deadline_in, row_of, same_timer, is_taken, settled_as, timer_at, turned, use_of}
-use Rattle.ert_defs.proofs.ExpiredTimers.{same_timer_self}
-use Rattle.ert_defs.specs.declared.entry.Actor.TheVariants.{Caller, Wheel}
-use Rattle.ert_defs.specs.declared.entry.Entry.{Entry}
-use Rattle.ert_defs.specs.declared.settings.Settings.{Settings}
-use Rattle.ert_defs.specs.declared.timer.Start.{Start}
-use Rattle.ert_defs.specs.declared.timer.Status.{Status}
-use Rattle.ert_defs.specs.declared.timer.Status.TheVariants.{Armed, Cancelled}
-use Rattle.ert_defs.specs.declared.timer.TimerRef.{TimerRef}
-use Rattle.ert_effects.specs.RestartCalls.{RestartEnds, missed_entries}
-use Rattle.ert_effects.specs.declared.answers.RestartErr.{RestartErr}
-use Rattle.ert_effects.specs.declared.answers.RestartErr.TheVariants.{NotArmed}
+use Rattle.std.specs.{List.slice_get, Option.IsSome}
+use Rattle.ert_table.proofs.{Looks.look_stepped, Calls.{step_takes_place, takes_place_then}, Makings.two_steps, OneStep.one_step, Parts.stepped}
+use Rattle.ert_defs.proofs.{Slots.ordered, ExpiredTimers.{same_timer_self, row_named}}
+use Rattle.ert_defs.specs.{Entries.{arm_entry, cancel_entry, mark_entry, peek_entry}, Legal.IsSlot, Milliseconds.{natural, down, deadline_of, left}, States.{State, state, uses_at, look_after}, Timers.{IsNextUse, Row, Uses, deadline_in}}
+use Rattle.ert_defs.specs.{Timers.{row_of, same_timer, is_taken, settled_as, timer_at, turned, use_of}, declared.entry.Actor.TheVariants.{Caller, Wheel}, declared.entry.Entry.Entry, declared.settings.Settings.Settings}
+use Rattle.ert_defs.specs.{declared.timer.Start.Start, declared.timer.Status.Status, declared.timer.Status.TheVariants.{Armed, Cancelled}, declared.timer.TimerRef.TimerRef}
+use Rattle.ert_effects.specs.{RestartCalls.{RestartEnds, missed_entries}, declared.answers.RestartErr.RestartErr, declared.answers.RestartErr.TheVariants.NotArmed, declared.answers.StartErr.StartErr}
 use Rattle.ert_laws.proofs.Since.{rounds_begun}
-use Rattle.ert_table.specs.Calls.{AppendsAll, IsMade}
-use Rattle.ert_table.specs.Renewals.{IsWordOf, MayRenew, PeeksWord, renewal}
-use Rattle.ert_table.specs.Settlings.{HasRow}
-use Rattle.ert_table.specs.Takes.{Appends, TakesPlace}
-use Rattle.ert_table.specs.declared.renew_steps.ArmedWord.{ArmedWord}
-use Rattle.ert_table.specs.declared.view.View.{View}
-use Rattle.ert_table.proofs.Calls.{step_takes_place, takes_place_then}
-use Rattle.ert_table.proofs.Makings.{two_steps}
-use Rattle.ert_table.proofs.OneStep.{one_step}
-use Rattle.ert_table.proofs.Parts.{stepped}
-use Rattle.ert_timers.proofs.Anew.{free_again, kept_again, stands_again}
-use Rattle.ert_timers.proofs.Armings.{arms}
-use Rattle.ert_timers.proofs.Later.{later_step}
-use Rattle.ert_timers.proofs.NextUses.{new_generation, old_apart, use_of as use_of_model}
-use Rattle.ert_timers.proofs.Rows.{key_left}
+use Rattle.ert_table.specs.{Calls.{AppendsAll, IsMade}, Renewals.{IsWordOf, MayRenew, PeeksWord, renewal}, Settlings.HasRow, Takes.{Appends, TakesPlace}, declared.renew_steps.ArmedWord.ArmedWord, declared.view.View.View, Held.is_held}
+use Rattle.ert_table.specs.{Ranges.word_deadline}
+use Rattle.ert_timers.proofs.{Anew.{free_again, kept_again, stands_again}, Armings.arms, Later.later_step, NextUses.{new_generation, old_apart, use_of as use_of_model}, Rows.key_left, Orphaned.still_caller, Passing.{fewer_last, same_last}}
+use Rattle.ert_timers.proofs.{Resting.{next_is, rested_by, used_less}, Settled.taken_last, Standing.stands_step}
 use Rattle.ert_wheel.proofs.Looking.{key_low}
 use Rattle.ert_laws.specs.Counts.{is_arm}
-use Rattle.ert_defs.specs.States.{look_after}
-use Rattle.ert_table.specs.Held.{is_held}
-use Rattle.ert_defs.proofs.ExpiredTimers.{row_named}
-use Rattle.ert_effects.specs.declared.answers.StartErr.{StartErr}
-use Rattle.ert_timers.proofs.Orphaned.{still_caller}
-use Rattle.ert_timers.proofs.Passing.{fewer_last, same_last}
-use Rattle.ert_timers.proofs.Resting.{next_is, rested_by, used_less}
-use Rattle.ert_timers.proofs.Settled.{taken_last}
-use Rattle.ert_timers.proofs.Standing.{stands_step}
-use Rattle.ert_timers.specs.Changes.{dropped, has_uses, kept, next_use}
-use Rattle.ert_timers.specs.Freeing.{IsHeld, IsLast}
-use Rattle.ert_timers.specs.Looking.{now_in}
-use Rattle.ert_timers.specs.Parts.{HoldsCaller, Part, PartStands, last_timer, slot_at}
-use Rattle.ert_timers.specs.Passed.{HasFewerRows, GainsOne, LosesRows}
-use Rattle.ert_timers.specs.Restarting.{CanRenew, HasLooked, MayStay}
-use Rattle.ert_timers.specs.Starting.{Arms, Ends, IsUseFor}
-use Rattle.ert_timers.specs.declared.looking.Ahead.{Ahead}
-use Rattle.ert_timers.specs.declared.part.Use.{Use}
-use Rattle.ert_wheel.specs.Rows.{key_in}
-use Rattle.ert_wheel.specs.declared.row.Key.{Key}
-use Rattle.ert_table.specs.Ranges.{word_deadline}
+use Rattle.ert_timers.specs.{Changes.{dropped, has_uses, kept, next_use}, Freeing.{IsHeld, IsLast}, Looking.now_in, Parts.{HoldsCaller, Part, PartStands, last_timer, slot_at}, Passed.{HasFewerRows, GainsOne, LosesRows}, Restarting.CanRenew}
+use Rattle.ert_timers.specs.{Restarting.{HasLooked, MayStay}, Starting.{Arms, Ends, IsUseFor}, declared.looking.Ahead.Ahead, declared.part.Use.Use}
+use Rattle.ert_wheel.specs.{Rows.key_in, declared.row.Key.Key}
 
 -- a peek, by a caller
 pub peek_calm : (g : Settings) (v : View) (by : ℕ) (timer : TimerRef) (found : Option ℕ) (u : View) (p : Part) → PartStands g v.front p

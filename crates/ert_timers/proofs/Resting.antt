@@ -2,12 +2,9 @@
 
 use Rattle.std.proofs.Common.{◌≡◌, ℕ, zero, suc, ◌+◌, ◌*◌, ◌<◌, ◌≤◌, Bool, true, false, cond, not, ◌&&◌, nat_lt, max, refl, sym, ap, subst, ◌∙◌, inl, inr, arith}
 use Rattle.std.proofs.lemmas.Bool.Decides.{nat_tests}
-use Rattle.ert_defs.specs.States.{State, uses_at}
-use Rattle.ert_defs.specs.Timers.{Uses, IsNextUse, deadline_in, generation_in, turned, use_of}
+use Rattle.ert_defs.specs.{States.{State, uses_at}, Timers.{Uses, IsNextUse, deadline_in, generation_in, turned, use_of}}
 use Rattle.ert_defs.proofs.Uses.{IsSound, turn_cases, use_low}
-use Rattle.ert_timers.specs.Changes.{is_resting, has_uses, next_use}
-use Rattle.ert_timers.specs.Slots.{Slot}
-use Rattle.ert_timers.specs.declared.part.Use.{Use}
+use Rattle.ert_timers.specs.{Changes.{is_resting, has_uses, next_use}, Slots.Slot, declared.part.Use.Use}
 
 -- whether uses rest at a time
 abbrev rest_at : Uses → ℕ → Bool

@@ -2,33 +2,15 @@
 
 use Rattle.std.proofs.Common.{◌≡◌, ℕ, zero, suc, ◌+◌, ◌<◌, ◌≤◌, Bool, true, false, nat_lt, List, [], ◌∷◌, ◌++◌, length, Option, refl, sym, ap, subst, ◌∙◌, arith, length-append}
 use Rattle.std.proofs.lemmas.Bool.Decides.{nat_tests}
-use Rattle.ert_defs.specs.Entries.{look_entry, probe_entry}
-use Rattle.ert_defs.specs.Legal.{Legal}
-use Rattle.ert_defs.specs.Milliseconds.{natural, down}
-use Rattle.ert_defs.specs.States.{State, uses_at, opening, state}
-use Rattle.ert_defs.specs.Timers.{turned, is_taken}
+use Rattle.ert_defs.specs.{Entries.{look_entry, probe_entry}, Legal.Legal, Milliseconds.{natural, down}, States.{State, uses_at, opening, state}, Timers.{turned, is_taken}, declared.entry.Actor.TheVariants.Caller}
+use Rattle.ert_defs.specs.{declared.entry.Entry.Entry, declared.settings.Settings.Settings, declared.timer.Status.Status}
 use Rattle.ert_defs.proofs.Runs.{legal_first}
-use Rattle.ert_defs.specs.declared.entry.Actor.TheVariants.{Caller}
-use Rattle.ert_defs.specs.declared.entry.Entry.{Entry}
-use Rattle.ert_defs.specs.declared.settings.Settings.{Settings}
-use Rattle.ert_defs.specs.declared.timer.Status.{Status}
-use Rattle.ert_effects.specs.RoomCalls.{ShowsRoom, TellsRoom, no_room, room_with, with_slot, with_found}
-use Rattle.ert_effects.specs.declared.answers.Room.{Room}
-use Rattle.ert_table.proofs.Looks.{can_step}
+use Rattle.ert_effects.specs.{RoomCalls.{ShowsRoom, TellsRoom, no_room, room_with, with_slot, with_found}, declared.answers.Room.Room}
+use Rattle.ert_table.proofs.{Looks.can_step, Calls.{step_takes_place, takes_place_then}}
 use Rattle.ert_laws.proofs.Since.{rounds_begun}
-use Rattle.ert_table.specs.Calls.{IsMade}
-use Rattle.ert_table.specs.Takes.{Appends, TakesPlace}
-use Rattle.ert_table.specs.declared.view.View.{View}
-use Rattle.ert_table.proofs.Calls.{step_takes_place, takes_place_then}
-use Rattle.ert_timers.specs.Changes.{is_resting}
-use Rattle.ert_timers.specs.Looking.{LooksDown}
-use Rattle.ert_timers.specs.Parts.{HoldsCaller, Part, PartStands, slot_at}
-use Rattle.ert_timers.specs.Rooms.{SeesSlot, SeesSome, SeesAll, room_after}
-use Rattle.ert_timers.specs.Starting.{probes_from}
-use Rattle.ert_timers.specs.Slots.{Slot}
-use Rattle.ert_timers.proofs.Rounds.{probes-push}
-use Rattle.ert_timers.proofs.Resting.{rested_by, resting_since}
-use Rattle.ert_timers.proofs.Standing.{clock_at, clock_rises, stands_step}
+use Rattle.ert_table.specs.{Calls.IsMade, Takes.{Appends, TakesPlace}, declared.view.View.View}
+use Rattle.ert_timers.specs.{Changes.is_resting, Looking.LooksDown, Parts.{HoldsCaller, Part, PartStands, slot_at}, Rooms.{SeesSlot, SeesSome, SeesAll, room_after}, Starting.probes_from, Slots.Slot}
+use Rattle.ert_timers.proofs.{Rounds.probes-push, Resting.{rested_by, resting_since}, Standing.{clock_at, clock_rises, stands_step}}
 
 -- what a slot is found to be by what is kept of it is what the model says
 found_by : (s : State) (w k now : ℕ) (slot : Slot) (found : Option Status) (room : Room) → slot.generation ≡ s.last w k → slot.above ≡ s.above w k

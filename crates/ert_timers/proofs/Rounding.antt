@@ -1,13 +1,10 @@
 -- A deadline so many milliseconds behind a time, by one comparison.
 
 use Rattle.std.proofs.Common.{◌≡◌, ℕ, ◌+◌, ◌-◌, ◌<◌, ◌≤◌, Some, None, FitsSigned, w64, refl, sym, ap, ◌∙◌, arith}
-use Rattle.std.proofs.lemmas.Bool.{le-leb, lt-leb}
-use Rattle.std.proofs.lemmas.Int.{ints}
+use Rattle.std.proofs.lemmas.{Bool.{le-leb, lt-leb}, Int.ints}
 use Rattle.std.specs.Int.{cast_unsigned}
 use Rattle.std.specs.Prelude.{ℤ, pos, negsuc, ◌+ℤ◌}
-use Rattle.ert_defs.specs.Milliseconds.{up, deadline_at, deadline_when}
-use Rattle.ert_defs.specs.declared.timer.When.TheVariants.{After}
-use Rattle.ert_defs.specs.declared.settings.Settings.{Settings}
+use Rattle.ert_defs.specs.{Milliseconds.{up, deadline_at, deadline_when}, declared.timer.When.TheVariants.After, declared.settings.Settings.Settings}
 
 -- a wait that isn't above what is left leads to its deadline
 pub within : (g : Settings) (time : ℤ) (n later : ℕ) (wait : ℤ) → later ≡ cast_unsigned w64 wait → FitsSigned w64 wait → n ≤ 8796093022207

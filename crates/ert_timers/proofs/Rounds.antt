@@ -3,27 +3,14 @@
 use Rattle.std.proofs.Common.{◌≡◌, ◌≢◌, ◌⊎◌, ℕ, suc, ◌+◌, ◌<◌, ◌≤◌, min, true, false, List, [], ◌∷◌, ◌++◌, length, Option, inl, inr, refl, sym, ap, subst, ◌∙◌, arith, append-nil, length-append}
 use Rattle.std.proofs.lemmas.Bool.{cases_eq}
 use Rattle.std.specs.FinSet as sets
-use Rattle.ert_defs.specs.Entries.{probe_entry}
-use Rattle.ert_defs.specs.Legal.{Legal}
-use Rattle.ert_defs.specs.Settings.{IsChecked}
-use Rattle.ert_defs.specs.States.{state}
-use Rattle.ert_defs.specs.Timers.{is_taken}
-use Rattle.ert_defs.specs.declared.entry.Actor.TheVariants.{Caller}
-use Rattle.ert_defs.specs.declared.entry.Entry.{Entry}
-use Rattle.ert_defs.specs.declared.settings.Settings.{Settings}
-use Rattle.ert_defs.specs.declared.timer.Status.{Status}
-use Rattle.ert_table.proofs.Looks.{look_stepped}
+use Rattle.ert_defs.specs.{Entries.probe_entry, Legal.Legal, Settings.IsChecked, States.state, Timers.is_taken, declared.entry.Actor.TheVariants.Caller, declared.entry.Entry.Entry, declared.settings.Settings.Settings}
+use Rattle.ert_defs.specs.{declared.timer.Status.Status}
+use Rattle.ert_table.proofs.{Looks.look_stepped, Calls.{step_takes_place, takes_place_then}}
 use Rattle.ert_effects.proofs.Told.{probes-append}
 use Rattle.ert_effects.specs.TimerCalls.{AreProbes, IsInRound, Round}
-use Rattle.ert_table.specs.Takes.{Appends, TakesPlace}
-use Rattle.ert_table.specs.declared.view.View.{View}
-use Rattle.ert_table.proofs.Calls.{step_takes_place, takes_place_then}
-use Rattle.ert_timers.specs.Changes.{is_resting}
-use Rattle.ert_timers.specs.Parts.{HoldsCaller, Part, PartStands, last_timer, slot_at}
-use Rattle.ert_timers.specs.Passed.{LosesRows}
-use Rattle.ert_timers.specs.Starting.{IsUntaken, LooksAt, LooksAtSome, FindsRound, LooksAround, AreFull, round_end, probes_from}
-use Rattle.ert_timers.proofs.Standing.{clock_at, clock_rises}
-use Rattle.ert_timers.proofs.Passing.{loses_none, loses_then}
+use Rattle.ert_table.specs.{Takes.{Appends, TakesPlace}, declared.view.View.View}
+use Rattle.ert_timers.specs.{Changes.is_resting, Parts.{HoldsCaller, Part, PartStands, last_timer, slot_at}, Passed.LosesRows, Starting.{IsUntaken, LooksAt, LooksAtSome, FindsRound, LooksAround, AreFull, round_end, probes_from}}
+use Rattle.ert_timers.proofs.{Standing.{clock_at, clock_rises}, Passing.{loses_none, loses_then}}
 
 -- nothing was looked at yet
 pub looks_none : (g : Settings) (v : View) (by now : ℕ) (p : Part) (from : ℕ) → PartStands g v.front p → LooksAtSome g v by now p p from from v

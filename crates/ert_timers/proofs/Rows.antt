@@ -1,21 +1,13 @@
 -- The rows that a part holds, while the state goes on and rows go.
 
 use Rattle.std.proofs.Common.{◌≡◌, ◌≢◌, ℕ, ◌<◌, List, length, Option, Some, None, sym, ap, ◌∙◌, get_or, set, get_or-set_same, get_or-set_other}
-use Rattle.std.proofs.lemmas.List.Elements.{All-get_or}
-use Rattle.std.proofs.lemmas.Option.{get_or_from_slice_get, slice_get_within}
+use Rattle.std.proofs.lemmas.{List.Elements.All-get_or, Option.{get_or_from_slice_get, slice_get_within}}
 use Rattle.std.specs.List.{slice_get}
-use Rattle.ert_defs.specs.Legal.{Legal}
-use Rattle.ert_defs.specs.States.{State, uses_at, state}
-use Rattle.ert_defs.specs.Timers.{Row}
+use Rattle.ert_defs.specs.{Legal.Legal, States.{State, uses_at, state}, Timers.Row, declared.entry.Entry.Entry, declared.settings.Settings.Settings, declared.timer.Status.TheVariants.Armed}
 use Rattle.ert_defs.proofs.Rows.{IsRow, rows_hold}
-use Rattle.ert_defs.specs.declared.entry.Entry.{Entry}
-use Rattle.ert_defs.specs.declared.settings.Settings.{Settings}
-use Rattle.ert_defs.specs.declared.timer.Status.TheVariants.{Armed}
-use Rattle.ert_timers.specs.Parts.{IsLive, HoldsRows, last_timer, held_row}
-use Rattle.ert_timers.specs.Slots.{Slot}
+use Rattle.ert_timers.specs.{Parts.{IsLive, HoldsRows, last_timer, held_row}, Slots.Slot}
 use Rattle.ert_timers.proofs.Later.{IsLater}
-use Rattle.ert_wheel.specs.Rows.{key_in}
-use Rattle.ert_wheel.specs.declared.row.Key.{Key}
+use Rattle.ert_wheel.specs.{Rows.key_in, declared.row.Key.Key}
 
 -- a key that stays when the row of another slot goes
 pub key_left : (keys : List (Option Key)) (k j : ℕ) (key : Key) → k < length keys → key_in (set keys k None) j ≡ Some key

@@ -3,32 +3,13 @@
 use Rattle.std.proofs.Common.{◌≡◌, ℕ, ◌+◌, ◌-◌, ◌<◌, ◌≤◌, Bool, true, false, cond, List, [], ◌∷◌, ◌++◌, length, Some, None, Result, Ok, Err, inl, inr, refl, sym, ap, subst, ◌∙◌, arith, length-append}
 use Rattle.ert_effects.proofs.Advanced.{IsAdvance, advance_is}
 use Rattle.ert_effects.specs.WheelCalls.{Advances, Try, expires_by, expiry_entries}
-use Rattle.ert_defs.specs.Entries.{look_entry}
-use Rattle.ert_defs.specs.Legal.{Legal}
-use Rattle.ert_defs.specs.Mails.{SchedState, sched_after}
-use Rattle.ert_defs.specs.States.{State, next, run, state}
-use Rattle.ert_defs.specs.Timers.{Row}
-use Rattle.ert_defs.specs.declared.entry.Actor.TheVariants.{Sched}
-use Rattle.ert_defs.specs.declared.entry.Entry.{Entry}
-use Rattle.ert_defs.specs.declared.entry.Event.{Event}
-use Rattle.ert_defs.specs.declared.entry.Event.TheVariants.{Pick, Answer}
-use Rattle.ert_defs.specs.declared.memory.NoMemory.{NoMemory}
-use Rattle.ert_defs.specs.declared.settings.Settings.{Settings}
+use Rattle.ert_defs.specs.{Entries.look_entry, Legal.Legal, Mails.{SchedState, sched_after}, States.{State, next, run, state}, Timers.Row, declared.entry.Actor.TheVariants.Sched, declared.entry.Entry.Entry, declared.entry.Event.Event}
+use Rattle.ert_defs.specs.{declared.entry.Event.TheVariants.{Pick, Answer}, declared.memory.NoMemory.NoMemory, declared.settings.Settings.Settings, declared.settings.TheConstants.MOST_SLOTS, Actors.{has_actor, of}}
 use Rattle.ert_laws.proofs.Few.{expired_few}
-use Rattle.ert_table.specs.Calls.{IsMade}
-use Rattle.ert_table.specs.Held.{is_held}
-use Rattle.ert_table.specs.Takes.{TakesPlace}
-use Rattle.ert_table.specs.declared.view.View.{View}
-use Rattle.ert_timers.specs.Expiring.{HasExpired}
-use Rattle.ert_timers.specs.Trying.{expired_after}
-use Rattle.ert_timers.specs.ExpiredLists.{Queue}
-use Rattle.ert_defs.specs.declared.settings.TheConstants.{MOST_SLOTS}
+use Rattle.ert_table.specs.{Calls.IsMade, Held.is_held, Takes.TakesPlace, declared.view.View.View, Views.Begins}
+use Rattle.ert_timers.specs.{Expiring.HasExpired, Trying.expired_after, ExpiredLists.Queue, SchedParts.SchedStands, declared.sched_part.SchedPart.SchedPart}
 use Rattle.ert_defs.proofs.Runs.{state-append, sched_stays}
-use Rattle.ert_defs.specs.Actors.{has_actor, of}
 use Rattle.ert_table.proofs.Parts.{free_later, own_after, sched_own, AreByThemselves}
-use Rattle.ert_table.specs.Views.{Begins}
-use Rattle.ert_timers.specs.SchedParts.{SchedStands}
-use Rattle.ert_timers.specs.declared.sched_part.SchedPart.{SchedPart}
 
 -- for a longer history, in which the scheduler has no more entries
 pub sched_on : (g : Settings) (f h : List Entry) (p : SchedPart) → Begins f h → of h (Sched p.wheel) ≡ of f (Sched p.wheel) → SchedStands g f p

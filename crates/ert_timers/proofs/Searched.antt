@@ -2,27 +2,11 @@
 
 use Rattle.std.proofs.Common.{◌≡◌, ◌≢◌, ℕ, ◌<◌, ◌≤◌, true, false, Option, None, Some, inl, inr, refl, arith}
 use Rattle.std.proofs.lemmas.Bool.{cases_Bool}
-use Rattle.ert_defs.specs.Entries.{look_entry}
-use Rattle.ert_defs.specs.States.{uses_at, state}
-use Rattle.ert_defs.specs.Timers.{turned}
-use Rattle.ert_defs.specs.declared.entry.Actor.TheVariants.{Wheel, Caller}
-use Rattle.ert_defs.specs.declared.entry.Entry.{Entry}
-use Rattle.ert_defs.specs.declared.settings.Settings.{Settings}
-use Rattle.ert_defs.specs.declared.timer.Start.{Start}
+use Rattle.ert_defs.specs.{Entries.look_entry, States.{uses_at, state}, Timers.turned, declared.entry.Actor.TheVariants.{Wheel, Caller}, declared.entry.Entry.Entry, declared.settings.Settings.Settings, declared.timer.Start.Start}
 use Rattle.ert_laws.specs.Counts.{is_arm}
-use Rattle.ert_table.specs.Held.{is_held}
-use Rattle.ert_table.specs.Takes.{Appends}
-use Rattle.ert_table.specs.declared.view.View.{View}
-use Rattle.ert_timers.specs.Changes.{is_resting}
-use Rattle.ert_timers.specs.Looking.{LooksAhead, now_in}
-use Rattle.ert_timers.specs.Parts.{HoldsCaller, Part, PartStands, slot_at, last_timer}
-use Rattle.ert_timers.specs.Searching.{CanTake, HasOpenSlot}
-use Rattle.ert_timers.specs.Starting.{TakesSlot}
-use Rattle.ert_timers.specs.declared.looking.Ahead.{Ahead}
-use Rattle.ert_timers.proofs.Later.{later_step}
-use Rattle.ert_timers.proofs.Resting.{rests_by}
-use Rattle.ert_timers.proofs.Standing.{clock_at, clock_stepped, same_since}
-use Rattle.ert_timers.proofs.Starts.{ahead_stands, now_is}
+use Rattle.ert_table.specs.{Held.is_held, Takes.Appends, declared.view.View.View}
+use Rattle.ert_timers.specs.{Changes.is_resting, Looking.{LooksAhead, now_in}, Parts.{HoldsCaller, Part, PartStands, slot_at, last_timer}, Searching.{CanTake, HasOpenSlot}, Starting.TakesSlot, declared.looking.Ahead.Ahead}
+use Rattle.ert_timers.proofs.{Later.later_step, Resting.rests_by, Standing.{clock_at, clock_stepped, same_since}, Starts.{ahead_stands, now_is}}
 
 -- a slot that can take a timer still can after a step that arms none
 pub can_stays : (g : Settings) (v : View) (e : Entry) (u : View) (p : Part) (k : ℕ) → PartStands g v.front p → is_held v.actors (Wheel p.number) ≡ true

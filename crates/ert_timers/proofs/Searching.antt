@@ -1,16 +1,10 @@
 -- What the entries of a start that searched are.
 
 use Rattle.std.proofs.Common.{ℕ, List, inr, Err}
-use Rattle.ert_defs.specs.Milliseconds.{natural, down}
-use Rattle.ert_defs.specs.States.{State}
-use Rattle.ert_defs.specs.declared.entry.Entry.{Entry}
-use Rattle.ert_defs.specs.declared.settings.Settings.{Settings}
-use Rattle.ert_defs.specs.declared.timer.Start.{Start}
+use Rattle.ert_defs.specs.{Milliseconds.{natural, down}, States.State, declared.entry.Entry.Entry, declared.settings.Settings.Settings, declared.timer.Start.Start}
 use Rattle.ert_effects.proofs.Told.{round_probes}
-use Rattle.ert_effects.specs.TimerCalls.{Starts}
-use Rattle.ert_effects.specs.declared.answers.StartErr.TheVariants.{NoMemory}
-use Rattle.ert_timers.specs.Parts.{Part}
-use Rattle.ert_timers.specs.Searching.{Searches}
+use Rattle.ert_effects.specs.{TimerCalls.Starts, declared.answers.StartErr.TheVariants.NoMemory}
+use Rattle.ert_timers.specs.{Parts.Part, Searching.Searches}
 
 -- they are those that a start without memory may make
 pub searches_probe : (g : Settings) (by : ℕ) (p q : Part) (start : Start) (s : State) (es : List Entry) → Searches g by p q s es

@@ -3,41 +3,18 @@
 use Rattle.std.proofs.Common.{◌≡◌, ◌≢◌, ◌⊎◌, ⊎_elim, ℕ, ◌<◌, Bool, true, false, List, [], ◌∷◌, ◌++◌, filter, Option, Some, None, Ok, inl, inr, refl, sym, ap, subst, ◌∙◌}
 use Rattle.std.proofs.lemmas.Bool.{cases_eq}
 use Rattle.std.specs.FinSet as set
-use Rattle.ert_defs.specs.Actors.{has_actor, IsFree}
-use Rattle.ert_defs.specs.Entries.{is_ours, cancel_entry}
-use Rattle.ert_defs.specs.Legal.{Can, Legal, LegalFrom, left_by}
-use Rattle.ert_defs.specs.Laws.{IsExpired}
-use Rattle.ert_defs.specs.Mails.{first_of}
-use Rattle.ert_defs.specs.States.{State, opening, next, run, state}
-use Rattle.ert_defs.specs.Timers.{Row, handed_as, is_taken, status_after, timer_at}
-use Rattle.ert_defs.proofs.ExpiredLists.{first_at, expired_timers}
-use Rattle.ert_defs.proofs.ExpiredTimers.{hands, row_named, same_timer_self}
-use Rattle.ert_defs.proofs.Runs.{free_first, free_rest, legal_then, state-append}
-use Rattle.ert_defs.proofs.Slots.{ordered}
-use Rattle.ert_defs.proofs.Standing.{all_stand, of_row}
-use Rattle.ert_defs.proofs.Statuses.{Forward, forward_after, forward_not_armed, free_stays}
-use Rattle.ert_defs.specs.declared.entry.Actor.{Actor}
-use Rattle.ert_defs.specs.declared.entry.Actor.TheVariants.{Wheel}
-use Rattle.ert_defs.specs.declared.entry.Entry.{Entry}
-use Rattle.ert_defs.specs.declared.entry.Event.{Event}
-use Rattle.ert_defs.specs.declared.entry.Event.TheVariants.{Deliver, Drop}
-use Rattle.ert_defs.specs.declared.settings.Settings.{Settings}
-use Rattle.ert_defs.specs.declared.timer.Status.{Status}
-use Rattle.ert_defs.specs.declared.timer.Status.TheVariants.{Armed, Expired, Delivered, Cancelled, Orphaned, Dropped}
-use Rattle.ert_defs.specs.declared.timer.TimerRef.{TimerRef}
-use Rattle.ert_effects.specs.MailCalls.{HandsOver, handed_entries}
-use Rattle.ert_effects.specs.declared.answers.Handed.{Handed}
-use Rattle.ert_effects.specs.declared.answers.Handed.TheVariants.{Put, Dropped as Thrown}
+use Rattle.ert_defs.specs.{Actors.{has_actor, IsFree}, Entries.{is_ours, cancel_entry}, Legal.{Can, Legal, LegalFrom, left_by}, Laws.IsExpired, Mails.first_of, States.{State, opening, next, run, state}, Timers.{Row, handed_as, is_taken}}
+use Rattle.ert_defs.specs.{Timers.{status_after, timer_at}, declared.entry.Actor.Actor, declared.entry.Actor.TheVariants.Wheel, declared.entry.Entry.Entry, declared.entry.Event.Event, declared.entry.Event.TheVariants.{Deliver, Drop}}
+use Rattle.ert_defs.specs.{declared.settings.Settings.Settings, declared.timer.Status.Status, declared.timer.Status.TheVariants.{Armed, Expired, Delivered, Cancelled, Orphaned, Dropped}, declared.timer.TimerRef.TimerRef}
+use Rattle.ert_defs.proofs.{ExpiredLists.{first_at, expired_timers}, ExpiredTimers.{hands, row_named, same_timer_self}, Runs.{free_first, free_rest, legal_then, state-append}, Slots.ordered, Standing.{all_stand, of_row}, Statuses.Forward}
+use Rattle.ert_defs.proofs.{Statuses.{forward_after, forward_not_armed, free_stays}}
+use Rattle.ert_effects.specs.{MailCalls.{HandsOver, handed_entries}, declared.answers.Handed.Handed, declared.answers.Handed.TheVariants.{Put, Dropped as Thrown}}
 use Rattle.ert_laws.specs.Ranges.{IsPlaced}
 use Rattle.ert_laws.proofs.RowRanges.{rows_placed}
-use Rattle.ert_table.specs.Calls.{IsMade}
-use Rattle.ert_table.specs.Takes.{TakesPlace}
-use Rattle.ert_table.specs.declared.view.View.{View}
-use Rattle.ert_timers.specs.Freeing.{IsLast, IsLetGo}
-use Rattle.ert_timers.specs.Parts.{Part, PartStands, last_timer, slot_at}
+use Rattle.ert_table.specs.{Calls.IsMade, Takes.TakesPlace, declared.view.View.View}
+use Rattle.ert_timers.specs.{Freeing.{IsLast, IsLetGo}, Parts.{Part, PartStands, last_timer, slot_at}}
 use Rattle.ert_timers.proofs.Later.{live_unexpired, was_armed}
-use Rattle.ert_wheel.specs.Rows.{key_in}
-use Rattle.ert_wheel.specs.declared.row.Key.{Key}
+use Rattle.ert_wheel.specs.{Rows.key_in, declared.row.Key.Key}
 
 -- one of these entries is such
 abbrev pub HasOne : (Entry → Type 0) → List Entry → Type 0

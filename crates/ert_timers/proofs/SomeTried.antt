@@ -1,34 +1,13 @@
 -- An advance that tries so many timers at most.
 
 use Rattle.std.proofs.Common.{◌≡◌, ℕ, ◌≤◌, true, false, ◌||◌, nat_eq, length, List, [], ◌∷◌, ◌++◌, refl, sym, ap, subst, ◌∙◌, arith, append-nil}
-use Rattle.ert_table.proofs.Looks.{look_stepped}
-use Rattle.ert_defs.specs.Entries.{look_entry, advanced_entry}
-use Rattle.ert_defs.specs.Milliseconds.{down}
-use Rattle.ert_defs.specs.States.{state}
-use Rattle.ert_defs.specs.declared.entry.Actor.TheVariants.{Sched}
-use Rattle.ert_defs.specs.declared.entry.Entry.{Entry}
-use Rattle.ert_defs.specs.declared.settings.Settings.{Settings}
-use Rattle.ert_effects.specs.SomeCalls.{AreTried, end_entries, is_more}
-use Rattle.ert_effects.specs.WheelCalls.{AllDue, expiry_entries}
-use Rattle.ert_effects.specs.declared.answers.Left.{Left}
-use Rattle.ert_effects.specs.declared.answers.Left.TheVariants.{Nothing, Due, Moving}
-use Rattle.ert_table.proofs.Calls.{step_takes_place, takes_place_then}
-use Rattle.ert_table.specs.Held.{is_held}
-use Rattle.ert_table.specs.Takes.{Appends, MayStep, TakesPlace}
-use Rattle.ert_table.specs.declared.view.View.{View}
-use Rattle.ert_timers.proofs.Dues.{none_armed_due}
-use Rattle.ert_timers.proofs.Later.{later_step}
-use Rattle.ert_timers.proofs.Tried.{self, waits_by}
-use Rattle.ert_timers.proofs.Trials.{looked_stands}
-use Rattle.ert_timers.proofs.Trying.{stands_come_to, tries_come_to}
-use Rattle.ert_timers.specs.ExpiredLists.{Queue}
-use Rattle.ert_timers.specs.Looking.{LooksDown}
-use Rattle.ert_timers.specs.Parts.{HoldsSched, Part, PartStands}
-use Rattle.ert_timers.specs.Trying.{HasDue, HasExpiredSome, IsLooked, IsTriedSome, LosesSome, TriesRows, come_to}
-use Rattle.ert_wheel.specs.FirstDue.{NoRowDue, IsFirstRowDue}
-use Rattle.ert_wheel.specs.Rows.{key_of}
-use Rattle.ert_wheel.specs.declared.row.Row.{Row as WheelRow}
-use Rattle.ert_wheel.specs.Standing.{StayOrFall}
+use Rattle.ert_table.proofs.{Looks.look_stepped, Calls.{step_takes_place, takes_place_then}}
+use Rattle.ert_defs.specs.{Entries.{look_entry, advanced_entry}, Milliseconds.down, States.state, declared.entry.Actor.TheVariants.Sched, declared.entry.Entry.Entry, declared.settings.Settings.Settings}
+use Rattle.ert_effects.specs.{SomeCalls.{AreTried, end_entries, is_more}, WheelCalls.{AllDue, expiry_entries}, declared.answers.Left.Left, declared.answers.Left.TheVariants.{Nothing, Due, Moving}}
+use Rattle.ert_table.specs.{Held.is_held, Takes.{Appends, MayStep, TakesPlace}, declared.view.View.View}
+use Rattle.ert_timers.proofs.{Dues.none_armed_due, Later.later_step, Tried.{self, waits_by}, Trials.looked_stands, Trying.{stands_come_to, tries_come_to}}
+use Rattle.ert_timers.specs.{ExpiredLists.Queue, Looking.LooksDown, Parts.{HoldsSched, Part, PartStands}, Trying.{HasDue, HasExpiredSome, IsLooked, IsTriedSome, LosesSome, TriesRows, come_to}}
+use Rattle.ert_wheel.specs.{FirstDue.{NoRowDue, IsFirstRowDue}, Rows.key_of, declared.row.Row.Row as WheelRow, Standing.StayOrFall}
 
 -- the look with which it begins
 pub is_looked : (g : Settings) (v : View) (p : Part) (to : ℕ) (u : View) → PartStands g v.front p → HoldsSched v p.number

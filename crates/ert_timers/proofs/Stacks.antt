@@ -1,13 +1,9 @@
 -- Slots on two stacks, and those that were never taken.
 
 use Rattle.std.proofs.Common.{Option, Some, None, IsNone, IsSome, IfNone, IfSome, MatchOption, option_to_list, append-nil, subst, ◌≡◌, ◌≢◌, ◌↔◌, ℕ, ◌+◌, ◌-◌, ◌<◌, ◌≤◌, true, false, Bool, ◌||◌, ◌&&◌, List, [], ◌∷◌, ◌++◌, length, nat_eq, nat_lt, nat_le, not, refl, sym, ap, ◌∙◌, arith, inl, inr, true≢false, eq-eqb, ne_eqb}
-use Rattle.std.proofs.lemmas.Bool.{cases_eq, cases_lt}
-use Rattle.std.proofs.lemmas.Bool.Decides.{nat_tests}
-use Rattle.std.proofs.lemmas.List.Folds.{list_any-append}
-use Rattle.std.specs.Cmp.{nat_cmp_total, unsigned_tied}
+use Rattle.std.proofs.lemmas.{Bool.{cases_eq, cases_lt}, Bool.Decides.nat_tests, List.Folds.list_any-append}
+use Rattle.std.specs.{Cmp.{nat_cmp_total, unsigned_tied}, List.{list_any, range_with_len}, Ordering.nat_cmp}
 use Rattle.std.specs.FinSet as set
-use Rattle.std.specs.List.{list_any, range_with_len}
-use Rattle.std.specs.Ordering.{nat_cmp}
 use Rattle.ert_timers.specs.Free.{Free, FreeSet, free_at, free_list, free_set, with_short, with_long, stacks_changed, TakesFresh, TakesLong, TakesNextSlot, HasNoneFree, IsStacked}
 use Rattle.ert_timers.proofs.Held.{IsPopped, Picks, below_more, contains-from_list, distinct_none, list_any-last, list_any-push, list_any-range, nothing, or-true, or_swap, popped, pushed, room_left}
 

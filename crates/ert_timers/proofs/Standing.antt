@@ -1,34 +1,17 @@
 -- When a part stands for the front after a step of its own.
 
 use Rattle.std.proofs.Common.{◌≡◌, ◌≢◌, ℕ, ◌<◌, ◌≤◌, Bool, true, false, cond, ◌&&◌, ◌||◌, nat_eq, List, ◌++◌, ◌∷◌, [], length, Option, Some, None, refl, sym, ap, subst, ◌∙◌, arith, append_assoc, eqb-true}
-use Rattle.std.specs.Cmp.{nat_cmp_total, unsigned_tied}
+use Rattle.std.specs.{Cmp.{nat_cmp_total, unsigned_tied}, Ordering.nat_cmp}
 use Rattle.std.specs.FinSet as sets
-use Rattle.std.specs.Ordering.{nat_cmp}
-use Rattle.ert_defs.specs.Actors.{has_actor}
+use Rattle.ert_defs.specs.{Actors.has_actor, Legal.Legal, Milliseconds.{natural, down}, Settings.IsChecked, States.{State, uses_at, state}, Timers.{Uses, turned, is_taken}, declared.entry.Actor.TheVariants.Wheel, declared.entry.Entry.Entry}
+use Rattle.ert_defs.specs.{declared.entry.Event.Event, declared.entry.Event.TheVariants.{Expire, Orphan}, declared.settings.Settings.Settings, declared.timer.Status.Status, declared.timer.Status.TheVariants.{Armed, Expired, Delivered}}
+use Rattle.ert_defs.specs.{declared.timer.Status.TheVariants.{Cancelled, Orphaned, Dropped}, declared.timer.TimerRef.TimerRef}
 use Rattle.ert_defs.proofs.Times.{time_rises}
-use Rattle.ert_defs.specs.Legal.{Legal}
-use Rattle.ert_defs.specs.Milliseconds.{natural, down}
-use Rattle.ert_defs.specs.Settings.{IsChecked}
-use Rattle.ert_defs.specs.States.{State, uses_at, state}
-use Rattle.ert_defs.specs.Timers.{Uses, turned, is_taken}
-use Rattle.ert_defs.specs.declared.entry.Actor.TheVariants.{Wheel}
-use Rattle.ert_defs.specs.declared.entry.Entry.{Entry}
-use Rattle.ert_defs.specs.declared.entry.Event.{Event}
-use Rattle.ert_defs.specs.declared.entry.Event.TheVariants.{Expire, Orphan}
-use Rattle.ert_defs.specs.declared.settings.Settings.{Settings}
-use Rattle.ert_defs.specs.declared.timer.Status.{Status}
-use Rattle.ert_defs.specs.declared.timer.Status.TheVariants.{Armed, Expired, Delivered, Cancelled, Orphaned, Dropped}
-use Rattle.ert_defs.specs.declared.timer.TimerRef.{TimerRef}
-use Rattle.ert_table.specs.Held.{is_held}
-use Rattle.ert_table.specs.Takes.{Appends}
-use Rattle.ert_table.specs.declared.view.View.{View}
-use Rattle.ert_timers.specs.Changes.{freed, has_uses}
+use Rattle.ert_table.specs.{Held.is_held, Takes.Appends, declared.view.View.View}
+use Rattle.ert_timers.specs.{Changes.{freed, has_uses}, Parts.{Part, HoldsRows, FitsState, PartStands, slot_at, last_timer}}
 use Rattle.ert_laws.proofs.Since.{milliseconds_rise, rounds_begun}
 use Rattle.ert_laws.specs.Counts.{entries_of, is_arm, is_expire, is_orphan}
-use Rattle.ert_timers.specs.Parts.{Part, HoldsRows, FitsState, PartStands, slot_at, last_timer}
-use Rattle.ert_timers.proofs.Later.{IsLater, later_step, ends, live_step, count_step}
-use Rattle.ert_timers.proofs.Resting.{rested_by, used_less}
-use Rattle.ert_timers.proofs.Rows.{rows_later}
+use Rattle.ert_timers.proofs.{Later.{IsLater, later_step, ends, live_step, count_step}, Resting.{rested_by, used_less}, Rows.rows_later}
 use Rattle.ert_wheel.specs.declared.row.Key.{Key}
 
 -- a part stands as before where it holds fewer slots free, and where the time of its wheel goes on

@@ -2,37 +2,16 @@
 
 use Rattle.std.proofs.Common.{◌≡◌, ◌⊎◌, ℕ, zero, suc, ◌+◌, ◌<◌, ◌≤◌, min, ℤ, pos, true, false, List, [], ◌∷◌, ◌++◌, length, Option, Some, None, option_map, IfSome, Result, Ok, Err, inl, inr, refl, sym, ap, subst, ◌∙◌, arith}
 use Rattle.std.specs.FinSet as sets
-use Rattle.ert_defs.specs.Entries.{look_entry, arm_entry, mark_entry}
-use Rattle.ert_defs.specs.Milliseconds.{natural, down, deadline_of}
-use Rattle.ert_defs.specs.States.{State, uses_at, state}
-use Rattle.ert_defs.specs.Timers.{IsNextUse, deadline_in, turned, is_taken}
+use Rattle.ert_defs.specs.{Entries.{look_entry, arm_entry, mark_entry}, Milliseconds.{natural, down, deadline_of}, States.{State, uses_at, state}, Timers.{IsNextUse, deadline_in, turned, is_taken}, declared.entry.Actor.TheVariants.Caller}
+use Rattle.ert_defs.specs.{declared.entry.Entry.Entry, declared.settings.Settings.Settings, declared.timer.Start.Start, declared.timer.Status.Status, declared.timer.TimerRef.TimerRef}
 use Rattle.ert_defs.proofs.Slots.{ordered}
-use Rattle.ert_defs.specs.declared.entry.Actor.TheVariants.{Caller}
-use Rattle.ert_defs.specs.declared.entry.Entry.{Entry}
-use Rattle.ert_defs.specs.declared.settings.Settings.{Settings}
-use Rattle.ert_defs.specs.declared.timer.Start.{Start}
-use Rattle.ert_defs.specs.declared.timer.Status.{Status}
-use Rattle.ert_defs.specs.declared.timer.TimerRef.{TimerRef}
-use Rattle.ert_effects.specs.TimerCalls.{AreTaken, Rests, Round, IsRoundTaken, Starts}
-use Rattle.ert_effects.specs.declared.answers.StartErr.{StartErr}
-use Rattle.ert_effects.specs.declared.answers.StartErr.TheVariants.{BadArg, Full}
-use Rattle.ert_table.proofs.Looks.{look_stepped}
-use Rattle.ert_table.specs.Calls.{IsMade}
-use Rattle.ert_table.specs.Takes.{TakesPlace}
-use Rattle.ert_table.specs.declared.view.View.{View}
-use Rattle.ert_table.proofs.Calls.{step_takes_place, takes_place_then}
+use Rattle.ert_effects.specs.{TimerCalls.{AreTaken, Rests, Round, IsRoundTaken, Starts}, declared.answers.StartErr.StartErr, declared.answers.StartErr.TheVariants.{BadArg, Full}}
+use Rattle.ert_table.proofs.{Looks.look_stepped, Calls.{step_takes_place, takes_place_then}}
+use Rattle.ert_table.specs.{Calls.IsMade, Takes.TakesPlace, declared.view.View.View}
 use Rattle.ert_laws.proofs.SlotUses.{timers_few}
-use Rattle.ert_timers.specs.Changes.{is_resting, next_use}
-use Rattle.ert_timers.specs.Looking.{LooksAhead, now_in}
-use Rattle.ert_timers.specs.Parts.{HoldsCaller, Part, PartStands, slot_at, last_timer}
-use Rattle.ert_timers.specs.Searching.{Searches}
-use Rattle.ert_timers.specs.Starting.{AreFull, Arms, Ends, IsUseFor, TakesSlot, probes_from}
-use Rattle.ert_timers.specs.declared.looking.Ahead.{Ahead}
-use Rattle.ert_timers.specs.declared.part.Use.{Use}
-use Rattle.ert_timers.specs.Passed.{HasFewerRows, GainsOne}
-use Rattle.ert_timers.proofs.Resting.{next_is as use_is, rests_by}
-use Rattle.ert_timers.proofs.Standing.{clock_at, stands_step}
-use Rattle.ert_timers.proofs.Passing.{fewer_last, same_last}
+use Rattle.ert_timers.specs.{Changes.{is_resting, next_use}, Looking.{LooksAhead, now_in}, Parts.{HoldsCaller, Part, PartStands, slot_at, last_timer}, Searching.Searches, Starting.{AreFull, Arms, Ends, IsUseFor, TakesSlot, probes_from}}
+use Rattle.ert_timers.specs.{declared.looking.Ahead.Ahead, declared.part.Use.Use, Passed.{HasFewerRows, GainsOne}}
+use Rattle.ert_timers.proofs.{Resting.{next_is as use_is, rests_by}, Standing.{clock_at, stands_step}, Passing.{fewer_last, same_last}}
 
 -- a start that is refused for its time
 pub bad_arg : (g : Settings) (v : View) (by w : ℕ) (start : Start) (ahead : Option Ahead) (u : View) → ahead ≡ None

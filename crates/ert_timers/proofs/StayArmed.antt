@@ -1,12 +1,8 @@
 -- What leaves an armed timer armed.
 
 use Rattle.std.proofs.Common.{◌≡◌, Bool, true, false, cond, ◌&&◌, Option, Some, refl, ap}
-use Rattle.ert_defs.specs.Timers.{same_timer, status_after, handed_as}
-use Rattle.ert_defs.specs.declared.entry.Event.{Event}
-use Rattle.ert_defs.specs.declared.entry.Event.TheVariants.{Arm, Cancel, Expire, Orphan, Deliver, Drop}
-use Rattle.ert_defs.specs.declared.timer.Status.{Status}
-use Rattle.ert_defs.specs.declared.timer.Status.TheVariants.{Armed, Delivered, Dropped}
-use Rattle.ert_defs.specs.declared.timer.TimerRef.{TimerRef}
+use Rattle.ert_defs.specs.{Timers.{same_timer, status_after, handed_as}, declared.entry.Event.Event, declared.entry.Event.TheVariants.{Arm, Cancel, Expire, Orphan, Deliver, Drop}, declared.timer.Status.Status}
+use Rattle.ert_defs.specs.{declared.timer.Status.TheVariants.{Armed, Delivered, Dropped}, declared.timer.TimerRef.TimerRef}
 
 -- whether an event settles a timer
 abbrev pub settles : Event → TimerRef → Bool

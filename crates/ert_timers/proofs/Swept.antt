@@ -2,39 +2,18 @@
 
 use Rattle.std.proofs.Common.{◌≡◌, ◌≢◌, ℕ, suc, ◌+◌, ◌<◌, true, false, List, [], ◌∷◌, ◌++◌, count_by, Option, Some, None, refl, sym, ap, subst, ◌∙◌, arith, set, append-nil, append_assoc, length}
 use Rattle.std.proofs.lemmas.List.{map-append}
-use Rattle.std.specs.List.{slice_get}
-use Rattle.std.specs.Option.{is_some}
-use Rattle.ert_defs.specs.States.{State, next, state}
-use Rattle.ert_defs.specs.Timers.{Row, row_of}
+use Rattle.std.specs.{List.slice_get, Option.is_some}
+use Rattle.ert_defs.specs.{States.{State, next, state}, Timers.{Row, row_of}, declared.entry.Entry.Entry, declared.settings.Settings.Settings, declared.timer.Status.Status, declared.timer.Status.TheVariants.Armed}
+use Rattle.ert_defs.specs.{declared.timer.TimerRef.TimerRef, declared.entry.Actor.TheVariants.Wheel}
 use Rattle.ert_defs.proofs.Runs.{exit_stays, state-append}
-use Rattle.ert_defs.specs.declared.entry.Entry.{Entry}
-use Rattle.ert_defs.specs.declared.settings.Settings.{Settings}
-use Rattle.ert_defs.specs.declared.timer.Status.{Status}
-use Rattle.ert_defs.specs.declared.timer.Status.TheVariants.{Armed}
-use Rattle.ert_defs.specs.declared.timer.TimerRef.{TimerRef}
 use Rattle.ert_effects.specs.WheelCalls.{AllMaySweep, AreSwept, IsSwept, MaySweep, Sweeps, Try, orphan_entries, orphans_by}
-use Rattle.ert_defs.specs.declared.entry.Actor.TheVariants.{Wheel}
-use Rattle.ert_table.specs.Held.{is_held}
-use Rattle.ert_table.specs.Calls.{IsMade}
-use Rattle.ert_table.specs.Takes.{Appends, TakesPlace}
-use Rattle.ert_table.specs.declared.view.View.{View}
+use Rattle.ert_table.specs.{Held.is_held, Calls.IsMade, Takes.{Appends, TakesPlace}, declared.view.View.View}
 use Rattle.ert_table.proofs.Calls.{step_takes_place, takes_place_then}
-use Rattle.ert_timers.specs.Changes.{NextOf}
+use Rattle.ert_timers.specs.{Changes.NextOf, Parts.{HoldsCaller, Part, PartStands, last_timer, held_row}, Starting.{HoldsTimer, Orphans}, Expiring.is_hit, Freeing.IsHeld, Sweeping.{SweepsHeld, SweepsSome}}
 use Rattle.ert_laws.specs.Counts.{is_arm}
-use Rattle.ert_timers.specs.Parts.{HoldsCaller, Part, PartStands, last_timer, held_row}
-use Rattle.ert_timers.specs.Starting.{HoldsTimer, Orphans}
-use Rattle.ert_timers.specs.Expiring.{is_hit}
-use Rattle.ert_timers.specs.Freeing.{IsHeld}
-use Rattle.ert_timers.specs.Sweeping.{SweepsHeld, SweepsSome}
-use Rattle.ert_timers.proofs.Freed.{frees_given, frees_none, frees_then, given_keeps}
-use Rattle.ert_timers.proofs.Later.{later_step}
-use Rattle.ert_timers.proofs.Rows.{armed_row}
-use Rattle.ert_timers.proofs.Passing.{held_push, loses_none, loses_row, loses_then, none_more, once_more, was_held}
-use Rattle.ert_timers.proofs.Tried.{held_found}
-use Rattle.ert_wheel.specs.Rows.{key_of}
-use Rattle.ert_wheel.specs.declared.row.Row.{Row as WheelRow}
-use Rattle.ert_wheel.proofs.Looking.{key_low}
-use Rattle.ert_wheel.proofs.Views.{counts_less}
+use Rattle.ert_timers.proofs.{Freed.{frees_given, frees_none, frees_then, given_keeps}, Later.later_step, Rows.armed_row, Passing.{held_push, loses_none, loses_row, loses_then, none_more, once_more, was_held}, Tried.held_found}
+use Rattle.ert_wheel.specs.{Rows.key_of, declared.row.Row.Row as WheelRow}
+use Rattle.ert_wheel.proofs.{Looking.key_low, Views.counts_less}
 
 -- none was tried yet
 pub sweeps_none : (g : Settings) (v : View) (by process : ℕ) (p : Part) → PartStands g v.front p → (state g v.front).exited process ≡ true

@@ -2,22 +2,12 @@
 
 use Rattle.std.proofs.Common.{◌≡◌, ℕ, ◌<◌, ◌≤◌, inl, true, false, [], length, Option, Some, None, IfNone, IfSome, refl, sym, ap, subst, ◌∙◌, arith, append-nil}
 use Rattle.std.specs.FinSet as sets
-use Rattle.ert_defs.specs.States.{uses_at, state}
-use Rattle.ert_defs.specs.Timers.{turned, is_taken}
-use Rattle.ert_defs.specs.declared.settings.Settings.{Settings}
+use Rattle.ert_defs.specs.{States.{uses_at, state}, Timers.{turned, is_taken}, declared.settings.Settings.Settings}
 use Rattle.ert_table.specs.declared.view.View.{View}
-use Rattle.ert_timers.specs.Changes.{MayBecomeFree, picked}
+use Rattle.ert_timers.specs.{Changes.{MayBecomeFree, picked}, Parts.{Part, PartStands, slot_at, last_timer}, Starting.{FindsRound, GoesRound, LooksAround, TakesSlot}, Passed.HasFewerRows}
 use Rattle.ert_laws.proofs.Since.{rounds_begun}
-use Rattle.ert_timers.specs.Parts.{Part, PartStands, slot_at, last_timer}
-use Rattle.ert_timers.specs.Starting.{FindsRound, GoesRound, LooksAround, TakesSlot}
 use Rattle.ert_effects.specs.TimerCalls.{IsInRound, Round}
-use Rattle.ert_timers.specs.Passed.{HasFewerRows}
-use Rattle.ert_timers.proofs.Fit.{taken_was}
-use Rattle.ert_timers.proofs.Freed.{taken_free}
-use Rattle.ert_timers.proofs.Resting.{rested_by}
-use Rattle.ert_timers.proofs.Standing.{clock_at, stands_with}
-use Rattle.ert_timers.proofs.Passing.{fewer_rows, fewer_then}
-use Rattle.ert_timers.proofs.Rounds.{round_are_probes}
+use Rattle.ert_timers.proofs.{Fit.taken_was, Freed.taken_free, Resting.rested_by, Standing.{clock_at, stands_with}, Passing.{fewer_rows, fewer_then}, Rounds.round_are_probes}
 
 -- the part stands when a slot is held free no more
 picked_stands : (g : Settings) (v : View) (p q : Part) (k : ℕ) → PartStands g v.front p → q ≡ picked p k → PartStands g v.front q

@@ -1,39 +1,17 @@
 -- The loop over the due rows of an advance, and the whole call.
 
 use Rattle.std.proofs.Common.{◌≡◌, ℕ, ◌+◌, ◌≤◌, true, false, ◌||◌, nat_eq, List, [], ◌∷◌, ◌++◌, length, All, drop, Some, Result, Ok, Err, inr, refl, sym, ap, subst, ◌∙◌, arith, Option}
-use Rattle.std.proofs.lemmas.Bool.Decides.{nat_tests}
-use Rattle.std.proofs.lemmas.List.Sorted.{sorted_far}
-use Rattle.std.specs.Cmp.{IsStrictWeakOrder}
-use Rattle.std.specs.Result.{IsErr}
-use Rattle.std.specs.List.Sorted.{IsSortedBy}
-use Rattle.ert_defs.specs.Entries.{look_entry, advanced_entry}
-use Rattle.ert_defs.specs.Milliseconds.{down}
-use Rattle.ert_defs.specs.declared.entry.Actor.TheVariants.{Wheel, Sched}
-use Rattle.ert_defs.specs.declared.entry.Entry.{Entry}
-use Rattle.ert_defs.specs.declared.memory.NoMemory.{NoMemory}
-use Rattle.ert_defs.specs.declared.settings.Settings.{Settings}
+use Rattle.std.proofs.lemmas.{Bool.Decides.nat_tests, List.Sorted.sorted_far}
+use Rattle.std.specs.{Cmp.IsStrictWeakOrder, Result.IsErr, List.Sorted.IsSortedBy}
+use Rattle.ert_defs.specs.{Entries.{look_entry, advanced_entry}, Milliseconds.down, declared.entry.Actor.TheVariants.{Wheel, Sched}, declared.entry.Entry.Entry, declared.memory.NoMemory.NoMemory, declared.settings.Settings.Settings}
 use Rattle.ert_effects.specs.WheelCalls.{expiry_entries, AllDue}
-use Rattle.ert_table.proofs.Looks.{look_stepped}
-use Rattle.ert_table.specs.Calls.{IsMade}
-use Rattle.ert_table.specs.Held.{is_held}
-use Rattle.ert_table.specs.Takes.{Appends, MayStep}
-use Rattle.ert_table.specs.declared.view.View.{View}
-use Rattle.ert_table.proofs.Calls.{step_takes_place, takes_place_then}
-use Rattle.ert_timers.specs.Changes.{gone_on}
-use Rattle.ert_timers.specs.Expiring.{Expires, ExpiresSome, HasExpired, HasNotExpired, HasTried, HasNotTried, IsTried, IsReady, AreDue, TriesHeld}
-use Rattle.ert_timers.specs.ExpiredLists.{Queue}
-use Rattle.ert_timers.specs.Looking.{LooksDown}
-use Rattle.ert_timers.specs.Parts.{HoldsSched, Part, PartStands}
-use Rattle.ert_timers.specs.Passed.{LosesRows}
-use Rattle.ert_timers.proofs.Passing.{loses_none}
-use Rattle.ert_timers.proofs.Later.{later_step}
-use Rattle.ert_timers.proofs.Dues.{due_left, first_due, first_held, no_row, none_due}
-use Rattle.ert_timers.proofs.Standing.{stands_step}
-use Rattle.ert_timers.proofs.Tried.{self, waits_by}
-use Rattle.ert_timers.proofs.Trying.{tries_none, tries_more, looked_more, stands_come_to, tries_come_to}
-use Rattle.ert_wheel.specs.Rows.{key_in, key_of, times, due_count, comes_before}
-use Rattle.ert_wheel.specs.declared.row.Row.{Row as WheelRow}
-use Rattle.ert_wheel.specs.Standing.{StayOrFall}
+use Rattle.ert_table.proofs.{Looks.look_stepped, Calls.{step_takes_place, takes_place_then}}
+use Rattle.ert_table.specs.{Calls.IsMade, Held.is_held, Takes.{Appends, MayStep}, declared.view.View.View}
+use Rattle.ert_timers.specs.{Changes.gone_on, Expiring.{Expires, ExpiresSome, HasExpired, HasNotExpired, HasTried, HasNotTried, IsTried, IsReady, AreDue, TriesHeld}, ExpiredLists.Queue, Looking.LooksDown, Parts.{HoldsSched, Part}}
+use Rattle.ert_timers.specs.{Parts.PartStands, Passed.LosesRows}
+use Rattle.ert_timers.proofs.{Passing.loses_none, Later.later_step, Dues.{due_left, first_due, first_held, no_row, none_due}, Standing.stands_step, Tried.{self, waits_by}, Trying.{tries_none, tries_more, looked_more, stands_come_to}}
+use Rattle.ert_timers.proofs.{Trying.tries_come_to}
+use Rattle.ert_wheel.specs.{Rows.{key_in, key_of, times, due_count, comes_before}, declared.row.Row.Row as WheelRow, Standing.StayOrFall}
 
 -- nothing was tried yet
 pub expires_none : (g : Settings) (v : View) (p : Part) (to : ℕ) (due : List WheelRow) (q : Queue) → IsReady g v.front p to due

@@ -1,44 +1,17 @@
 -- The part after the timer of a row was tried, and the row has gone.
 
 use Rattle.std.proofs.Common.{◌≡◌, ◌≢◌, ℕ, zero, suc, ◌+◌, ◌<◌, ◌≤◌, Bool, true, false, cond, ◌&&◌, ◌||◌, nat_eq, List, [], ◌∷◌, ◌++◌, length, AllPairs, Some, None, refl, sym, ap, subst, ◌∙◌, arith, set, get_or, eq-eqb, append-nil}
-use Rattle.std.proofs.lemmas.List.{length-set}
-use Rattle.std.proofs.lemmas.List.Elements.{All-get_or}
-use Rattle.std.proofs.lemmas.Option.{get_or_from_slice_get, slice_get_within}
+use Rattle.std.proofs.lemmas.{List.length-set, List.Elements.All-get_or, Option.{get_or_from_slice_get, slice_get_within}}
 use Rattle.std.specs.List.{slice_get}
-use Rattle.ert_defs.specs.Actors.{has_actor}
-use Rattle.ert_defs.specs.Entries.{probe_entry, expire_entry}
-use Rattle.ert_defs.specs.Mails.{SchedState, with_row, sched_after}
-use Rattle.ert_defs.specs.States.{State, state}
-use Rattle.ert_defs.specs.Timers.{Row, row_of, same_timer}
-use Rattle.ert_defs.proofs.ExpiredTimers.{same_timer_self, same_timer-false}
-use Rattle.ert_defs.proofs.Lists.{pairs_head, pairs_tail}
-use Rattle.ert_defs.proofs.Rows.{Differ, rows_hold}
-use Rattle.ert_defs.proofs.Runs.{sched_stays, state-append}
-use Rattle.ert_defs.specs.declared.entry.Actor.TheVariants.{Wheel, Sched}
-use Rattle.ert_defs.specs.declared.entry.Entry.{Entry}
-use Rattle.ert_defs.specs.declared.entry.Event.{Event}
-use Rattle.ert_defs.specs.declared.settings.Settings.{Settings}
-use Rattle.ert_defs.specs.declared.timer.Status.TheVariants.{Armed}
-use Rattle.ert_defs.specs.declared.timer.TimerRef.{TimerRef}
-use Rattle.ert_table.specs.Held.{is_held}
-use Rattle.ert_table.specs.Settlings.{HasRow, Settles}
-use Rattle.ert_table.specs.Takes.{Appends}
-use Rattle.ert_table.specs.declared.carry.Settle.TheVariants.{Expire as ToExpire}
-use Rattle.ert_table.specs.declared.view.View.{View}
+use Rattle.ert_defs.specs.{Actors.has_actor, Entries.{probe_entry, expire_entry}, Mails.{SchedState, with_row, sched_after}, States.{State, state}, Timers.{Row, row_of, same_timer}, declared.entry.Actor.TheVariants.{Wheel, Sched}}
+use Rattle.ert_defs.specs.{declared.entry.Entry.Entry, declared.entry.Event.Event, declared.settings.Settings.Settings, declared.timer.Status.TheVariants.Armed, declared.timer.TimerRef.TimerRef}
+use Rattle.ert_defs.proofs.{ExpiredTimers.{same_timer_self, same_timer-false}, Lists.{pairs_head, pairs_tail}, Rows.{Differ, rows_hold}, Runs.{sched_stays, state-append}}
+use Rattle.ert_table.specs.{Held.is_held, Settlings.{HasRow, Settles}, Takes.Appends, declared.carry.Settle.TheVariants.Expire as ToExpire, declared.view.View.View}
 use Rattle.ert_table.proofs.Parts.{stepped}
-use Rattle.ert_timers.specs.Changes.{let_go}
-use Rattle.ert_timers.specs.Expiring.{Expires, timer_of}
-use Rattle.ert_timers.specs.ExpiredLists.{Queue}
+use Rattle.ert_timers.specs.{Changes.let_go, Expiring.{Expires, timer_of}, ExpiredLists.Queue, Parts.{HoldsSched, Part, PartStands, last_timer, held_row}, Slots.Slot, Trying.expired_after}
 use Rattle.ert_laws.specs.Counts.{entries_of, is_arm, is_expire, is_orphan}
-use Rattle.ert_timers.specs.Parts.{HoldsSched, Part, PartStands, last_timer, held_row}
-use Rattle.ert_timers.specs.Slots.{Slot}
-use Rattle.ert_timers.proofs.Later.{later_before, later_step, ends, live_step, count_step}
-use Rattle.ert_timers.proofs.Rows.{key_left, rows_dropped}
-use Rattle.ert_timers.proofs.Standing.{clock_stepped, holds_with, count_same}
-use Rattle.ert_timers.specs.Trying.{expired_after}
-use Rattle.ert_wheel.specs.Rows.{key_in, key_of}
-use Rattle.ert_wheel.specs.declared.row.Key.{Key}
-use Rattle.ert_wheel.specs.declared.row.Row.{Row as WheelRow}
+use Rattle.ert_timers.proofs.{Later.{later_before, later_step, ends, live_step, count_step}, Rows.{key_left, rows_dropped}, Standing.{clock_stepped, holds_with, count_same}}
+use Rattle.ert_wheel.specs.{Rows.{key_in, key_of}, declared.row.Key.Key, declared.row.Row.Row as WheelRow}
 use Rattle.ert_wheel.proofs.Looking.{key_low}
 
 -- where no two rows have one reference, that of a row finds it

@@ -4,36 +4,16 @@ use Rattle.std.proofs.Common.{◌≡◌, ℕ, ◌+◌, ◌≤◌, ℤ, pos, true
 use Rattle.std.proofs.lemmas.List.{map-append}
 use Rattle.std.specs.FinSet as sets
 use Rattle.std.specs.Option.{is_some}
-use Rattle.ert_table.proofs.Looks.{look_stepped}
-use Rattle.ert_defs.specs.Legal.{Legal}
-use Rattle.ert_defs.specs.Milliseconds.{down}
-use Rattle.ert_defs.specs.States.{look_after, state}
-use Rattle.ert_defs.specs.Timers.{Row, row_of}
-use Rattle.ert_defs.specs.declared.entry.Actor.TheVariants.{Wheel, Sched}
-use Rattle.ert_defs.specs.declared.entry.Entry.{Entry}
-use Rattle.ert_defs.specs.declared.settings.Settings.{Settings}
-use Rattle.ert_defs.specs.declared.timer.Status.{Status}
-use Rattle.ert_defs.specs.declared.timer.TimerRef.{TimerRef}
+use Rattle.ert_table.proofs.{Looks.look_stepped, Calls.{step_takes_place, takes_place_then}}
+use Rattle.ert_defs.specs.{Legal.Legal, Milliseconds.down, States.{look_after, state}, Timers.{Row, row_of}, declared.entry.Actor.TheVariants.{Wheel, Sched}, declared.entry.Entry.Entry, declared.settings.Settings.Settings}
+use Rattle.ert_defs.specs.{declared.timer.Status.Status, declared.timer.TimerRef.TimerRef}
 use Rattle.ert_effects.specs.WheelCalls.{Try, expires_by, expiry_entries, hit_by, hits, IsSettled, AllMissesSettled}
 use Rattle.ert_laws.specs.Counts.{is_arm}
-use Rattle.ert_table.specs.Held.{is_held}
-use Rattle.ert_table.specs.Takes.{Appends, TakesPlace}
-use Rattle.ert_table.specs.declared.view.View.{View}
-use Rattle.ert_table.proofs.Calls.{step_takes_place, takes_place_then}
-use Rattle.ert_timers.specs.Expiring.{Expires, expired_as, timer_of}
-use Rattle.ert_timers.specs.ExpiredLists.{Queue}
-use Rattle.ert_timers.specs.Parts.{Part, PartStands, last_timer}
-use Rattle.ert_timers.specs.Passed.{LosesRows}
-use Rattle.ert_timers.specs.Trying.{TriesRows, come_to, expired_after}
-use Rattle.ert_timers.proofs.Later.{later_step}
-use Rattle.ert_timers.proofs.Passing.{due_push, fewer_rows, held_push, holds_less, loses_none, loses_row, loses_then, none_more, once_more, was_held}
-use Rattle.ert_timers.proofs.Standing.{stands_with}
-use Rattle.ert_timers.proofs.Tried.{held_found}
-use Rattle.ert_wheel.specs.Rows.{key_in, key_of}
-use Rattle.ert_wheel.specs.declared.row.Row.{Row as WheelRow}
-use Rattle.ert_wheel.proofs.Looking.{key_low}
-use Rattle.ert_wheel.proofs.Views.{counts_less}
-use Rattle.ert_wheel.specs.Standing.{StayOrFall}
+use Rattle.ert_table.specs.{Held.is_held, Takes.{Appends, TakesPlace}, declared.view.View.View}
+use Rattle.ert_timers.specs.{Expiring.{Expires, expired_as, timer_of}, ExpiredLists.Queue, Parts.{Part, PartStands, last_timer}, Passed.LosesRows, Trying.{TriesRows, come_to, expired_after}}
+use Rattle.ert_timers.proofs.{Later.later_step, Passing.{due_push, fewer_rows, held_push, holds_less, loses_none, loses_row, loses_then, none_more, once_more, was_held}, Standing.stands_with, Tried.held_found}
+use Rattle.ert_wheel.specs.{Rows.{key_in, key_of}, declared.row.Row.Row as WheelRow, Standing.StayOrFall}
+use Rattle.ert_wheel.proofs.{Looking.key_low, Views.counts_less}
 
 -- no step took place
 pub no_step : (g : Settings) (v : View) → Legal g v.front → TakesPlace g v [] v

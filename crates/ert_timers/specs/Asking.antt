@@ -1,16 +1,10 @@
 -- The next due time is asked for until a timer is found armed, or so many rows have gone.
 
 use Rattle.std.specs.Prelude.{◌≡◌, ◌⊎◌, ℕ, ◌<◌, ◌≤◌, List, length, Option, Some, None}
-use Rattle.ert_defs.specs.States.{State, state}
-use Rattle.ert_defs.specs.declared.settings.Settings.{Settings}
+use Rattle.ert_defs.specs.{States.{State, state}, declared.settings.Settings.Settings}
 use Rattle.ert_effects.specs.Sleeping.{Probed, AreSettledButLast, probed_entries}
-use Rattle.ert_table.specs.Takes.{TakesPlace}
-use Rattle.ert_table.specs.declared.view.View.{View}
-use Rattle.ert_timers.specs.NextDue.{IsNearest, IsNextHeld}
-use Rattle.ert_timers.specs.Frees.{FreesRows}
-use Rattle.ert_timers.specs.Parts.{Part, PartStands}
-use Rattle.ert_timers.specs.Passed.{LosesRows}
-use Rattle.ert_timers.specs.Sleeping.{HasLost}
+use Rattle.ert_table.specs.{Takes.TakesPlace, declared.view.View.View}
+use Rattle.ert_timers.specs.{NextDue.{IsNearest, IsNextHeld}, Frees.FreesRows, Parts.{Part, PartStands}, Passed.LosesRows, Sleeping.HasLost}
 
 -- as `IsFoundNext`, where so many rows may go
 abbrev pub IsFoundWithin : ℕ → State → Part → Part → Option ℕ → Type 0

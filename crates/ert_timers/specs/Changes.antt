@@ -3,15 +3,9 @@
 use Rattle.std.specs.Prelude.{◌≡◌, ℕ, ◌+◌, ◌*◌, ◌<◌, ◌≤◌, Bool, false, cond, not, ◌&&◌, nat_lt, max, min, length, count_by, List, Option, Some, None, slice_set}
 use Rattle.std.specs.FinSet as set
 use Rattle.std.specs.Option.{is_some}
-use Rattle.ert_defs.specs.Timers.{use_of}
-use Rattle.ert_defs.specs.declared.timer.Start.{Start}
-use Rattle.ert_timers.specs.Parts.{Part, slot_at}
-use Rattle.ert_timers.specs.Slots.{Slot}
-use Rattle.ert_timers.specs.declared.part.Use.{Use}
-use Rattle.ert_wheel.specs.Rows.{key_in, key_of}
-use Rattle.ert_wheel.specs.declared.row.Key.{Key}
-use Rattle.ert_wheel.specs.declared.row.Row.{Row}
-use Rattle.ert_wheel.specs.declared.row.TheConstants.{LAST}
+use Rattle.ert_defs.specs.{Timers.use_of, declared.timer.Start.Start}
+use Rattle.ert_timers.specs.{Parts.{Part, slot_at}, Slots.Slot, declared.part.Use.Use}
+use Rattle.ert_wheel.specs.{Rows.{key_in, key_of}, declared.row.Key.Key, declared.row.Row.Row, declared.row.TheConstants.LAST}
 
 -- whether a slot was used less often than a round allows
 abbrev pub has_uses : Slot → Bool

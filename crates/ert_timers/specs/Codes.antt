@@ -2,8 +2,7 @@
 
 use Rattle.std.specs.Prelude.{◌≡◌, ℕ, Bool, refl}
 use Rattle.std.specs.Coded.{Coded, code_by, coded×, coded_ℕ, coded_bool}
-use Rattle.ert_defs.specs.declared.timer.Kind.{Kind}
-use Rattle.ert_defs.specs.declared.timer.Kind.TheVariants.{Wrapped, Bare}
+use Rattle.ert_defs.specs.declared.timer.Kind.{Kind, TheVariants.{Wrapped, Bare}}
 use Rattle.ert_timers.specs.Slots.{Slot, is_bare, kind_by}
 use Rattle.ert_wheel.specs.declared.row.Key.{Key}
 

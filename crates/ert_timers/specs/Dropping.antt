@@ -1,15 +1,9 @@
 -- The slots that have a row are looked at, and the rows of settled timers go.
 
 use Rattle.std.specs.Prelude.{◌≡◌, ℕ, ◌<◌, List, Some}
-use Rattle.ert_defs.specs.States.{state}
-use Rattle.ert_defs.specs.declared.entry.Entry.{Entry}
-use Rattle.ert_defs.specs.declared.settings.Settings.{Settings}
-use Rattle.ert_defs.specs.declared.timer.Status.TheVariants.{Armed}
-use Rattle.ert_timers.specs.Frees.{FreesRows}
-use Rattle.ert_timers.specs.Parts.{Part, PartStands, last_timer}
-use Rattle.ert_timers.specs.Passed.{LosesRows}
-use Rattle.ert_wheel.specs.Rows.{key_in}
-use Rattle.ert_wheel.specs.declared.row.Key.{Key}
+use Rattle.ert_defs.specs.{States.state, declared.entry.Entry.Entry, declared.settings.Settings.Settings, declared.timer.Status.TheVariants.Armed}
+use Rattle.ert_timers.specs.{Frees.FreesRows, Parts.{Part, PartStands, last_timer}, Passed.LosesRows}
+use Rattle.ert_wheel.specs.{Rows.key_in, declared.row.Key.Key}
 
 -- a slot was looked at: where it has a row still, its timer is armed
 pub record DropsRow (g : Settings) (h : List Entry) (p q : Part) (k : ℕ) : Type 0 where

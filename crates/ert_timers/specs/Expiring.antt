@@ -2,26 +2,12 @@
 
 use Rattle.std.specs.Prelude.{◌≡◌, ℕ, ◌+◌, ◌≤◌, ℤ, pos, Bool, true, false, List, [], ◌∷◌, ◌++◌, All, length, drop, Option, Some, None, Result, Ok, Err}
 use Rattle.std.specs.List.{AllPairs}
-use Rattle.ert_defs.specs.Entries.{look_entry, advanced_entry}
-use Rattle.ert_defs.specs.Milliseconds.{down}
-use Rattle.ert_defs.specs.States.{State, state}
-use Rattle.ert_defs.specs.Timers.{Row}
-use Rattle.ert_defs.specs.declared.entry.Actor.TheVariants.{Sched}
-use Rattle.ert_defs.specs.declared.entry.Entry.{Entry}
-use Rattle.ert_defs.specs.declared.memory.NoMemory.{NoMemory}
-use Rattle.ert_defs.specs.declared.settings.Settings.{Settings}
-use Rattle.ert_defs.specs.declared.timer.Status.{Status}
+use Rattle.ert_defs.specs.{Entries.{look_entry, advanced_entry}, Milliseconds.down, States.{State, state}, Timers.Row, declared.entry.Actor.TheVariants.Sched, declared.entry.Entry.Entry, declared.memory.NoMemory.NoMemory}
+use Rattle.ert_defs.specs.{declared.settings.Settings.Settings, declared.timer.Status.Status}
 use Rattle.ert_effects.specs.WheelCalls.{Try, expires_by, expiry_entries, hits, IsSettled, AllMissesSettled, AllDue, AreOnce, Advances}
-use Rattle.ert_table.specs.Calls.{IsMade}
-use Rattle.ert_table.specs.Takes.{Appends, TakesPlace}
-use Rattle.ert_table.specs.declared.view.View.{View}
-use Rattle.ert_timers.specs.Changes.{let_go}
-use Rattle.ert_timers.specs.ExpiredLists.{Queue}
-use Rattle.ert_timers.specs.Parts.{Part, PartStands, last_timer, held_row}
-use Rattle.ert_timers.specs.Passed.{HoldsEach, LosesRows}
-use Rattle.ert_timers.specs.Trying.{expired_after, TriesRows}
-use Rattle.ert_wheel.specs.Rows.{key_in, key_of, times, due_count, comes_before}
-use Rattle.ert_wheel.specs.declared.row.Row.{Row as WheelRow}
+use Rattle.ert_table.specs.{Calls.IsMade, Takes.{Appends, TakesPlace}, declared.view.View.View}
+use Rattle.ert_timers.specs.{Changes.let_go, ExpiredLists.Queue, Parts.{Part, PartStands, last_timer, held_row}, Passed.{HoldsEach, LosesRows}, Trying.{expired_after, TriesRows}}
+use Rattle.ert_wheel.specs.{Rows.{key_in, key_of, times, due_count, comes_before}, declared.row.Row.Row as WheelRow}
 
 -- the timer of a row
 abbrev pub timer_of : Part → WheelRow → Row

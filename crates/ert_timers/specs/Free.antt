@@ -1,10 +1,8 @@
 -- Free slots.
 
 use Rattle.std.specs.Prelude.{◌≡◌, ◌⊎◌, ℕ, ◌+◌, ◌-◌, ◌<◌, ◌≤◌, true, false, List, [], ◌∷◌, ◌++◌, nat_eq, refl}
-use Rattle.std.specs.Coded.{Coded, code_by, coded×, coded_ℕ, coded_list}
+use Rattle.std.specs.{Coded.{Coded, code_by, coded×, coded_ℕ, coded_list}, List.{IsDistinct, list_any, range_with_len}, Ordering.nat_cmp}
 use Rattle.std.specs.FinSet as set
-use Rattle.std.specs.List.{IsDistinct, list_any, range_with_len}
-use Rattle.std.specs.Ordering.{nat_cmp}
 
 -- the free slots of a scheduler: how many slots it has in all, from which on none was ever taken, and those that were put
 -- back, on two stacks, each from its bottom to its top

@@ -3,8 +3,7 @@
 use Rattle.std.specs.Prelude.{◌≡◌, ◌≢◌, ◌⊎◌, ℕ, ◌≤◌, true, false, Option, Some, None, Result, Ok}
 use Rattle.std.specs.FinSet as set
 use Rattle.ert_defs.specs.declared.timer.TimerRef.{TimerRef}
-use Rattle.ert_timers.specs.Changes.{has_uses}
-use Rattle.ert_timers.specs.Parts.{Part, last_timer, slot_at}
+use Rattle.ert_timers.specs.{Changes.has_uses, Parts.{Part, last_timer, slot_at}}
 use Rattle.ert_wheel.specs.Rows.{key_in}
 
 -- no slot is held free

@@ -2,10 +2,8 @@
 
 use Rattle.std.specs.Prelude.{◌≡◌, ℕ, Option, Some, None}
 use Rattle.ert_defs.specs.declared.timer.TimerRef.{TimerRef}
-use Rattle.ert_timers.specs.Freeing.{IsHeld}
-use Rattle.ert_timers.specs.Parts.{Part, slot_at}
-use Rattle.ert_wheel.specs.Rows.{key_in}
-use Rattle.ert_wheel.specs.declared.row.Key.{Key}
+use Rattle.ert_timers.specs.{Freeing.IsHeld, Parts.{Part, slot_at}}
+use Rattle.ert_wheel.specs.{Rows.key_in, declared.row.Key.Key}
 
 -- a timer for the process is held, or none is
 abbrev pub IsHeldFor : Part → ℕ → Option TimerRef → Type 0

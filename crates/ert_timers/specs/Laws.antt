@@ -3,32 +3,13 @@
 
 use Rattle.std.specs.Prelude.{◌≡◌, ◌≢◌, ℕ, List, [], ◌∷◌, Option, Some, None, Result, count_by}
 use Rattle.std.specs.Option.{is_some}
-use Rattle.ert_defs.specs.Actors.{of}
-use Rattle.ert_defs.specs.Legal.{Legal}
-use Rattle.ert_defs.specs.States.{State, state}
-use Rattle.ert_defs.specs.declared.entry.Actor.{Actor}
-use Rattle.ert_defs.specs.declared.entry.Actor.TheVariants.{Wheel, Sched, Caller}
-use Rattle.ert_defs.specs.declared.entry.Entry.{Entry}
-use Rattle.ert_defs.specs.declared.memory.NoMemory.{NoMemory}
-use Rattle.ert_defs.specs.declared.settings.Settings.{Settings}
-use Rattle.ert_defs.specs.declared.timer.Start.{Start}
-use Rattle.ert_defs.specs.declared.timer.Status.TheVariants.{Armed}
-use Rattle.ert_defs.specs.declared.timer.TimerRef.{TimerRef}
-use Rattle.ert_effects.specs.RestartCalls.{Restarts}
-use Rattle.ert_effects.specs.RoomCalls.{TellsRoom}
-use Rattle.ert_effects.specs.Sleeping.{Probed, probed_entries}
-use Rattle.ert_effects.specs.TimerCalls.{Cancels, Starts}
-use Rattle.ert_effects.specs.WheelCalls.{Advances, Sweeps}
-use Rattle.ert_effects.specs.declared.answers.RestartErr.{RestartErr}
-use Rattle.ert_effects.specs.declared.answers.Room.{Room}
-use Rattle.ert_effects.specs.declared.answers.StartErr.{StartErr}
+use Rattle.ert_defs.specs.{Actors.of, Legal.Legal, States.{State, state}, declared.entry.Actor.Actor, declared.entry.Actor.TheVariants.{Wheel, Sched, Caller}, declared.entry.Entry.Entry, declared.memory.NoMemory.NoMemory}
+use Rattle.ert_defs.specs.{declared.settings.Settings.Settings, declared.timer.Start.Start, declared.timer.Status.TheVariants.Armed, declared.timer.TimerRef.TimerRef}
+use Rattle.ert_effects.specs.{RestartCalls.Restarts, RoomCalls.TellsRoom, Sleeping.{Probed, probed_entries}, TimerCalls.{Cancels, Starts}, WheelCalls.{Advances, Sweeps}, declared.answers.RestartErr.RestartErr, declared.answers.Room.Room}
+use Rattle.ert_effects.specs.{declared.answers.StartErr.StartErr}
 use Rattle.ert_laws.specs.Counts.{count_at}
-use Rattle.ert_table.specs.Calls.{AreOnlyOf, IsMade}
-use Rattle.ert_table.specs.Held.{IsWhole}
-use Rattle.ert_table.specs.Views.{Begins}
-use Rattle.ert_table.specs.declared.view.View.{View}
-use Rattle.ert_timers.specs.Parts.{Part, PartStands}
-use Rattle.ert_timers.specs.Tidy.{IsTidy, IsTidyBut}
+use Rattle.ert_table.specs.{Calls.{AreOnlyOf, IsMade}, Held.IsWhole, Views.Begins, declared.view.View.View}
+use Rattle.ert_timers.specs.{Parts.{Part, PartStands}, Tidy.{IsTidy, IsTidyBut}}
 
 -- a part that stands for a history stands for each longer legal one that has no more entries of the wheel:
 -- where others have made theirs, and where a pass that holds it was joined to another

@@ -1,15 +1,8 @@
 -- The look with which a call of a part begins.
 
 use Rattle.std.specs.Prelude.{◌≡◌, ℕ, ◌/◌, ℤ, pos, Option, option_map, IfSome}
-use Rattle.ert_defs.specs.Entries.{look_entry}
-use Rattle.ert_defs.specs.Milliseconds.{down, deadline_of}
-use Rattle.ert_defs.specs.States.{state}
-use Rattle.ert_defs.specs.declared.entry.Actor.{Actor}
-use Rattle.ert_defs.specs.declared.entry.Actor.TheVariants.{Caller}
-use Rattle.ert_defs.specs.declared.settings.Settings.{Settings}
-use Rattle.ert_defs.specs.declared.timer.Start.{Start}
-use Rattle.ert_table.specs.Takes.{Appends}
-use Rattle.ert_table.specs.declared.view.View.{View}
+use Rattle.ert_defs.specs.{Entries.look_entry, Milliseconds.{down, deadline_of}, States.state, declared.entry.Actor.Actor, declared.entry.Actor.TheVariants.Caller, declared.settings.Settings.Settings, declared.timer.Start.Start}
+use Rattle.ert_table.specs.{Takes.Appends, declared.view.View.View}
 use Rattle.ert_timers.specs.declared.looking.Ahead.{Ahead}
 
 -- an actor looks at the time, and is told the whole milliseconds, rounded down

@@ -1,9 +1,7 @@
 -- When the next timer of a wheel may be due.
 
 use Rattle.std.specs.Prelude.{◌≡◌, ℕ, ◌*◌, ◌<◌, ◌≤◌, ◌^◌, ◌⊎◌, Option, Some, None, MatchOption, slice_get}
-use Rattle.ert_defs.specs.States.{State}
-use Rattle.ert_defs.specs.Timers.{Row}
-use Rattle.ert_defs.specs.declared.timer.Status.TheVariants.{Armed}
+use Rattle.ert_defs.specs.{States.State, Timers.Row, declared.timer.Status.TheVariants.Armed}
 use Rattle.ert_timers.specs.Parts.{Part}
 use Rattle.ert_wheel.specs.NextDue.{NoRow, IsNextDue}
 

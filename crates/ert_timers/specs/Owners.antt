@@ -2,10 +2,7 @@
 -- process of its timer, or stays in it.
 
 use Rattle.std.specs.Prelude.{◌≡◌, ◌≢◌, ◌⊎◌, ℕ, ◌<◌, ◌≤◌, ◌^◌, Bool, true, List, length, Option, Some, None}
-use Rattle.ert_wheel.specs.Rings.{Rings, Place, AreChains, StandsIn, with_place}
-use Rattle.ert_wheel.specs.Rows.{key_in, key_of}
-use Rattle.ert_wheel.specs.declared.row.Key.{Key}
-use Rattle.ert_wheel.specs.declared.row.Row.{Row}
+use Rattle.ert_wheel.specs.{Rings.{Rings, Place, AreChains, StandsIn, with_place}, Rows.{key_in, key_of}, declared.row.Key.Key, declared.row.Row.Row}
 
 -- the chains are of the slots of a wheel, and some places fit
 pub record MayThin (owners : Rings) (keys : List (Option Key)) : Type 0 where

@@ -1,35 +1,15 @@
 -- The timers of one scheduler: what its part keeps, and when the part stands for a history.
 
 use Rattle.std.specs.Prelude.{◌≡◌, ◌≢◌, ℕ, ◌+◌, ◌<◌, ◌≤◌, true, false, List, map, length, count_by, slice_index_or, Option, Some, None, refl}
-use Rattle.std.specs.Coded.{Coded, code_by, coded×, coded_ℕ, coded_list, coded_option}
+use Rattle.std.specs.{Coded.{Coded, code_by, coded×, coded_ℕ, coded_list, coded_option}, List.{range_with_len, slice_get}, Option.is_some, Ordering.nat_cmp}
 use Rattle.std.specs.FinSet as set
-use Rattle.std.specs.List.{range_with_len, slice_get}
-use Rattle.std.specs.Option.{is_some}
-use Rattle.std.specs.Ordering.{nat_cmp}
-use Rattle.ert_defs.specs.Legal.{Legal}
-use Rattle.ert_defs.specs.Milliseconds.{natural, down}
-use Rattle.ert_defs.specs.Settings.{IsChecked}
-use Rattle.ert_defs.specs.States.{State, uses_at, state}
-use Rattle.ert_defs.specs.Timers.{Row, turned, is_taken, timer_at}
-use Rattle.ert_defs.specs.declared.entry.Actor.TheVariants.{Wheel, Sched, Caller}
-use Rattle.ert_defs.specs.declared.entry.Entry.{Entry}
-use Rattle.ert_defs.specs.declared.settings.Settings.{Settings}
-use Rattle.ert_defs.specs.declared.timer.Kind.TheVariants.{Wrapped}
-use Rattle.ert_defs.specs.declared.timer.Status.{Status}
-use Rattle.ert_defs.specs.declared.timer.Status.TheVariants.{Armed, Cancelled}
-use Rattle.ert_defs.specs.declared.timer.TimerRef.{TimerRef}
+use Rattle.ert_defs.specs.{Legal.Legal, Milliseconds.{natural, down}, Settings.IsChecked, States.{State, uses_at, state}, Timers.{Row, turned, is_taken, timer_at}, declared.entry.Actor.TheVariants.{Wheel, Sched, Caller}}
+use Rattle.ert_defs.specs.{declared.entry.Entry.Entry, declared.settings.Settings.Settings, declared.timer.Kind.TheVariants.Wrapped, declared.timer.Status.Status, declared.timer.Status.TheVariants.{Armed, Cancelled}}
+use Rattle.ert_defs.specs.{declared.timer.TimerRef.TimerRef, declared.settings.TheConstants.{MOST_SLOTS, MOST_PROCESSES}}
 use Rattle.ert_laws.specs.Counts.{entries_of, is_arm, is_expire, is_orphan}
-use Rattle.ert_table.specs.Held.{is_held}
-use Rattle.ert_table.specs.declared.view.View.{View}
-use Rattle.ert_timers.specs.Codes.{slot_code, key_code}
-use Rattle.ert_timers.specs.Slots.{Slot, stored_slot, is_joined, nothing}
-use Rattle.ert_timers.specs.declared.slot.Stored.{Stored}
-use Rattle.ert_wheel.specs.Links.{next_at}
-use Rattle.ert_wheel.specs.Rings.{Rings, Place, AreChains, StandsIn}
-use Rattle.ert_wheel.specs.Rows.{Held, key_in}
-use Rattle.ert_wheel.specs.declared.row.Key.{Key}
-use Rattle.ert_timers.specs.Free.{FreeSet}
-use Rattle.ert_defs.specs.declared.settings.TheConstants.{MOST_SLOTS, MOST_PROCESSES}
+use Rattle.ert_table.specs.{Held.is_held, declared.view.View.View}
+use Rattle.ert_timers.specs.{Codes.{slot_code, key_code}, Slots.{Slot, stored_slot, is_joined, nothing}, declared.slot.Stored.Stored, Free.FreeSet}
+use Rattle.ert_wheel.specs.{Links.next_at, Rings.{Rings, Place, AreChains, StandsIn}, Rows.{Held, key_in}, declared.row.Key.Key}
 
 -- the part of one scheduler's timers: its number, the number of processes, by slot what is kept of the last
 -- timer, by slot the key of the row that is held as armed, the slots that are held free, how many timers were

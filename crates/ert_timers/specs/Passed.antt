@@ -3,12 +3,8 @@
 use Rattle.std.specs.Prelude.{◌≡◌, ◌≢◌, ◌⊎◌, ℕ, ◌<◌, ◌≤◌, List, [], ◌∷◌, Some, Result, Ok}
 use Rattle.ert_defs.specs.declared.timer.TimerRef.{TimerRef}
 use Rattle.ert_effects.specs.WheelCalls.{Try}
-use Rattle.ert_timers.specs.Freeing.{IsHeld}
-use Rattle.ert_timers.specs.Frees.{KeepsFree}
-use Rattle.ert_timers.specs.Parts.{Part, last_timer}
-use Rattle.ert_wheel.specs.Rows.{key_in}
-use Rattle.ert_wheel.specs.declared.row.Key.{Key}
-use Rattle.ert_wheel.specs.Standing.{StayOrFall}
+use Rattle.ert_timers.specs.{Freeing.IsHeld, Frees.KeepsFree, Parts.{Part, last_timer}}
+use Rattle.ert_wheel.specs.{Rows.key_in, declared.row.Key.Key, Standing.StayOrFall}
 
 -- each row that is held is due later than a time, and the wheel has passed that
 pub record HasPassed (p : Part) (to : ℕ) : Type 0 where

@@ -3,24 +3,10 @@
 use Rattle.std.specs.Prelude.{◌≡◌, ◌<◌, ◌≤◌, ℕ, true, false, nat_lt, length, List, ◌++◌, Option, Some, None, Result, Ok, Err}
 use Rattle.std.specs.FinSet as set
 use Rattle.std.specs.Option.{IsSome}
-use Rattle.ert_defs.specs.Milliseconds.{natural, down, deadline_of}
-use Rattle.ert_defs.specs.States.{State, uses_at}
-use Rattle.ert_defs.specs.Timers.{is_taken, turned, use_of}
-use Rattle.ert_defs.specs.declared.entry.Actor.TheVariants.{Caller}
-use Rattle.ert_defs.specs.declared.entry.Entry.{Entry}
-use Rattle.ert_defs.specs.declared.settings.Settings.{Settings}
-use Rattle.ert_defs.specs.declared.timer.Start.{Start}
-use Rattle.ert_defs.specs.declared.timer.TimerRef.{TimerRef}
-use Rattle.ert_effects.specs.RestartCalls.{IsFullFor, RestartEnds}
-use Rattle.ert_effects.specs.TimerCalls.{AreProbes}
-use Rattle.ert_effects.specs.declared.answers.RestartErr.{RestartErr}
-use Rattle.ert_timers.specs.Changes.{MayBecomeFree, has_uses}
-use Rattle.ert_timers.specs.Freeing.{IsHeld}
-use Rattle.ert_timers.specs.Looking.{now_in}
-use Rattle.ert_timers.specs.Parts.{Part, last_timer, slot_at}
-use Rattle.ert_timers.specs.Starting.{IsUseFor}
-use Rattle.ert_timers.specs.declared.looking.Ahead.{Ahead}
-use Rattle.ert_timers.specs.declared.part.Use.{Use}
+use Rattle.ert_defs.specs.{Milliseconds.{natural, down, deadline_of}, States.{State, uses_at}, Timers.{is_taken, turned, use_of}, declared.entry.Actor.TheVariants.Caller, declared.entry.Entry.Entry, declared.settings.Settings.Settings}
+use Rattle.ert_defs.specs.{declared.timer.Start.Start, declared.timer.TimerRef.TimerRef}
+use Rattle.ert_effects.specs.{RestartCalls.{IsFullFor, RestartEnds}, TimerCalls.AreProbes, declared.answers.RestartErr.RestartErr}
+use Rattle.ert_timers.specs.{Changes.{MayBecomeFree, has_uses}, Freeing.IsHeld, Looking.now_in, Parts.{Part, last_timer, slot_at}, Starting.IsUseFor, declared.looking.Ahead.Ahead, declared.part.Use.Use}
 use Rattle.ert_wheel.specs.Rows.{key_in}
 
 -- the row of a slot can give way to that of its next use: the slot's round has uses left, and the wheel can have more timers

@@ -1,22 +1,11 @@
 -- A look at how much room a wheel has: at the time, and then at every slot.
 
 use Rattle.std.specs.Prelude.{◌≡◌, ℕ, ◌+◌, ℤ, pos, ◌≤◌, nat_lt, if◌then◌else◌, List, [], ◌∷◌, length, Option, Some, None}
-use Rattle.ert_defs.specs.Entries.{look_entry, probe_entry}
-use Rattle.ert_defs.specs.Milliseconds.{down, natural}
-use Rattle.ert_defs.specs.States.{State, state}
-use Rattle.ert_defs.specs.Timers.{is_taken}
-use Rattle.ert_defs.specs.declared.entry.Actor.TheVariants.{Caller}
-use Rattle.ert_defs.specs.declared.entry.Entry.{Entry}
-use Rattle.ert_defs.specs.declared.settings.Settings.{Settings}
-use Rattle.ert_defs.specs.declared.timer.Status.{Status}
-use Rattle.ert_effects.specs.RoomCalls.{no_room, with_slot, with_found, ShowsRoom}
-use Rattle.ert_effects.specs.declared.answers.Room.{Room}
-use Rattle.ert_table.specs.Takes.{Appends, TakesPlace}
-use Rattle.ert_table.specs.declared.view.View.{View}
-use Rattle.ert_timers.specs.Changes.{is_resting}
-use Rattle.ert_timers.specs.Parts.{Part, PartStands, slot_at}
-use Rattle.ert_timers.specs.Searching.{CanTake}
-use Rattle.ert_timers.specs.Starting.{probes_from}
+use Rattle.ert_defs.specs.{Entries.{look_entry, probe_entry}, Milliseconds.{down, natural}, States.{State, state}, Timers.is_taken, declared.entry.Actor.TheVariants.Caller, declared.entry.Entry.Entry, declared.settings.Settings.Settings}
+use Rattle.ert_defs.specs.{declared.timer.Status.Status}
+use Rattle.ert_effects.specs.{RoomCalls.{no_room, with_slot, with_found, ShowsRoom}, declared.answers.Room.Room}
+use Rattle.ert_table.specs.{Takes.{Appends, TakesPlace}, declared.view.View.View}
+use Rattle.ert_timers.specs.{Changes.is_resting, Parts.{Part, PartStands, slot_at}, Searching.CanTake, Starting.probes_from}
 
 -- a slot was looked at, and what was known before became this
 pub record SeesSlot (g : Settings) (v : View) (by now : ℕ) (p : Part) (k : ℕ) (before room : Room) (u : View) : Type 0 where

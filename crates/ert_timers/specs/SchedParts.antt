@@ -1,9 +1,7 @@
 -- What a scheduler has, and when it stands for a history.
 
 use Rattle.std.specs.Prelude.{◌≡◌, ◌<◌, List}
-use Rattle.ert_defs.specs.States.{state}
-use Rattle.ert_defs.specs.declared.entry.Entry.{Entry}
-use Rattle.ert_defs.specs.declared.settings.Settings.{Settings}
+use Rattle.ert_defs.specs.{States.state, declared.entry.Entry.Entry, declared.settings.Settings.Settings}
 use Rattle.ert_timers.specs.declared.sched_part.SchedPart.{SchedPart}
 
 -- a scheduler's part stands for a history: its hand and its list of expired timers are those of the history

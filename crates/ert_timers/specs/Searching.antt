@@ -1,16 +1,9 @@
 -- A start that searches for a free slot, and a slot that it finds at once.
 
 use Rattle.std.specs.Prelude.{◌≡◌, ℕ, ◌<◌, ◌≤◌, ℤ, false, List, ◌∷◌, length}
-use Rattle.ert_defs.specs.Entries.{look_entry}
-use Rattle.ert_defs.specs.Milliseconds.{natural, down}
-use Rattle.ert_defs.specs.States.{State, uses_at}
-use Rattle.ert_defs.specs.Timers.{turned, is_taken}
-use Rattle.ert_defs.specs.declared.entry.Actor.TheVariants.{Caller}
-use Rattle.ert_defs.specs.declared.entry.Entry.{Entry}
-use Rattle.ert_defs.specs.declared.settings.Settings.{Settings}
+use Rattle.ert_defs.specs.{Entries.look_entry, Milliseconds.{natural, down}, States.{State, uses_at}, Timers.{turned, is_taken}, declared.entry.Actor.TheVariants.Caller, declared.entry.Entry.Entry, declared.settings.Settings.Settings}
 use Rattle.ert_effects.specs.TimerCalls.{IsRoundTaken, Round}
-use Rattle.ert_timers.specs.Parts.{Part, last_timer}
-use Rattle.ert_timers.specs.Starting.{GoesRound}
+use Rattle.ert_timers.specs.{Parts.{Part, last_timer}, Starting.GoesRound}
 
 -- a slot can take a timer now: its last one takes it no more, and it doesn't rest
 pub record CanTake (g : Settings) (s : State) (p : Part) (k : ℕ) : Type 0 where

@@ -2,24 +2,11 @@
 
 use Rattle.std.specs.Prelude.{◌≡◌, ◌≢◌, ◌⊎◌, ℕ, ◌+◌, ◌<◌, ◌≤◌, Bool, false, MatchBool, List, [], ◌∷◌, length, count_by, Option, Some, None}
 use Rattle.std.specs.Option.{is_some}
-use Rattle.ert_defs.specs.Entries.{probe_entry}
-use Rattle.ert_defs.specs.Laws.{is_armed}
-use Rattle.ert_defs.specs.States.{State, state}
-use Rattle.ert_defs.specs.declared.entry.Actor.TheVariants.{Sched}
-use Rattle.ert_defs.specs.declared.settings.Settings.{Settings}
-use Rattle.ert_defs.specs.declared.timer.Status.{Status}
-use Rattle.ert_defs.specs.declared.timer.Status.TheVariants.{Armed}
+use Rattle.ert_defs.specs.{Entries.probe_entry, Laws.is_armed, States.{State, state}, declared.entry.Actor.TheVariants.Sched, declared.settings.Settings.Settings, declared.timer.Status.Status, declared.timer.Status.TheVariants.Armed}
 use Rattle.ert_effects.specs.Sleeping.{Probed, ProbesForNext, probed_entries, ProbesInOrder, FindsArmed, settled_of}
-use Rattle.ert_table.specs.Calls.{IsMade}
-use Rattle.ert_table.specs.Takes.{Appends, TakesPlace}
-use Rattle.ert_table.specs.declared.view.View.{View}
-use Rattle.ert_timers.specs.Changes.{given_back}
-use Rattle.ert_timers.specs.NextDue.{IsNearest, IsNextHeld}
-use Rattle.ert_timers.specs.Frees.{FreesRows}
-use Rattle.ert_timers.specs.Parts.{Part, PartStands, last_timer}
-use Rattle.ert_timers.specs.Passed.{LosesRows}
-use Rattle.ert_wheel.specs.Rows.{key_in}
-use Rattle.ert_wheel.specs.declared.row.Key.{Key}
+use Rattle.ert_table.specs.{Calls.IsMade, Takes.{Appends, TakesPlace}, declared.view.View.View}
+use Rattle.ert_timers.specs.{Changes.given_back, NextDue.{IsNearest, IsNextHeld}, Frees.FreesRows, Parts.{Part, PartStands, last_timer}, Passed.LosesRows}
+use Rattle.ert_wheel.specs.{Rows.key_in, declared.row.Key.Key}
 
 -- so many rows have gone
 abbrev pub HasLost : ℕ → Part → Part → Type 0

@@ -1,8 +1,7 @@
 -- What is kept of a slot, and how that is packed.
 
 use Rattle.std.specs.Prelude.{ℕ, ◌/◌, ◌%◌, Bool, true, false, nat_eq}
-use Rattle.ert_defs.specs.declared.timer.Kind.{Kind}
-use Rattle.ert_defs.specs.declared.timer.Kind.TheVariants.{Wrapped, Bare}
+use Rattle.ert_defs.specs.declared.timer.Kind.{Kind, TheVariants.{Wrapped, Bare}}
 use Rattle.ert_timers.specs.declared.slot.Stored.{Stored}
 use Rattle.ert_wheel.specs.declared.row.Key.{Key}
 use Rattle.ert_table.specs.Ranges.{word_deadline, word_generation}

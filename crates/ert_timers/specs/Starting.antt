@@ -2,28 +2,11 @@
 
 use Rattle.std.specs.Prelude.{◌≡◌, ◌≢◌, ◌⊎◌, ℕ, ◌+◌, ◌<◌, ◌≤◌, Bool, true, false, cond, nat_eq, min, List, [], ◌∷◌, ◌++◌, length, Option, Some, None, IfSome, Ok}
 use Rattle.std.specs.FinSet as set
-use Rattle.ert_defs.specs.Entries.{probe_entry, arm_entry, mark_entry}
-use Rattle.ert_defs.specs.Milliseconds.{natural, down, deadline_of}
-use Rattle.ert_defs.specs.States.{State, uses_at, state}
-use Rattle.ert_defs.specs.Timers.{IsNextUse, deadline_in, turned, is_taken}
-use Rattle.ert_defs.specs.declared.entry.Actor.TheVariants.{Caller}
-use Rattle.ert_defs.specs.declared.entry.Entry.{Entry}
-use Rattle.ert_defs.specs.declared.settings.Settings.{Settings}
-use Rattle.ert_defs.specs.declared.timer.Start.{Start}
-use Rattle.ert_defs.specs.declared.timer.Status.{Status}
-use Rattle.ert_defs.specs.declared.timer.TimerRef.{TimerRef}
-use Rattle.ert_effects.specs.TimerCalls.{AreProbes, Closes, IsInRound, Round}
-use Rattle.ert_effects.specs.WheelCalls.{orphans_by, IsSettled}
-use Rattle.ert_effects.specs.declared.answers.StartErr.{StartErr}
-use Rattle.ert_table.specs.Settlings.{ShownWord}
-use Rattle.ert_table.specs.Takes.{Appends, TakesPlace}
-use Rattle.ert_table.specs.declared.view.View.{View}
-use Rattle.ert_timers.specs.Changes.{MayBecomeFree, is_resting, kept, given_back}
-use Rattle.ert_timers.specs.Expiring.{is_hit}
-use Rattle.ert_timers.specs.Frees.{TakesFree}
-use Rattle.ert_timers.specs.Parts.{Part, PartStands, last_timer, slot_at}
-use Rattle.ert_timers.specs.Passed.{HasFewerRows, LosesRows, GainsOne}
-use Rattle.ert_timers.specs.declared.part.Use.{Use}
+use Rattle.ert_defs.specs.{Entries.{probe_entry, arm_entry, mark_entry}, Milliseconds.{natural, down, deadline_of}, States.{State, uses_at, state}, Timers.{IsNextUse, deadline_in, turned, is_taken}, declared.entry.Actor.TheVariants.Caller}
+use Rattle.ert_defs.specs.{declared.entry.Entry.Entry, declared.settings.Settings.Settings, declared.timer.Start.Start, declared.timer.Status.Status, declared.timer.TimerRef.TimerRef}
+use Rattle.ert_effects.specs.{TimerCalls.{AreProbes, Closes, IsInRound, Round}, WheelCalls.{orphans_by, IsSettled}, declared.answers.StartErr.StartErr}
+use Rattle.ert_table.specs.{Settlings.ShownWord, Takes.{Appends, TakesPlace}, declared.view.View.View}
+use Rattle.ert_timers.specs.{Changes.{MayBecomeFree, is_resting, kept, given_back}, Expiring.is_hit, Frees.TakesFree, Parts.{Part, PartStands, last_timer, slot_at}, Passed.{HasFewerRows, LosesRows, GainsOne}, declared.part.Use.Use}
 use Rattle.ert_wheel.specs.Rows.{key_in}
 
 -- a timer with this deadline is held

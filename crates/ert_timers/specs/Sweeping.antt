@@ -1,15 +1,10 @@
 -- The timers of a process that has exited are cancelled, one after the other.
 
 use Rattle.std.specs.Prelude.{◌≡◌, ℕ, true, List}
-use Rattle.ert_defs.specs.States.{State, state}
-use Rattle.ert_defs.specs.declared.entry.Entry.{Entry}
-use Rattle.ert_defs.specs.declared.settings.Settings.{Settings}
+use Rattle.ert_defs.specs.{States.{State, state}, declared.entry.Entry.Entry, declared.settings.Settings.Settings}
 use Rattle.ert_effects.specs.WheelCalls.{Try, AllMaySweep, AreOnce, orphan_entries}
-use Rattle.ert_table.specs.Takes.{TakesPlace}
-use Rattle.ert_table.specs.declared.view.View.{View}
-use Rattle.ert_timers.specs.Frees.{FreesRows}
-use Rattle.ert_timers.specs.Parts.{Part, PartStands}
-use Rattle.ert_timers.specs.Passed.{HoldsEach, HoldsNone, LosesRows}
+use Rattle.ert_table.specs.{Takes.TakesPlace, declared.view.View.View}
+use Rattle.ert_timers.specs.{Frees.FreesRows, Parts.{Part, PartStands}, Passed.{HoldsEach, HoldsNone, LosesRows}}
 
 -- some of them were tried
 pub record SweepsSome (g : Settings) (v : View) (by process : ℕ) (p q : Part) (u : View) : Type 0 where

@@ -2,26 +2,11 @@
 
 use Rattle.std.specs.Prelude.{◌≡◌, ℕ, ◌+◌, ◌≤◌, pos, List, ◌++◌, length, count_by, Option, Some, Result, Ok, Err}
 use Rattle.std.specs.Option.{is_some}
-use Rattle.ert_defs.specs.Milliseconds.{down}
-use Rattle.ert_defs.specs.States.{state}
-use Rattle.ert_defs.specs.Timers.{Row}
-use Rattle.ert_defs.specs.declared.entry.Actor.TheVariants.{Sched}
-use Rattle.ert_defs.specs.declared.entry.Entry.{Entry}
-use Rattle.ert_defs.specs.declared.memory.NoMemory.{NoMemory}
-use Rattle.ert_defs.specs.declared.settings.Settings.{Settings}
-use Rattle.ert_effects.specs.SomeCalls.{AreTried, AdvancesSome}
-use Rattle.ert_effects.specs.WheelCalls.{Try, expiry_entries, hits, AllMissesSettled, AllDue, AreOnce}
-use Rattle.ert_effects.specs.declared.answers.Left.{Left}
-use Rattle.ert_effects.specs.declared.answers.Left.TheVariants.{Nothing, Due, Moving}
-use Rattle.ert_table.specs.Calls.{IsMade}
-use Rattle.ert_table.specs.Takes.{TakesPlace}
-use Rattle.ert_table.specs.declared.view.View.{View}
-use Rattle.ert_timers.specs.ExpiredLists.{Queue}
-use Rattle.ert_timers.specs.Parts.{Part, PartStands}
-use Rattle.ert_timers.specs.Passed.{HoldsEach, HoldsNone, LosesRows, HasPassed}
-use Rattle.ert_wheel.specs.FirstDue.{HasMore}
-use Rattle.ert_wheel.specs.Rows.{key_in}
-use Rattle.ert_wheel.specs.declared.row.Key.{Key}
+use Rattle.ert_defs.specs.{Milliseconds.down, States.state, Timers.Row, declared.entry.Actor.TheVariants.Sched, declared.entry.Entry.Entry, declared.memory.NoMemory.NoMemory, declared.settings.Settings.Settings}
+use Rattle.ert_effects.specs.{SomeCalls.{AreTried, AdvancesSome}, WheelCalls.{Try, expiry_entries, hits, AllMissesSettled, AllDue, AreOnce}, declared.answers.Left.Left, declared.answers.Left.TheVariants.{Nothing, Due, Moving}}
+use Rattle.ert_table.specs.{Calls.IsMade, Takes.TakesPlace, declared.view.View.View}
+use Rattle.ert_timers.specs.{ExpiredLists.Queue, Parts.{Part, PartStands}, Passed.{HoldsEach, HoldsNone, LosesRows, HasPassed}}
+use Rattle.ert_wheel.specs.{FirstDue.HasMore, Rows.key_in, declared.row.Key.Key}
 
 -- the expired timers of a scheduler after a history
 abbrev pub expired_after : Settings → List Entry → ℕ → List Row

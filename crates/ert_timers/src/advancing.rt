@@ -10,14 +10,9 @@ use ert_wheel::HeldRow;
 
 impl WheelPart {
     ghost use Rattle.std.specs.Prelude.{◌≡◌, ◌<◌, ◌≤◌, IfOk, Some, length};
-    ghost use Rattle.ert_defs.specs.Legal.{IsNext};
-    ghost use Rattle.ert_defs.specs.States.{state};
-    ghost use Rattle.ert_defs.specs.declared.entry.Actor.TheVariants.{Sched};
-    ghost use Rattle.ert_table.specs.Desks.{settings_of, view_of, front_of, Belongs};
-    ghost use Rattle.ert_timers.specs.Expiring.{Expires, ExpiresSome, IsReady, IsTried, IsAdvanced, TriesHeld};
-    ghost use Rattle.ert_table.specs.Calls.{IsMade};
-    ghost use Rattle.ert_timers.specs.Parts.{HoldsSched, PartStands, last_timer};
-    ghost use Rattle.ert_timers.specs.Passed.{HasPassed, LosesRows};
+    ghost use Rattle.ert_defs.specs.{Legal.IsNext, States.state, declared.entry.Actor.TheVariants.Sched};
+    ghost use Rattle.ert_table.specs.{Desks.{settings_of, view_of, front_of, Belongs}, Calls.IsMade};
+    ghost use Rattle.ert_timers.specs.{Expiring.{Expires, ExpiresSome, IsReady, IsTried, IsAdvanced, TriesHeld}, Parts.{HoldsSched, PartStands, last_timer}, Passed.{HasPassed, LosesRows}};
     ghost use Rattle.ert_wheel.specs.Rows.{key_in, key_of, row_told, rows_told};
 
     /// Lets every timer expire whose deadline has come, by the time that the call itself looks up. Their

@@ -14,9 +14,7 @@ impl WheelPart {
     ghost use Rattle.std.specs.Prelude.{◌≡◌, ◌≤◌, IfOk, ℕ, count_by, length, min, vec_capacity};
     ghost use Rattle.ert_effects.specs.SomeCalls.{AreTried};
     ghost use Rattle.ert_table.specs.Desks.{settings_of, view_of, front_of, Belongs};
-    ghost use Rattle.ert_timers.specs.Parts.{HoldsSched, PartStands};
-    ghost use Rattle.ert_timers.specs.Passed.{LosesRows};
-    ghost use Rattle.ert_timers.specs.Trying.{IsLooked, IsLeft, IsAdvancedSome, HasDue, HasExpiredSome, IsTriedSome, LosesSome};
+    ghost use Rattle.ert_timers.specs.{Parts.{HoldsSched, PartStands}, Passed.LosesRows, Trying.{IsLooked, IsLeft, IsAdvancedSome, HasDue, HasExpiredSome, IsTriedSome, LosesSome}};
 
     /// Advances as `advance` does, but tries so many timers at most, and tells what is left.
     ///

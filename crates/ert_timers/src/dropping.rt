@@ -10,13 +10,8 @@ use ert_table::{Desk, Pass};
 impl WheelPart {
     ghost use Rattle.std.specs.Prelude.{◌≡◌, ◌<◌, length};
     ghost use Rattle.ert_defs.specs.States.{state};
-    ghost use Rattle.ert_table.specs.Desks.{settings_of, view_of, front_of, actors_of, Belongs};
-    ghost use Rattle.ert_table.specs.Held.{IsWhole};
-    ghost use Rattle.ert_timers.specs.Dropping.{DropsRow, DropsRows};
-    ghost use Rattle.ert_timers.specs.Frees.{FreesRows};
-    ghost use Rattle.ert_timers.specs.Parts.{PartStands};
-    ghost use Rattle.ert_timers.specs.Passed.{LosesRows};
-    ghost use Rattle.ert_timers.specs.Tidy.{IsTidy};
+    ghost use Rattle.ert_table.specs.{Desks.{settings_of, view_of, front_of, actors_of, Belongs}, Held.IsWhole};
+    ghost use Rattle.ert_timers.specs.{Dropping.{DropsRow, DropsRows}, Frees.FreesRows, Parts.PartStands, Passed.LosesRows, Tidy.IsTidy};
 
     /// Drops the rows of the timers that others have cancelled, with the pass that holds every actor, and holds
     /// those of their slots free whose rounds have uses left. Then the part is tidy: each timer that it holds is armed.

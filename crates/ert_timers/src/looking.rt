@@ -1,16 +1,9 @@
 //! The look with which a call begins, and what is computed from it.
 ghost use Rattle.std.specs.Prelude.{◌≡◌, ◌≤◌, ℤ, ◌≤ℤ◌, ◌<ℤ◌, true, IfSome, option_map, pos};
-ghost use Rattle.ert_defs.specs.Actors.{IsUser};
-ghost use Rattle.ert_defs.specs.Lines.{end_time};
+ghost use Rattle.ert_defs.specs.{Actors.IsUser, Lines.end_time, Milliseconds.{down, deadline_of}, declared.settings.Settings.Settings as GivenSettings, declared.timer.When.TheVariants.After, declared.entry.Actor.TheVariants.Caller};
 ghost use Rattle.ert_defs.specs.Milliseconds as milliseconds;
-ghost use Rattle.ert_defs.specs.Milliseconds.{down, deadline_of};
-ghost use Rattle.ert_defs.specs.declared.settings.Settings.{Settings as GivenSettings};
-ghost use Rattle.ert_defs.specs.declared.timer.When.TheVariants.{After};
-ghost use Rattle.ert_defs.specs.declared.entry.Actor.TheVariants.{Caller};
-ghost use Rattle.ert_table.specs.Desks.{settings_of, view_of, actors_of, Belongs};
-ghost use Rattle.ert_table.specs.Held.{is_held};
-ghost use Rattle.ert_timers.specs.Looking.{LooksDown, LooksAhead, now_in};
-ghost use Rattle.ert_timers.specs.declared.looking.Ahead.{Ahead};
+ghost use Rattle.ert_table.specs.{Desks.{settings_of, view_of, actors_of, Belongs}, Held.is_held};
+ghost use Rattle.ert_timers.specs.{Looking.{LooksDown, LooksAhead, now_in}, declared.looking.Ahead.Ahead};
 
 use ert_defs::milliseconds::{
     LAST_DEADLINE, NANOSECONDS_PER_MILLISECOND, deadline_at, rounded, rounded_up,

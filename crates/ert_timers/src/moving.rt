@@ -11,24 +11,12 @@ use ert_table::{Desk, Pass, SlotPlace};
 
 impl WheelPart {
     ghost use Rattle.std.specs.Prelude.{◌≡◌, ◌≢◌, ◌<◌, ℕ, true, Some, Err, MatchResult};
-    ghost use Rattle.ert_defs.specs.Legal.{names_timer};
-    ghost use Rattle.ert_defs.specs.Timers.{timer_at};
-    ghost use Rattle.ert_defs.specs.declared.timer.Start.{Start as GivenStart};
-    ghost use Rattle.ert_effects.specs.RestartCalls.{RestartEnds};
-    ghost use Rattle.ert_effects.specs.declared.answers.RestartErr.TheVariants.{Full};
-    ghost use Rattle.ert_table.specs.Calls.{IsMade};
-    ghost use Rattle.ert_table.specs.Desks.{settings_of, view_of, front_of, state_of, Belongs};
-    ghost use Rattle.ert_table.specs.Places.{IsPlaceOf};
-    ghost use Rattle.ert_timers.specs.Looking.{now_in};
-    ghost use Rattle.ert_timers.specs.Parts.{HoldsCaller, PartStands, last_timer};
-    ghost use Rattle.ert_timers.specs.Freeing.{IsHeld};
+    ghost use Rattle.ert_defs.specs.{Legal.names_timer, Timers.timer_at, declared.timer.Start.Start as GivenStart, States.State, declared.timer.Status.TheVariants.Armed};
+    ghost use Rattle.ert_effects.specs.{RestartCalls.RestartEnds, declared.answers.RestartErr.TheVariants.Full};
+    ghost use Rattle.ert_table.specs.{Calls.IsMade, Desks.{settings_of, view_of, front_of, state_of, Belongs}, Places.IsPlaceOf};
+    ghost use Rattle.ert_timers.specs.{Looking.now_in, Parts.{HoldsCaller, PartStands, last_timer}, Freeing.IsHeld, Frees.{IsUsedUp, KeepsFree, TakesFree, UsesFree}, Passed.{GainsOne, LosesRows}, declared.part.Use.Use as Coming};
+    ghost use Rattle.ert_timers.specs.{Restarting.{HasLooked, HasSlotFor, EndsAfter, HasLetGo, refused_or}};
     ghost use Rattle.std.specs.FinSet as set;
-    ghost use Rattle.ert_timers.specs.Frees.{IsUsedUp, KeepsFree, TakesFree, UsesFree};
-    ghost use Rattle.ert_timers.specs.Passed.{GainsOne, LosesRows};
-    ghost use Rattle.ert_timers.specs.declared.part.Use.{Use as Coming};
-    ghost use Rattle.ert_defs.specs.States.{State};
-    ghost use Rattle.ert_defs.specs.declared.timer.Status.TheVariants.{Armed};
-    ghost use Rattle.ert_timers.specs.Restarting.{HasLooked, HasSlotFor, EndsAfter, HasLetGo, refused_or};
 
     /// Gives a timer a new deadline in another slot, or refuses for want of one, after the caller's look. All comes in
     /// parts, and goes in two: so a restart, which seldom gets here, needn't write or read it in memory.

@@ -1,8 +1,6 @@
 ghost use Rattle.std.specs.Prelude.{◌≡◌, ◌↔◌, ◌<◌, ◌≤◌, ◌-◌, ℕ, IfOk, IsTrue, Option, option_map, replicate, true};
-ghost use Rattle.ert_timers.specs.Owners.{MayThin, FindsRow};
-ghost use Rattle.ert_timers.specs.Parts.{AreJoined, all_slots};
-ghost use Rattle.ert_wheel.specs.Rings.{Place, AreChains};
-ghost use Rattle.ert_wheel.specs.Rows.{row_told};
+ghost use Rattle.ert_timers.specs.{Owners.{MayThin, FindsRow}, Parts.{AreJoined, all_slots}};
+ghost use Rattle.ert_wheel.specs.{Rings.{Place, AreChains}, Rows.row_told};
 
 use self::changes::part_from;
 use crate::expired_list::ExpiredList;
@@ -69,8 +67,7 @@ pub struct Tally {
 }
 
 impl Model for WheelPart {
-    ghost use Rattle.ert_timers.specs.Parts.{Part, part_code, all_slots, AreStoredFit};
-    ghost use Rattle.ert_timers.specs.Free.{free_set};
+    ghost use Rattle.ert_timers.specs.{Parts.{Part, part_code, all_slots, AreStoredFit}, Free.free_set};
 
     ghost Value = { Part };
 
@@ -97,14 +94,8 @@ impl WheelPart {
     ghost use Rattle.std.specs.Option.{is_some};
     ghost use Rattle.std.specs.Prelude.{◌≡◌, ◌<◌, ◌≤◌, IfOk, IfSome, ℕ, length, count_by, min, [], option_map, vec_capacity};
     ghost use Rattle.ert_defs.specs.Settings.{IsChecked};
-    ghost use Rattle.ert_timers.specs.Freeing.{IsInUse};
-    ghost use Rattle.ert_timers.specs.Parts.{PartStands, held_row, slot_at};
-    ghost use Rattle.ert_timers.specs.Slots.{stored_slot};
-    ghost use Rattle.ert_timers.specs.Expiring.{AreDue};
-    ghost use Rattle.ert_timers.specs.Changes.{NextOf, gone_on};
-    ghost use Rattle.ert_timers.specs.NextDue.{IsNextHeld};
-    ghost use Rattle.ert_wheel.specs.Rows.{key_in, key_of, row_told, rows_told, told_at};
-    ghost use Rattle.ert_wheel.specs.Standing.{StayOrFall};
+    ghost use Rattle.ert_timers.specs.{Freeing.IsInUse, Parts.{PartStands, held_row, slot_at}, Slots.stored_slot, Expiring.AreDue, Changes.{NextOf, gone_on}, NextDue.IsNextHeld};
+    ghost use Rattle.ert_wheel.specs.{Rows.{key_in, key_of, row_told, rows_told, told_at}, Standing.StayOrFall};
 
     /// The part of a wheel of a desk that has just been opened. It has no timer.
     pub fn open(alloc: Global, settings: &Settings, wheel: u32) -> Result<WheelPart, NoMemory>

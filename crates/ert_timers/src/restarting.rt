@@ -9,17 +9,10 @@ use ert_table::{Desk, Pass, SlotPlace, armed_word};
 
 impl WheelPart {
     ghost use Rattle.std.specs.Prelude.{◌≡◌, ◌≢◌, ◌<◌, true, Err};
-    ghost use Rattle.ert_defs.specs.Legal.{names_timer};
-    ghost use Rattle.ert_defs.specs.Timers.{timer_at};
-    ghost use Rattle.ert_effects.specs.RestartCalls.{Restarts, RestartEnds};
-    ghost use Rattle.ert_effects.specs.declared.answers.RestartErr.TheVariants.{Full};
-    ghost use Rattle.ert_table.specs.Calls.{IsMade};
-    ghost use Rattle.ert_table.specs.Desks.{settings_of, view_of, front_of, state_of, Belongs};
-    ghost use Rattle.ert_table.specs.Places.{IsPlaceOf};
-    ghost use Rattle.ert_timers.specs.Parts.{HoldsCaller, PartStands};
-    ghost use Rattle.ert_timers.specs.Frees.{IsUsedUp, UsesFree};
-    ghost use Rattle.ert_timers.specs.Passed.{GainsOne};
-    ghost use Rattle.ert_timers.specs.Restarting.{MayStay, HasLooked, HasLetGo, refused_or};
+    ghost use Rattle.ert_defs.specs.{Legal.names_timer, Timers.timer_at};
+    ghost use Rattle.ert_effects.specs.{RestartCalls.{Restarts, RestartEnds}, declared.answers.RestartErr.TheVariants.Full};
+    ghost use Rattle.ert_table.specs.{Calls.IsMade, Desks.{settings_of, view_of, front_of, state_of, Belongs}, Places.IsPlaceOf};
+    ghost use Rattle.ert_timers.specs.{Parts.{HoldsCaller, PartStands}, Frees.{IsUsedUp, UsesFree}, Passed.GainsOne, Restarting.{MayStay, HasLooked, HasLetGo, refused_or}};
 
     /// Gives an armed timer, of whatever wheel, a new deadline for a caller (as `uv_timer_again` of libuv), by the time that
     /// the call itself looks up: it is cancelled, and another is started on this wheel.

@@ -19,11 +19,8 @@ const NO_ROOM: Room = Room {
 impl WheelPart {
     ghost use Rattle.std.specs.Prelude.{◌≡◌, ◌<◌, ◌≤◌, ◌+◌, length, unwrap_or};
     ghost use Rattle.ert_effects.specs.RoomCalls.{TellsRoom};
-    ghost use Rattle.ert_table.specs.Calls.{IsMade};
-    ghost use Rattle.ert_table.specs.Desks.{settings_of, view_of, front_of, state_of, Belongs};
-    ghost use Rattle.ert_timers.specs.Parts.{HoldsCaller, PartStands};
-    ghost use Rattle.ert_timers.specs.Rooms.{FindsFree, SeesSlot, SeesAll};
-    ghost use Rattle.ert_timers.specs.Searching.{HasOpenSlot};
+    ghost use Rattle.ert_table.specs.{Calls.IsMade, Desks.{settings_of, view_of, front_of, state_of, Belongs}};
+    ghost use Rattle.ert_timers.specs.{Parts.{HoldsCaller, PartStands}, Rooms.{FindsFree, SeesSlot, SeesAll}, Searching.HasOpenSlot};
 
     /// Looks at the time and at every slot: how many slots can take a timer now, and from when on one more
     /// can that rests and isn't taken. A wheel that has had 2^53 timers takes no more.

@@ -9,21 +9,11 @@ const SETTLED_AT_ONCE: u32 = 1024;
 
 impl WheelPart {
     ghost use Rattle.std.specs.Prelude.{◌≡◌, ◌≢◌, ◌<◌, IsSome, Some, false, length, List};
-    ghost use Rattle.ert_defs.specs.States.{state};
-    ghost use Rattle.ert_defs.specs.declared.entry.Entry.{Entry};
-    ghost use Rattle.ert_defs.specs.declared.settings.Settings.{Settings};
-    ghost use Rattle.ert_defs.specs.declared.timer.Status.TheVariants.{Armed};
+    ghost use Rattle.ert_defs.specs.{States.state, declared.entry.Entry.Entry, declared.settings.Settings.Settings, declared.timer.Status.TheVariants.Armed};
     ghost use Rattle.ert_effects.specs.Sleeping.{ProbesForNext};
-    ghost use Rattle.ert_table.specs.Calls.{IsMade};
-    ghost use Rattle.ert_table.specs.Desks.{settings_of, view_of, front_of, state_of, Belongs};
-    ghost use Rattle.ert_timers.specs.Asking.{AsksOn};
-    ghost use Rattle.ert_timers.specs.Changes.{given_back};
-    ghost use Rattle.ert_timers.specs.NextDue.{NoneArmedBefore, IsNearest, IsNextHeld};
-    ghost use Rattle.ert_timers.specs.Frees.{FreesRows};
-    ghost use Rattle.ert_timers.specs.Parts.{HoldsSched, PartStands, last_timer};
-    ghost use Rattle.ert_timers.specs.Passed.{LosesRows};
-    ghost use Rattle.ert_timers.specs.Sleeping.{AsksNext, IsFoundNext, ProbesRow, ProbesRows};
-    ghost use Rattle.ert_timers.specs.Tidy.{IsTidy};
+    ghost use Rattle.ert_table.specs.{Calls.IsMade, Desks.{settings_of, view_of, front_of, state_of, Belongs}};
+    ghost use Rattle.ert_timers.specs.{Asking.AsksOn, Changes.given_back, NextDue.{NoneArmedBefore, IsNearest, IsNextHeld}, Frees.FreesRows, Parts.{HoldsSched, PartStands, last_timer}, Passed.LosesRows, Sleeping.{AsksNext, IsFoundNext}};
+    ghost use Rattle.ert_timers.specs.{Sleeping.{ProbesRow, ProbesRows}, Tidy.IsTidy};
     ghost use Rattle.ert_wheel.specs.Rows.{key_in};
 
     /// How early a timer may be due, in whole milliseconds since the start time, as `advance` answers; None

@@ -15,19 +15,11 @@ pub(crate) const MOST_TIMERS: u64 = 1 << 53;
 impl WheelPart {
     ghost use Rattle.std.specs.FinSet as set;
     ghost use Rattle.std.specs.Prelude.{◌≡◌, ◌≢◌, ◌<◌, ◌≤◌, ℕ, true, false, length, Err};
-    ghost use Rattle.ert_defs.specs.Milliseconds.{natural, down};
-    ghost use Rattle.ert_effects.specs.TimerCalls.{Starts};
-    ghost use Rattle.ert_effects.specs.declared.answers.StartErr.TheVariants.{Full, NoMemory};
-    ghost use Rattle.ert_defs.specs.States.{state};
-    ghost use Rattle.ert_table.specs.Desks.{settings_of, view_of, front_of, state_of, Belongs};
-    ghost use Rattle.ert_table.specs.Calls.{IsMade};
-    ghost use Rattle.ert_timers.specs.Changes.{MayBecomeFree};
-    ghost use Rattle.ert_timers.specs.Looking.{now_in};
-    ghost use Rattle.ert_timers.specs.Parts.{HoldsCaller, PartStands, slot_at, last_timer};
-    ghost use Rattle.ert_timers.specs.Frees.{IsUsedUp, UsesFree};
-    ghost use Rattle.ert_timers.specs.Searching.{HasOpenSlot, Searches};
-    ghost use Rattle.ert_timers.specs.Passed.{GainsOne};
-    ghost use Rattle.ert_timers.specs.Starting.{HoldsTimer, IsUseFor, Orphans, Arms, Ends, LooksAt, LooksAtSome, LooksAround, TakesSlot};
+    ghost use Rattle.ert_defs.specs.{Milliseconds.{natural, down}, States.state};
+    ghost use Rattle.ert_effects.specs.{TimerCalls.Starts, declared.answers.StartErr.TheVariants.{Full, NoMemory}};
+    ghost use Rattle.ert_table.specs.{Desks.{settings_of, view_of, front_of, state_of, Belongs}, Calls.IsMade};
+    ghost use Rattle.ert_timers.specs.{Changes.MayBecomeFree, Looking.now_in, Parts.{HoldsCaller, PartStands, slot_at, last_timer}, Frees.{IsUsedUp, UsesFree}, Searching.{HasOpenSlot, Searches}, Passed.GainsOne, Starting.HoldsTimer};
+    ghost use Rattle.ert_timers.specs.{Starting.{IsUseFor, Orphans, Arms, Ends, LooksAt, LooksAtSome, LooksAround, TakesSlot}};
 
     /// Starts a timer for a caller (`erlang` module reference, `start_timer`), by the time that the call
     /// itself looks up.

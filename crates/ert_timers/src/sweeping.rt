@@ -6,18 +6,9 @@ use ert_table::{Desk, Pass};
 impl WheelPart {
     ghost use Rattle.std.specs.Prelude.{◌≡◌, ◌≢◌, ◌<◌, false, true, Some};
     ghost use Rattle.ert_effects.specs.WheelCalls.{Sweeps, IsSwept};
-    ghost use Rattle.ert_defs.specs.States.{state};
-    ghost use Rattle.ert_defs.specs.Timers.{is_taken};
-    ghost use Rattle.ert_table.specs.Desks.{settings_of, view_of, front_of, Belongs};
-    ghost use Rattle.ert_table.specs.Calls.{IsMade};
-    ghost use Rattle.ert_timers.specs.Changes.{given_back, reused};
-    ghost use Rattle.ert_timers.specs.Freeing.{IsHeld, IsLast, IsLetGo};
-    ghost use Rattle.ert_timers.specs.Frees.{FreesRows};
-    ghost use Rattle.ert_timers.specs.Parts.{HoldsCaller, PartStands};
-    ghost use Rattle.ert_timers.specs.Passed.{LosesRows};
-    ghost use Rattle.ert_timers.specs.Sweeping.{SweepsHeld};
-    ghost use Rattle.ert_defs.specs.declared.settings.Settings.{Settings};
-    ghost use Rattle.ert_defs.specs.declared.timer.Status.TheVariants.{Armed};
+    ghost use Rattle.ert_defs.specs.{States.state, Timers.is_taken, declared.settings.Settings.Settings, declared.timer.Status.TheVariants.Armed};
+    ghost use Rattle.ert_table.specs.{Desks.{settings_of, view_of, front_of, Belongs}, Calls.IsMade};
+    ghost use Rattle.ert_timers.specs.{Changes.{given_back, reused}, Freeing.{IsHeld, IsLast, IsLetGo}, Frees.FreesRows, Parts.{HoldsCaller, PartStands}, Passed.LosesRows, Sweeping.SweepsHeld};
 
     /// Cancels all timers of a process that has exited, and holds those of their slots free whose rounds have uses
     /// left.

@@ -5,10 +5,8 @@ use Rattle.std.proofs.lemmas.List.Sums.{sum_by-cons}
 use mathlib.Core.Option.{some, some-injective, some-ne-none}
 use lib.ListN.{get_elem?}
 use Rattle.atomic_table.specs.Table.{Final, Seen}
-use Rattle.ert_unique.specs.Numbers.{IsOneTo}
-use Rattle.ert_unique.specs.Rule.{all_draws, AreUniqueDraws}
+use Rattle.ert_unique.specs.{Numbers.IsOneTo, Rule.{all_draws, AreUniqueDraws}, declared.view.View.View}
 use Rattle.ert_unique.proofs.Passing.{Ruled, AllFit, fits_rest}
-use Rattle.ert_unique.specs.declared.view.View.{View}
 
 -- a list no longer than 0 is empty
 empty : (xs : List ℕ) → length xs ≤ 0 → xs ≡ []

@@ -1,13 +1,9 @@
 -- Plain answers of different passes differ.
 
 use Rattle.std.proofs.Common.{◌≡◌, ℕ, zero, suc, ◌+◌, ◌-◌, ◌*◌, ◌/◌, ◌^◌, ◌<◌, ◌≤◌, Bool, true, false, cond, nat_lt, nat_le, ◌&&◌, arith, List, [], ◌∷◌, map, refl}
-use Rattle.std.proofs.lemmas.Bool.Decides.{nat_tests}
-use Rattle.std.proofs.lemmas.Nat.{div-mul-add}
-use Rattle.ert_unique.specs.Numbers.{occurrences, AllDiffer}
-use Rattle.ert_unique.specs.Passes.{number_of, plains_of}
-use Rattle.ert_unique.specs.Plain.{plain_answers, plain_together}
+use Rattle.std.proofs.lemmas.{Bool.Decides.nat_tests, Nat.div-mul-add}
+use Rattle.ert_unique.specs.{Numbers.{occurrences, AllDiffer}, Passes.{number_of, plains_of}, Plain.{plain_answers, plain_together}, declared.uniques.UniquePass.UniquePass}
 use Rattle.ert_unique.proofs.Totals.{times_adds}
-use Rattle.ert_unique.specs.declared.uniques.UniquePass.{UniquePass}
 
 -- how often a number stands in a range of so many after a first one
 abbrev in_range : ℕ → ℕ → ℕ → ℕ

@@ -6,11 +6,8 @@ use mathlib.Core.Option.{some}
 use lib.ListN.{get_elem?}
 use Rattle.atomic_table.specs.Table.{Splits, Joins}
 use Rattle.atomic_table.proofs.Lists.{set_else}
-use Rattle.ert_unique.specs.Rule.{all_draws, DrawsFit}
-use Rattle.ert_unique.specs.Views.{keeping, part_of, taking_in, emptied}
-use Rattle.ert_unique.proofs.Passing.{Ruled, all_at_most, fits_set, fits_last}
-use Rattle.ert_unique.proofs.Totals.{Adds, total_set, total_last, drawn_total, one_to_same}
-use Rattle.ert_unique.specs.declared.view.View.{View}
+use Rattle.ert_unique.specs.{Rule.{all_draws, DrawsFit}, Views.{keeping, part_of, taking_in, emptied}, declared.view.View.View}
+use Rattle.ert_unique.proofs.{Passing.{Ruled, all_at_most, fits_set, fits_last}, Totals.{Adds, total_set, total_last, drawn_total, one_to_same}}
 
 -- a division moves no draw
 divided_draws : (m : List ℕ → ℕ) → Adds m → (views : List View) (id : ℕ) (v : View) (share moved : ℕ) → get_elem? views id ≡ some v

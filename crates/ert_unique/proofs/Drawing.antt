@@ -1,18 +1,12 @@
 -- A draw keeps the rule, and tells that the number is new.
 
 use Rattle.std.proofs.Common.{◌≡◌, ℕ, zero, suc, ◌+◌, ◌*◌, ◌%◌, ◌^◌, ◌<◌, ◌≤◌, ⊎_elim, arith, inl, List, [], ◌∷◌, length, set, sum_by, slice_index, refl, sym, ap, subst}
-use Rattle.std.proofs.Math.Nat.{mod-eq_of_lt}
-use Rattle.std.proofs.lemmas.List.Sums.{sum_by-cons}
-use Rattle.std.proofs.lemmas.List.Elements.{All-append, All-cons, All-nil}
+use Rattle.std.proofs.{Math.Nat.mod-eq_of_lt, lemmas.List.Sums.sum_by-cons, lemmas.List.Elements.{All-append, All-cons, All-nil}}
 use mathlib.Core.Option.{some, some-injective, some-ne-none}
 use lib.ListN.{get_elem?}
 use Rattle.atomic_table.specs.Table.{Act, keeps, Allows, Valid, stepped, carried_after}
-use Rattle.ert_unique.specs.Rule.{all_draws, DrawsFit, AreUniqueDraws}
-use Rattle.ert_unique.specs.Steps.{Draws, UniqueSitter, DrawsNext}
-use Rattle.ert_unique.specs.Views.{drew, emptied}
-use Rattle.ert_unique.proofs.Passing.{Ruled, AllFit, all_at_most, fits_on, fits_rest, fits_set}
-use Rattle.ert_unique.proofs.Totals.{Adds, length_adds, total_set, drawn_total, one_to_more}
-use Rattle.ert_unique.specs.declared.view.View.{View}
+use Rattle.ert_unique.specs.{Rule.{all_draws, DrawsFit, AreUniqueDraws}, Steps.{Draws, UniqueSitter, DrawsNext}, Views.{drew, emptied}, declared.view.View.View}
+use Rattle.ert_unique.proofs.{Passing.{Ruled, AllFit, all_at_most, fits_on, fits_rest, fits_set}, Totals.{Adds, length_adds, total_set, drawn_total, one_to_more}}
 
 -- the lists are no longer than the shares allow
 shares_bound : (passes word : ℕ) (views : List View) → AllFit passes word views

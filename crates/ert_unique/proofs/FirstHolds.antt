@@ -1,16 +1,11 @@
 -- The rule holds at the opening, and the passes' numbers differ.
 
 use Rattle.std.proofs.Common.{◌≡◌, ℕ, zero, suc, ◌≤◌, cond, nat_lt, arith, inl, [], ◌∷◌, refl, sym, subst}
-use Rattle.std.proofs.lemmas.Bool.Decides.{nat_tests}
-use Rattle.std.proofs.lemmas.List.Elements.{All-nil}
+use Rattle.std.proofs.lemmas.{Bool.Decides.nat_tests, List.Elements.All-nil}
 use mathlib.Core.Option.{some, some-injective, some-ne-none}
 use lib.ListN.{get_elem?}
-use Rattle.ert_unique.specs.Numbers.{occurrences, within, AllDiffer}
-use Rattle.ert_unique.specs.Passes.{below}
-use Rattle.ert_unique.specs.Rule.{DrawsFit, AreUniqueDraws}
-use Rattle.ert_unique.specs.Views.{first_share}
+use Rattle.ert_unique.specs.{Numbers.{occurrences, within, AllDiffer}, Passes.below, Rule.{DrawsFit, AreUniqueDraws}, Views.first_share, declared.view.View.View}
 use Rattle.ert_unique.proofs.Totals.{times_adds}
-use Rattle.ert_unique.specs.declared.view.View.{View}
 
 first_fits : (passes : ℕ) → DrawsFit passes 0 (first_share passes)
 first_fits passes = record { short = omega arith; seen = omega arith; greatest = All-nil (λ n. n ≤ 0); opened = inl refl }

@@ -3,10 +3,8 @@
 use Rattle.std.proofs.Common.{◌≡◌, ℕ, zero, suc, ◌+◌, arith, List, [], ◌∷◌, ◌++◌, length, length-append, slice_index, refl, sym, ap, ◌∙◌, add-one}
 use mathlib.Core.Option.{some, some-injective, some-ne-none}
 use lib.ListN.{get_elem?}
-use Rattle.ert_unique.specs.Numbers.{occurrences, IsOneTo, IsRearranged}
-use Rattle.ert_unique.specs.Passes.{draws_of, draws_together, below}
+use Rattle.ert_unique.specs.{Numbers.{occurrences, IsOneTo, IsRearranged}, Passes.{draws_of, draws_together, below}, declared.uniques.UniquePass.UniquePass}
 use Rattle.ert_unique.proofs.Totals.{Adds, times_adds, length_adds}
-use Rattle.ert_unique.specs.declared.uniques.UniquePass.{UniquePass}
 
 together_last : (m : List ℕ → ℕ) → Adds m → (passes : List UniquePass) (p : UniquePass)
     → m (draws_together (passes ++ p ∷ [])) ≡ m (draws_together passes) + m (draws_of p)

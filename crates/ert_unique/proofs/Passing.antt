@@ -5,8 +5,7 @@ use mathlib.Core.Option.{some}
 use lib.ListN.{get_elem?}
 use Rattle.atomic_table.specs.Table.{State}
 use Rattle.atomic_table.proofs.Lists.{at_set, at_snoc}
-use Rattle.ert_unique.specs.Rule.{DrawsFit, AreUniqueDraws}
-use Rattle.ert_unique.specs.declared.view.View.{View}
+use Rattle.ert_unique.specs.{Rule.{DrawsFit, AreUniqueDraws}, declared.view.View.View}
 
 -- the rule, of a table for so many passes
 abbrev pub Ruled : ℕ → State (Unit {0}) View → Type 0

@@ -1,13 +1,10 @@
 -- Totals over all passes, and how they change with one pass.
 
 use Rattle.std.proofs.Common.{◌≡◌, ℕ, zero, suc, ◌+◌, arith, cond, ◌==◌, List, [], ◌∷◌, ◌++◌, length, length-append, set, sum_by, refl, sym, ap, ◌∙◌}
-use Rattle.std.proofs.lemmas.Bool.Decides.{nat_tests}
-use Rattle.std.proofs.lemmas.List.Sums.{sum_by-append, sum_by-cons}
+use Rattle.std.proofs.lemmas.{Bool.Decides.nat_tests, List.Sums.{sum_by-append, sum_by-cons}}
 use mathlib.Core.Option.{some, some-injective, some-ne-none}
 use lib.ListN.{get_elem?}
-use Rattle.ert_unique.specs.Numbers.{occurrences, within, IsOneTo}
-use Rattle.ert_unique.specs.Rule.{all_draws}
-use Rattle.ert_unique.specs.declared.view.View.{View}
+use Rattle.ert_unique.specs.{Numbers.{occurrences, within, IsOneTo}, Rule.all_draws, declared.view.View.View}
 
 -- a measure of lists that adds up
 pub record Adds (m : List ℕ → ℕ) : Type 0 where

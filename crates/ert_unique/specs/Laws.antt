@@ -2,9 +2,7 @@
 -- they are proved.
 
 use Rattle.std.specs.Prelude.{◌≡◌, ℕ, pos, ◌+ℤ◌, ◌*ℤ◌, ◌≤ℤ◌, ◌<ℤ◌, ◌^◌, ◌≤◌}
-use Rattle.ert_unique.specs.Plain.{plain_answer}
-use Rattle.ert_unique.specs.Stamps.{stamp_at}
-use Rattle.ert_unique.specs.declared.stamp.Stamp.{Stamp}
+use Rattle.ert_unique.specs.{Plain.plain_answer, Stamps.stamp_at, declared.stamp.Stamp.Stamp}
 
 -- a plain answer tells which pass gave it, and as which of its answers
 abbrev pub LawOfPlainAnswers : Type 0

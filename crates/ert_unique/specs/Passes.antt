@@ -1,8 +1,7 @@
 -- What callers see of the unique integers of a system, and of a pass.
 
 use Rattle.std.specs.Prelude.{◌≡◌, ℕ, zero, suc, List, [], ◌∷◌, ◌++◌, length, All}
-use Rattle.ert_unique.specs.declared.uniques.UniquePass.{UniquePass}
-use Rattle.ert_unique.specs.declared.uniques.Uniques.{Uniques}
+use Rattle.ert_unique.specs.declared.uniques.{UniquePass.UniquePass, Uniques.Uniques}
 
 -- how many passes were opened
 abbrev pub passes_of : Uniques → ℕ

@@ -1,8 +1,7 @@
 -- Plain unique integers: no step is made, since each pass has a range of its own.
 
 use Rattle.std.specs.Prelude.{ℕ, zero, suc, ◌+◌, ◌*◌, ◌^◌, List, [], ◌∷◌, ◌++◌}
-use Rattle.ert_unique.specs.Passes.{number_of, plains_of}
-use Rattle.ert_unique.specs.declared.uniques.UniquePass.{UniquePass}
+use Rattle.ert_unique.specs.{Passes.{number_of, plains_of}, declared.uniques.UniquePass.UniquePass}
 
 -- the k-th plain answer of the pass of a number, counted from 1
 abbrev pub plain_answer : ℕ → ℕ → ℕ

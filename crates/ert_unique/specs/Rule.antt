@@ -3,9 +3,7 @@
 use Rattle.std.specs.Prelude.{◌≡◌, ◌⊎◌, ℕ, ◌*◌, ◌^◌, ◌≤◌, List, [], ◌∷◌, ◌++◌, length, All, sum_by}
 use mathlib.Core.Option.{some}
 use lib.ListN.{get_elem?}
-use Rattle.ert_unique.specs.Numbers.{IsOneTo}
-use Rattle.ert_unique.specs.Views.{emptied}
-use Rattle.ert_unique.specs.declared.view.View.{View}
+use Rattle.ert_unique.specs.{Numbers.IsOneTo, Views.emptied, declared.view.View.View}
 
 -- the numbers that all passes drew
 abbrev pub all_draws : List View → List ℕ

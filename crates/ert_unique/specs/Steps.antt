@@ -2,8 +2,7 @@
 
 use Rattle.std.specs.Prelude.{◌≡◌, ℕ, ◌+◌, ◌*◌, ◌^◌, ◌<◌, ◌≤◌, []}
 use Rattle.atomic_table.specs.Table.{Me}
-use Rattle.ert_unique.specs.Views.{drew}
-use Rattle.ert_unique.specs.declared.view.View.{View}
+use Rattle.ert_unique.specs.{Views.drew, declared.view.View.View}
 
 -- a pass drew a number: it is greater than all that the pass had seen, and within the draws of all passes
 pub record Draws (v : View) (n : ℕ) (w : View) : Type 0 where

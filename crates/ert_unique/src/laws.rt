@@ -1,10 +1,7 @@
 //! Laws: the contracts of functions that do nothing.
 ghost use Rattle.std.specs.Prelude.{◌≤◌, All, map};
 ghost use Rattle.std.specs.List.Sorted.{IsStrictlyIncreasing};
-ghost use Rattle.ert_unique.specs.Laws.{LawOfPlainAnswers, LawOfStamps};
-ghost use Rattle.ert_unique.specs.Numbers.{AllDiffer};
-ghost use Rattle.ert_unique.specs.Passes.{draws_of, seen_of, number_of};
-ghost use Rattle.ert_unique.specs.Plain.{plain_together};
+ghost use Rattle.ert_unique.specs.{Laws.{LawOfPlainAnswers, LawOfStamps}, Numbers.AllDiffer, Passes.{draws_of, seen_of, number_of}, Plain.plain_together};
 
 use crate::uniques::UniquePass;
 

@@ -1,8 +1,6 @@
 //! How unique integers are opened and closed.
 ghost use Rattle.std.specs.Prelude.{◌≡◌, ◌≤◌, ◌-◌, [], length, vec_len, map, All, IfOk};
-ghost use Rattle.ert_unique.specs.Numbers.{AllDiffer, IsOneTo, IsRearranged};
-ghost use Rattle.ert_unique.specs.Passes.{passes_of, number_of, BelongsToUniques, IsNew, AreAll, below, draws_together};
-ghost use Rattle.ert_unique.specs.Views.{first_share};
+ghost use Rattle.ert_unique.specs.{Numbers.{AllDiffer, IsOneTo, IsRearranged}, Passes.{passes_of, number_of, BelongsToUniques, IsNew, AreAll, below, draws_together}, Views.first_share};
 
 use crate::plays::{Opens, Unites};
 use crate::uniques::{UniquePass, Uniques};

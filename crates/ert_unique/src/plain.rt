@@ -1,8 +1,6 @@
 //! Plain unique integers.
 ghost use Rattle.std.specs.Prelude.{◌≡◌, ◌+◌, ◌^◌, ◌≤◌, IfOk, OnErr, OnOk};
-ghost use Rattle.ert_unique.specs.Passes.{draws_of, seen_of, number_of, plains_of, BelongsToUniques};
-ghost use Rattle.ert_unique.specs.Plain.{plain_answer};
-ghost use Rattle.ert_unique.specs.declared.uniques.Uniques.{Uniques};
+ghost use Rattle.ert_unique.specs.{Passes.{draws_of, seen_of, number_of, plains_of, BelongsToUniques}, Plain.plain_answer, declared.uniques.Uniques.Uniques};
 
 use crate::uniques::{MOST, Spent, UniquePass};
 

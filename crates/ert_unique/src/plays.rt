@@ -1,7 +1,6 @@
 //! What a step on the table tells a pass, and how passes are divided and put together.
 ghost use Rattle.std.specs.Prelude.{◌-◌};
-ghost use Rattle.ert_unique.specs.Steps.{DrawsNext};
-ghost use Rattle.ert_unique.specs.Views.{keeping, part_of, taking_in, emptied};
+ghost use Rattle.ert_unique.specs.{Steps.DrawsNext, Views.{keeping, part_of, taking_in, emptied}};
 
 use crate::view::View;
 use atomic_table::{Join, Play, Split};

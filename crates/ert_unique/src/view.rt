@@ -1,5 +1,4 @@
-ghost use Rattle.ert_unique.specs.Rule.{AreUniqueDraws};
-ghost use Rattle.ert_unique.specs.Views.{first_share};
+ghost use Rattle.ert_unique.specs.{Rule.AreUniqueDraws, Views.first_share};
 
 use atomic_table::TableRule;
 use std::collections::LinkedList;

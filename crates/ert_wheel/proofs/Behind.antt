@@ -1,25 +1,11 @@
 -- Rows that are left in the window before which time stands.
 
 use Rattle.std.proofs.Common.{◌≡◌, ◌≢◌, ℕ, suc, ◌+◌, ◌-◌, ◌*◌, ◌/◌, ◌^◌, ◌<◌, ◌≤◌, Bool, true, false, List, Option, Some, None, IfSome, sym, subst, ◌∙◌, ap, inl, inr, refl, arith}
-use Rattle.std.proofs.Math.Nat.{pow-succ', suc-mul, mul-le-mul_right, div-mul-le_self, div-lt_iff_lt-mul}
-use Rattle.std.proofs.lemmas.Bool.{cases_lt}
-use Rattle.std.proofs.lemmas.Nat.{div_below}
-use Rattle.std.specs.Bool.{OnTrue}
-use Rattle.std.specs.Option.{is_some}
-use Rattle.ert_wheel.proofs.Homes.{home_of_slot}
-use Rattle.ert_wheel.proofs.Times.{later, some_wide}
-use Rattle.ert_wheel.proofs.Views.{place_is}
-use Rattle.ert_wheel.proofs.Writes.{Sees, unordered, ordered_never}
-use Rattle.ert_wheel.specs.Falling.{HasRowIn, MayFall}
-use Rattle.ert_wheel.specs.FirstDue.{HasToMove}
-use Rattle.ert_wheel.specs.Levels.{bucket_of_window}
-use Rattle.ert_wheel.specs.Rings.{Rings, Place, AreChains, StandsIn, Finds}
-use Rattle.ert_wheel.specs.NextDue.{NoneBefore}
-use Rattle.ert_wheel.specs.Rows.{key_in}
-use Rattle.ert_wheel.specs.Standing.{homes_of}
-use Rattle.ert_wheel.specs.Wheels.{held_keys, stand_on, places, AreLevelChains}
-use Rattle.ert_wheel.specs.declared.ordered.Ordered.{Ordered}
-use Rattle.ert_wheel.specs.declared.row.Key.{Key}
+use Rattle.std.proofs.{Math.Nat.{pow-succ', suc-mul, mul-le-mul_right, div-mul-le_self, div-lt_iff_lt-mul}, lemmas.Bool.cases_lt, lemmas.Nat.div_below}
+use Rattle.std.specs.{Bool.OnTrue, Option.is_some}
+use Rattle.ert_wheel.proofs.{Homes.home_of_slot, Times.{later, some_wide}, Views.place_is, Writes.{Sees, unordered, ordered_never}}
+use Rattle.ert_wheel.specs.{Falling.{HasRowIn, MayFall}, FirstDue.HasToMove, Levels.bucket_of_window, Rings.{Rings, Place, AreChains, StandsIn, Finds}, NextDue.NoneBefore, Rows.key_in, Standing.homes_of, Wheels.{held_keys, stand_on}}
+use Rattle.ert_wheel.specs.{Wheels.{places, AreLevelChains}, declared.ordered.Ordered.Ordered, declared.row.Key.Key}
 
 -- the newest row that stands in the window after that of the next time
 row_left : (next level slot : ℕ) (chains : Rings) (stored : List Key) → MayFall next 1 chains (held_keys chains stored)

@@ -1,17 +1,12 @@
 -- What each call on chains does, in the form in which the calls meet it.
 
 use Rattle.std.proofs.Common.{map, ◌≡◌, ◌↔◌, ℕ, ◌+◌, ◌-◌, ◌<◌, ◌≤◌, ◌^◌, Bool, true, false, not, cond, List, Option, Some, None, length, get_or, sym, subst, ◌∙◌, ap, inl, inr, refl, arith}
-use Rattle.std.proofs.lemmas.Bool.{cases_lt, lt-ltb, le-ltb, false≢true}
-use Rattle.std.proofs.lemmas.List.FromFn.{get_or-map-range_with_len}
-use Rattle.std.specs.Bool.{IsTrue}
-use Rattle.std.specs.List.{range_with_len}
-use Rattle.std.specs.Option.{IsSome}
+use Rattle.std.proofs.lemmas.{Bool.{cases_lt, lt-ltb, le-ltb, false≢true}, List.FromFn.get_or-map-range_with_len}
+use Rattle.std.specs.{Bool.IsTrue, List.range_with_len, Option.IsSome}
 use Rattle.ert_wheel.proofs.Parts.{IsSlot, IsHead, slot_is, head_is, node_is, placed_apart, behind_head, behind_oldest, put_chains, take_chains}
-use Rattle.ert_wheel.specs.Chained.{Shape, Spliced, Unspliced}
+use Rattle.ert_wheel.specs.{Chained.{Shape, Spliced, Unspliced}, Links.{next_at, prev_at, lone_link, no_link, stored_node, seen_links, AreWritten}, Rings.{Rings, rings, seen_rings, Place, order_of, shape, AreChains, MayPut, Puts}}
+use Rattle.ert_wheel.specs.{Rings.{PutsInHome, PutsOldestInHome, GivesUpPlace, node_slot, Finds, FindsOldest}, declared.links.Link.Link}
 use Rattle.ert_wheel.proofs.Stored.{spliced_seen, spliced_behind, last_node, stored_low, unspliced_seen, written_spliced, written_unspliced}
-use Rattle.ert_wheel.specs.Links.{next_at, prev_at, lone_link, no_link, stored_node, seen_links, AreWritten}
-use Rattle.ert_wheel.specs.Rings.{Rings, rings, seen_rings, Place, order_of, shape, AreChains, MayPut, Puts, PutsInHome, PutsOldestInHome, GivesUpPlace, node_slot, Finds, FindsOldest}
-use Rattle.ert_wheel.specs.declared.links.Link.{Link}
 
 -- a slot is put in: `lent` is what the links are while they are written
 pub splices : (old : Rings) (slots homes written : ℕ) (before lent after : List Link) (slot home : ℕ)

@@ -2,16 +2,9 @@
 
 use Rattle.std.proofs.Common.{◌≡◌, ◌≢◌, ℕ, ◌+◌, ◌<◌, ◌≤◌, List, Option, Some, None, IfSome, length, get_or, sym, subst, ◌∙◌, ap, inl, inr, refl, arith}
 use Rattle.std.proofs.lemmas.Bool.{cases_lt}
-use Rattle.ert_wheel.proofs.Looking.{InBucket, key_low, told_alone}
-use Rattle.ert_wheel.proofs.Steps.{left_newer, newer_falls}
-use Rattle.ert_wheel.proofs.Views.{place_is, held_in}
-use Rattle.ert_wheel.specs.FirstDue.{NoneDueIn, IsOldestDue}
-use Rattle.ert_wheel.specs.Links.{prev_at}
-use Rattle.ert_wheel.specs.Rings.{Rings, Place, AreChains, StandsIn, order_of, node_slot, FindsOldest}
-use Rattle.ert_wheel.specs.Rows.{key_in, row_told, told_at}
-use Rattle.ert_wheel.specs.Wheels.{no_key, held_keys, place_of, places}
-use Rattle.ert_wheel.specs.declared.row.Key.{Key}
-use Rattle.ert_wheel.specs.declared.row.Row.{Row}
+use Rattle.ert_wheel.proofs.{Looking.{InBucket, key_low, told_alone}, Steps.{left_newer, newer_falls}, Views.{place_is, held_in}}
+use Rattle.ert_wheel.specs.{FirstDue.{NoneDueIn, IsOldestDue}, Links.prev_at, Rings.{Rings, Place, AreChains, StandsIn, order_of, node_slot, FindsOldest}, Rows.{key_in, row_told, told_at}, Wheels.{no_key, held_keys, place_of, places}}
+use Rattle.ert_wheel.specs.{declared.row.Key.Key, declared.row.Row.Row}
 
 -- the slot that comes next is there, and its order is at most this
 abbrev pub IsLow : (ℕ → Option Place) → Option ℕ → ℕ → Type 0

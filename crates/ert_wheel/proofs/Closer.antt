@@ -1,13 +1,9 @@
 -- What is told of the next due row is exact where it is near, is rarely no deadline, and goes on.
 
 use Rattle.std.proofs.Common.{◌≡◌, ℕ, ◌+◌, ◌-◌, ◌*◌, ◌/◌, ◌^◌, ◌<◌, ◌≤◌, max, List, Option, Some, sym, ◌∙◌, ap, inl, inr, arith}
-use Rattle.std.proofs.Math.Nat.{mul_assoc, div-lt_iff_lt-mul}
-use Rattle.std.proofs.lemmas.Bool.{cases_lt}
-use Rattle.std.proofs.lemmas.Nat.{pow-add}
-use Rattle.ert_wheel.proofs.Standing.{begins}
-use Rattle.ert_wheel.proofs.Times.{later, one_bucket, one_window, some_wide}
-use Rattle.ert_wheel.specs.Levels.{bucket_of_window, bucket_on}
-use Rattle.ert_wheel.specs.NextDue.{IsInWindow, LawOfNearAnswers, LawOfRareAnswers, LawOfLaterDue, LawOfTrueWindows}
+use Rattle.std.proofs.{Math.Nat.{mul_assoc, div-lt_iff_lt-mul}, lemmas.Bool.cases_lt, lemmas.Nat.pow-add}
+use Rattle.ert_wheel.proofs.{Standing.begins, Times.{later, one_bucket, one_window, some_wide}}
+use Rattle.ert_wheel.specs.{Levels.{bucket_of_window, bucket_on}, NextDue.{IsInWindow, LawOfNearAnswers, LawOfRareAnswers, LawOfLaterDue, LawOfTrueWindows}}
 
 -- a multiple of a window is one of each narrower window
 pub narrower : (n l level : ℕ) → l ≤ level → n * 512 ^ level ≡ n * 512 ^ (level - l) * 512 ^ l

@@ -1,17 +1,9 @@
 -- The rows of one chain are collected, from the oldest to the newest.
 
 use Rattle.std.proofs.Common.{◌≡◌, ◌≢◌, ℕ, ◌+◌, ◌<◌, ◌≤◌, ◌^◌, Bool, true, false, ◌&&◌, cond, nat_eq, nat_le, nat_lt, List, Option, Some, None, IfSome, [], ◌∷◌, ◌++◌, length, get_or, sym, subst, ◌∙◌, ap, inl, inr, refl, arith}
-use Rattle.std.proofs.lemmas.Bool.{cases_eq, cases_lt, eq-eqb, ne_eqb, and_right, lt-ltb, le-ltb}
-use Rattle.std.proofs.lemmas.Bool.Decides.{eqb_tells}
-use Rattle.std.proofs.lemmas.List.Sums.{sum_by_push}
-use Rattle.ert_wheel.proofs.Looking.{InBucket, key_low}
-use Rattle.ert_wheel.proofs.Views.{place_is, held_in}
-use Rattle.ert_wheel.specs.Rings.{Rings, Place, AreChains, StandsIn, order_of, FindsOldest}
-use Rattle.ert_wheel.specs.Rows.{key_in, times, passing}
-use Rattle.ert_wheel.specs.Walks.{AreRows, is_due_in}
-use Rattle.ert_wheel.specs.Wheels.{held_keys, place_of, places}
-use Rattle.ert_wheel.specs.declared.row.Key.{Key}
-use Rattle.ert_wheel.specs.declared.row.Row.{Row}
+use Rattle.std.proofs.lemmas.{Bool.{cases_eq, cases_lt, eq-eqb, ne_eqb, and_right, lt-ltb, le-ltb}, Bool.Decides.eqb_tells, List.Sums.sum_by_push}
+use Rattle.ert_wheel.proofs.{Looking.{InBucket, key_low}, Views.{place_is, held_in}}
+use Rattle.ert_wheel.specs.{Rings.{Rings, Place, AreChains, StandsIn, order_of, FindsOldest}, Rows.{key_in, times, passing}, Walks.{AreRows, is_due_in}, Wheels.{held_keys, place_of, places}, declared.row.Key.Key, declared.row.Row.Row}
 
 -- the due keys of the bucket whose orders are below a bound
 abbrev pub is_due_below : (Key → Place) → ℕ → ℕ → ℕ → Key → Bool

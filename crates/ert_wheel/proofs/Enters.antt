@@ -2,16 +2,8 @@
 
 use Rattle.std.proofs.Common.{◌≡◌, ℕ, ◌+◌, ◌<◌, ◌≤◌, ◌^◌, max, List, Option, Some, None, IfSome, length, set, subst, ap, inl, inr, arith, get_or-set_same, get_or-set_other}
 use Rattle.std.proofs.lemmas.Bool.{cases_lt}
-use Rattle.ert_wheel.proofs.Falls.{HasWith, either, given, given_here, given_there, stands_least, levelled_with, chained_with}
-use Rattle.ert_wheel.proofs.Renumber.{AreNumbered}
-use Rattle.ert_wheel.proofs.Views.{place_is}
-use Rattle.ert_wheel.specs.Levels.{bucket_on, IsLeastLevel}
-use Rattle.ert_wheel.specs.Ordering.{ranked}
-use Rattle.ert_wheel.specs.Rings.{Rings, Place, AreChains, with_place}
-use Rattle.ert_wheel.specs.Rows.{key_in}
-use Rattle.ert_wheel.specs.Wheels.{stand_on, places, AreOrderedChains}
-use Rattle.ert_wheel.specs.declared.ordered.Ordered.{Ordered}
-use Rattle.ert_wheel.specs.declared.row.Key.{Key}
+use Rattle.ert_wheel.proofs.{Falls.{HasWith, either, given, given_here, given_there, stands_least, levelled_with, chained_with}, Renumber.AreNumbered, Views.place_is}
+use Rattle.ert_wheel.specs.{Levels.{bucket_on, IsLeastLevel}, Ordering.ranked, Rings.{Rings, Place, AreChains, with_place}, Rows.key_in, Wheels.{stand_on, places, AreOrderedChains}, declared.ordered.Ordered.Ordered, declared.row.Key.Key}
 
 -- a key whose order is above all
 pub record IsNewest (keys : List (Option Key)) (slot : ℕ) (key : Key) : Type 0 where

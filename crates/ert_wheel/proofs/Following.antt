@@ -2,14 +2,9 @@
 
 use Rattle.std.proofs.Common.{true, ◌≡◌, ◌≢◌, ℕ, ◌+◌, ◌<◌, ◌≤◌, ◌^◌, cond, List, Option, Some, None, MatchOption, sym, subst, ◌∙◌, ap, inl, inr, refl, arith}
 use Rattle.std.proofs.lemmas.Bool.{cases_eq, cases_lt, lt-ltb, le-ltb}
-use Rattle.ert_wheel.proofs.Calls.{newest_at}
-use Rattle.ert_wheel.proofs.MarkBits.{IsFirstMark}
-use Rattle.ert_wheel.proofs.Parts.{IsSlot, IsHead, slot_is, head_is, node_is}
-use Rattle.ert_wheel.specs.Chained.{Shape, Spliced, Unspliced}
-use Rattle.ert_wheel.specs.Links.{next_at, prev_at}
-use Rattle.ert_wheel.specs.Marks.{mark_of, newest_node, AreMarked, FirstUsed}
-use Rattle.ert_wheel.specs.Rings.{Rings, IsOnlyOf, HasOthers, Place, AreChains, shape, node_slot, Finds}
-use Rattle.ert_wheel.specs.declared.row.TheConstants.{BUCKETS}
+use Rattle.ert_wheel.proofs.{Calls.newest_at, MarkBits.IsFirstMark, Parts.{IsSlot, IsHead, slot_is, head_is, node_is}}
+use Rattle.ert_wheel.specs.{Chained.{Shape, Spliced, Unspliced}, Links.{next_at, prev_at}, Marks.{mark_of, newest_node, AreMarked, FirstUsed}, Rings.{Rings, IsOnlyOf, HasOthers, Place, AreChains, shape, node_slot, Finds}}
+use Rattle.ert_wheel.specs.{declared.row.TheConstants.BUCKETS}
 
 -- the head of a bucket before a slot
 record BeforeIsHead (r : Rings) (slot head : ℕ) : Type 0 where

@@ -1,18 +1,9 @@
 -- Where the slots of chains stand, as the links tell it: each in the home of its place.
 
 use Rattle.std.proofs.Common.{◌≡◌, ℕ, zero, suc, ◌+◌, ◌-◌, ◌<◌, ◌≤◌, ◌^◌, cond, List, Option, Some, None, length, set, sym, ◌∙◌, ap, inl, inr, refl, arith, get_or-set_same, get_or-set_other}
-use Rattle.std.proofs.lemmas.Bool.{cases_eq, lt-ltb, le-ltb}
-use Rattle.std.proofs.lemmas.List.{ext_get_or, length-set}
-use Rattle.std.proofs.lemmas.List.FromFn.{get_or-map-range_with_len, length-map-range_with_len}
-use Rattle.ert_wheel.proofs.Looking.{key_low}
-use Rattle.ert_wheel.proofs.Parts.{slot_is, node_is, with_place_here, with_place_there}
-use Rattle.ert_wheel.specs.Chained.{Shape}
-use Rattle.ert_wheel.specs.Links.{next_at}
-use Rattle.ert_wheel.specs.Rings.{Rings, Place, shape, AreChains, with_place, StandsIn}
-use Rattle.ert_wheel.specs.Rows.{key_in}
-use Rattle.ert_wheel.specs.Standing.{far, home_from, homes_of, bucket_in}
-use Rattle.ert_wheel.specs.Wheels.{place_of, places}
-use Rattle.ert_wheel.specs.declared.row.Key.{Key}
+use Rattle.std.proofs.lemmas.{Bool.{cases_eq, lt-ltb, le-ltb}, List.{ext_get_or, length-set}, List.FromFn.{get_or-map-range_with_len, length-map-range_with_len}}
+use Rattle.ert_wheel.proofs.{Looking.key_low, Parts.{slot_is, node_is, with_place_here, with_place_there}}
+use Rattle.ert_wheel.specs.{Chained.Shape, Links.next_at, Rings.{Rings, Place, shape, AreChains, with_place, StandsIn}, Rows.key_in, Standing.{far, home_from, homes_of, bucket_in}, Wheels.{place_of, places}, declared.row.Key.Key}
 
 -- the home of a place
 abbrev pub home_at : Option Place → Option ℕ

@@ -1,11 +1,8 @@
 -- Keys and values by slot, as they are stored: each value has a key in it.
 
 use Rattle.std.proofs.Common.{◌≡◌, ◌∙◌, sym, ap, subst, IfSome, ℕ, zero, suc, ◌-◌, ◌<◌, ◌≤◌, List, ◌∷◌, ◌++◌, Some, map, length, get_or, set, replicate, slice_get, refl, if◌then◌else◌, true, Bool, take, take_all}
-use Rattle.std.proofs.lemmas.Option.{slice_get_read, slice_get-get_or}
-use Rattle.std.proofs.lemmas.List.{get_or-map, map-append, map-set, length-map, set-get_or}
-use Rattle.ert_wheel.specs.Kept.{KeptSlots}
-use Rattle.ert_wheel.specs.Wheels.{no_key}
-use Rattle.ert_wheel.specs.declared.row.Key.{Key}
+use Rattle.std.proofs.lemmas.{Option.{slice_get_read, slice_get-get_or}, List.{get_or-map, map-append, map-set, length-map, set-get_or}}
+use Rattle.ert_wheel.specs.{Kept.KeptSlots, Wheels.no_key, declared.row.Key.Key}
 
 -- what is kept, as it is stored
 abbrev pub kept_as : {T : Type 0} → (T → Key) → List T → ℕ → KeptSlots T

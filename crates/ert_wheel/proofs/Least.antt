@@ -1,15 +1,10 @@
 -- The least deadline of a bucket, and how early one of its rows may be due.
 
 use Rattle.std.proofs.Common.{◌≡◌, ◌≢◌, ℕ, ◌+◌, ◌<◌, ◌≤◌, ◌^◌, ◌⊎◌, min, zero, suc, cond, count_by, List, [], ◌∷◌, Bool, true, false, Option, Some, None, IfNone, IfSome, MatchOption, length, get_or, sym, subst, ◌∙◌, ap, inl, inr, refl, arith}
-use Rattle.std.proofs.lemmas.Bool.{cases_eq, cases_lt}
-use Rattle.std.proofs.lemmas.List.Sums.{sum_by-cons}
+use Rattle.std.proofs.lemmas.{Bool.{cases_eq, cases_lt}, List.Sums.sum_by-cons}
 use Rattle.std.specs.Option.{is_some, IsSome}
 use Rattle.ert_wheel.proofs.Looking.{InBucket, Steps, key_low, found, at_key}
-use Rattle.ert_wheel.specs.NextDue.{NoRow, HasSomeRow, IsDueIn, IsLeastIn}
-use Rattle.ert_wheel.specs.Rings.{Rings, Place, AreChains, bound_of, order_of, Finds}
-use Rattle.ert_wheel.specs.Rows.{key_in}
-use Rattle.ert_wheel.specs.Wheels.{held_keys, place_of, places}
-use Rattle.ert_wheel.specs.declared.row.Key.{Key}
+use Rattle.ert_wheel.specs.{NextDue.{NoRow, HasSomeRow, IsDueIn, IsLeastIn}, Rings.{Rings, Place, AreChains, bound_of, order_of, Finds}, Rows.key_in, Wheels.{held_keys, place_of, places}, declared.row.Key.Key}
 
 -- where none is counted there is no row, and else there is one
 pub no_row : (keys : List (Option Key)) → count_by is_some keys ≡ 0 → NoRow keys

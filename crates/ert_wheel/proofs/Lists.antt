@@ -1,18 +1,10 @@
 -- Rows of different slots are at most as many as slots.
 
 use Rattle.std.proofs.Common.{◌≡◌, ℕ, ◌+◌, ◌<◌, ◌≤◌, Bool, true, false, ◌&&◌, cond, nat_eq, eqb, List, Option, Some, None, [], ◌∷◌, length, map, sym, ap, inl, inr, refl, arith}
-use Rattle.std.proofs.lemmas.Bool.{eqb-true, or_cases}
-use Rattle.std.proofs.lemmas.Bool.Decides.{eqb_tells}
-use Rattle.std.proofs.lemmas.List.{length-map}
-use Rattle.std.proofs.lemmas.List.Elements.{All-head, All-tail}
-use Rattle.std.proofs.lemmas.List.Sums.{sum_by-cons}
-use Rattle.std.proofs.lemmas.Map.Steps.{length-le_from_distinct_below}
+use Rattle.std.proofs.lemmas.{Bool.{eqb-true, or_cases}, Bool.Decides.eqb_tells, List.length-map, List.Elements.{All-head, All-tail}, List.Sums.sum_by-cons, Map.Steps.length-le_from_distinct_below}
 use Rattle.std.specs.List.{IsDistinct, AllByRecursion, list_any}
 use Rattle.ert_wheel.proofs.Looking.{key_low}
-use Rattle.ert_wheel.specs.Rows.{key_in, key_of, times, passing}
-use Rattle.ert_wheel.specs.Walks.{AreRows}
-use Rattle.ert_wheel.specs.declared.row.Key.{Key}
-use Rattle.ert_wheel.specs.declared.row.Row.{Row}
+use Rattle.ert_wheel.specs.{Rows.{key_in, key_of, times, passing}, Walks.AreRows, declared.row.Key.Key, declared.row.Row.Row}
 
 -- the first of a list counts before the others
 pub times-cons : (row : Row) (rows : List Row) (j : ℕ) → times j (row ∷ rows) ≡ cond (nat_eq row.slot j) 1 0 + times j rows

@@ -1,16 +1,10 @@
 -- The rows of one chain are looked at, from the newest to the oldest.
 
 use Rattle.std.proofs.Common.{◌≡◌, ℕ, ◌<◌, List, Option, Some, None, IfSome, length, get_or, sym, subst, ◌∙◌, ap, inl, inr, arith}
-use Rattle.std.proofs.Math.ListN.{get_or-eq_default}
-use Rattle.std.proofs.lemmas.Bool.{cases_lt}
-use Rattle.ert_wheel.proofs.Steps.{left_older, older_falls}
-use Rattle.ert_wheel.proofs.Views.{key_stored, place_is, held_in}
-use Rattle.ert_wheel.specs.Links.{next_at}
-use Rattle.ert_wheel.specs.Rings.{Rings, Place, AreChains, StandsIn, node_slot, Finds}
-use Rattle.ert_wheel.specs.Rows.{key_in, order_of_key, row_at, row_told, told_at}
-use Rattle.ert_wheel.specs.Wheels.{no_key, held_keys, place_of, places}
-use Rattle.ert_wheel.specs.declared.row.Key.{Key}
-use Rattle.ert_wheel.specs.declared.row.Row.{Row}
+use Rattle.std.proofs.{Math.ListN.get_or-eq_default, lemmas.Bool.cases_lt}
+use Rattle.ert_wheel.proofs.{Steps.{left_older, older_falls}, Views.{key_stored, place_is, held_in}}
+use Rattle.ert_wheel.specs.{Links.next_at, Rings.{Rings, Place, AreChains, StandsIn, node_slot, Finds}, Rows.{key_in, order_of_key, row_at, row_told, told_at}, Wheels.{no_key, held_keys, place_of, places}, declared.row.Key.Key}
+use Rattle.ert_wheel.specs.{declared.row.Row.Row}
 
 -- a slot of the bucket
 pub record InBucket (keys : List (Option Key)) (spot : Key → Place) (bucket slot : ℕ) : Type 0 where

@@ -1,14 +1,10 @@
 -- The marks of buckets by the bits of words.
 
 use Rattle.std.proofs.Common.{subst, ◌≡◌, ◌≢◌, ℕ, ◌+◌, ◌-◌, ◌*◌, ◌/◌, ◌%◌, ◌^◌, ◌<◌, ◌≤◌, min, List, length, get_or, set, replicate, w64, bit_and, bit_or, sym, ap, ◌∙◌, inl, inr, arith, get_or-set_same, get_or-set_other}
-use Rattle.std.proofs.Math.Nat.{div-div-eq-div-mul, div-le_self, mod-eq_of_lt}
-use Rattle.std.proofs.lemmas.Bool.{cases_eq, cases_lt}
-use Rattle.std.proofs.lemmas.List.{get_or-replicate, length-replicate, length-set}
-use Rattle.std.proofs.lemmas.Nat.{pow-add, pow_below}
-use Rattle.std.proofs.lemmas.Nat.Bits.{bit_at-zero, bit_at-trailing_zeros, bit_at_above, bit_at_set_same, bit_at_set_other, bit_at_clear_same, bit_at_clear_other}
+use Rattle.std.proofs.{Math.Nat.{div-div-eq-div-mul, div-le_self, mod-eq_of_lt}, lemmas.Bool.{cases_eq, cases_lt}, lemmas.List.{get_or-replicate, length-replicate, length-set}, lemmas.Nat.{pow-add, pow_below}, lemmas.Nat.Bits.bit_at-zero}
+use Rattle.std.proofs.{lemmas.Nat.Bits.{bit_at-trailing_zeros, bit_at_above, bit_at_set_same, bit_at_set_other, bit_at_clear_same, bit_at_clear_other}}
 use Rattle.std.specs.Int.{bit_at, bit_not, trailing_zeros}
-use Rattle.ert_wheel.specs.Marks.{mark_of, AreSummed}
-use Rattle.ert_wheel.specs.declared.row.TheConstants.{BUCKETS}
+use Rattle.ert_wheel.specs.{Marks.{mark_of, AreSummed}, declared.row.TheConstants.BUCKETS}
 
 -- a bucket's mark is in its word
 pub mark-set_same : (words : List ℕ) (bucket word : ℕ) → bucket / 64 < length words

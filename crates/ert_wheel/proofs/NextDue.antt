@@ -2,24 +2,9 @@
 
 use Rattle.std.proofs.Common.{◌≡◌, ℕ, ◌+◌, ◌*◌, ◌/◌, ◌<◌, ◌≤◌, ◌^◌, max, min, List, Option, Some, sym, subst, ◌∙◌, ap, inl, inr, arith}
 use Rattle.std.proofs.lemmas.Bool.{cases_eq, cases_lt}
-use Rattle.ert_wheel.proofs.Homes.{home_of_slot}
-use Rattle.ert_wheel.proofs.Least.{at_place}
-use Rattle.ert_wheel.proofs.Looking.{key_low}
-use Rattle.ert_wheel.proofs.Near.{stands_at_time}
-use Rattle.ert_wheel.proofs.Standing.{end_of, begins, window_before_end, window_later}
-use Rattle.ert_wheel.proofs.Times.{before_window, some_wide}
-use Rattle.ert_wheel.proofs.Views.{place_is}
-use Rattle.ert_wheel.specs.Falling.{HasRowIn}
-use Rattle.ert_wheel.specs.Levels.{bucket_of_window}
-use Rattle.ert_wheel.specs.Marks.{FirstWindow}
-use Rattle.ert_wheel.specs.NextDue.{IsLeastIn, IsEarlyOrNever, NoneOn, NoneBefore}
-use Rattle.ert_wheel.specs.Rings.{Rings, Place}
-use Rattle.ert_wheel.specs.Rows.{key_in}
-use Rattle.ert_wheel.specs.Standing.{homes_of}
-use Rattle.ert_wheel.specs.Walks.{StandOnLevels}
-use Rattle.ert_wheel.specs.Wheels.{home_on, stand_on, places}
-use Rattle.ert_wheel.specs.declared.row.Key.{Key}
-use Rattle.ert_wheel.specs.declared.row.TheConstants.{NEVER}
+use Rattle.ert_wheel.proofs.{Homes.home_of_slot, Least.at_place, Looking.key_low, Near.stands_at_time, Standing.{end_of, begins, window_before_end, window_later}, Times.{before_window, some_wide}, Views.place_is}
+use Rattle.ert_wheel.specs.{Falling.HasRowIn, Levels.bucket_of_window, Marks.FirstWindow, NextDue.{IsLeastIn, IsEarlyOrNever, NoneOn, NoneBefore}, Rings.{Rings, Place}, Rows.key_in, Standing.homes_of, Walks.StandOnLevels, Wheels.home_on}
+use Rattle.ert_wheel.specs.{Wheels.{stand_on, places}, declared.row.Key.Key, declared.row.TheConstants.NEVER}
 
 -- no row that stands on a level before a window is due before a time
 abbrev pub NoneUpTo : List (Option Key) → (Key → ℕ) → (Key → ℕ) → ℕ → ℕ → ℕ → ℕ → Type 0

@@ -1,16 +1,9 @@
 -- A wheel that was just made.
 
 use Rattle.std.proofs.Common.{◌≡◌, ℕ, ◌<◌, ◌≤◌, ◌^◌, Option, Some, None, List, replicate, length, sym, subst, ◌∙◌, ap, inl, inr, arith}
-use Rattle.std.proofs.Math.ListN.{get_or-eq_default}
-use Rattle.std.proofs.lemmas.Bool.{cases_lt}
-use Rattle.std.proofs.lemmas.List.{length-replicate, get_or-replicate}
-use Rattle.std.proofs.lemmas.List.Folds.{sum_by-replicate}
+use Rattle.std.proofs.{Math.ListN.get_or-eq_default, lemmas.Bool.cases_lt, lemmas.List.{length-replicate, get_or-replicate}, lemmas.List.Folds.sum_by-replicate}
 use Rattle.ert_wheel.proofs.Writes.{Sees, unordered}
-use Rattle.ert_wheel.specs.Rings.{Rings, Place, AreChains}
-use Rattle.ert_wheel.specs.Rows.{key_in}
-use Rattle.ert_wheel.specs.Wheels.{stand_on, place_of, places}
-use Rattle.ert_wheel.specs.declared.row.Key.{Key}
-use Rattle.ert_wheel.specs.declared.row.TheConstants.{BUCKETS}
+use Rattle.ert_wheel.specs.{Rings.{Rings, Place, AreChains}, Rows.key_in, Wheels.{stand_on, place_of, places}, declared.row.Key.Key, declared.row.TheConstants.BUCKETS}
 
 -- none is among none, and so no slot has a place
 no_key_in : (n j : ℕ) → key_in (replicate n None) j ≡ None

@@ -3,12 +3,8 @@
 use Rattle.std.proofs.Common.{◌≡◌, ◌≢◌, ◌⊎◌, ℕ, ◌+◌, ◌-◌, ◌<◌, ◌≤◌, ◌^◌, true, false, cond, List, Option, Some, None, nat_lt, sym, subst, ◌∙◌, ap, inl, inr, refl, arith}
 use Rattle.std.proofs.lemmas.Bool.{cases_eq, cases_lt, lt-ltb, le-ltb, ltb-true, eq-eqb, ne_eqb, false≢true}
 use Rattle.std.specs.Option.{is_some}
-use Rattle.ert_wheel.proofs.Splice.{GoesIn, inserted}
-use Rattle.ert_wheel.proofs.Unsplice.{GoesOut, removed}
-use Rattle.ert_wheel.specs.Chained.{Shape, Chained, Changed, Alone, Spliced, Unspliced}
-use Rattle.ert_wheel.specs.Links.{next_at, prev_at}
-use Rattle.ert_wheel.specs.Rings.{Rings, Place, home_of, order_of, by_node, shape, AreChains, with_place}
-use Rattle.ert_wheel.specs.declared.links.Link.{Link}
+use Rattle.ert_wheel.proofs.{Splice.{GoesIn, inserted}, Unsplice.{GoesOut, removed}}
+use Rattle.ert_wheel.specs.{Chained.{Shape, Chained, Changed, Alone, Spliced, Unspliced}, Links.{next_at, prev_at}, Rings.{Rings, Place, home_of, order_of, by_node, shape, AreChains, with_place}, declared.links.Link.Link}
 
 -- what a slot has, and what a head has
 by_slot : {A : Type 0} (slots : ℕ) (of_place : Option Place → A) (of_head : ℕ → A)

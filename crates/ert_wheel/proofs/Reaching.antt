@@ -1,27 +1,13 @@
 -- The first due row, and how time comes to its deadline.
 
 use Rattle.std.proofs.Common.{Bool, true, ap, ◌∙◌, ◌≡◌, ℕ, ◌^◌, ◌<◌, ◌≤◌, false, max, List, Option, Some, None, MatchOption, sym, subst, inl, inr, arith}
-use Rattle.std.proofs.lemmas.Bool.{cases_eq, cases_lt}
-use Rattle.std.proofs.lemmas.Bool.Decides.{nat_tests}
+use Rattle.std.proofs.lemmas.Bool.{cases_eq, cases_lt, Decides.nat_tests}
 use Rattle.std.specs.Option.{is_some}
 use Rattle.std.specs.Prelude.{MatchBool}
-use Rattle.ert_wheel.proofs.Near.{due_here, time_is}
-use Rattle.ert_wheel.proofs.Looking.{key_low}
-use Rattle.ert_wheel.proofs.Standing.{end_after}
-use Rattle.ert_wheel.proofs.Times.{lowest}
-use Rattle.ert_wheel.proofs.Views.{place_is}
-use Rattle.ert_wheel.specs.FirstDue.{NoRowDue, IsFirstRowDue, IsFirstDueAt, IsFirstTold, IsPast, IsReached, MayBeDue, NoneDueIn, IsOldestDue, SomeRowDue}
-use Rattle.ert_wheel.specs.Levels.{bucket_of_window}
-use Rattle.ert_wheel.specs.NextDue.{NoneBefore}
-use Rattle.ert_wheel.specs.Rings.{Rings, Place, AreChains, StandsIn, Finds}
-use Rattle.ert_wheel.specs.Rows.{key_in, key_of, row_at, row_told, comes_before}
-use Rattle.ert_wheel.specs.Walks.{StandOnLevels}
-use Rattle.ert_wheel.specs.Wheels.{held_keys, stand_on, place_of, places, InOrder}
-use Rattle.ert_wheel.specs.declared.row.FirstDue.{FirstDue}
-use Rattle.ert_wheel.specs.declared.row.FirstDue.TheVariants.{Row as First, Nothing, Moving}
-use Rattle.ert_wheel.specs.declared.row.HeldRow.{HeldRow}
-use Rattle.ert_wheel.specs.declared.row.Key.{Key}
-use Rattle.ert_wheel.specs.declared.row.Row.{Row}
+use Rattle.ert_wheel.proofs.{Near.{due_here, time_is}, Looking.key_low, Standing.end_after, Times.lowest, Views.place_is}
+use Rattle.ert_wheel.specs.{FirstDue.{NoRowDue, IsFirstRowDue, IsFirstDueAt, IsFirstTold, IsPast, IsReached, MayBeDue, NoneDueIn, IsOldestDue, SomeRowDue}, Levels.bucket_of_window, NextDue.NoneBefore, Rings.{Rings, Place, AreChains}}
+use Rattle.ert_wheel.specs.{Rings.{StandsIn, Finds}, Rows.{key_in, key_of, row_at, row_told, comes_before}, Walks.StandOnLevels, Wheels.{held_keys, stand_on, place_of, places, InOrder}, declared.row.FirstDue.FirstDue}
+use Rattle.ert_wheel.specs.{declared.row.FirstDue.TheVariants.{Row as First, Nothing, Moving}, declared.row.HeldRow.HeldRow, declared.row.Key.Key, declared.row.Row.Row}
 
 -- a row that is later, or as late and was put in later, doesn't come before another
 not_before : (x y : Row) → y.deadline ≤ x.deadline → (x.deadline ≡ y.deadline → y.order ≤ x.order) → comes_before x y ≡ false

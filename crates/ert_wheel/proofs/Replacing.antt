@@ -4,10 +4,7 @@ use Rattle.std.proofs.Common.{◌≡◌, ◌≢◌, ℕ, ◌+◌, ◌-◌, ◌<�
 use Rattle.std.proofs.lemmas.Bool.{cases_eq}
 use Rattle.std.specs.Option.{is_some}
 use Rattle.ert_wheel.proofs.Parts.{IsSlot, changed_at, slot_is, node_is, has_place, kept_place, with_place_here, with_place_there}
-use Rattle.ert_wheel.specs.Chained.{Shape, Chained}
-use Rattle.ert_wheel.specs.Links.{next_at, prev_at}
-use Rattle.ert_wheel.specs.Rings.{Rings, Place, shape, home_of, order_of, AreChains, with_place, MayTake, MayPut, GivesUpPlace, Puts, MovesSlot, Finds}
-use Rattle.ert_wheel.specs.Wheels.{places}
+use Rattle.ert_wheel.specs.{Chained.{Shape, Chained}, Links.{next_at, prev_at}, Rings.{Rings, Place, shape, home_of, order_of, AreChains, with_place, MayTake, MayPut, GivesUpPlace, Puts, MovesSlot, Finds}, Wheels.places}
 
 -- a place that is given twice
 pub with_twice : (places : ℕ → Option Place) (slot : ℕ) (x y : Option Place) (j : ℕ)

@@ -1,22 +1,10 @@
 -- The due rows of a level are collected, window by window.
 
 use Rattle.std.proofs.Common.{◌≡◌, ℕ, ◌+◌, ◌/◌, ◌^◌, ◌<◌, ◌≤◌, Bool, true, false, ◌&&◌, ◌||◌, cond, nat_eq, nat_le, nat_lt, max, min, List, Option, Some, None, sym, ◌∙◌, ap, inl, inr, refl, arith}
-use Rattle.std.proofs.lemmas.Bool.{and_right, cases_eq, cases_lt, eq-eqb, ne_eqb, lt-ltb, le-ltb, le-leb, lt-leb, true≢false}
-use Rattle.std.proofs.lemmas.Bool.Decides.{leb_tells}
-use Rattle.ert_wheel.proofs.Collect.{passing_same}
-use Rattle.ert_wheel.proofs.Least.{at_place}
-use Rattle.ert_wheel.proofs.Looking.{key_low}
-use Rattle.ert_wheel.proofs.Standing.{StandsForTime, end_of, stands_at, window_before_end}
-use Rattle.ert_wheel.proofs.Times.{later}
-use Rattle.ert_wheel.specs.Levels.{bucket_of_window}
-use Rattle.ert_wheel.specs.Marks.{FirstWindow}
-use Rattle.ert_wheel.specs.Rings.{Rings}
-use Rattle.ert_wheel.specs.Rows.{key_in, rows_told, times, passing}
-use Rattle.ert_wheel.specs.Walks.{AreRows, is_due_in, is_due_from, StandOnLevels, AreCollected, MayCollect, Collects}
-use Rattle.ert_wheel.specs.Wheels.{home_on, stand_on, places}
-use Rattle.ert_wheel.specs.declared.row.HeldRow.{HeldRow}
-use Rattle.ert_wheel.specs.declared.row.Key.{Key}
-use Rattle.ert_wheel.specs.declared.row.TheConstants.{LAST}
+use Rattle.std.proofs.lemmas.Bool.{and_right, cases_eq, cases_lt, eq-eqb, ne_eqb, lt-ltb, le-ltb, le-leb, lt-leb, true≢false, Decides.leb_tells}
+use Rattle.ert_wheel.proofs.{Collect.passing_same, Least.at_place, Looking.key_low, Standing.{StandsForTime, end_of, stands_at, window_before_end}, Times.later}
+use Rattle.ert_wheel.specs.{Levels.bucket_of_window, Marks.FirstWindow, Rings.Rings, Rows.{key_in, rows_told, times, passing}, Walks.{AreRows, is_due_in, is_due_from, StandOnLevels, AreCollected, MayCollect, Collects}, Wheels.home_on}
+use Rattle.ert_wheel.specs.{Wheels.{stand_on, places}, declared.row.HeldRow.HeldRow, declared.row.Key.Key, declared.row.TheConstants.LAST}
 
 -- at the first window: the test is that of the levels above
 met_first : (due : Bool) (k l v from : ℕ) → (l ≡ k → from ≤ v)

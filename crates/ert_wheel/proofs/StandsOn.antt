@@ -3,10 +3,7 @@
 use Rattle.std.proofs.Common.{◌≡◌, ℕ, ◌<◌, ◌≤◌, max, List, Option, Some, None, length, sym, subst, ◌∙◌, ap, inl, inr, refl, arith, get_or-set_same, get_or-set_other}
 use Rattle.std.proofs.lemmas.Bool.{cases_eq, cases_lt}
 use Rattle.ert_wheel.proofs.Times.{later}
-use Rattle.ert_wheel.specs.Levels.{bucket_on}
-use Rattle.ert_wheel.specs.Rows.{Held, key_in}
-use Rattle.ert_wheel.specs.Standing.{bucket_in, StandsDue, ComesTo, StayOrFall}
-use Rattle.ert_wheel.specs.declared.row.Key.{Key}
+use Rattle.ert_wheel.specs.{Levels.bucket_on, Rows.{Held, key_in}, Standing.{bucket_in, StandsDue, ComesTo, StayOrFall}, declared.row.Key.Key}
 
 -- at first each stays
 pub stay_all : (keys : List (Option Key)) (passed : ℕ) (stands : List (Option ℕ)) → StayOrFall keys passed stands stands

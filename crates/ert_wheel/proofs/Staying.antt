@@ -2,17 +2,9 @@
 
 use Rattle.std.proofs.Common.{◌≡◌, ℕ, ◌+◌, ◌-◌, ◌*◌, ◌/◌, ◌%◌, ◌^◌, ◌<◌, ◌≤◌, max, List, Option, Some, set, sym, subst, ◌∙◌, ap, inl, inr, arith}
 use Rattle.std.proofs.lemmas.Bool.{cases_eq}
-use Rattle.ert_wheel.proofs.Enters.{IsNewest, newest_with}
-use Rattle.ert_wheel.proofs.Falls.{StandsAnew, either, given, given_there, place_at, levelled_with, chained_with}
-use Rattle.ert_wheel.proofs.Parts.{with_place_here, with_place_there}
-use Rattle.ert_wheel.proofs.Standing.{not_late, window_later}
-use Rattle.ert_wheel.proofs.Times.{one_above}
-use Rattle.ert_wheel.specs.Levels.{MayStand, StaysPut}
-use Rattle.ert_wheel.specs.Rings.{Rings, Place, AreChains, with_place}
-use Rattle.ert_wheel.specs.Rows.{key_in}
-use Rattle.ert_wheel.specs.Wheels.{stand_on, place_of, places, AreOrderedChains}
-use Rattle.ert_wheel.specs.declared.ordered.Ordered.{Ordered}
-use Rattle.ert_wheel.specs.declared.row.Key.{Key}
+use Rattle.ert_wheel.proofs.{Enters.{IsNewest, newest_with}, Falls.{StandsAnew, either, given, given_there, place_at, levelled_with, chained_with}, Parts.{with_place_here, with_place_there}, Standing.{not_late, window_later}}
+use Rattle.ert_wheel.proofs.{Times.one_above}
+use Rattle.ert_wheel.specs.{Levels.{MayStand, StaysPut}, Rings.{Rings, Place, AreChains, with_place}, Rows.key_in, Wheels.{stand_on, place_of, places, AreOrderedChains}, declared.ordered.Ordered.Ordered, declared.row.Key.Key}
 
 -- a row of a slot with an order above all, which is due in no earlier window than the one before it
 pub record KeepsSpot (next : ℕ) (keys : List (Option Key)) (slot : ℕ) (old key : Key) : Type 0 where

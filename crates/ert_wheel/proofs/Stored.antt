@@ -2,16 +2,11 @@
 -- stored.
 
 use Rattle.std.proofs.Common.{map, ◌≡◌, ◌≢◌, ℕ, ◌+◌, ◌-◌, ◌<◌, ◌≤◌, ◌^◌, max, cond, true, List, [], ◌∷◌, ◌++◌, zero, suc, Option, Some, None, IfSome, length, get_or, sym, subst, ◌∙◌, ap, inl, inr, refl, arith}
-use Rattle.std.proofs.lemmas.Bool.{cases_eq, cases_lt, lt-ltb, le-ltb}
-use Rattle.std.proofs.lemmas.List.{get_or_default, get_or_push}
-use Rattle.std.proofs.lemmas.List.FromFn.{fill_by_all, get_or-map-range_with_len, length-map-range_with_len}
-use Rattle.std.proofs.Math.ListN.{get_or-eq_default}
+use Rattle.std.proofs.{lemmas.Bool.{cases_eq, cases_lt, lt-ltb, le-ltb}, lemmas.List.{get_or_default, get_or_push}, lemmas.List.FromFn.{fill_by_all, get_or-map-range_with_len, length-map-range_with_len}, Math.ListN.get_or-eq_default}
 use Rattle.std.specs.List.{range_with_len}
 use Rattle.ert_wheel.proofs.Parts.{IsHead, head_is, node_is}
-use Rattle.ert_wheel.specs.Chained.{Spliced, Unspliced}
-use Rattle.ert_wheel.specs.Links.{next_at, prev_at, link_at, lone_link, no_link, node_link, stored_at, stored_node, place_slot, seen_link, seen_links, AreWritten}
-use Rattle.ert_wheel.specs.Rings.{Rings, rings, seen_rings, Place, AreChains, MayPut, IsOnlyOf, HasOthers, node_slot, shape}
-use Rattle.ert_wheel.specs.declared.links.Link.{Link}
+use Rattle.ert_wheel.specs.{Chained.{Spliced, Unspliced}, Links.{next_at, prev_at, link_at, lone_link, no_link, node_link, stored_at, stored_node, place_slot, seen_link, seen_links, AreWritten}, Rings.{Rings, rings, seen_rings, Place}}
+use Rattle.ert_wheel.specs.{Rings.{AreChains, MayPut, IsOnlyOf, HasOthers, node_slot, shape}, declared.links.Link.Link}
 
 -- where a slot and a head are stored, and what is stored there
 slot_stored : (slots homes slot : ℕ) → slot < slots → stored_at slots homes slot ≡ homes + slot

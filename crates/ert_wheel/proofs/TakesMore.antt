@@ -1,19 +1,9 @@
 -- Due rows are taken out one by one.
 
 use Rattle.std.proofs.Common.{◌≡◌, ◌≢◌, ℕ, suc, ◌+◌, ◌<◌, cond, nat_eq, List, [], ◌∷◌, Option, Some, None, length, get_or, set, take, sym, subst, ◌∙◌, ap, inl, inr, refl, arith, get_or-set_same, get_or-set_other}
-use Rattle.std.proofs.Math.ListN.{get_or-eq_default}
-use Rattle.std.proofs.Math.Seq.{take-suc}
-use Rattle.std.proofs.lemmas.Bool.{cases_eq, cases_lt, eq-eqb, ne_eqb}
-use Rattle.std.proofs.lemmas.List.{length-set, map-append}
-use Rattle.std.proofs.lemmas.List.Sums.{sum_by-append}
-use Rattle.ert_wheel.proofs.Lists.{times-cons}
-use Rattle.ert_wheel.proofs.StandsOn.{HaveStood, stay_on}
-use Rattle.ert_wheel.proofs.Writes.{TakesOut}
-use Rattle.ert_wheel.specs.Rows.{Held, key_in, row_told, rows_told, times}
-use Rattle.ert_wheel.specs.Standing.{bucket_in, StayOrFall}
-use Rattle.ert_wheel.specs.declared.row.HeldRow.{HeldRow}
-use Rattle.ert_wheel.specs.declared.row.Key.{Key}
-use Rattle.ert_wheel.specs.declared.row.Row.{Row}
+use Rattle.std.proofs.{Math.ListN.get_or-eq_default, Math.Seq.take-suc, lemmas.Bool.{cases_eq, cases_lt, eq-eqb, ne_eqb}, lemmas.List.{length-set, map-append}, lemmas.List.Sums.sum_by-append}
+use Rattle.ert_wheel.proofs.{Lists.times-cons, StandsOn.{HaveStood, stay_on}, Writes.TakesOut}
+use Rattle.ert_wheel.specs.{Rows.{Held, key_in, row_told, rows_told, times}, Standing.{bucket_in, StayOrFall}, declared.row.HeldRow.HeldRow, declared.row.Key.Key, declared.row.Row.Row}
 
 -- a slot that was given up has no key
 none_there : (keys : List (Option Key)) (slot : ℕ) → key_in (set keys slot None) slot ≡ None

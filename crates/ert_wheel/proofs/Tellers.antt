@@ -1,25 +1,11 @@
 -- The row of a slot tells when the next one is due.
 
 use Rattle.std.proofs.Common.{◌≡◌, ◌↔◌, ◌≢◌, ◌⊎◌, ℕ, max, ◌*◌, ◌/◌, ◌^◌, ◌<◌, ◌≤◌, true, nat_eq, List, Option, Some, None, IfNone, IfSome, option_map, sym, ◌∙◌, ap, inl, inr, refl, arith}
-use Rattle.std.proofs.Math.Nat.{div-lt_iff_lt-mul, mul-div_cancel}
-use Rattle.std.proofs.lemmas.Bool.{eq-eqb, eqb-true, false≢true}
-use Rattle.std.specs.Bool.{IsTrue}
-use Rattle.std.specs.Option.{is_some}
-use Rattle.ert_wheel.proofs.Homes.{home_of_key, home_of_slot}
-use Rattle.ert_wheel.proofs.Looking.{key_low}
-use Rattle.ert_wheel.proofs.Standing.{end_of, window_low}
-use Rattle.ert_wheel.proofs.Times.{later, one_bucket, one_window, some_wide}
-use Rattle.ert_wheel.proofs.Views.{place_is}
-use Rattle.ert_wheel.specs.Levels.{bucket_of_window}
-use Rattle.ert_wheel.specs.NextDue.{NoneBefore, NoneBeginsOn, IsDueOf, IsInWindow, IsNextDue, TellsNext}
-use Rattle.ert_wheel.specs.Rings.{Rings, Place, StandsIn, Finds}
-use Rattle.ert_wheel.specs.Rows.{key_in, told_at}
-use Rattle.ert_wheel.specs.Standing.{homes_of, bucket_in}
-use Rattle.ert_wheel.specs.Walks.{StandOnLevels}
-use Rattle.ert_wheel.specs.Wheels.{stand_on, place_of, places}
-use Rattle.ert_wheel.specs.declared.row.HeldRow.{HeldRow}
-use Rattle.ert_wheel.specs.declared.row.Key.{Key}
-use Rattle.ert_wheel.specs.declared.row.TheConstants.{NEVER}
+use Rattle.std.proofs.{Math.Nat.{div-lt_iff_lt-mul, mul-div_cancel}, lemmas.Bool.{eq-eqb, eqb-true, false≢true}}
+use Rattle.std.specs.{Bool.IsTrue, Option.is_some}
+use Rattle.ert_wheel.proofs.{Homes.{home_of_key, home_of_slot}, Looking.key_low, Standing.{end_of, window_low}, Times.{later, one_bucket, one_window, some_wide}, Views.place_is}
+use Rattle.ert_wheel.specs.{Levels.bucket_of_window, NextDue.{NoneBefore, NoneBeginsOn, IsDueOf, IsInWindow, IsNextDue, TellsNext}, Rings.{Rings, Place, StandsIn, Finds}, Rows.{key_in, told_at}, Standing.{homes_of, bucket_in}}
+use Rattle.ert_wheel.specs.{Walks.StandOnLevels, Wheels.{stand_on, place_of, places}, declared.row.HeldRow.HeldRow, declared.row.Key.Key, declared.row.TheConstants.NEVER}
 
 from_begin : (next w m : ℕ) → 0 < m → next < w * m → next / m < w
 from_begin next w m wide less = (div-lt_iff_lt-mul {k = m} {x = next} {y = w} wide).1 less

@@ -2,8 +2,7 @@
 
 use Rattle.std.proofs.Common.{◌≡◌, ◌⊎◌, ℕ, ◌+◌, ◌-◌, ◌*◌, ◌%◌, ◌<◌, ◌≤◌, min, Option, subst, inl, inr, arith}
 use Rattle.std.proofs.lemmas.Bool.{cases_lt}
-use Rattle.ert_wheel.specs.Marks.{HasSlot, FirstUsed, FirstWindow}
-use Rattle.ert_wheel.specs.Rings.{Rings, Place}
+use Rattle.ert_wheel.specs.{Marks.{HasSlot, FirstUsed, FirstWindow}, Rings.{Rings, Place}}
 
 -- the windows from one on, before an end, whose buckets begin at a place of the level
 module _ (r : Rings) (places : ℕ → Option Place) (level from end at last : ℕ) (up : from ≤ end) (few : end ≤ from + 1024) (is : at ≡ from % 1024)

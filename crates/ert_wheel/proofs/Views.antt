@@ -1,20 +1,11 @@
 -- A wheel's keys as they are held, and its chains after a key was written.
 
 use Rattle.std.proofs.Common.{◌≡◌, ◌≢◌, ◌⊎◌, ℕ, ◌+◌, ◌<◌, ◌≤◌, cond, List, ◌++◌, Option, Some, None, length, get_or, set, slice_get, count_by, true, sym, subst, ◌∙◌, ap, inl, inr, refl, arith, get_or-set_same, get_or-set_other}
-use Rattle.std.proofs.lemmas.Bool.{cases_eq, cases_lt, eq-eqb, ne_eqb}
-use Rattle.std.proofs.lemmas.List.{get_or_append_left, length-append, length-set}
-use Rattle.std.proofs.lemmas.Option.{get_or_from_slice_get, slice_get_within, slice_get-get_or}
-use Rattle.std.proofs.lemmas.List.FromFn.{fill_by_all, get_or-map-range_with_len, length-map-range_with_len}
-use Rattle.std.proofs.lemmas.List.Sums.{sum_by-set}
-use Rattle.std.proofs.Math.ListN.{get_or-eq_default}
+use Rattle.std.proofs.{lemmas.Bool.{cases_eq, cases_lt, eq-eqb, ne_eqb}, lemmas.List.{get_or_append_left, length-append, length-set}, lemmas.Option.{get_or_from_slice_get, slice_get_within, slice_get-get_or}, lemmas.List.FromFn.fill_by_all}
+use Rattle.std.proofs.{lemmas.List.FromFn.{get_or-map-range_with_len, length-map-range_with_len}, lemmas.List.Sums.sum_by-set, Math.ListN.get_or-eq_default}
 use Rattle.std.specs.Option.{is_some}
 use Rattle.ert_wheel.proofs.Parts.{placed_apart, with_place_here, with_place_there}
-use Rattle.ert_wheel.specs.Links.{next_at}
-use Rattle.ert_wheel.specs.Rings.{Rings, Place, AreChains, with_place}
-use Rattle.ert_wheel.specs.Rows.{key_in}
-use Rattle.ert_wheel.specs.Wheels.{no_key, held_key, held_keys, place_of, places}
-use Rattle.ert_wheel.specs.declared.links.Link.{Link}
-use Rattle.ert_wheel.specs.declared.row.Key.{Key}
+use Rattle.ert_wheel.specs.{Links.next_at, Rings.{Rings, Place, AreChains, with_place}, Rows.key_in, Wheels.{no_key, held_key, held_keys, place_of, places}, declared.links.Link.Link, declared.row.Key.Key}
 
 -- what a slot is seen as
 pub held_at : (chains : Rings) (stored : List Key) (slot : ℕ) → slot < chains.slots

@@ -1,11 +1,8 @@
 -- Windows and buckets by their bits.
 
 use Rattle.std.proofs.Common.{◌≡◌, ℕ, zero, suc, ◌+◌, ◌*◌, ◌/◌, ◌%◌, ◌^◌, ◌<◌, ◌≤◌, ◌∙◌, ap, inl, inr, refl, arith, bit_and}
-use Rattle.std.proofs.Math.Nat.{pow-succ', div-mul-le_self, mod-eq_of_lt}
-use Rattle.std.proofs.lemmas.Bool.{cases_eq}
-use Rattle.std.proofs.lemmas.Nat.{and_mask, pow-add}
-use Rattle.ert_wheel.specs.Levels.{bucket_of_window}
-use Rattle.ert_wheel.specs.declared.row.TheConstants.{NEVER, BUCKETS}
+use Rattle.std.proofs.{Math.Nat.{pow-succ', div-mul-le_self, mod-eq_of_lt}, lemmas.Bool.cases_eq, lemmas.Nat.{and_mask, pow-add}}
+use Rattle.ert_wheel.specs.{Levels.bucket_of_window, declared.row.TheConstants.{NEVER, BUCKETS}}
 
 -- the sizes of windows as powers of 2
 pub size : (l : ℕ) → 2 ^ (l * 9) ≡ 512 ^ l

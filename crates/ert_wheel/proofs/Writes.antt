@@ -1,30 +1,13 @@
 -- What each call that changes a wheel does, in the form in which the calls meet it.
 
 use Rattle.std.proofs.Common.{◌≡◌, ◌≢◌, ◌↔◌, ℕ, ◌+◌, ◌-◌, ◌<◌, ◌≤◌, ◌^◌, cond, count_by, true, false, nat_le, max, min, List, ◌++◌, Option, Some, None, IfSome, map, length, get_or, set, sym, subst, ◌∙◌, ap, inl, inr, refl, arith}
-use Rattle.std.proofs.lemmas.Bool.{true≢false}
-use Rattle.std.proofs.lemmas.Bool.Decides.{leb_tells}
-use Rattle.std.proofs.lemmas.List.{ext_get_or, get_or-map, length-map, length-set, set-get_or}
-use Rattle.std.proofs.lemmas.Option.{get_or_from_slice_get}
-use Rattle.std.proofs.lemmas.List.Sums.{count_by-le-length}
-use Rattle.std.specs.Bool.{IsTrue}
-use Rattle.std.specs.Option.{is_some, IsSome}
-use Rattle.ert_wheel.proofs.Enters.{IsNewest, entered, numbers_below}
-use Rattle.ert_wheel.proofs.Parts.{chains_written}
-use Rattle.ert_wheel.proofs.Renumber.{numbered}
-use Rattle.ert_wheel.proofs.Staying.{stays_put}
-use Rattle.ert_wheel.proofs.Views.{AreStored, held_at, held_len, key_stored, key_alone, key_apart, held_is, key_set, stored_held, stored_set, stored_less, stored_more, chains_set, counts_more, counts_less, counts_same}
-use Rattle.ert_wheel.specs.Kept.{KeptSlots, AreAlike}
-use Rattle.ert_wheel.specs.Levels.{IsLeastBucket, StaysPut}
-use Rattle.ert_wheel.specs.Links.{next_at}
-use Rattle.ert_wheel.specs.Replacing.{MovesOrStays}
-use Rattle.ert_wheel.specs.Rings.{Rings, Place, MayPut, Puts, MayTake, GivesUpPlace}
-use Rattle.ert_wheel.specs.Rows.{Held, key_in, times, due_count, left_at}
-use Rattle.ert_wheel.specs.Falling.{MayMoveOn}
-use Rattle.ert_wheel.specs.Wheels.{no_key, held_keys, stand_on, place_of, places, AreLevelChains, AreOrderedChains, IsWheel, IsWheelKept, IsWheelAlike}
-use Rattle.ert_wheel.specs.declared.ordered.Ordered.{Ordered}
-use Rattle.ert_wheel.specs.declared.row.Key.{Key}
-use Rattle.ert_wheel.specs.declared.row.Row.{Row}
-use Rattle.ert_wheel.specs.declared.row.TheConstants.{NEVER, BUCKETS}
+use Rattle.std.proofs.lemmas.{Bool.true≢false, Bool.Decides.leb_tells, List.{ext_get_or, get_or-map, length-map, length-set, set-get_or}, Option.get_or_from_slice_get, List.Sums.count_by-le-length}
+use Rattle.std.specs.{Bool.IsTrue, Option.{is_some, IsSome}}
+use Rattle.ert_wheel.proofs.{Enters.{IsNewest, entered, numbers_below}, Parts.chains_written, Renumber.numbered, Staying.stays_put, Views.{AreStored, held_at, held_len, key_stored, key_alone, key_apart, held_is, key_set, stored_held}}
+use Rattle.ert_wheel.proofs.{Views.{stored_set, stored_less, stored_more, chains_set, counts_more, counts_less, counts_same}}
+use Rattle.ert_wheel.specs.{Kept.{KeptSlots, AreAlike}, Levels.{IsLeastBucket, StaysPut}, Links.next_at, Replacing.MovesOrStays, Rings.{Rings, Place, MayPut, Puts, MayTake, GivesUpPlace}, Rows.{Held, key_in, times, due_count, left_at}}
+use Rattle.ert_wheel.specs.{Falling.MayMoveOn, Wheels.{no_key, held_keys, stand_on, place_of, places, AreLevelChains, AreOrderedChains, IsWheel, IsWheelKept, IsWheelAlike}, declared.ordered.Ordered.Ordered, declared.row.Key.Key}
+use Rattle.ert_wheel.specs.{declared.row.Row.Row, declared.row.TheConstants.{NEVER, BUCKETS}}
 
 -- a wheel as it is seen, and what it stores
 pub record Sees (next count : ℕ) (ordered : Ordered) (floor : ℕ) (stored : List Key) (seen : List (Option Key)) (chains : Rings) : Type 0 where

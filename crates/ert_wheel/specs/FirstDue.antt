@@ -1,13 +1,8 @@
 -- The first of the rows that are due.
 
 use Rattle.std.specs.Prelude.{◌≡◌, ◌⊎◌, ⊤, ℕ, ◌+◌, ◌<◌, ◌≤◌, false, List, Option, Some, max}
-use Rattle.ert_wheel.specs.NextDue.{NoneBefore, IsNextDue, WindowBegins}
-use Rattle.ert_wheel.specs.Rings.{Place}
-use Rattle.ert_wheel.specs.Rows.{key_in, key_of, row_at, row_told, comes_before}
-use Rattle.ert_wheel.specs.declared.row.FirstDue.{FirstDue}
-use Rattle.ert_wheel.specs.declared.row.FirstDue.TheVariants.{Row as First, Nothing, Moving}
-use Rattle.ert_wheel.specs.declared.row.Key.{Key}
-use Rattle.ert_wheel.specs.declared.row.Row.{Row}
+use Rattle.ert_wheel.specs.{NextDue.{NoneBefore, IsNextDue, WindowBegins}, Rings.Place, Rows.{key_in, key_of, row_at, row_told, comes_before}, declared.row.FirstDue.FirstDue, declared.row.FirstDue.TheVariants.{Row as First, Nothing}}
+use Rattle.ert_wheel.specs.{declared.row.FirstDue.TheVariants.Moving, declared.row.Key.Key, declared.row.Row.Row}
 
 -- no row is due by a time
 abbrev pub NoRowDue : List (Option Key) → ℕ → Type 0

@@ -1,8 +1,7 @@
 -- What is kept of the slots that are written: by slot a value, and the key of its last row.
 
 use Rattle.std.specs.Prelude.{◌≡◌, ℕ, ◌≤◌, List, length}
-use Rattle.ert_wheel.specs.Rings.{Rings}
-use Rattle.ert_wheel.specs.declared.row.Key.{Key}
+use Rattle.ert_wheel.specs.{Rings.Rings, declared.row.Key.Key}
 
 -- keys and values by slot, and for how many slots there is room
 pub record KeptSlots (T : Type 0) : Type 0 where

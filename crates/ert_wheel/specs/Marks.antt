@@ -2,10 +2,7 @@
 
 use Rattle.std.specs.Prelude.{◌≡◌, ◌≢◌, ℕ, length, ◌+◌, ◌<◌, ◌≤◌, ◌/◌, ◌%◌, List, Option, Some, slice_index_or}
 use Rattle.std.specs.Int.{bit_at}
-use Rattle.ert_wheel.specs.Levels.{bucket_of_window}
-use Rattle.ert_wheel.specs.Links.{next_at}
-use Rattle.ert_wheel.specs.Rings.{Rings, Place, StandsIn}
-use Rattle.ert_wheel.specs.declared.row.TheConstants.{BUCKETS}
+use Rattle.ert_wheel.specs.{Levels.bucket_of_window, Links.next_at, Rings.{Rings, Place, StandsIn}, declared.row.TheConstants.BUCKETS}
 
 -- the mark of a bucket: 1 or 0
 abbrev pub mark_of : List ℕ → ℕ → ℕ

@@ -1,13 +1,7 @@
 -- When the next row of a wheel is due, or when a window begins before which none is.
 
 use Rattle.std.specs.Prelude.{◌≡◌, ◌≢◌, ℕ, ◌+◌, ◌*◌, ◌/◌, ◌<◌, ◌≤◌, ◌^◌, ◌⊎◌, List, Option, Some, None, length, max}
-use Rattle.ert_wheel.specs.Rings.{Rings, Place, AreChains}
-use Rattle.ert_wheel.specs.Rows.{key_in}
-use Rattle.ert_wheel.specs.Standing.{homes_of, StandsForTime, StandsInWindow}
-use Rattle.ert_wheel.specs.Walks.{StandOnLevels}
-use Rattle.ert_wheel.specs.Wheels.{places}
-use Rattle.ert_wheel.specs.declared.row.Key.{Key}
-use Rattle.ert_wheel.specs.declared.row.TheConstants.{NEVER}
+use Rattle.ert_wheel.specs.{Rings.{Rings, Place, AreChains}, Rows.key_in, Standing.{homes_of, StandsForTime, StandsInWindow}, Walks.StandOnLevels, Wheels.places, declared.row.Key.Key, declared.row.TheConstants.NEVER}
 
 -- there is no row
 abbrev pub NoRow : List (Option Key) → Type 0

@@ -1,8 +1,7 @@
 -- A slot's row that another takes the place of.
 
 use Rattle.std.specs.Prelude.{◌≡◌, ◌⊎◌, ℕ}
-use Rattle.ert_wheel.specs.Levels.{IsLeastBucket, StaysPut}
-use Rattle.ert_wheel.specs.Rings.{Rings, MovesSlot}
+use Rattle.ert_wheel.specs.{Levels.{IsLeastBucket, StaysPut}, Rings.{Rings, MovesSlot}}
 
 -- a row moves to the least bucket of its time
 pub record MovesTo (next time : ℕ) (old new : Rings) (slot : ℕ) : Type 0 where

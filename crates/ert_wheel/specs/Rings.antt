@@ -2,9 +2,7 @@
 
 use Rattle.std.specs.Prelude.{◌≡◌, ◌≢◌, ◌⊎◌, ℕ, ◌+◌, ◌-◌, ◌<◌, ◌≤◌, ◌^◌, List, Option, Some, None, nat_lt, nat_eq, length, if◌then◌else◌, IfSome}
 use Rattle.std.specs.Option.{is_some}
-use Rattle.ert_wheel.specs.Chained.{Shape, Chained, Alone}
-use Rattle.ert_wheel.specs.Links.{next_at, prev_at, seen_links}
-use Rattle.ert_wheel.specs.declared.links.Link.{Link}
+use Rattle.ert_wheel.specs.{Chained.{Shape, Chained, Alone}, Links.{next_at, prev_at, seen_links}, declared.links.Link.Link}
 
 -- how many slots and homes there are, how many slots are written, and the links of all: of each slot, and then of each
 -- home's head

@@ -1,10 +1,7 @@
 -- A wheel as its user sees it: the key of each slot that has a row and where it stands, and the chains of the owners.
 
 use Rattle.std.specs.Prelude.{ℕ, Bool, ◌||◌, ◌&&◌, List, Option, Some, None, cond, map, nat_lt, nat_le, nat_eq, count_by, slice_index_or}
-use Rattle.ert_wheel.specs.Rings.{Rings}
-use Rattle.ert_wheel.specs.declared.row.Key.{Key}
-use Rattle.ert_wheel.specs.declared.row.HeldRow.{HeldRow}
-use Rattle.ert_wheel.specs.declared.row.Row.{Row}
+use Rattle.ert_wheel.specs.{Rings.Rings, declared.row.Key.Key, declared.row.HeldRow.HeldRow, declared.row.Row.Row}
 
 -- what a wheel holds: by slot the key of its row and the bucket in which it stands, for each owner a chain of slots, a value of
 -- each slot that is written, and the first time that wasn't passed

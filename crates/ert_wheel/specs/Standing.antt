@@ -2,11 +2,7 @@
 
 use Rattle.std.specs.Prelude.{◌≡◌, ◌⊎◌, ℕ, zero, suc, ◌+◌, ◌-◌, ◌/◌, ◌≤◌, ◌^◌, List, Option, Some, None, cond, map, nat_lt, slice_index_or, slice_set}
 use Rattle.std.specs.List.{range_with_len}
-use Rattle.ert_wheel.specs.Levels.{bucket_of_window, bucket_on, StaysPut}
-use Rattle.ert_wheel.specs.Links.{next_at}
-use Rattle.ert_wheel.specs.Rings.{Rings}
-use Rattle.ert_wheel.specs.Rows.{key_in}
-use Rattle.ert_wheel.specs.declared.row.Key.{Key}
+use Rattle.ert_wheel.specs.{Levels.{bucket_of_window, bucket_on, StaysPut}, Links.next_at, Rings.Rings, Rows.key_in, declared.row.Key.Key}
 
 -- more steps than a chain has
 unfoldable pub far : ℕ

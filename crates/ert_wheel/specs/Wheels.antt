@@ -1,18 +1,9 @@
 -- What a wheel keeps: keys by slot, and a chain of the rows of each bucket.
 
 use Rattle.std.specs.Prelude.{◌≡◌, ℕ, ◌<◌, ◌≤◌, ◌^◌, List, Option, Some, None, cond, nat_eq, map, max, length, count_by, option_map}
-use Rattle.std.specs.List.{range_with_len, slice_get}
-use Rattle.std.specs.Option.{is_some}
-use Rattle.ert_wheel.specs.Kept.{KeptSlots, AreAlike}
-use Rattle.ert_wheel.specs.Levels.{bucket_on, MayStand}
-use Rattle.ert_wheel.specs.Links.{next_at}
-use Rattle.ert_wheel.specs.Rings.{Rings, Place, AreChains}
-use Rattle.ert_wheel.specs.Rows.{key_in}
-use Rattle.ert_wheel.specs.declared.links.Link.{Link}
-use Rattle.ert_wheel.specs.declared.ordered.TheConstants.{ALL}
-use Rattle.ert_wheel.specs.declared.ordered.Ordered.{Ordered}
-use Rattle.ert_wheel.specs.declared.row.TheConstants.{NEVER, BUCKETS}
-use Rattle.ert_wheel.specs.declared.row.Key.{Key}
+use Rattle.std.specs.{List.{range_with_len, slice_get}, Option.is_some}
+use Rattle.ert_wheel.specs.{Kept.{KeptSlots, AreAlike}, Levels.{bucket_on, MayStand}, Links.next_at, Rings.{Rings, Place, AreChains}, Rows.key_in, declared.links.Link.Link, declared.ordered.TheConstants.ALL}
+use Rattle.ert_wheel.specs.{declared.ordered.Ordered.Ordered, declared.row.TheConstants.{NEVER, BUCKETS}, declared.row.Key.Key}
 
 -- what is read past the end of the keys
 abbrev pub no_key : Key

@@ -22,8 +22,7 @@ pub struct Chains {
 
 impl Model for Chains {
     ghost use Rattle.std.specs.Prelude.{vec_capacity};
-    ghost use Rattle.ert_wheel.specs.Links.{AreWritten};
-    ghost use Rattle.ert_wheel.specs.Rings.{Rings, seen_rings};
+    ghost use Rattle.ert_wheel.specs.{Links.AreWritten, Rings.{Rings, seen_rings}};
 
     ghost Value = { Rings };
 
@@ -34,10 +33,8 @@ impl Model for Chains {
 
 impl Chains {
     ghost use Rattle.std.specs.Prelude.{◌≡◌, ◌↔◌, ◌+◌, ◌<◌, ◌≤◌, ◌^◌, ℕ, Option, Some, None, IfOk, IfSome, IsTrue, MatchOption};
-    ghost use Rattle.ert_wheel.specs.Chained.{Spliced, Unspliced};
-    ghost use Rattle.ert_wheel.specs.Links.{next_at, prev_at, place_slot};
-    ghost use Rattle.ert_wheel.specs.Rings.{Place, AreChains, MayPut, Puts, PutsInHome, PutsOldestInHome, MayTake, GivesUpPlace, node_slot, Finds, FindsOldest};
-    ghost use Rattle.ert_wheel.specs.Rings.{IsOnlyOf, HasOthers};
+    ghost use Rattle.ert_wheel.specs.{Chained.{Spliced, Unspliced}, Links.{next_at, prev_at, place_slot}, Rings.{Place, AreChains, MayPut, Puts, PutsInHome, PutsOldestInHome, MayTake, GivesUpPlace, node_slot, Finds, FindsOldest, IsOnlyOf}};
+    ghost use Rattle.ert_wheel.specs.{Rings.HasOthers};
 
     /// All chains empty, and no slot written. No call takes memory after this.
     pub fn new(alloc: Global, slots: u32, homes: u32) -> Result<Chains, NoMemory>

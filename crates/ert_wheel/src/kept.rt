@@ -23,8 +23,7 @@ impl<T: Keyed> Model for Kept<T> {
 impl<T: Keyed> Kept<T> {
     ghost use Rattle.std.specs.Prelude.{◌≡◌, ◌-◌, ◌<◌, ◌≤◌, [], ◌++◌, IfOk, IfSome, Some, length, replicate, slice_index_or, slice_set};
     ghost use Rattle.std.specs.List.{slice_get};
-    ghost use Rattle.ert_wheel.specs.Walks.{stored_order};
-    ghost use Rattle.ert_wheel.specs.Wheels.{no_key};
+    ghost use Rattle.ert_wheel.specs.{Walks.stored_order, Wheels.no_key};
 
     /// Room for so many slots, of which none is written. No call takes memory after this.
     pub fn new(alloc: Global, slots: u32) -> Result<Kept<T>, NoMemory>

@@ -1,12 +1,8 @@
 //! The rows of a level: which of them are due, and how early one may be.
 
 ghost use Rattle.std.specs.Prelude.{◌≡◌, ◌+◌, ◌<◌, ◌≤◌, ℕ, length, vec_capacity};
-ghost use Rattle.ert_wheel.specs.NextDue.{NoneBefore, MayLookAbove, IsEarlyOrNever, NoneOn};
-ghost use Rattle.ert_wheel.specs.Standing.{homes_of};
-ghost use Rattle.ert_wheel.specs.Walks.{StandOnLevels, AreCollected, MayCollectLevel, MayLook};
-ghost use Rattle.ert_wheel.specs.Wheels.{held_keys};
-ghost use Rattle.ert_wheel.specs.declared.row.Key.{Key};
-ghost use Rattle.ert_wheel.specs.declared.row.TheConstants.{BUCKETS};
+ghost use Rattle.ert_wheel.specs.{NextDue.{NoneBefore, MayLookAbove, IsEarlyOrNever, NoneOn}, Standing.homes_of, Walks.{StandOnLevels, AreCollected, MayCollectLevel, MayLook}, Wheels.held_keys, declared.row.Key.Key};
+ghost use Rattle.ert_wheel.specs.{declared.row.TheConstants.BUCKETS};
 
 use crate::kept::Kept;
 use crate::keyed::Keyed;

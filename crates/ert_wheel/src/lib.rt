@@ -85,8 +85,8 @@
 //! have the bucket of the next time and deadlines of any age, so all rows of that bucket are looked at where a late one was
 //! put in since the next time moved on. A floor below all deadlines tells whether that was so. Those rows are due at once,
 //! or at the next millisecond, so that the next advance takes them. The answer becomes the floor, and the slot of a row that
-//! tells it is kept: while that row stays there and time hasn't come to it, the answer stays, and an advance before it looks at
-//! nothing else.
+//! tells it is kept. While time hasn't come to the answer, and that row is due then or the bucket of the window that begins then has
+//! a row, the answer stays, and an advance before it looks at nothing else.
 //!
 //! **The first due row** (`first_due`) is told one at a time, for whoever may not take all that are due at once. Time moves
 //! on to the least deadline first, where that is due. Then the row is in the bucket of the next time: the oldest that has
@@ -132,11 +132,11 @@
 //!   vector of the links, so that no write needs a branch.
 //! - **When the next timer is due is kept with the row that tells it.** A loop asks after each turn. Each time 64 rows
 //!   of a full bucket were looked at in vain: more work than the three restarts of a packet. `next_due` keeps its
-//!   answer as the floor below which no row is due, and the slot of a row that tells it. A later call looks at that row
-//!   alone, as long as time hasn't come to the answer: if it is still there, with its deadline in the window that
-//!   begins then or after it, the answer stands. An earlier row that is put in is the next answer. A removal writes nothing for it.
+//!   answer as the floor below which no row is due, and the slot of a row that tells it. As long as time hasn't come to the answer, a later call
+//!   looks at that row and at one bucket alone: if the row is still there and due then, or the bucket of the window that begins
+//!   then has a row, the answer stands. An earlier row that is put in is the next answer. A removal writes nothing for it.
 //!   So it takes the wheel by `&mut`, though it changes nothing that a contract shows. A turn before the floor is one
-//!   comparison. The price: Where the row that told it moves to another bucket, the next call looks anew.
+//!   comparison. The price: Where the last row of that bucket moves to another, the next call looks anew.
 //! - **A row stays where it is when it is restarted to a later window.** A server restarts most timers before they are due.
 //!   Where each restart moved the row, it missed the caches four times. The price: A row moves once more when time comes to where it
 //!   stands, a loop may wake early once for each window, and orders are kept with the rows, since the chains don't tell them.

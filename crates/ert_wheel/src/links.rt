@@ -3,8 +3,7 @@
 //! The nodes from a number on aren't written: each of these counts as alone in its ring.
 
 ghost use Rattle.std.specs.Prelude.{◌≡◌, ◌≢◌, ◌<◌, ◌≤◌, ℕ, length, vec_capacity};
-ghost use Rattle.ert_wheel.specs.Chained.{Changed, Spliced, Unspliced};
-ghost use Rattle.ert_wheel.specs.Links.{next_at, prev_at, node_link};
+ghost use Rattle.ert_wheel.specs.{Chained.{Changed, Spliced, Unspliced}, Links.{next_at, prev_at, node_link}};
 
 /// The nodes after and before a node in its ring.
 #[derive(Clone, Copy)]

@@ -15,8 +15,7 @@ pub struct MarkedChains {
 }
 
 impl Model for MarkedChains {
-    ghost use Rattle.ert_wheel.specs.Marks.{AreMarked};
-    ghost use Rattle.ert_wheel.specs.Rings.{Rings};
+    ghost use Rattle.ert_wheel.specs.{Marks.AreMarked, Rings.Rings};
 
     ghost Value = { Rings };
 
@@ -27,10 +26,8 @@ impl Model for MarkedChains {
 
 impl MarkedChains {
     ghost use Rattle.std.specs.Prelude.{◌≡◌, ◌↔◌, ◌+◌, ◌*◌, ◌<◌, ◌≤◌, ◌^◌, ℕ, Option, None, IfOk, IfSome, IsTrue};
-    ghost use Rattle.ert_wheel.specs.Links.{next_at, prev_at};
-    ghost use Rattle.ert_wheel.specs.Marks.{FirstUsed, FirstWindow};
-    ghost use Rattle.ert_wheel.specs.Rings.{Place, AreChains, MayPut, Puts, PutsInHome, PutsOldestInHome, MayTake, GivesUpPlace, MovesSlot, node_slot, Finds, FindsOldest};
-    ghost use Rattle.ert_wheel.specs.declared.row.TheConstants.{BUCKETS, NEVER};
+    ghost use Rattle.ert_wheel.specs.{Links.{next_at, prev_at}, Marks.{FirstUsed, FirstWindow}, Rings.{Place, AreChains, MayPut, Puts, PutsInHome, PutsOldestInHome, MayTake, GivesUpPlace, MovesSlot, node_slot, Finds, FindsOldest}};
+    ghost use Rattle.ert_wheel.specs.{declared.row.TheConstants.{BUCKETS, NEVER}};
 
     /// All chains empty, and no slot written. No call takes memory after this.
     pub fn new(alloc: Global, slots: u32) -> Result<MarkedChains, NoMemory>

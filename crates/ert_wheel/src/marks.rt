@@ -25,8 +25,7 @@ impl Model for Marks {
 
 impl Marks {
     ghost use Rattle.std.specs.Prelude.{◌≡◌, ◌≢◌, ◌<◌, ◌≤◌, ℕ, slice_index_or, slice_set};
-    ghost use Rattle.ert_wheel.specs.Marks.{mark_of};
-    ghost use Rattle.ert_wheel.specs.declared.row.TheConstants.{BUCKETS};
+    ghost use Rattle.ert_wheel.specs.{Marks.mark_of, declared.row.TheConstants.BUCKETS};
 
     /// No bucket is marked.
     pub fn new() -> Marks

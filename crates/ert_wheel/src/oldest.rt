@@ -1,13 +1,7 @@
 //! The oldest row of a bucket that is due.
 
 ghost use Rattle.std.specs.Prelude.{◌≡◌, ◌<◌, ℕ, MatchOption, length};
-ghost use Rattle.ert_wheel.specs.FirstDue.{NoneDueIn, IsOldestDue};
-ghost use Rattle.ert_wheel.specs.NextDue.{MayWalk};
-ghost use Rattle.ert_wheel.specs.Rings.{Place, AreChains};
-ghost use Rattle.ert_wheel.specs.Rows.{row_told};
-ghost use Rattle.ert_wheel.specs.Wheels.{held_keys, places};
-ghost use Rattle.ert_wheel.specs.declared.row.Key.{Key};
-ghost use Rattle.ert_wheel.specs.declared.row.TheConstants.{BUCKETS};
+ghost use Rattle.ert_wheel.specs.{FirstDue.{NoneDueIn, IsOldestDue}, NextDue.MayWalk, Rings.{Place, AreChains}, Rows.row_told, Wheels.{held_keys, places}, declared.row.Key.Key, declared.row.TheConstants.BUCKETS};
 
 use crate::kept::Kept;
 use crate::keyed::Keyed;

@@ -2,8 +2,7 @@
 
 ghost use Rattle.std.specs.Bool.{OnTrue};
 ghost use Rattle.std.specs.Prelude.{◌≡◌, ◌≤◌, ◌<◌, ℕ, IfSome, MatchOption, length};
-ghost use Rattle.ert_wheel.specs.Ordering.{all_risen, risen_from, HasRowDue, IsAllRisen};
-ghost use Rattle.ert_wheel.specs.Wheels.{held_keys, IsWheel};
+ghost use Rattle.ert_wheel.specs.{Ordering.{all_risen, risen_from, HasRowDue, IsAllRisen}, Wheels.{held_keys, IsWheel}};
 
 use crate::kept::Kept;
 use crate::keyed::Keyed;

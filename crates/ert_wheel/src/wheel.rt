@@ -56,9 +56,7 @@ pub struct Wheel<T: Keyed> {
 }
 
 impl<T: Keyed> Model for Wheel<T> {
-    ghost use Rattle.ert_wheel.specs.Rows.{Held};
-    ghost use Rattle.ert_wheel.specs.Standing.{homes_of};
-    ghost use Rattle.ert_wheel.specs.Wheels.{held_keys, IsWheelAlike};
+    ghost use Rattle.ert_wheel.specs.{Rows.Held, Standing.homes_of, Wheels.{held_keys, IsWheelAlike}};
 
     ghost Value = { Held T };
 
@@ -74,15 +72,10 @@ impl<T: Keyed> Model for Wheel<T> {
 }
 
 impl<T: Keyed> Wheel<T> {
-    ghost use Rattle.std.specs.Prelude.{◌≡◌, ◌↔◌, ◌+◌, ◌-◌, ◌<◌, ◌≤◌, ◌^◌, ℕ, Option, Some, None, IsTrue, IsSome, IfSome, IfOk, MatchOption, All};
-    ghost use Rattle.std.specs.Prelude.{[], ◌++◌, count_by, length, map, max, min, option_map, replicate, slice_set, vec_capacity};
-    ghost use Rattle.std.specs.List.{slice_get};
-    ghost use Rattle.std.specs.List.Sorted.{IsSortedBy};
-    ghost use Rattle.std.specs.Option.{is_some};
-    ghost use Rattle.ert_wheel.specs.Rings.{Place, AreChains, MayPut, Puts, PutsInHome, MayTake, GivesUpPlace, Finds};
-    ghost use Rattle.ert_wheel.specs.Rows.{key_in, key_of, rows_told, told_at, times, due_count, left_at, comes_before};
-    ghost use Rattle.ert_wheel.specs.Standing.{ComesTo, StayOrFall};
-    ghost use Rattle.ert_wheel.specs.declared.row.TheConstants.{NEVER, LAST};
+    ghost use Rattle.std.specs.Prelude.{◌≡◌, ◌↔◌, ◌+◌, ◌-◌, ◌<◌, ◌≤◌, ◌^◌, ℕ, Option, Some, None, IsTrue, IsSome, IfSome, IfOk, MatchOption, All, [], ◌++◌, count_by, length, map, max, min, option_map, replicate, slice_set, vec_capacity};
+    ghost use Rattle.std.specs.{List.slice_get, List.Sorted.IsSortedBy, Option.is_some};
+    ghost use Rattle.ert_wheel.specs.{Rings.{Place, AreChains, MayPut, Puts, PutsInHome, MayTake, GivesUpPlace, Finds}, Rows.{key_in, key_of, rows_told, told_at, times, due_count, left_at, comes_before}, Standing.{ComesTo, StayOrFall}};
+    ghost use Rattle.ert_wheel.specs.{declared.row.TheConstants.{NEVER, LAST}};
 
     /// A wheel without rows, with room for one of each slot below `slots`, of which none is written. The numbers of
     /// owners are below `owners`, and none has a slot.

@@ -1,8 +1,7 @@
 //! The windows of levels, and the buckets of times on them.
 
 ghost use Rattle.std.specs.Prelude.{◌≡◌, ◌+◌, ◌*◌, ◌/◌, ◌^◌, ◌<◌, ◌≤◌, min};
-ghost use Rattle.ert_wheel.specs.Levels.{bucket_of_window, bucket_on, IsBucketBelow, IsLeastBucket};
-ghost use Rattle.ert_wheel.specs.declared.row.TheConstants.{NEVER, BUCKETS};
+ghost use Rattle.ert_wheel.specs.{Levels.{bucket_of_window, bucket_on, IsBucketBelow, IsLeastBucket}, declared.row.TheConstants.{NEVER, BUCKETS}};
 
 use crate::row::NEVER;
 

@@ -2,36 +2,13 @@
 
 use Rattle.std.proofs.Common.{◌≡◌, ℕ, ◌+◌, ◌-◌, ◌<◌, ◌≤◌, Bool, true, false, cond, List, [], ◌∷◌, ◌++◌, length, slice_index_or, Some, None, Result, Ok, Err, inl, inr, refl, sym, ap, subst, ◌∙◌, arith, length-append}
 use Rattle.std.specs.Prelude.{slice_set}
-use Rattle.ert_effects.specs.Chains.{AdvancesWheel}
-use Rattle.ert_effects.specs.WheelCalls.{Advances}
-use Rattle.ert_defs.specs.States.{State, next, state}
-use Rattle.ert_defs.specs.Timers.{Row}
-use Rattle.ert_defs.specs.declared.entry.Actor.TheVariants.{Wheel, Sched}
-use Rattle.ert_defs.specs.declared.entry.Entry.{Entry}
-use Rattle.ert_defs.specs.declared.memory.NoMemory.{NoMemory}
-use Rattle.ert_defs.specs.declared.settings.Settings.{Settings}
-use Rattle.ert_table.specs.Calls.{AreOnlyOf, IsMade}
-use Rattle.ert_table.specs.Desks.{settings_of, view_of, front_of, Belongs}
-use Rattle.ert_table.specs.Held.{is_held}
-use Rattle.ert_table.specs.declared.desk.Desk.{Desk}
-use Rattle.ert_table.specs.declared.desk.Pass.{Pass}
-use Rattle.ert_timers.proofs.LawsHold.{advances_only}
-use Rattle.ert_timers.specs.Expiring.{HasExpired, HasNotExpired}
-use Rattle.ert_timers.specs.Trying.{expired_after}
-use Rattle.ert_timers.specs.Parts.{Part, PartStands as WheelStands}
-use Rattle.ert_timers.specs.Passed.{LosesRows}
-use Rattle.ert_world.proofs.Armed.{AreCalm}
-use Rattle.ert_world.proofs.Calls.{Has, Does, parts_in, finish, schedulers_at}
-use Rattle.ert_world.proofs.Returned.{wheel_back, sched_back}
-use Rattle.ert_world.proofs.SchedCalls.{Had, had, now_stands}
-use Rattle.ert_world.proofs.WheelCalls.{advances_calm, wheel_named}
-use Rattle.ert_world.proofs.Tidying.{lost_hold, one_holds}
-use Rattle.ert_timers.proofs.SchedParts.{LeaveHand, advance_still, advances_leave, difference, hand_stays}
-use Rattle.ert_timers.specs.SchedParts.{SchedStands}
-use Rattle.ert_world.specs.Parts.{AllParts}
-use Rattle.ert_world.specs.Worlds.{Seen}
-use Rattle.ert_timers.specs.declared.sched_part.SchedPart.{SchedPart}
-use Rattle.ert_world.specs.declared.world.World.TheInside.{Inside}
+use Rattle.ert_effects.specs.{Chains.AdvancesWheel, WheelCalls.Advances}
+use Rattle.ert_defs.specs.{States.{State, next, state}, Timers.Row, declared.entry.Actor.TheVariants.{Wheel, Sched}, declared.entry.Entry.Entry, declared.memory.NoMemory.NoMemory, declared.settings.Settings.Settings}
+use Rattle.ert_table.specs.{Calls.{AreOnlyOf, IsMade}, Desks.{settings_of, view_of, front_of, Belongs}, Held.is_held, declared.desk.Desk.Desk, declared.desk.Pass.Pass}
+use Rattle.ert_timers.proofs.{LawsHold.advances_only, SchedParts.{LeaveHand, advance_still, advances_leave, difference, hand_stays}}
+use Rattle.ert_timers.specs.{Expiring.{HasExpired, HasNotExpired}, Trying.expired_after, Parts.{Part, PartStands as WheelStands}, Passed.LosesRows, SchedParts.SchedStands, declared.sched_part.SchedPart.SchedPart}
+use Rattle.ert_world.proofs.{Armed.AreCalm, Calls.{Has, Does, parts_in, finish, schedulers_at}, Returned.{wheel_back, sched_back}, SchedCalls.{Had, had, now_stands}, WheelCalls.{advances_calm, wheel_named}, Tidying.{lost_hold, one_holds}}
+use Rattle.ert_world.specs.{Parts.AllParts, Worlds.Seen, declared.world.World.TheInside.Inside}
 
 -- what is told of the entries of an advance: they are of the scheduler, with its wheel, cancel nothing and leave the hand
 pub record AreOfAdvance (w : ℕ) (es : List Entry) : Type 0 where

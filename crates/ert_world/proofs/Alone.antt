@@ -3,20 +3,12 @@
 use Rattle.std.proofs.Common.{◌≡◌, ℕ, zero, suc, ◌<◌, List, slice_index_or, inl, inr, refl, sym, ap, subst, ◌∙◌, arith}
 use Rattle.std.proofs.Math.Path.{fun_ext}
 use Rattle.ert_effects.specs.Ways.{Step, Growth, Way, Grows, alone}
-use Rattle.ert_defs.specs.Legal.{Legal}
-use Rattle.ert_defs.specs.States.{state}
-use Rattle.ert_defs.specs.declared.entry.Actor.{Actor}
-use Rattle.ert_defs.specs.declared.entry.Actor.TheVariants.{Keeper, Wheel, Inbox, Sched, MailOf, Caller}
-use Rattle.ert_defs.specs.declared.entry.Entry.{Entry}
-use Rattle.ert_defs.specs.declared.settings.Settings.{Settings}
+use Rattle.ert_defs.specs.{Legal.Legal, States.state, declared.entry.Actor.Actor, declared.entry.Actor.TheVariants.{Keeper, Wheel, Inbox, Sched, MailOf, Caller}, declared.entry.Entry.Entry, declared.settings.Settings.Settings}
 use Rattle.ert_table.specs.Held.{IsWhole}
 use Rattle.ert_timers.proofs.Passing.{loses_none}
-use Rattle.ert_timers.specs.Parts.{Part}
-use Rattle.ert_timers.specs.Passed.{LosesRows}
+use Rattle.ert_timers.specs.{Parts.Part, Passed.LosesRows}
 use Rattle.ert_world.proofs.Divided.{none_given}
-use Rattle.ert_world.specs.Stepping.{Stays}
-use Rattle.ert_world.specs.Ways.{beside_seats}
-use Rattle.ert_world.specs.Worlds.{Seen, IsUnseated, HoldsRest, ForgetsCancelled, LoseRows, Goes, TurnsGrow, way_of}
+use Rattle.ert_world.specs.{Stepping.Stays, Ways.beside_seats, Worlds.{Seen, IsUnseated, HoldsRest, ForgetsCancelled, LoseRows, Goes, TurnsGrow, way_of}}
 
 every : (next : ℕ) (a : Actor) → next ≡ 1 → IsUnseated next a
 every next Keeper one = tt

@@ -1,9 +1,7 @@
 -- Entries that cancel no timer.
 
 use Rattle.std.proofs.Common.{◌≡◌, Bool, true, false, List, [], ◌∷◌}
-use Rattle.ert_defs.specs.declared.entry.Entry.{Entry}
-use Rattle.ert_defs.specs.declared.entry.Event.{Event}
-use Rattle.ert_defs.specs.declared.entry.Event.TheVariants.{Cancel}
+use Rattle.ert_defs.specs.declared.entry.{Entry.Entry, Event.Event, Event.TheVariants.Cancel}
 
 -- whether an event may cancel a timer
 abbrev pub is_cancel : Event → Bool

@@ -2,19 +2,9 @@
 
 use Rattle.std.proofs.Common.{◌≡◌, ℕ, ◌+◌, ◌<◌, ◌≤◌, Bool, true, false, ◌||◌, List, [], ◌∷◌, ◌++◌, length, None, Ok, Err, inl, inr, refl, subst, arith}
 use Rattle.std.specs.Option.{is_some}
-use Rattle.ert_defs.specs.Mails.{first_of}
-use Rattle.ert_defs.specs.States.{state}
-use Rattle.ert_defs.specs.Timers.{Row}
-use Rattle.ert_defs.specs.declared.entry.Entry.{Entry}
-use Rattle.ert_defs.specs.declared.memory.NoMemory.{NoMemory}
-use Rattle.ert_defs.specs.declared.settings.Settings.{Settings}
-use Rattle.ert_effects.specs.Chains.{ServesAll, Hands, HandsMany, puts, drops}
-use Rattle.ert_effects.specs.SomeCalls.{AdvancesWheelSome, is_more}
-use Rattle.ert_effects.specs.Ways.{Way, Then}
-use Rattle.ert_effects.specs.declared.answers.Handed.{Handed}
-use Rattle.ert_effects.specs.declared.answers.Handed.TheVariants.{Put, Dropped}
-use Rattle.ert_effects.specs.declared.answers.Left.{Left}
-use Rattle.ert_effects.specs.declared.answers.Turned.{Turned}
+use Rattle.ert_defs.specs.{Mails.first_of, States.state, Timers.Row, declared.entry.Entry.Entry, declared.memory.NoMemory.NoMemory, declared.settings.Settings.Settings}
+use Rattle.ert_effects.specs.{Chains.{ServesAll, Hands, HandsMany, puts, drops}, SomeCalls.{AdvancesWheelSome, is_more}, Ways.{Way, Then}, declared.answers.Handed.Handed, declared.answers.Handed.TheVariants.{Put, Dropped}}
+use Rattle.ert_effects.specs.{declared.answers.Left.Left, declared.answers.Turned.Turned}
 use Rattle.ert_world.proofs.Chained.{Made, Same, made_then}
 use Rattle.ert_world.specs.Bounded.{AreLeft, DeliversSome, TurnsSome}
 

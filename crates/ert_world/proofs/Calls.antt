@@ -2,43 +2,20 @@
 
 use Rattle.std.proofs.Common.{◌≡◌, ℕ, zero, suc, ◌<◌, arith, true, false, List, [], ◌∷◌, ◌++◌, filter, slice_index_or, Some, Result, Ok, Err, inl, refl, sym, ap, subst, ◌∙◌, append-nil}
 use Rattle.std.specs.Prelude.{slice_set}
-use Rattle.ert_effects.specs.RequestCalls.{Asks}
-use Rattle.ert_effects.specs.Ways.{Growth, Way}
+use Rattle.ert_effects.specs.{RequestCalls.Asks, Ways.{Growth, Way}}
 use Rattle.ert_clock.specs.Shown.{ClockStands}
 use Rattle.ert_defs.proofs.Runs.{state-append, legal_then}
-use Rattle.ert_defs.specs.Legal.{Legal, LegalFrom}
-use Rattle.ert_defs.specs.States.{State, opening, run, state}
-use Rattle.ert_defs.specs.declared.entry.Actor.{Actor}
-use Rattle.ert_defs.specs.declared.entry.Actor.TheVariants.{Keeper, Inbox, MailOf, Caller}
-use Rattle.ert_defs.specs.declared.entry.Entry.{Entry}
-use Rattle.ert_defs.specs.declared.mail.Request.{Request}
-use Rattle.ert_defs.specs.declared.memory.NoMemory.{NoMemory}
-use Rattle.ert_defs.specs.declared.settings.OffsetState.{OffsetState}
-use Rattle.ert_defs.specs.declared.settings.OffsetState.TheVariants.{Preliminary, Final, Volatile}
-use Rattle.ert_defs.specs.declared.settings.Settings.{Settings}
-use Rattle.ert_mail.specs.Inboxes.{Waiting, InboxStands}
-use Rattle.ert_table.specs.Published.{ReadsByLeastCaller}
-use Rattle.ert_table.specs.declared.keeper.KeeperPart.{KeeperPart}
-use Rattle.ert_mail.specs.Mailboxes.{Mailbox, MailboxStands as MailStands}
+use Rattle.ert_defs.specs.{Legal.{Legal, LegalFrom}, States.{State, opening, run, state}, declared.entry.Actor.Actor, declared.entry.Actor.TheVariants.{Keeper, Inbox, MailOf, Caller}, declared.entry.Entry.Entry}
+use Rattle.ert_defs.specs.{declared.mail.Request.Request, declared.memory.NoMemory.NoMemory, declared.settings.OffsetState.OffsetState, declared.settings.OffsetState.TheVariants.{Preliminary, Final, Volatile}}
+use Rattle.ert_defs.specs.{declared.settings.Settings.Settings}
+use Rattle.ert_mail.specs.{Inboxes.{Waiting, InboxStands}, Mailboxes.{Mailbox, MailboxStands as MailStands}}
+use Rattle.ert_table.specs.{Published.ReadsByLeastCaller, declared.keeper.KeeperPart.KeeperPart, Calls.{AreOnlyOf, IsMade}, Desks.{settings_of, view_of, front_of, actors_of, Belongs}, Held.{is_held, least_caller}, Takes.TakesPlace}
+use Rattle.ert_table.specs.{declared.desk.Desk.Desk, declared.desk.Pass.Pass}
 use Rattle.ert_table.proofs.Calls.{whole_exact}
-use Rattle.ert_table.specs.Calls.{AreOnlyOf, IsMade}
-use Rattle.ert_table.specs.Desks.{settings_of, view_of, front_of, actors_of, Belongs}
-use Rattle.ert_table.specs.Held.{is_held, least_caller}
-use Rattle.ert_table.specs.Takes.{TakesPlace}
-use Rattle.ert_table.specs.declared.desk.Desk.{Desk}
-use Rattle.ert_table.specs.declared.desk.Pass.{Pass}
-use Rattle.ert_world.proofs.Alone.{whole_of, went}
-use Rattle.ert_world.proofs.Armed.{AreCalm, is_cancel}
-use Rattle.ert_world.proofs.Calm.{IsQuiet}
-use Rattle.ert_world.proofs.Returned.{mail_back, inbox_back, keeper_back, caller_back}
-use Rattle.ert_world.proofs.Standing.{others_stand}
-use Rattle.ert_world.proofs.Tidying.{AllHoldOn, same_hold, tidy_on}
-use Rattle.ert_world.proofs.Unseated.{AreUnseated, own_unseated}
-use Rattle.ert_world.specs.Parts.{AllParts, parts_of, Stand}
-use Rattle.ert_world.specs.Stepping.{turns_same}
-use Rattle.ert_world.specs.Ways.{is_unseated}
-use Rattle.ert_world.specs.Worlds.{Seen, seen, HoldsRest, AreFit, AreTidy, AreSound, ForgetsCancelled, HasForgottenAll, Goes, GoesOnClock, TurnsGrow, By, way_of}
-use Rattle.ert_world.specs.declared.world.World.TheInside.{Inside}
+use Rattle.ert_world.proofs.{Alone.{whole_of, went}, Armed.{AreCalm, is_cancel}, Calm.IsQuiet, Returned.{mail_back, inbox_back, keeper_back, caller_back}, Standing.others_stand, Tidying.{AllHoldOn, same_hold, tidy_on}, Unseated.AreUnseated}
+use Rattle.ert_world.proofs.{Unseated.own_unseated}
+use Rattle.ert_world.specs.{Parts.{AllParts, parts_of, Stand}, Stepping.turns_same, Ways.is_unseated, Worlds.{Seen, seen, HoldsRest, AreFit, AreTidy, AreSound, ForgetsCancelled, HasForgottenAll, Goes, GoesOnClock, TurnsGrow, By, way_of}}
+use Rattle.ert_world.specs.{declared.world.World.TheInside.Inside}
 
 -- all parts that a world has
 abbrev pub parts_in : Inside → AllParts

@@ -1,36 +1,13 @@
 -- What the calls that cancel no timer record: entries of their actors alone, and none that cancels.
 
 use Rattle.std.proofs.Common.{◌≡◌, ℕ, ℤ, Bool, true, false, List, [], ◌∷◌, Option, Some, None, Result, Ok, Err, refl, sym, subst}
-use Rattle.ert_clock.specs.Ticks.{tick_entries}
-use Rattle.ert_clock.specs.declared.clock.ClockErr.{ClockErr}
-use Rattle.ert_clock.specs.declared.clock.ClockErr.TheVariants.{BadReading, OffsetWide}
-use Rattle.ert_clock.specs.declared.clock.Moved.{Moved}
-use Rattle.ert_effects.specs.ClockCalls.{RefusesTick, ActsOnReading, Finalizes, FinalizesFrom, TellsTime, TellsOffset, TellsSystemTime}
-use Rattle.ert_effects.specs.MailCalls.{HandsOver, Takes, Monitors, Demonitors, Notifies}
-use Rattle.ert_effects.specs.RequestCalls.{Asks, Picks}
-use Rattle.ert_effects.specs.TimerCalls.{Reads, read_entries}
-use Rattle.ert_effects.specs.WheelCalls.{TellsAlive, MarksExit}
-use Rattle.ert_effects.specs.declared.answers.Handed.{Handed}
-use Rattle.ert_effects.specs.declared.answers.Handed.TheVariants.{Put, Dropped}
-use Rattle.ert_effects.specs.declared.answers.MonitorErr.{MonitorErr}
-use Rattle.ert_effects.specs.declared.answers.MonitorErr.TheVariants.{Full, NoMemory}
-use Rattle.ert_effects.specs.declared.answers.Taken.{Taken}
-use Rattle.ert_effects.specs.declared.answers.Taken.TheVariants.{Mail, Empty, Exited}
-use Rattle.ert_defs.specs.Legal.{names_timer}
-use Rattle.ert_defs.specs.States.{State}
-use Rattle.ert_defs.specs.Timers.{Row}
-use Rattle.ert_defs.specs.declared.entry.Act.{Act}
-use Rattle.ert_defs.specs.declared.entry.Act.TheVariants.{Finalize}
-use Rattle.ert_defs.specs.declared.entry.Actor.{Actor}
-use Rattle.ert_defs.specs.declared.entry.Actor.TheVariants.{Keeper, Caller}
-use Rattle.ert_defs.specs.declared.entry.Entry.{Entry}
-use Rattle.ert_defs.specs.declared.mail.Request.{Request}
-use Rattle.ert_defs.specs.declared.memory.NoMemory.{NoMemory as OutOfMemory}
-use Rattle.ert_defs.specs.declared.settings.OffsetState.{OffsetState}
-use Rattle.ert_defs.specs.declared.settings.OffsetState.TheVariants.{Preliminary, Final, Volatile}
-use Rattle.ert_defs.specs.declared.settings.Reading.{Reading}
-use Rattle.ert_defs.specs.declared.settings.Settings.{Settings}
-use Rattle.ert_defs.specs.declared.timer.TimerRef.{TimerRef}
+use Rattle.ert_clock.specs.{Ticks.tick_entries, declared.clock.ClockErr.ClockErr, declared.clock.ClockErr.TheVariants.{BadReading, OffsetWide}, declared.clock.Moved.Moved}
+use Rattle.ert_effects.specs.{ClockCalls.{RefusesTick, ActsOnReading, Finalizes, FinalizesFrom, TellsTime, TellsOffset, TellsSystemTime}, MailCalls.{HandsOver, Takes, Monitors, Demonitors, Notifies}, RequestCalls.{Asks, Picks}}
+use Rattle.ert_effects.specs.{TimerCalls.{Reads, read_entries}, WheelCalls.{TellsAlive, MarksExit}, declared.answers.Handed.Handed, declared.answers.Handed.TheVariants.{Put, Dropped}, declared.answers.MonitorErr.MonitorErr}
+use Rattle.ert_effects.specs.{declared.answers.MonitorErr.TheVariants.{Full, NoMemory}, declared.answers.Taken.Taken, declared.answers.Taken.TheVariants.{Mail, Empty, Exited}}
+use Rattle.ert_defs.specs.{Legal.names_timer, States.State, Timers.Row, declared.entry.Act.Act, declared.entry.Act.TheVariants.Finalize, declared.entry.Actor.Actor, declared.entry.Actor.TheVariants.{Keeper, Caller}}
+use Rattle.ert_defs.specs.{declared.entry.Entry.Entry, declared.mail.Request.Request, declared.memory.NoMemory.NoMemory as OutOfMemory, declared.settings.OffsetState.OffsetState, declared.settings.OffsetState.TheVariants.Preliminary}
+use Rattle.ert_defs.specs.{declared.settings.OffsetState.TheVariants.{Final, Volatile}, declared.settings.Reading.Reading, declared.settings.Settings.Settings, declared.timer.TimerRef.TimerRef}
 use Rattle.ert_table.specs.Calls.{AreOnlyOf}
 use Rattle.ert_table.proofs.Parts.{of_one, of_both}
 use Rattle.ert_world.proofs.Armed.{AreCalm}

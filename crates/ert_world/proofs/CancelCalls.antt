@@ -3,43 +3,18 @@
 use Rattle.std.proofs.Common.{◌≡◌, ◌≢◌, ℕ, ◌<◌, true, false, List, [], ◌∷◌, filter, length, slice_index_or, Option, Some, None, refl, sym, ap, subst, ◌∙◌, arith}
 use Rattle.std.specs.Option.{is_some}
 use Rattle.std.specs.Prelude.{slice_set}
-use Rattle.ert_effects.specs.TimerCalls.{Cancels}
-use Rattle.ert_effects.specs.Ways.{Growth, Way, Grows}
-use Rattle.ert_defs.specs.Legal.{Legal}
-use Rattle.ert_defs.specs.States.{State, state}
-use Rattle.ert_defs.specs.declared.entry.Actor.{Actor}
-use Rattle.ert_defs.specs.declared.entry.Actor.TheVariants.{Wheel, Caller}
-use Rattle.ert_defs.specs.declared.entry.Entry.{Entry}
-use Rattle.ert_defs.specs.declared.settings.Settings.{Settings}
-use Rattle.ert_defs.specs.declared.timer.Status.TheVariants.{Armed}
-use Rattle.ert_defs.specs.declared.timer.TimerRef.{TimerRef}
-use Rattle.ert_table.specs.Calls.{AreOnlyOf, IsMade}
-use Rattle.ert_table.specs.Desks.{settings_of, view_of, front_of, Belongs}
-use Rattle.ert_table.specs.Held.{is_held}
-use Rattle.ert_table.specs.Takes.{TakesPlace}
-use Rattle.ert_table.specs.declared.desk.Desk.{Desk}
-use Rattle.ert_table.specs.declared.desk.Pass.{Pass}
-use Rattle.ert_timers.specs.Parts.{Part, last_timer, PartStands as WheelStands}
-use Rattle.ert_timers.specs.Freeing.{IsHeld}
-use Rattle.ert_timers.specs.Passed.{LosesRows}
+use Rattle.ert_effects.specs.{TimerCalls.Cancels, Ways.{Growth, Way, Grows}}
+use Rattle.ert_defs.specs.{Legal.Legal, States.{State, state}, declared.entry.Actor.Actor, declared.entry.Actor.TheVariants.{Wheel, Caller}, declared.entry.Entry.Entry, declared.settings.Settings.Settings}
+use Rattle.ert_defs.specs.{declared.timer.Status.TheVariants.Armed, declared.timer.TimerRef.TimerRef}
+use Rattle.ert_table.specs.{Calls.{AreOnlyOf, IsMade}, Desks.{settings_of, view_of, front_of, Belongs}, Held.is_held, Takes.TakesPlace, declared.desk.Desk.Desk, declared.desk.Pass.Pass}
+use Rattle.ert_timers.specs.{Parts.{Part, last_timer, PartStands as WheelStands}, Freeing.IsHeld, Passed.LosesRows, Tidy.{IsTidy, IsTidyBut}}
 use Rattle.ert_timers.proofs.Passing.{same_last}
-use Rattle.ert_timers.specs.Tidy.{IsTidy, IsTidyBut}
 use Rattle.ert_wheel.specs.Rows.{key_in}
 use Rattle.ert_wheel.proofs.Looking.{key_low}
-use Rattle.ert_world.proofs.Alone.{lone, rows_same, stays_by, went}
-use Rattle.ert_world.proofs.Calls.{Has, Makes, ComeBack, parts_in, seen_at, exact, after, added, fit_on, makes, schedulers_at}
-use Rattle.ert_world.proofs.Cancelled.{Settles, cancel_settles, cancel_only}
-use Rattle.ert_world.proofs.Gone.{Hits, gone_in, cancels_hit}
-use Rattle.ert_world.proofs.Returned.{wheel_back, caller_back, at_place, lend}
-use Rattle.ert_world.proofs.Forgotten.{cancel_cancels}
-use Rattle.ert_world.specs.Ways.{is_unseated}
-use Rattle.ert_world.proofs.Unseated.{AreUnseated, own_unseated}
-use Rattle.ert_world.proofs.WheelCalls.{rows_set, wheel_named}
-use Rattle.ert_world.specs.Parts.{AllParts}
-use Rattle.ert_world.specs.Stepping.{Stays, turns_same}
-use Rattle.ert_world.proofs.Sparing.{IsTidyAt, StayTidyBut, GoesBut, CancelOnly, Forgets}
-use Rattle.ert_world.specs.Worlds.{Seen, seen, AreFit, AreSound, Goes, HasForgotten, HasForgottenAll, TurnsGrow, By, way_of}
-use Rattle.ert_world.specs.declared.world.World.TheInside.{Inside}
+use Rattle.ert_world.proofs.{Alone.{lone, rows_same, stays_by, went}, Calls.{Has, Makes, ComeBack, parts_in, seen_at, exact, after, added, fit_on, makes, schedulers_at}, Cancelled.{Settles, cancel_settles, cancel_only}, Gone.Hits}
+use Rattle.ert_world.proofs.{Gone.{gone_in, cancels_hit}, Returned.{wheel_back, caller_back, at_place, lend}, Forgotten.cancel_cancels, Unseated.{AreUnseated, own_unseated}, WheelCalls.{rows_set, wheel_named}, Sparing.IsTidyAt}
+use Rattle.ert_world.proofs.{Sparing.{StayTidyBut, GoesBut, CancelOnly, Forgets}}
+use Rattle.ert_world.specs.{Ways.is_unseated, Parts.AllParts, Stepping.{Stays, turns_same}, Worlds.{Seen, seen, AreFit, AreSound, Goes, HasForgotten, HasForgottenAll, TurnsGrow, By, way_of}, declared.world.World.TheInside.Inside}
 
 -- the parts of a world after a call that cancelled a timer, if this much was left of it
 pub record DoesBut (timer : TimerRef) (left : Option ℕ) (before : Seen) (d : Desk) (q : Pass) (next : ℕ) (parts : AllParts) (call : Seen → Way → Growth) : Type 0 where

@@ -1,25 +1,12 @@
 -- A cancel settles no timer but its own.
 
 use Rattle.std.proofs.Common.{◌≡◌, ◌≢◌, ℕ, ℤ, Bool, true, false, cond, List, [], ◌∷◌, ◌++◌, Option, Some, None, Result, Ok, Err, refl, sym, ap, subst, ◌∙◌}
-use Rattle.ert_effects.specs.RequestCalls.{DoesAsked, Answers}
-use Rattle.ert_effects.specs.TimerCalls.{Cancels, read_entries, cancel_entries}
-use Rattle.ert_defs.specs.Entries.{look_entry, peek_entry, cancel_entry, answer_entry}
-use Rattle.ert_defs.specs.Actors.{same_actor, has_actor}
-use Rattle.ert_defs.specs.Legal.{names_timer, left_of, left_by as left_by_look, LegalFrom}
-use Rattle.ert_defs.specs.States.{State, next, run}
-use Rattle.ert_defs.specs.Timers.{Row, row_of}
-use Rattle.ert_defs.proofs.ExpiredTimers.{same_timer-false}
-use Rattle.ert_defs.proofs.Runs.{run-append, legal_first}
-use Rattle.ert_defs.specs.declared.entry.Actor.{Actor}
-use Rattle.ert_defs.specs.declared.entry.Actor.TheVariants.{Wheel, Sched}
-use Rattle.ert_defs.specs.declared.entry.Entry.{Entry}
-use Rattle.ert_defs.specs.declared.mail.Request.{Request}
-use Rattle.ert_defs.specs.declared.mail.RequestKind.{RequestKind}
-use Rattle.ert_defs.specs.declared.mail.RequestKind.TheVariants.{Cancel as ToCancel, Read as ToRead}
-use Rattle.ert_defs.specs.declared.memory.NoMemory.{NoMemory}
-use Rattle.ert_defs.specs.declared.settings.Settings.{Settings}
-use Rattle.ert_defs.specs.declared.timer.Status.TheVariants.{Armed}
-use Rattle.ert_defs.specs.declared.timer.TimerRef.{TimerRef}
+use Rattle.ert_effects.specs.{RequestCalls.{DoesAsked, Answers}, TimerCalls.{Cancels, read_entries, cancel_entries}}
+use Rattle.ert_defs.specs.{Entries.{look_entry, peek_entry, cancel_entry, answer_entry}, Actors.{same_actor, has_actor}, Legal.{names_timer, left_of, left_by as left_by_look, LegalFrom}, States.{State, next, run}, Timers.{Row, row_of}}
+use Rattle.ert_defs.specs.{declared.entry.Actor.Actor, declared.entry.Actor.TheVariants.{Wheel, Sched}, declared.entry.Entry.Entry, declared.mail.Request.Request, declared.mail.RequestKind.RequestKind}
+use Rattle.ert_defs.specs.{declared.mail.RequestKind.TheVariants.{Cancel as ToCancel, Read as ToRead}, declared.memory.NoMemory.NoMemory, declared.settings.Settings.Settings, declared.timer.Status.TheVariants.Armed}
+use Rattle.ert_defs.specs.{declared.timer.TimerRef.TimerRef}
+use Rattle.ert_defs.proofs.{ExpiredTimers.same_timer-false, Runs.{run-append, legal_first}}
 use Rattle.ert_table.proofs.Parts.{of_one}
 use Rattle.ert_table.specs.Calls.{AreOnlyOf}
 use Rattle.ert_world.specs.Worlds.{left_for, cancelled_by}

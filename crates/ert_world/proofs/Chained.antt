@@ -3,21 +3,10 @@
 use Rattle.std.proofs.Common.{◌≡◌, ◌⊎◌, ℕ, zero, suc, ◌+◌, ◌<◌, ◌≤◌, true, false, List, [], ◌∷◌, ◌++◌, length, Option, Some, None, Ok, Err, inl, inr, refl, sym, ap, subst, ◌∙◌, arith, append-nil, append_assoc, add-zero}
 use Rattle.std.proofs.lemmas.Bool.{lt-ltb}
 use Rattle.ert_effects.proofs.Growing.{grows_then, grows_more}
-use Rattle.ert_effects.specs.Chains.{HoldsRequest, Serves, ServesMany, ServesAll, units, AdvancesWheel, Hands, HandsMany, Delivers, puts, put_by, drops, dropped_by, Turns, SweepsWheel, SweepsWheels, Exits}
-use Rattle.ert_effects.specs.RequestCalls.{Answers}
-use Rattle.ert_effects.specs.WheelCalls.{MarksExit}
-use Rattle.ert_effects.specs.Ways.{Growth, Way, Grows, Then, Many}
-use Rattle.ert_effects.specs.declared.answers.Handed.{Handed}
-use Rattle.ert_effects.specs.declared.answers.Handed.TheVariants.{Put, Dropped}
-use Rattle.ert_effects.specs.declared.answers.Turned.{Turned}
-use Rattle.ert_defs.specs.Mails.{first_of, others_of}
-use Rattle.ert_defs.specs.States.{state}
-use Rattle.ert_defs.specs.declared.entry.Actor.TheVariants.{Caller, MailOf}
-use Rattle.ert_defs.specs.declared.entry.Entry.{Entry}
-use Rattle.ert_defs.specs.declared.mail.Request.{Request}
-use Rattle.ert_defs.specs.declared.memory.NoMemory.{NoMemory}
-use Rattle.ert_defs.specs.declared.settings.Settings.{Settings}
-use Rattle.ert_defs.specs.declared.settings.TheConstants.{MOST_SLOTS}
+use Rattle.ert_effects.specs.{Chains.{HoldsRequest, Serves, ServesMany, ServesAll, units, AdvancesWheel, Hands, HandsMany, Delivers, puts, put_by, drops, dropped_by, Turns, SweepsWheel, SweepsWheels, Exits}, RequestCalls.Answers}
+use Rattle.ert_effects.specs.{WheelCalls.MarksExit, Ways.{Growth, Way, Grows, Then, Many}, declared.answers.Handed.Handed, declared.answers.Handed.TheVariants.{Put, Dropped}, declared.answers.Turned.Turned}
+use Rattle.ert_defs.specs.{Mails.{first_of, others_of}, States.state, declared.entry.Actor.TheVariants.{Caller, MailOf}, declared.entry.Entry.Entry, declared.mail.Request.Request, declared.memory.NoMemory.NoMemory}
+use Rattle.ert_defs.specs.{declared.settings.Settings.Settings, declared.settings.TheConstants.MOST_SLOTS}
 
 times_more : (n : ℕ) → units n ++ tt ∷ [] ≡ units (suc n)
 times_more zero = refl

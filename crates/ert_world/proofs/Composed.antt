@@ -3,13 +3,9 @@
 use Rattle.std.proofs.Common.{◌≡◌, ℕ, List, [], ◌∷◌, ◌++◌, None, refl, sym, subst, ◌∙◌, append-nil}
 use Rattle.ert_effects.proofs.Growing.{grows_then, grows_more}
 use Rattle.ert_effects.specs.Ways.{Growth, Way, Grows, Then, Many}
-use Rattle.ert_defs.specs.Legal.{Legal}
-use Rattle.ert_defs.specs.Mails.{first_of}
-use Rattle.ert_defs.specs.declared.settings.Settings.{Settings}
+use Rattle.ert_defs.specs.{Legal.Legal, Mails.first_of, declared.settings.Settings.Settings}
 use Rattle.ert_world.proofs.Alone.{went}
-use Rattle.ert_world.specs.Stepping.{turns_same, turns_then}
-use Rattle.ert_world.specs.Ways.{beside_seats}
-use Rattle.ert_world.specs.Worlds.{Seen, Goes, way_of}
+use Rattle.ert_world.specs.{Stepping.{turns_same, turns_then}, Ways.beside_seats, Worlds.{Seen, Goes, way_of}}
 
 pub none_first : {X : Type 0} (xs : List X) → first_of xs ≡ None → xs ≡ []
 none_first [] none = refl

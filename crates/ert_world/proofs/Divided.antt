@@ -1,10 +1,8 @@
 -- Which entries are a world's own.
 
 use Rattle.std.proofs.Common.{◌≡◌, ◌<◌, Bool, true, false, not, ◌&&◌, nat_lt, [], ◌∷◌, refl, sym, ap, subst, arith, lt-ltb, ltb-true}
-use Rattle.ert_defs.specs.declared.entry.Actor.{Actor}
-use Rattle.ert_defs.specs.declared.entry.Actor.TheVariants.{Caller}
-use Rattle.ert_world.specs.Laws.{LawOfNoSeats, LawOfSeats}
-use Rattle.ert_world.specs.Ways.{has_seat}
+use Rattle.ert_defs.specs.declared.entry.Actor.{Actor, TheVariants.Caller}
+use Rattle.ert_world.specs.{Laws.{LawOfNoSeats, LawOfSeats}, Ways.has_seat}
 
 none_seated : (a : Actor) → has_seat 1 a ≡ false
 none_seated (Caller n) = at (nat_lt 0 n) (nat_lt n 1) refl refl

@@ -3,23 +3,13 @@
 use Rattle.std.proofs.Common.{◌≡◌, ℕ, ◌+◌, ◌<◌, List, [], length, slice_index_or, sym, ap, subst, ◌∙◌, arith, None}
 use Rattle.std.specs.Prelude.{slice_set}
 use Rattle.std.proofs.lemmas.List.{length-set}
-use Rattle.ert_defs.specs.States.{state}
-use Rattle.ert_defs.specs.declared.entry.Actor.TheVariants.{Wheel}
-use Rattle.ert_defs.specs.declared.entry.Entry.{Entry}
-use Rattle.ert_defs.specs.declared.settings.Settings.{Settings}
+use Rattle.ert_defs.specs.{States.state, declared.entry.Actor.TheVariants.Wheel, declared.entry.Entry.Entry, declared.settings.Settings.Settings}
 use Rattle.ert_clock.specs.Shown.{Shown}
-use Rattle.ert_table.specs.Desks.{settings_of, view_of, front_of, Belongs}
-use Rattle.ert_table.specs.declared.desk.Desk.{Desk}
-use Rattle.ert_table.specs.declared.desk.Pass.{Pass}
-use Rattle.ert_table.specs.declared.view.View.{View}
+use Rattle.ert_table.specs.{Desks.{settings_of, view_of, front_of, Belongs}, declared.desk.Desk.Desk, declared.desk.Pass.Pass, declared.view.View.View}
 use Rattle.ert_timers.proofs.Passing.{loses_none, loses_then}
-use Rattle.ert_timers.specs.Parts.{Part, PartStands}
-use Rattle.ert_timers.specs.Passed.{LosesRows}
-use Rattle.ert_timers.specs.Tidy.{IsTidy}
-use Rattle.ert_world.proofs.Returned.{at_place}
-use Rattle.ert_world.proofs.WheelCalls.{rows_set}
-use Rattle.ert_world.specs.Parts.{AllParts, AreOrdered, Stand}
-use Rattle.ert_world.specs.Worlds.{Seen, seen, HoldsRest, AreFit, AreTidy, AreSound, IsPutTogether}
+use Rattle.ert_timers.specs.{Parts.{Part, PartStands}, Passed.LosesRows, Tidy.IsTidy}
+use Rattle.ert_world.proofs.{Returned.at_place, WheelCalls.rows_set}
+use Rattle.ert_world.specs.{Parts.{AllParts, AreOrdered, Stand}, Worlds.{Seen, seen, HoldsRest, AreFit, AreTidy, AreSound, IsPutTogether}}
 
 -- the first so many wheels have dropped them
 pub record HaveDropped (g : Settings) (h : List Entry) (ws vs : List Part) (n : ℕ) : Type 0 where

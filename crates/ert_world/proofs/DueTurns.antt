@@ -1,25 +1,14 @@
 -- A turn puts the messages of all timers that are due.
 
 use Rattle.std.proofs.Common.{◌≡◌, ◌≢◌, ℕ, Bool, false, List, [], ◌∷◌, ◌++◌, filter, Some, Ok, refl, sym, ap, ◌∙◌, subst, append_assoc}
-use Rattle.ert_defs.proofs.Runs.{legal_first, legal_then, state-append}
-use Rattle.ert_defs.proofs.Slots.{ordered}
-use Rattle.ert_defs.specs.Entries.{look_entry, advanced_entry, is_ours}
-use Rattle.ert_defs.specs.Legal.{Legal}
-use Rattle.ert_defs.specs.States.{State, opening, state}
-use Rattle.ert_defs.specs.Timers.{row_of}
-use Rattle.ert_defs.specs.declared.entry.Actor.{Actor}
-use Rattle.ert_defs.specs.declared.entry.Actor.TheVariants.{Wheel, Sched}
-use Rattle.ert_defs.specs.declared.entry.Entry.{Entry}
-use Rattle.ert_defs.specs.declared.settings.Settings.{Settings}
-use Rattle.ert_defs.specs.declared.timer.Status.TheVariants.{Cancelled, Orphaned, Delivered}
-use Rattle.ert_effects.specs.Chains.{AdvancesWheel}
-use Rattle.ert_effects.specs.Ways.{Way, alone, beside}
-use Rattle.ert_effects.specs.WheelCalls.{expiry_entries, HasAdvanced}
+use Rattle.ert_defs.proofs.{Runs.{legal_first, legal_then, state-append}, Slots.ordered}
+use Rattle.ert_defs.specs.{Entries.{look_entry, advanced_entry, is_ours}, Legal.Legal, States.{State, opening, state}, Timers.row_of, declared.entry.Actor.Actor, declared.entry.Actor.TheVariants.{Wheel, Sched}, declared.entry.Entry.Entry}
+use Rattle.ert_defs.specs.{declared.settings.Settings.Settings, declared.timer.Status.TheVariants.{Cancelled, Orphaned, Delivered}}
+use Rattle.ert_effects.specs.{Chains.AdvancesWheel, Ways.{Way, alone, beside}, WheelCalls.{expiry_entries, HasAdvanced}}
 use Rattle.ert_laws.proofs.DueMessages.{due_delivered, final_stays, put_once, row_stays}
 use Rattle.ert_laws.specs.Punctual.{IsMessagePut}
 use Rattle.ert_world.proofs.Places.{StandsAt, stands_in}
-use Rattle.ert_world.specs.DueTurns.{PutsDue, TurnPutsDue, LawOfDueHandings, LawOfDueTurns}
-use Rattle.ert_world.specs.Ways.{among}
+use Rattle.ert_world.specs.{DueTurns.{PutsDue, TurnPutsDue, LawOfDueHandings, LawOfDueTurns}, Ways.among}
 
 -- the last of those that pass a test stands in the piece
 last_stands : (q : Entry → Bool) (m es : List Entry) (e : Entry) → filter q m ≡ es ++ e ∷ [] → StandsAt m e

@@ -3,54 +3,19 @@
 use Rattle.std.proofs.Common.{◌≡◌, ◌≢◌, ◌⊎◌, ⊎_elim, ℕ, zero, suc, ◌+◌, ◌<◌, ◌≤◌, Bool, true, false, ◌&&◌, ◌||◌, List, [], ◌∷◌, ◌++◌, filter, count_by, slice_index_or, Option, Some, None, inl, inr, refl, sym, ap, subst, ◌∙◌, arith}
 use Rattle.std.specs.Option.{is_some}
 use Rattle.std.specs.Prelude.{slice_set, nat_lt, nat_le}
-use Rattle.std.proofs.lemmas.Bool.{le-leb, lt-ltb}
-use Rattle.std.proofs.lemmas.List.{set-get_or}
-use Rattle.std.proofs.lemmas.List.Elements.{filter-append}
-use Rattle.std.proofs.lemmas.List.Sums.{count_by-le-length}
-use Rattle.ert_table.specs.Left.{AtLastStep, IsLeftByLook, IsMadeTellingLeft, TellsLeft}
-use Rattle.ert_defs.proofs.Slots.{ordered}
-use Rattle.ert_defs.specs.Actors.{IsFree, has_actor, of}
-use Rattle.ert_defs.specs.Entries.{is_ours, look_entry}
-use Rattle.ert_defs.specs.Legal.{is_generation, names_timer}
-use Rattle.ert_defs.specs.States.{State, state, uses_at}
-use Rattle.ert_defs.specs.Timers.{Row, row_of}
-use Rattle.ert_defs.proofs.Runs.{state-append}
-use Rattle.ert_defs.specs.declared.entry.Actor.{Actor}
-use Rattle.ert_defs.specs.declared.entry.Actor.TheVariants.{Wheel, Caller}
-use Rattle.ert_defs.specs.declared.entry.Entry.{Entry}
-use Rattle.ert_defs.specs.declared.settings.Settings.{Settings}
-use Rattle.ert_defs.specs.declared.settings.TheConstants.{MOST_SLOTS}
-use Rattle.ert_defs.specs.declared.timer.Status.{Status}
-use Rattle.ert_defs.specs.declared.timer.Status.TheVariants.{Armed}
-use Rattle.ert_defs.specs.declared.timer.TimerRef.{TimerRef}
-use Rattle.ert_effects.specs.TimerCalls.{Cancels, cancel_entries}
-use Rattle.ert_effects.specs.WheelCalls.{IsFor, IsSwept}
-use Rattle.ert_table.specs.Desks.{settings_of, view_of, front_of}
-use Rattle.ert_table.specs.declared.desk.Desk.{Desk}
-use Rattle.ert_table.specs.declared.desk.Pass.{Pass}
-use Rattle.ert_table.specs.declared.view.View.{View}
-use Rattle.ert_timers.proofs.Later.{later_free}
-use Rattle.ert_timers.proofs.Rows.{armed_row}
-use Rattle.ert_timers.proofs.Swept.{swept_rows}
-use Rattle.ert_timers.proofs.Tried.{held_found}
-use Rattle.ert_timers.specs.Changes.{given_back}
-use Rattle.ert_timers.specs.Freeing.{IsHeld}
-use Rattle.ert_timers.specs.HeldFor.{IsHeldFor}
-use Rattle.ert_timers.specs.Parts.{Part, PartStands as WheelStands, IsLive, last_timer, held_row}
-use Rattle.ert_timers.specs.Passed.{LosesRows}
-use Rattle.ert_wheel.proofs.Looking.{key_low}
-use Rattle.ert_wheel.proofs.Views.{counts_less}
-use Rattle.ert_wheel.specs.Rows.{key_in}
-use Rattle.ert_wheel.specs.declared.row.Key.{Key}
-use Rattle.ert_world.proofs.Calls.{Has, parts_in, processes_at, schedulers_at}
-use Rattle.ert_world.proofs.CancelCalls.{DoesBut, DoesCancel, cancelled_settled, cancelled_some}
-use Rattle.ert_world.proofs.Cancelled.{cancel_only}
-use Rattle.ert_world.proofs.NextDue.{part_at}
-use Rattle.ert_world.proofs.Returned.{at_place}
-use Rattle.ert_world.proofs.Standing.{free_kept}
-use Rattle.ert_world.specs.Cancelling.{IsHeldAt}
-use Rattle.ert_world.specs.Worlds.{Seen, By}
-use Rattle.ert_world.specs.declared.world.World.TheInside.{Inside}
+use Rattle.std.proofs.lemmas.{Bool.{le-leb, lt-ltb}, List.set-get_or, List.Elements.filter-append, List.Sums.count_by-le-length}
+use Rattle.ert_table.specs.{Left.{AtLastStep, IsLeftByLook, IsMadeTellingLeft, TellsLeft}, Desks.{settings_of, view_of, front_of}, declared.desk.Desk.Desk, declared.desk.Pass.Pass, declared.view.View.View}
+use Rattle.ert_defs.proofs.{Slots.ordered, Runs.state-append}
+use Rattle.ert_defs.specs.{Actors.{IsFree, has_actor, of}, Entries.{is_ours, look_entry}, Legal.{is_generation, names_timer}, States.{State, state, uses_at}, Timers.{Row, row_of}, declared.entry.Actor.Actor}
+use Rattle.ert_defs.specs.{declared.entry.Actor.TheVariants.{Wheel, Caller}, declared.entry.Entry.Entry, declared.settings.Settings.Settings, declared.settings.TheConstants.MOST_SLOTS, declared.timer.Status.Status}
+use Rattle.ert_defs.specs.{declared.timer.Status.TheVariants.Armed, declared.timer.TimerRef.TimerRef}
+use Rattle.ert_effects.specs.{TimerCalls.{Cancels, cancel_entries}, WheelCalls.{IsFor, IsSwept}}
+use Rattle.ert_timers.proofs.{Later.later_free, Rows.armed_row, Swept.swept_rows, Tried.held_found}
+use Rattle.ert_timers.specs.{Changes.given_back, Freeing.IsHeld, HeldFor.IsHeldFor, Parts.{Part, PartStands as WheelStands, IsLive, last_timer, held_row}, Passed.LosesRows}
+use Rattle.ert_wheel.proofs.{Looking.key_low, Views.counts_less}
+use Rattle.ert_wheel.specs.{Rows.key_in, declared.row.Key.Key}
+use Rattle.ert_world.proofs.{Calls.{Has, parts_in, processes_at, schedulers_at}, CancelCalls.{DoesBut, DoesCancel, cancelled_settled, cancelled_some}, Cancelled.cancel_only, NextDue.part_at, Returned.at_place, Standing.free_kept}
+use Rattle.ert_world.specs.{Cancelling.IsHeldAt, Worlds.{Seen, By}, declared.world.World.TheInside.Inside}
 
 -- a number of a generation, by the round of its slot
 generation_is : (n since : ℕ) → 1 ≤ n → (since ≡ 0 → n ≤ 262143) → (1 ≤ since → 8796093022208 ≤ n) → n < 2305843009213693952 → is_generation n ≡ true

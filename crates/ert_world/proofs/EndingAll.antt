@@ -5,28 +5,13 @@ use mir.Val.{bool_byte}
 use Rattle.std.specs.FinSet as set
 use Rattle.std.specs.Option.{is_some}
 use Rattle.std.proofs.lemmas.List.Sums.{sum_by-append}
-use Rattle.ert_defs.specs.Legal.{Legal}
-use Rattle.ert_defs.specs.States.{state}
-use Rattle.ert_defs.specs.declared.entry.Actor.TheVariants.{Caller}
-use Rattle.ert_defs.specs.declared.entry.Entry.{Entry}
-use Rattle.ert_defs.specs.declared.settings.Settings.{Settings}
-use Rattle.ert_defs.specs.declared.timer.TimerRef.{TimerRef}
-use Rattle.ert_effects.specs.TimerCalls.{Cancels}
-use Rattle.ert_effects.specs.WheelCalls.{IsSwept}
-use Rattle.ert_effects.specs.Ways.{Way, Many}
-use Rattle.ert_timers.specs.Freeing.{IsHeld}
+use Rattle.ert_defs.specs.{Legal.Legal, States.state, declared.entry.Actor.TheVariants.Caller, declared.entry.Entry.Entry, declared.settings.Settings.Settings, declared.timer.TimerRef.TimerRef}
+use Rattle.ert_effects.specs.{TimerCalls.Cancels, WheelCalls.IsSwept, Ways.{Way, Many}}
+use Rattle.ert_timers.specs.{Freeing.IsHeld, Parts.Part, Passed.LosesRows, Slots.Slot}
 use Rattle.ert_timers.proofs.Passing.{same_last}
-use Rattle.ert_timers.specs.Parts.{Part}
-use Rattle.ert_timers.specs.Passed.{LosesRows}
-use Rattle.ert_timers.specs.Slots.{Slot}
-use Rattle.ert_wheel.specs.Rows.{key_in}
-use Rattle.ert_wheel.specs.declared.row.Key.{Key}
-use Rattle.ert_world.proofs.Alone.{went}
-use Rattle.ert_world.proofs.Composed.{goes_more, goes_nothing}
-use Rattle.ert_world.specs.Cancelling.{Ended, cancelled_of, IsOther, AreTriedOnce, CancelsOne, CancelsOn, numbered, IsHeldAt}
-use Rattle.ert_world.specs.Held.{HoldsFewer}
-use Rattle.ert_world.specs.Stepping.{Stays}
-use Rattle.ert_world.specs.Worlds.{Seen, Goes, By, HasForgotten, LoseRows}
+use Rattle.ert_wheel.specs.{Rows.key_in, declared.row.Key.Key}
+use Rattle.ert_world.proofs.{Alone.went, Composed.{goes_more, goes_nothing}}
+use Rattle.ert_world.specs.{Cancelling.{Ended, cancelled_of, IsOther, AreTriedOnce, CancelsOne, CancelsOn, numbered, IsHeldAt}, Held.HoldsFewer, Stepping.Stays, Worlds.{Seen, Goes, By, HasForgotten, LoseRows}}
 
 -- a part that isn't there
 abbrev pub no_part : Part

@@ -1,19 +1,9 @@
 -- The entries of a cancel, and of an answer to a request, cancel no timer but one.
 
 use Rattle.std.proofs.Common.{ℕ, ℤ, Bool, true, false, List, [], ◌∷◌, ◌++◌, Option, Some, None, Ok, sym, subst}
-use Rattle.ert_defs.specs.Entries.{look_entry, answer_entry}
-use Rattle.ert_defs.specs.Legal.{names_timer}
-use Rattle.ert_defs.specs.States.{State}
-use Rattle.ert_defs.specs.declared.entry.Actor.{Actor}
-use Rattle.ert_defs.specs.declared.entry.Actor.TheVariants.{Sched}
-use Rattle.ert_defs.specs.declared.entry.Entry.{Entry}
-use Rattle.ert_defs.specs.declared.mail.Request.{Request}
-use Rattle.ert_defs.specs.declared.mail.RequestKind.{RequestKind}
-use Rattle.ert_defs.specs.declared.mail.RequestKind.TheVariants.{Cancel as ToCancel, Read as ToRead}
-use Rattle.ert_defs.specs.declared.settings.Settings.{Settings}
-use Rattle.ert_defs.specs.declared.timer.TimerRef.{TimerRef}
-use Rattle.ert_effects.specs.RequestCalls.{DoesAsked, Answers}
-use Rattle.ert_effects.specs.TimerCalls.{Cancels, cancel_entries, read_entries}
+use Rattle.ert_defs.specs.{Entries.{look_entry, answer_entry}, Legal.names_timer, States.State, declared.entry.Actor.Actor, declared.entry.Actor.TheVariants.Sched, declared.entry.Entry.Entry, declared.mail.Request.Request}
+use Rattle.ert_defs.specs.{declared.mail.RequestKind.RequestKind, declared.mail.RequestKind.TheVariants.{Cancel as ToCancel, Read as ToRead}, declared.settings.Settings.Settings, declared.timer.TimerRef.TimerRef}
+use Rattle.ert_effects.specs.{RequestCalls.{DoesAsked, Answers}, TimerCalls.{Cancels, cancel_entries, read_entries}}
 use Rattle.ert_world.proofs.Sparing.{CancelOnly}
 use Rattle.ert_world.specs.Worlds.{left_for}
 

@@ -2,19 +2,10 @@
 
 use Rattle.std.proofs.Common.{◌≡◌, ◌≢◌, ⊎_elim, ℕ, ◌+◌, ◌<◌, Bool, true, false, cond, List, [], ◌∷◌, ◌++◌, length, inl, inr, refl, sym, ap, subst, ◌∙◌, arith, ne_eqb, eq-eqb}
 use Rattle.std.specs.Prelude.{nat_eq, nat_le}
-use Rattle.ert_defs.specs.Actors.{same_actor}
-use Rattle.ert_defs.specs.declared.entry.Actor.{Actor}
-use Rattle.ert_defs.specs.declared.entry.Actor.TheVariants.{Keeper, Wheel, Inbox, Sched, MailOf, Caller}
-use Rattle.ert_defs.specs.declared.entry.Entry.{Entry}
-use Rattle.ert_defs.specs.declared.settings.Settings.{Settings}
-use Rattle.ert_world.specs.Parts.{AllParts, Stand}
+use Rattle.ert_defs.specs.{Actors.same_actor, declared.entry.Actor.Actor, declared.entry.Actor.TheVariants.{Keeper, Wheel, Inbox, Sched, MailOf, Caller}, declared.entry.Entry.Entry, declared.settings.Settings.Settings}
+use Rattle.ert_world.specs.{Parts.{AllParts, Stand}, Worlds.{IsUnseated, HoldsRest, AreTidy, AreSound}}
 use Rattle.ert_table.proofs.Holders.{tells, or_left, same_actor-true, same_actor_self, held-append, held_first, held_then, held_one, held_but, held_but_parts, held_but_other}
-use Rattle.ert_table.specs.Desks.{settings_of, front_of, actors_of, Belongs}
-use Rattle.ert_table.specs.Held.{is_held, actors_but, IsActor}
-use Rattle.ert_table.specs.Views.{longer}
-use Rattle.ert_table.specs.declared.desk.Desk.{Desk}
-use Rattle.ert_table.specs.declared.desk.Pass.{Pass}
-use Rattle.ert_world.specs.Worlds.{IsUnseated, HoldsRest, AreTidy, AreSound}
+use Rattle.ert_table.specs.{Desks.{settings_of, front_of, actors_of, Belongs}, Held.{is_held, actors_but, IsActor}, Views.longer, declared.desk.Desk.Desk, declared.desk.Pass.Pass}
 
 lower : (n m : ℕ) → nat_eq n m ≡ false → n < m + 1 → n < m
 lower n m apart below =

@@ -5,43 +5,16 @@ use Rattle.std.proofs.Common.{◌≡◌, ◌≢◌, ℕ, ◌<◌, Bool, true, fa
 use Rattle.std.specs.Option.{is_some}
 use Rattle.std.specs.Prelude.{nat_eq, nat_lt}
 use Rattle.std.proofs.lemmas.Bool.{ltb-true}
-use Rattle.ert_effects.specs.RequestCalls.{DoesAsked, Answers}
-use Rattle.ert_effects.specs.TimerCalls.{Cancels, cancel_entries}
-use Rattle.ert_effects.specs.WheelCalls.{MarksExit}
-use Rattle.ert_defs.proofs.ExpiredTimers.{same_timer_self}
-use Rattle.ert_defs.proofs.Runs.{state-append, exit_stays, free_rest}
-use Rattle.ert_defs.specs.Actors.{IsFree}
-use Rattle.ert_defs.specs.Entries.{is_ours, look_entry, mark_entry, answer_entry}
-use Rattle.ert_defs.specs.Legal.{is_generation, names_timer}
-use Rattle.ert_defs.specs.States.{State, next, run, state}
-use Rattle.ert_defs.specs.Timers.{settled_as}
-use Rattle.ert_defs.specs.declared.entry.Actor.{Actor}
-use Rattle.ert_defs.specs.declared.entry.Actor.TheVariants.{Wheel, Sched, Caller}
-use Rattle.ert_defs.specs.declared.entry.Entry.{Entry}
-use Rattle.ert_defs.specs.declared.mail.Request.{Request}
-use Rattle.ert_defs.specs.declared.mail.RequestKind.{RequestKind}
-use Rattle.ert_defs.specs.declared.mail.RequestKind.TheVariants.{Cancel as ToCancel, Read as ToRead}
-use Rattle.ert_defs.specs.declared.settings.Settings.{Settings}
-use Rattle.ert_defs.specs.declared.timer.Status.{Status}
-use Rattle.ert_defs.specs.declared.timer.Status.TheVariants.{Armed, Cancelled}
-use Rattle.ert_defs.specs.declared.timer.TimerRef.{TimerRef}
-use Rattle.ert_world.specs.Worlds.{left_for}
-use Rattle.ert_table.specs.Calls.{AreOnlyOf, IsMade}
-use Rattle.ert_table.specs.Desks.{settings_of, view_of, front_of}
-use Rattle.ert_table.specs.Held.{is_held}
-use Rattle.ert_table.specs.Takes.{TakesPlace}
-use Rattle.ert_table.specs.declared.desk.Desk.{Desk}
-use Rattle.ert_table.specs.declared.desk.Pass.{Pass}
-use Rattle.ert_table.specs.declared.view.View.{View}
-use Rattle.ert_timers.proofs.Later.{later_free}
-use Rattle.ert_timers.proofs.Settled.{HasOne, has_front, one_of, IsHit, hit_last}
-use Rattle.ert_timers.specs.Freeing.{IsLast}
-use Rattle.ert_timers.specs.Parts.{Part}
-use Rattle.ert_world.proofs.Calls.{Has}
-use Rattle.ert_world.proofs.Standing.{free_kept}
-use Rattle.ert_world.proofs.Sparing.{IsGone, IsSettledIn, IsLastIn}
-use Rattle.ert_world.specs.Worlds.{Seen}
-use Rattle.ert_world.specs.declared.world.World.TheInside.{Inside}
+use Rattle.ert_effects.specs.{RequestCalls.{DoesAsked, Answers}, TimerCalls.{Cancels, cancel_entries}, WheelCalls.MarksExit}
+use Rattle.ert_defs.proofs.{ExpiredTimers.same_timer_self, Runs.{state-append, exit_stays, free_rest}}
+use Rattle.ert_defs.specs.{Actors.IsFree, Entries.{is_ours, look_entry, mark_entry, answer_entry}, Legal.{is_generation, names_timer}, States.{State, next, run, state}, Timers.settled_as, declared.entry.Actor.Actor}
+use Rattle.ert_defs.specs.{declared.entry.Actor.TheVariants.{Wheel, Sched, Caller}, declared.entry.Entry.Entry, declared.mail.Request.Request, declared.mail.RequestKind.RequestKind, declared.mail.RequestKind.TheVariants.Cancel as ToCancel}
+use Rattle.ert_defs.specs.{declared.mail.RequestKind.TheVariants.Read as ToRead, declared.settings.Settings.Settings, declared.timer.Status.Status, declared.timer.Status.TheVariants.{Armed, Cancelled}, declared.timer.TimerRef.TimerRef}
+use Rattle.ert_world.specs.{Worlds.{left_for, Seen}, declared.world.World.TheInside.Inside}
+use Rattle.ert_table.specs.{Calls.{AreOnlyOf, IsMade}, Desks.{settings_of, view_of, front_of}, Held.is_held, Takes.TakesPlace, declared.desk.Desk.Desk, declared.desk.Pass.Pass, declared.view.View.View}
+use Rattle.ert_timers.proofs.{Later.later_free, Settled.{HasOne, has_front, one_of, IsHit, hit_last}}
+use Rattle.ert_timers.specs.{Freeing.IsLast, Parts.Part}
+use Rattle.ert_world.proofs.{Calls.Has, Standing.free_kept, Sparing.{IsGone, IsSettledIn, IsLastIn}}
 
 -- entries that such an entry makes true, and that all entries of a kind keep
 module _ (g : Settings) (actors : List Actor) (P : State → Type 0) (D : Entry → Type 0) (F : List Entry → Type 0) where

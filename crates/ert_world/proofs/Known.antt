@@ -3,31 +3,15 @@
 use Rattle.std.proofs.Common.{◌≡◌, ◌≢◌, inl, inr, ⊎_elim, ℕ, ℤ, Bool, true, false, List, [], ◌∷◌, ◌++◌, filter, Option, Some, None, Ok, refl, sym, ap, subst, ◌∙◌, append_assoc, arith, eq-eqb}
 use Rattle.std.proofs.lemmas.Bool.Decides.{nat_tests}
 use Rattle.ert_table.proofs.Named.{names_both}
-use Rattle.ert_defs.proofs.ExpiredTimers.{row_named, same_timer_self}
-use Rattle.ert_defs.proofs.Runs.{legal_first, legal_then, state-append}
-use Rattle.ert_defs.proofs.Settlings.{moves_next, settled_timers_stay}
-use Rattle.ert_defs.proofs.Slots.{IsOrdered, ordered, ordered_next}
-use Rattle.ert_defs.proofs.Standing.{all_stand, of_row}
-use Rattle.ert_defs.specs.Entries.{is_ours, look_entry, arm_entry, mark_entry, peek_entry, cancel_entry}
-use Rattle.ert_defs.specs.Laws.{MayMove, has_settled}
-use Rattle.ert_defs.specs.Legal.{Legal, LegalFrom, Can, IsSlot, left_by, left_of, is_generation, names_timer}
-use Rattle.ert_defs.specs.States.{State, opening, next, run, state}
-use Rattle.ert_defs.specs.Timers.{Row}
-use Rattle.ert_defs.specs.declared.entry.Actor.{Actor}
-use Rattle.ert_defs.specs.declared.entry.Actor.TheVariants.{Caller}
-use Rattle.ert_defs.specs.declared.entry.Entry.{Entry}
-use Rattle.ert_defs.specs.declared.settings.Settings.{Settings}
-use Rattle.ert_defs.specs.declared.timer.Start.{Start}
-use Rattle.ert_defs.specs.declared.timer.Status.{Status}
-use Rattle.ert_defs.specs.declared.timer.Status.TheVariants.{Armed, Expired}
-use Rattle.ert_defs.specs.declared.timer.TimerRef.{TimerRef}
-use Rattle.ert_effects.specs.TimerCalls.{Starts, Reads, Cancels, read_entries, cancel_entries}
-use Rattle.ert_effects.specs.Ways.{Step, Way, alone, beside}
+use Rattle.ert_defs.proofs.{ExpiredTimers.{row_named, same_timer_self}, Runs.{legal_first, legal_then, state-append}, Settlings.{moves_next, settled_timers_stay}, Slots.{IsOrdered, ordered, ordered_next}, Standing.{all_stand, of_row}}
+use Rattle.ert_defs.specs.{Entries.{is_ours, look_entry, arm_entry, mark_entry, peek_entry, cancel_entry}, Laws.{MayMove, has_settled}, Legal.{Legal, LegalFrom, Can, IsSlot, left_by, left_of, is_generation, names_timer}, States.State}
+use Rattle.ert_defs.specs.{States.{opening, next, run, state}, Timers.Row, declared.entry.Actor.Actor, declared.entry.Actor.TheVariants.Caller, declared.entry.Entry.Entry, declared.settings.Settings.Settings, declared.timer.Start.Start}
+use Rattle.ert_defs.specs.{declared.timer.Status.Status, declared.timer.Status.TheVariants.{Armed, Expired}, declared.timer.TimerRef.TimerRef}
+use Rattle.ert_effects.specs.{TimerCalls.{Starts, Reads, Cancels, read_entries, cancel_entries}, Ways.{Step, Way, alone, beside}}
 use Rattle.ert_laws.proofs.RowRanges.{rows_placed}
 use Rattle.ert_laws.specs.Ranges.{IsPlaced}
 use Rattle.ert_world.proofs.Places.{StandsAt, stands_in}
-use Rattle.ert_world.specs.Known.{WasStarted, LawOfStarted, KnowsStarted, NoneIsSettled, LawOfKnownStarts, LawOfNone}
-use Rattle.ert_world.specs.Ways.{among}
+use Rattle.ert_world.specs.{Known.{WasStarted, LawOfStarted, KnowsStarted, NoneIsSettled, LawOfKnownStarts, LawOfNone}, Ways.among}
 
 -- what was started stays so
 

@@ -3,27 +3,14 @@
 use Rattle.std.proofs.Common.{◌≡◌, ◌≢◌, ℕ, ◌<◌, Bool, true, false, List, [], ◌∷◌, ◌++◌, length, Option, Some, None, IfSome, option_map, slice_index_or, refl, sym, ap, subst, ◌∙◌, append-nil}
 use Rattle.std.specs.Prelude.{slice_set}
 use Rattle.ert_defs.proofs.Runs.{state-append, exit_stays}
-use Rattle.ert_defs.specs.States.{State, state}
-use Rattle.ert_defs.specs.declared.entry.Entry.{Entry}
-use Rattle.ert_defs.specs.declared.mail.Mail.{Mail}
-use Rattle.ert_defs.specs.declared.settings.Settings.{Settings}
-use Rattle.ert_effects.specs.Ways.{Growth, Way, Grows}
-use Rattle.ert_effects.specs.declared.answers.Taken.{Taken}
-use Rattle.ert_effects.specs.declared.answers.Taken.TheVariants.{Mail as First, Empty, Exited}
+use Rattle.ert_defs.specs.{States.{State, state}, declared.entry.Entry.Entry, declared.mail.Mail.Mail, declared.settings.Settings.Settings}
+use Rattle.ert_effects.specs.{Ways.{Growth, Way, Grows}, declared.answers.Taken.Taken, declared.answers.Taken.TheVariants.{Mail as First, Empty, Exited}}
 use Rattle.ert_mail.proofs.Listing.{listed_less, listed_on, listed_put, with_new, with_there}
-use Rattle.ert_mail.specs.Turns.{is_listed, TurnRow}
-use Rattle.ert_mail.specs.Lists.{with_listed}
-use Rattle.ert_mail.specs.Mailboxes.{Mailbox, IsTaken}
-use Rattle.ert_table.specs.Desks.{settings_of, front_of}
-use Rattle.ert_table.specs.declared.desk.Desk.{Desk}
-use Rattle.ert_table.specs.declared.desk.Pass.{Pass}
+use Rattle.ert_mail.specs.{Turns.{is_listed, TurnRow}, Lists.with_listed, Mailboxes.{Mailbox, IsTaken}}
+use Rattle.ert_table.specs.{Desks.{settings_of, front_of}, declared.desk.Desk.Desk, declared.desk.Pass.Pass}
 use Rattle.ert_timers.proofs.Passing.{loses_none}
-use Rattle.ert_world.proofs.Calls.{Has, Does, does_at, seen_at, processes_at}
-use Rattle.ert_world.proofs.CancelCalls.{DoesCancel, does_cancel_at}
-use Rattle.ert_world.specs.Parts.{AllParts}
-use Rattle.ert_world.specs.Stepping.{forgotten_on}
-use Rattle.ert_world.specs.Worlds.{Seen, seen, AreKept, AreSound, ForgetsCancelled, Goes, ListAll, TurnsGrow}
-use Rattle.ert_world.specs.declared.world.World.TheInside.{Inside}
+use Rattle.ert_world.proofs.{Calls.{Has, Does, does_at, seen_at, processes_at}, CancelCalls.{DoesCancel, does_cancel_at}}
+use Rattle.ert_world.specs.{Parts.AllParts, Stepping.forgotten_on, Worlds.{Seen, seen, AreKept, AreSound, ForgetsCancelled, Goes, ListAll, TurnsGrow}, declared.world.World.TheInside.Inside}
 
 -- each mailbox has a place in the list
 pub list_low : (s : State) (list : Option TurnRow) (mails : List Mailbox) (p : ℕ) → ListAll s list mails → p < length mails

@@ -1,37 +1,16 @@
 -- A process with mail, and takes of several messages.
 
 use Rattle.std.proofs.Common.{◌≡◌, ◌≢◌, ℕ, ◌<◌, Bool, true, false, List, [], ◌∷◌, ◌++◌, length, Option, Some, None, slice_index_or, refl, sym, ap, subst, ◌∙◌, append-nil, nat_lt, arith}
-use Rattle.std.proofs.Math.Nat.{zero-add}
+use Rattle.std.proofs.{Math.Nat.zero-add, lemmas.Bool.Decides.nat_tests}
 use Rattle.std.specs.List.{range_with_len}
-use Rattle.std.proofs.lemmas.Bool.Decides.{nat_tests}
-use Rattle.ert_defs.specs.Mails.{MailState}
-use Rattle.ert_defs.specs.States.{State, state}
-use Rattle.ert_defs.specs.declared.entry.Actor.TheVariants.{Caller}
-use Rattle.ert_defs.specs.declared.entry.Entry.{Entry}
-use Rattle.ert_defs.specs.declared.mail.Mail.{Mail}
-use Rattle.ert_defs.specs.declared.settings.Settings.{Settings}
-use Rattle.ert_effects.specs.MailCalls.{Takes}
-use Rattle.ert_effects.specs.Ways.{Way, Growth, Then}
-use Rattle.ert_effects.specs.declared.answers.Taken.{Taken}
-use Rattle.ert_effects.specs.declared.answers.Taken.TheVariants.{Mail as Took, Empty, Exited}
-use Rattle.ert_mail.specs.Turns.{is_listed, TurnRow}
-use Rattle.ert_mail.specs.Lists.{AreListed, HaveMailFrom, IsNextIn, LooksForMail, exited_from, exits_seen, life_seen, with_mail}
-use Rattle.ert_mail.specs.Mailboxes.{Mailbox, mailbox_seen as box}
-use Rattle.ert_table.specs.Calls.{IsMade}
-use Rattle.ert_table.specs.Desks.{settings_of, view_of, front_of, state_of, Belongs}
-use Rattle.ert_table.specs.declared.desk.Desk.{Desk}
-use Rattle.ert_table.specs.declared.desk.Pass.{Pass}
-use Rattle.ert_world.proofs.Calls.{Has, has_at, alone_called, parts_in, processes_at, seen_at}
-use Rattle.ert_world.proofs.Calm.{IsQuiet}
-use Rattle.ert_world.proofs.Alone.{went}
-use Rattle.ert_world.proofs.Composed.{goes_more, goes_then}
-use Rattle.ert_world.proofs.Listed.{mails_low, with_row}
-use Rattle.ert_world.specs.Mailing.{mail_of, turns_of, FindsMail, IsNextMail, TakesMails, TakesSome}
+use Rattle.ert_defs.specs.{Mails.MailState, States.{State, state}, declared.entry.Actor.TheVariants.Caller, declared.entry.Entry.Entry, declared.mail.Mail.Mail, declared.settings.Settings.Settings}
+use Rattle.ert_effects.specs.{MailCalls.Takes, Ways.{Way, Growth, Then}, declared.answers.Taken.Taken, declared.answers.Taken.TheVariants.{Mail as Took, Empty, Exited}}
+use Rattle.ert_mail.specs.{Turns.{is_listed, TurnRow}, Lists.{AreListed, HaveMailFrom, IsNextIn, LooksForMail, exited_from, exits_seen, life_seen, with_mail}, Mailboxes.{Mailbox, mailbox_seen as box}}
+use Rattle.ert_table.specs.{Calls.IsMade, Desks.{settings_of, view_of, front_of, state_of, Belongs}, declared.desk.Desk.Desk, declared.desk.Pass.Pass}
+use Rattle.ert_world.proofs.{Calls.{Has, has_at, alone_called, parts_in, processes_at, seen_at}, Calm.IsQuiet, Alone.went, Composed.{goes_more, goes_then}, Listed.{mails_low, with_row}}
+use Rattle.ert_world.specs.{Mailing.{mail_of, turns_of, FindsMail, IsNextMail, TakesMails, TakesSome}, Stepping.turns_same, Worlds.{Seen, seen, AreKept, AreSound, Goes, By, HasProcessExited, ListAll, way_of}}
+use Rattle.ert_world.specs.{declared.mailing.TakeEnd.TheVariants.{Empty as FoundEmpty, Exited as HadExited}, declared.world.World.TheInside.Inside}
 use Rattle.ert_mail.proofs.Rows.{list_any-every}
-use Rattle.ert_world.specs.Stepping.{turns_same}
-use Rattle.ert_world.specs.Worlds.{Seen, seen, AreKept, AreSound, Goes, By, HasProcessExited, ListAll, way_of}
-use Rattle.ert_world.specs.declared.mailing.TakeEnd.TheVariants.{Empty as FoundEmpty, Exited as HadExited}
-use Rattle.ert_world.specs.declared.world.World.TheInside.{Inside}
 
 -- the messages of a mailbox are those of its process
 queue_at : (before : Seen) (b : Inside) (d : Desk) (i : ℕ) (x : Mailbox) → Has before b d → i < before.settings.processes

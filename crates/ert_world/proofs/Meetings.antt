@@ -1,25 +1,11 @@
 -- What a world and a seat know that have met.
 
 use Rattle.std.proofs.Common.{◌≡◌, ℕ, Bool, true, false, List, [], ◌∷◌, ◌++◌, filter, Some, refl, sym, ap, subst, ◌∙◌}
-use Rattle.ert_defs.specs.Entries.{is_ours}
-use Rattle.ert_defs.specs.Legal.{Legal}
-use Rattle.ert_defs.specs.declared.entry.Actor.{Actor}
-use Rattle.ert_defs.specs.declared.entry.Actor.TheVariants.{Caller}
-use Rattle.ert_defs.specs.Actors.{same_actor}
-use Rattle.ert_table.proofs.Calls.{none_ours}
-use Rattle.ert_table.proofs.Holders.{or_left, or_false, same_actor_self, held_then}
-use Rattle.ert_table.proofs.Parts.{free_later}
-use Rattle.ert_table.specs.Desks.{settings_of, view_of, front_of, actors_of, Belongs}
-use Rattle.ert_table.specs.Held.{is_held, actors_but}
-use Rattle.ert_table.specs.Takes.{TakesPlace}
-use Rattle.ert_table.specs.Views.{Joined, meeting, longer}
-use Rattle.ert_table.specs.declared.desk.Desk.{Desk}
-use Rattle.ert_table.specs.declared.desk.Pass.{Pass}
+use Rattle.ert_defs.specs.{Entries.is_ours, Legal.Legal, declared.entry.Actor.Actor, declared.entry.Actor.TheVariants.Caller, Actors.same_actor}
+use Rattle.ert_table.proofs.{Calls.none_ours, Holders.{or_left, or_false, same_actor_self, held_then}, Parts.free_later}
+use Rattle.ert_table.specs.{Desks.{settings_of, view_of, front_of, actors_of, Belongs}, Held.{is_held, actors_but}, Takes.TakesPlace, Views.{Joined, meeting, longer}, declared.desk.Desk.Desk, declared.desk.Pass.Pass}
 use Rattle.ert_world.proofs.Calls.{Has, Does, parts_in, calm_called}
-use Rattle.ert_world.specs.Seats.{Seated, seated, Steps, BySeat, Meets}
-use Rattle.ert_world.specs.Worlds.{Seen, seen, AreSound, By}
-use Rattle.ert_world.specs.Ways.{MakesNone}
-use Rattle.ert_world.specs.declared.world.World.TheInside.{Inside}
+use Rattle.ert_world.specs.{Seats.{Seated, seated, Steps, BySeat, Meets}, Worlds.{Seen, seen, AreSound, By}, Ways.MakesNone, declared.world.World.TheInside.Inside}
 
 -- the pass of a world took in that of a seat, and gave its actor away again
 pub record IsMeeting (d : Desk) (p s j q r : Pass) (a : Actor) : Type 0 where

@@ -1,22 +1,12 @@
 -- What a turn with a bound has left, and that it did as much as it may.
 
 use Rattle.std.proofs.Common.{◌≡◌, ℕ, ◌<◌, Bool, true, false, List, length, Ok, inl, inr, refl, sym, ap, subst, ◌∙◌}
-use Rattle.ert_defs.specs.declared.entry.Entry.{Entry}
-use Rattle.ert_defs.specs.declared.settings.Settings.{Settings}
-use Rattle.ert_defs.specs.States.{sched_of}
-use Rattle.ert_effects.specs.SomeCalls.{is_more}
-use Rattle.ert_effects.specs.Ways.{Grows, Way}
-use Rattle.ert_effects.specs.declared.answers.Left.{Left}
-use Rattle.ert_effects.specs.declared.answers.Left.TheVariants.{Nothing, Due, Moving}
-use Rattle.ert_effects.specs.declared.answers.Turned.{Turned}
-use Rattle.ert_timers.specs.Parts.{Part}
-use Rattle.ert_timers.specs.Trying.{IsLeft}
-use Rattle.ert_wheel.specs.FirstDue.{HasMore}
-use Rattle.ert_wheel.specs.Rows.{key_in}
+use Rattle.ert_defs.specs.{declared.entry.Entry.Entry, declared.settings.Settings.Settings, States.sched_of}
+use Rattle.ert_effects.specs.{SomeCalls.is_more, Ways.{Grows, Way}, declared.answers.Left.Left, declared.answers.Left.TheVariants.{Nothing, Due, Moving}, declared.answers.Turned.Turned}
+use Rattle.ert_timers.specs.{Parts.Part, Trying.IsLeft}
+use Rattle.ert_wheel.specs.{FirstDue.HasMore, Rows.key_in}
 use Rattle.ert_world.proofs.SomeAdvanced.{fewer_through}
-use Rattle.ert_world.specs.Bounded.{AreLeft, DeliversSome, HasDoneMost, IsLeftAt, IsMoreAt, LosesSomeAt}
-use Rattle.ert_world.specs.Ways.{beside_seats}
-use Rattle.ert_world.specs.Worlds.{Seen, KeepsRows, KeepRows, LoseRows, way_of, world_sched}
+use Rattle.ert_world.specs.{Bounded.{AreLeft, DeliversSome, HasDoneMost, IsLeftAt, IsMoreAt, LosesSomeAt}, Ways.beside_seats, Worlds.{Seen, KeepsRows, KeepRows, LoseRows, way_of, world_sched}}
 
 -- how a world makes its steps
 abbrev pub the_way : Settings → ℕ → ℕ → Way

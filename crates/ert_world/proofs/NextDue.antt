@@ -5,24 +5,11 @@ use Rattle.std.proofs.lemmas.Option.{slice_get-get_or, get_or_from_slice_get}
 use Rattle.std.specs.Prelude.{slice_set}
 use Rattle.ert_defs.specs.States.{State, state}
 use Rattle.ert_effects.specs.Sleeping.{DropsSettled, ProbesForNext}
-use Rattle.ert_table.specs.Calls.{IsMade}
-use Rattle.ert_table.specs.Desks.{settings_of, view_of, front_of, Belongs}
-use Rattle.ert_table.specs.Takes.{TakesPlace}
-use Rattle.ert_table.specs.declared.desk.Desk.{Desk}
-use Rattle.ert_table.specs.declared.desk.Pass.{Pass}
-use Rattle.ert_timers.specs.NextDue.{NoneArmedBefore, IsNearest, IsNextHeld}
-use Rattle.ert_timers.specs.Parts.{Part, PartStands as WheelStands}
-use Rattle.ert_timers.specs.Passed.{LosesRows}
-use Rattle.ert_timers.specs.Sleeping.{HasLost, IsFoundNext, ProbesRows}
-use Rattle.ert_timers.specs.Tidy.{IsTidy}
-use Rattle.ert_wheel.specs.Rows.{key_in}
-use Rattle.ert_wheel.specs.declared.row.Key.{Key}
-use Rattle.ert_world.specs.Worlds.{Seen, AreSound, By}
-use Rattle.ert_world.specs.declared.world.World.TheInside.{Inside}
-use Rattle.ert_world.proofs.Calls.{Has, Does, parts_in, schedulers_at, seen_at, has_at, does_at}
-use Rattle.ert_world.proofs.Probing.{probed}
-use Rattle.ert_world.proofs.Returned.{at_place}
-use Rattle.ert_world.proofs.WheelCalls.{wheel_named}
+use Rattle.ert_table.specs.{Calls.IsMade, Desks.{settings_of, view_of, front_of, Belongs}, Takes.TakesPlace, declared.desk.Desk.Desk, declared.desk.Pass.Pass}
+use Rattle.ert_timers.specs.{NextDue.{NoneArmedBefore, IsNearest, IsNextHeld}, Parts.{Part, PartStands as WheelStands}, Passed.LosesRows, Sleeping.{HasLost, IsFoundNext, ProbesRows}, Tidy.IsTidy}
+use Rattle.ert_wheel.specs.{Rows.key_in, declared.row.Key.Key}
+use Rattle.ert_world.specs.{Worlds.{Seen, AreSound, By}, declared.world.World.TheInside.Inside}
+use Rattle.ert_world.proofs.{Calls.{Has, Does, parts_in, schedulers_at, seen_at, has_at, does_at}, Probing.probed, Returned.at_place, WheelCalls.wheel_named}
 
 -- the part is the world's, whatever stands for one that isn't there
 pub part_at : (before : Seen) (b : Inside) (d : Desk) (i : ℕ) (p : Part) → Has before b d

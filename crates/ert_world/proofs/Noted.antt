@@ -1,13 +1,8 @@
 -- A pass that learned what a note knows made a call without entries.
 
 use Rattle.std.proofs.Common.{List, [], refl}
-use Rattle.ert_defs.specs.States.{State}
-use Rattle.ert_defs.specs.declared.entry.Actor.{Actor}
-use Rattle.ert_defs.specs.declared.entry.Entry.{Entry}
-use Rattle.ert_defs.specs.declared.settings.Settings.{Settings}
-use Rattle.ert_table.specs.Calls.{IsMade}
-use Rattle.ert_table.specs.Notes.{HasLearned}
-use Rattle.ert_table.specs.declared.view.View.{View}
+use Rattle.ert_defs.specs.{States.State, declared.entry.Actor.Actor, declared.entry.Entry.Entry, declared.settings.Settings.Settings}
+use Rattle.ert_table.specs.{Calls.IsMade, Notes.HasLearned, declared.view.View.View}
 use Rattle.ert_world.proofs.Calm.{IsQuiet, quiet_as}
 use Rattle.ert_world.specs.Ways.{MakesNone}
 

@@ -4,14 +4,10 @@ use Rattle.std.proofs.Common.{◌≡◌, ◌≢◌, ℕ, ◌+◌, ◌<◌, Bool,
 use Rattle.std.specs.Prelude.{nat_eq}
 use Rattle.std.proofs.lemmas.List.{get_or_push, get_or_append_left}
 use Rattle.ert_clock.specs.Shown.{Shown, ClockStands}
-use Rattle.ert_defs.specs.Settings.{IsChecked}
-use Rattle.ert_defs.specs.declared.settings.Settings.{Settings}
-use Rattle.ert_table.specs.Desks.{settings_of, front_of}
-use Rattle.ert_table.specs.declared.desk.Desk.{Desk}
-use Rattle.ert_table.specs.declared.desk.Pass.{Pass}
+use Rattle.ert_defs.specs.{Settings.IsChecked, declared.settings.Settings.Settings}
+use Rattle.ert_table.specs.{Desks.{settings_of, front_of}, declared.desk.Desk.Desk, declared.desk.Pass.Pass}
 use Rattle.ert_timers.specs.Parts.{Part, held_row}
-use Rattle.ert_world.specs.Openings.{AreNew, IsNewWheel, IsOpened}
-use Rattle.ert_world.specs.Worlds.{seen, AreTidy}
+use Rattle.ert_world.specs.{Openings.{AreNew, IsNewWheel, IsOpened}, Worlds.{seen, AreTidy}}
 
 -- one more part
 pub new_more : {X : Type 0} (is_new : ℕ → X → Type 0) (n : ℕ) (xs : List X) (x : X) → AreNew is_new n xs → is_new n x → AreNew is_new (n + 1) (xs ++ x ∷ [])

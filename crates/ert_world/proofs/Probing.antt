@@ -3,35 +3,14 @@
 use Rattle.std.proofs.Common.{◌≡◌, ℕ, ◌<◌, Bool, true, false, cond, List, [], ◌∷◌, length, slice_index_or, None, refl, sym, ap, subst, ◌∙◌}
 use Rattle.std.proofs.lemmas.List.{get_or_default, set-get_or}
 use Rattle.std.specs.Prelude.{slice_set}
-use Rattle.ert_defs.specs.Actors.{has_actor}
-use Rattle.ert_defs.specs.Entries.{probe_entry}
-use Rattle.ert_defs.specs.Mails.{SchedState}
-use Rattle.ert_defs.specs.States.{State, next, run, state}
-use Rattle.ert_defs.specs.declared.entry.Actor.TheVariants.{Wheel, Sched}
-use Rattle.ert_defs.specs.declared.entry.Entry.{Entry}
-use Rattle.ert_defs.specs.declared.settings.Settings.{Settings}
+use Rattle.ert_defs.specs.{Actors.has_actor, Entries.probe_entry, Mails.SchedState, States.{State, next, run, state}, declared.entry.Actor.TheVariants.{Wheel, Sched}, declared.entry.Entry.Entry, declared.settings.Settings.Settings}
 use Rattle.ert_effects.specs.Sleeping.{Probed, probed_entries}
 use Rattle.ert_table.proofs.Parts.{own_after, sched_own, AreByThemselves}
-use Rattle.ert_table.specs.Desks.{settings_of, view_of, front_of, Belongs}
-use Rattle.ert_table.specs.Held.{is_held}
-use Rattle.ert_table.specs.Takes.{TakesPlace}
-use Rattle.ert_table.specs.declared.desk.Desk.{Desk}
-use Rattle.ert_table.specs.declared.desk.Pass.{Pass}
-use Rattle.ert_table.specs.declared.view.View.{View}
+use Rattle.ert_table.specs.{Desks.{settings_of, view_of, front_of, Belongs}, Held.is_held, Takes.TakesPlace, declared.desk.Desk.Desk, declared.desk.Pass.Pass, declared.view.View.View}
 use Rattle.ert_timers.proofs.LawsHold.{probed_only}
-use Rattle.ert_timers.specs.Parts.{Part, PartStands as WheelStands}
-use Rattle.ert_timers.specs.Passed.{LosesRows}
-use Rattle.ert_world.proofs.Armed.{AreCalm}
-use Rattle.ert_world.proofs.Calls.{Has, Does, parts_in, finish, makes, schedulers_at}
-use Rattle.ert_world.proofs.Returned.{wheel_back, sched_back}
-use Rattle.ert_world.proofs.SchedCalls.{Had, had, now_stands}
-use Rattle.ert_world.proofs.WheelCalls.{wheel_named}
-use Rattle.ert_world.proofs.Tidying.{lost_hold, one_holds}
-use Rattle.ert_timers.specs.SchedParts.{SchedStands}
-use Rattle.ert_world.specs.Parts.{AllParts}
-use Rattle.ert_world.specs.Worlds.{Seen, By}
-use Rattle.ert_timers.specs.declared.sched_part.SchedPart.{SchedPart}
-use Rattle.ert_world.specs.declared.world.World.TheInside.{Inside}
+use Rattle.ert_timers.specs.{Parts.{Part, PartStands as WheelStands}, Passed.LosesRows, SchedParts.SchedStands, declared.sched_part.SchedPart.SchedPart}
+use Rattle.ert_world.proofs.{Armed.AreCalm, Calls.{Has, Does, parts_in, finish, makes, schedulers_at}, Returned.{wheel_back, sched_back}, SchedCalls.{Had, had, now_stands}, WheelCalls.wheel_named, Tidying.{lost_hold, one_holds}}
+use Rattle.ert_world.specs.{Parts.AllParts, Worlds.{Seen, By}, declared.world.World.TheInside.Inside}
 
 pub cond_id : (b : Bool) (s : SchedState) → cond b s s ≡ s
 cond_id true s = refl

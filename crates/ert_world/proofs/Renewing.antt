@@ -3,50 +3,19 @@
 use Rattle.std.proofs.Common.{◌≡◌, ◌≢◌, ◌⊎◌, ℕ, ◌<◌, Bool, true, false, cond, List, [], ◌∷◌, ◌++◌, length, slice_index_or, Option, Some, None, Result, Ok, Err, inl, inr, refl, sym, ap, subst, ◌∙◌, arith}
 use Rattle.std.proofs.lemmas.Bool.Decides.{nat_tests}
 use Rattle.std.specs.Prelude.{slice_set, nat_lt}
-use Rattle.ert_defs.proofs.ExpiredTimers.{same_timer-false}
-use Rattle.ert_defs.proofs.Runs.{legal_then, run-append}
-use Rattle.ert_defs.specs.Actors.{has_actor}
-use Rattle.ert_defs.specs.Entries.{arm_entry, cancel_entry, look_entry, mark_entry, peek_entry}
-use Rattle.ert_defs.specs.Legal.{LegalFrom, names_timer}
-use Rattle.ert_defs.specs.States.{State, next, run, state}
-use Rattle.ert_defs.specs.Timers.{settled_as}
-use Rattle.ert_defs.specs.declared.entry.Actor.TheVariants.{Caller, Wheel}
-use Rattle.ert_defs.specs.declared.entry.Entry.{Entry}
-use Rattle.ert_defs.specs.declared.settings.Settings.{Settings}
-use Rattle.ert_defs.specs.declared.timer.Start.{Start}
-use Rattle.ert_defs.specs.declared.timer.Status.TheVariants.{Armed, Cancelled}
-use Rattle.ert_defs.specs.declared.timer.TimerRef.{TimerRef}
-use Rattle.ert_effects.specs.RestartCalls.{HasRestarted, RestartEnds, Restarts, missed_entries}
-use Rattle.ert_effects.specs.declared.answers.RestartErr.{RestartErr}
-use Rattle.ert_effects.specs.declared.answers.RestartErr.TheVariants.{BadArg, NotArmed, Full}
-use Rattle.ert_table.specs.Calls.{AreOnlyOf, IsMade}
-use Rattle.ert_table.specs.Desks.{settings_of, view_of, front_of, Belongs}
-use Rattle.ert_table.specs.declared.desk.Desk.{Desk}
-use Rattle.ert_table.specs.declared.desk.Pass.{Pass}
+use Rattle.ert_defs.proofs.{ExpiredTimers.same_timer-false, Runs.{legal_then, run-append}}
+use Rattle.ert_defs.specs.{Actors.has_actor, Entries.{arm_entry, cancel_entry, look_entry, mark_entry, peek_entry}, Legal.{LegalFrom, names_timer}, States.{State, next, run, state}, Timers.settled_as}
+use Rattle.ert_defs.specs.{declared.entry.Actor.TheVariants.{Caller, Wheel}, declared.entry.Entry.Entry, declared.settings.Settings.Settings, declared.timer.Start.Start, declared.timer.Status.TheVariants.{Armed, Cancelled}}
+use Rattle.ert_defs.specs.{declared.timer.TimerRef.TimerRef}
+use Rattle.ert_effects.specs.{RestartCalls.{HasRestarted, RestartEnds, Restarts, missed_entries}, declared.answers.RestartErr.RestartErr, declared.answers.RestartErr.TheVariants.{BadArg, NotArmed, Full}}
+use Rattle.ert_table.specs.{Calls.{AreOnlyOf, IsMade}, Desks.{settings_of, view_of, front_of, Belongs}, declared.desk.Desk.Desk, declared.desk.Pass.Pass}
 use Rattle.ert_timers.proofs.LawsHold.{restarts_only}
-use Rattle.ert_timers.specs.Freeing.{IsHeld}
-use Rattle.ert_timers.specs.Parts.{IsLive, Part, PartStands as WheelStands, last_timer}
-use Rattle.ert_timers.specs.Passed.{GainsOne}
-use Rattle.ert_timers.specs.Restarting.{HasLetGo}
-use Rattle.ert_timers.specs.Tidy.{IsTidy}
+use Rattle.ert_timers.specs.{Freeing.IsHeld, Parts.{IsLive, Part, PartStands as WheelStands, last_timer}, Passed.GainsOne, Restarting.HasLetGo, Tidy.IsTidy}
 use Rattle.ert_wheel.proofs.Looking.{key_low}
-use Rattle.ert_wheel.specs.Rows.{key_in}
-use Rattle.ert_wheel.specs.declared.row.Key.{Key}
-use Rattle.ert_world.proofs.Alone.{went}
-use Rattle.ert_world.proofs.Armed.{AreCalm, is_cancel}
-use Rattle.ert_world.proofs.Calls.{Has, exact, after, added, fit_on, makes, parts_in, seen_at}
-use Rattle.ert_world.proofs.Gone.{wheel_low}
-use Rattle.ert_world.proofs.Calm.{calm_as}
-use Rattle.ert_world.proofs.CancelCalls.{gone_set}
-use Rattle.ert_world.proofs.Cancelled.{left_peeked}
-use Rattle.ert_world.proofs.Returned.{at_place, caller_back, wheel_back}
-use Rattle.ert_world.proofs.Tidying.{HoldsOn, armed_or, armed_self, cancelled_before, cancelled_was, tidy_on}
-use Rattle.ert_world.proofs.Unseated.{own_unseated}
-use Rattle.ert_world.proofs.WheelCalls.{calm_append, closing_calm, probes_calm, wheel_named}
-use Rattle.ert_world.specs.Restarts.{Forgets, wheel_for}
-use Rattle.ert_world.specs.Stepping.{turns_same}
-use Rattle.ert_world.specs.Worlds.{Seen, seen, AreFit, AreSound, Goes, By}
-use Rattle.ert_world.specs.declared.world.World.TheInside.{Inside}
+use Rattle.ert_wheel.specs.{Rows.key_in, declared.row.Key.Key}
+use Rattle.ert_world.proofs.{Alone.went, Armed.{AreCalm, is_cancel}, Calls.{Has, exact, after, added, fit_on, makes, parts_in, seen_at}, Gone.wheel_low, Calm.calm_as, CancelCalls.gone_set, Cancelled.left_peeked, Returned.at_place}
+use Rattle.ert_world.proofs.{Returned.{caller_back, wheel_back}, Tidying.{HoldsOn, armed_or, armed_self, cancelled_before, cancelled_was, tidy_on}, Unseated.own_unseated, WheelCalls.{calm_append, closing_calm, probes_calm, wheel_named}}
+use Rattle.ert_world.specs.{Restarts.{Forgets, wheel_for}, Stepping.turns_same, Worlds.{Seen, seen, AreFit, AreSound, Goes, By}, declared.world.World.TheInside.Inside}
 
 -- these entries cancel no timer but one
 abbrev AreCalmBut : TimerRef → List Entry → Type 0

@@ -4,11 +4,8 @@ use Rattle.std.proofs.Common.{◌≡◌, ℕ, ◌<◌, refl, subst, slice_index_
 use Rattle.std.specs.Prelude.{slice_set}
 use Rattle.ert_table.specs.declared.desk.Desk.{Desk}
 use Rattle.ert_timers.specs.Parts.{Part}
-use Rattle.ert_world.proofs.Calls.{Has, schedulers_at}
-use Rattle.ert_world.proofs.NextDue.{part_at}
-use Rattle.ert_world.proofs.Returned.{at_place}
-use Rattle.ert_world.specs.Worlds.{Seen}
-use Rattle.ert_world.specs.declared.world.World.TheInside.{Inside}
+use Rattle.ert_world.proofs.{Calls.{Has, schedulers_at}, NextDue.part_at, Returned.at_place}
+use Rattle.ert_world.specs.{Worlds.Seen, declared.world.World.TheInside.Inside}
 
 pub replaced_by : (R : Part → Part → Type 0) (before : Seen) (b : Inside) (d : Desk) (i : ℕ) (old new : Part) → Has before b d
     → i < before.settings.schedulers → old ≡ slice_index_or b.wheels.items i old → R old new

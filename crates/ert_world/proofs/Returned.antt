@@ -2,21 +2,13 @@
 
 use Rattle.std.proofs.Common.{◌≡◌, ℕ, ◌<◌, Bool, true, false, List, [], ◌∷◌, length, slice_index_or, refl, sym, subst, ◌∙◌, eqb-true, eq-eqb}
 use Rattle.std.specs.Prelude.{slice_set, nat_eq, ◌≢◌}
-use Rattle.std.proofs.lemmas.Grind.{get_or-set_at}
-use Rattle.std.proofs.lemmas.List.{get_or-set_other, length-set}
+use Rattle.std.proofs.lemmas.{Grind.get_or-set_at, List.{get_or-set_other, length-set}}
 use Rattle.ert_clock.specs.Shown.{Shown, ClockStands}
-use Rattle.ert_defs.specs.Actors.{same_actor}
-use Rattle.ert_defs.specs.declared.entry.Actor.{Actor}
-use Rattle.ert_defs.specs.declared.entry.Actor.TheVariants.{Keeper, Wheel, Inbox, Sched, MailOf, Caller}
-use Rattle.ert_defs.specs.declared.entry.Entry.{Entry}
-use Rattle.ert_defs.specs.declared.settings.Settings.{Settings}
-use Rattle.ert_mail.specs.Inboxes.{Waiting, InboxStands}
-use Rattle.ert_mail.specs.Mailboxes.{Mailbox, MailboxStands as MailStands}
+use Rattle.ert_defs.specs.{Actors.same_actor, declared.entry.Actor.Actor, declared.entry.Actor.TheVariants.{Keeper, Wheel, Inbox, Sched, MailOf, Caller}, declared.entry.Entry.Entry, declared.settings.Settings.Settings}
+use Rattle.ert_mail.specs.{Inboxes.{Waiting, InboxStands}, Mailboxes.{Mailbox, MailboxStands as MailStands}}
 use Rattle.ert_table.specs.Held.{is_held}
-use Rattle.ert_timers.specs.Parts.{Part, PartStands as WheelStands}
-use Rattle.ert_timers.specs.SchedParts.{SchedStands}
+use Rattle.ert_timers.specs.{Parts.{Part, PartStands as WheelStands}, SchedParts.SchedStands, declared.sched_part.SchedPart.SchedPart}
 use Rattle.ert_world.specs.Parts.{AllParts, AreOrdered, Stand}
-use Rattle.ert_timers.specs.declared.sched_part.SchedPart.{SchedPart}
 
 -- what holds of the part at a place after one was replaced, by whether it is that
 pub at_place : {X : Type 0} (P : X → Type 0) (xs : List X) (i j : ℕ) (x d : X) → i < length xs → (j ≡ i → P x) → (j ≢ i → P (slice_index_or xs j d))

@@ -3,22 +3,11 @@
 use Rattle.std.proofs.Common.{◌≡◌, ℕ, ◌<◌, List, [], append-nil, slice_index_or, refl, sym, ap, subst, ◌∙◌, arith}
 use Rattle.std.specs.Prelude.{slice_set}
 use Rattle.ert_defs.specs.States.{State, state}
-use Rattle.ert_table.specs.Desks.{settings_of, front_of}
-use Rattle.ert_table.specs.declared.desk.Desk.{Desk}
-use Rattle.ert_timers.specs.Parts.{Part, PartStands as WheelStands}
-use Rattle.ert_timers.specs.Changes.{reused}
-use Rattle.ert_timers.specs.Passed.{LosesRows}
-use Rattle.ert_timers.proofs.Passing.{same_last}
-use Rattle.ert_timers.specs.Tidy.{IsTidy}
-use Rattle.ert_world.proofs.Calls.{Has, parts_in, schedulers_at}
-use Rattle.ert_world.proofs.NextDue.{part_at}
-use Rattle.ert_world.proofs.Returned.{at_place}
-use Rattle.ert_world.proofs.WheelCalls.{rows_set}
-use Rattle.ert_world.specs.Stepping.{Stays, turns_same}
-use Rattle.ert_world.specs.Worlds.{Seen, seen, AreSound, KeepsRows}
-use Rattle.ert_world.specs.declared.world.World.TheInside.{Inside}
-use Rattle.ert_timers.proofs.Freed.{reused_keeps}
-use Rattle.ert_world.proofs.CancelCalls.{put_back}
+use Rattle.ert_table.specs.{Desks.{settings_of, front_of}, declared.desk.Desk.Desk}
+use Rattle.ert_timers.specs.{Parts.{Part, PartStands as WheelStands}, Changes.reused, Passed.LosesRows, Tidy.IsTidy}
+use Rattle.ert_timers.proofs.{Passing.same_last, Freed.reused_keeps}
+use Rattle.ert_world.proofs.{Calls.{Has, parts_in, schedulers_at}, NextDue.part_at, Returned.at_place, WheelCalls.rows_set, CancelCalls.put_back}
+use Rattle.ert_world.specs.{Stepping.{Stays, turns_same}, Worlds.{Seen, seen, AreSound, KeepsRows}, declared.world.World.TheInside.Inside}
 use Rattle.ert_wheel.proofs.StandsOn.{stay_all}
 
 -- where a slot is held free again no row has come

@@ -2,25 +2,13 @@
 
 use Rattle.std.proofs.Common.{◌≡◌, ℕ, ◌<◌, List, [], ◌∷◌, length, slice_index_or, refl, sym, ap, subst, ◌∙◌}
 use Rattle.std.specs.Prelude.{slice_set}
-use Rattle.ert_defs.specs.Mails.{MailState}
-use Rattle.ert_defs.specs.States.{state}
-use Rattle.ert_defs.specs.declared.entry.Actor.TheVariants.{Sched, MailOf}
-use Rattle.ert_defs.specs.declared.entry.Entry.{Entry}
-use Rattle.ert_defs.specs.declared.settings.Settings.{Settings}
+use Rattle.ert_defs.specs.{Mails.MailState, States.state, declared.entry.Actor.TheVariants.{Sched, MailOf}, declared.entry.Entry.Entry, declared.settings.Settings.Settings}
 use Rattle.ert_mail.proofs.Standing.{same_stands}
 use Rattle.ert_mail.specs.Mailboxes.{Mailbox, IsSame, MailboxStands as MailStands}
-use Rattle.ert_table.specs.Desks.{settings_of, front_of}
-use Rattle.ert_table.specs.declared.desk.Desk.{Desk}
-use Rattle.ert_table.specs.declared.desk.Pass.{Pass}
-use Rattle.ert_timers.specs.ExpiredLists.{Queue}
-use Rattle.ert_world.proofs.Calls.{mail_named}
-use Rattle.ert_world.proofs.Listed.{listed_kept}
-use Rattle.ert_world.proofs.Returned.{lend, mail_back, sched_back}
-use Rattle.ert_world.proofs.SchedCalls.{sched_named, sched_has}
-use Rattle.ert_timers.specs.SchedParts.{SchedStands}
-use Rattle.ert_world.specs.Parts.{AllParts, Stand}
-use Rattle.ert_world.specs.Worlds.{AreKept}
-use Rattle.ert_timers.specs.declared.sched_part.SchedPart.{SchedPart}
+use Rattle.ert_table.specs.{Desks.{settings_of, front_of}, declared.desk.Desk.Desk, declared.desk.Pass.Pass}
+use Rattle.ert_timers.specs.{ExpiredLists.Queue, SchedParts.SchedStands, declared.sched_part.SchedPart.SchedPart}
+use Rattle.ert_world.proofs.{Calls.mail_named, Listed.listed_kept, Returned.{lend, mail_back, sched_back}, SchedCalls.{sched_named, sched_has}}
+use Rattle.ert_world.specs.{Parts.{AllParts, Stand}, Worlds.AreKept}
 
 -- a world keeps its parts where a mailbox is what it was but for its room
 pub room_changed : (d : Desk) (p : Pass) (next : ℕ) (parts : AllParts) (i : ℕ) (old new : Mailbox) → AreKept d p next parts

@@ -1,24 +1,12 @@
 -- A look at all slots of a wheel cancels nothing, and changes no part.
 
 use Rattle.std.proofs.Common.{◌≡◌, ℕ, zero, suc, ◌<◌, set, List, [], ◌∷◌, slice_index_or, inl, refl, sym, subst}
-use Rattle.ert_effects.specs.RoomCalls.{TellsRoom, ShowsRoom, no_room, with_found}
-use Rattle.ert_effects.specs.declared.answers.Room.{Room}
-use Rattle.ert_defs.specs.States.{State, state}
-use Rattle.ert_defs.specs.declared.entry.Actor.TheVariants.{Wheel, Caller}
-use Rattle.ert_defs.specs.declared.entry.Entry.{Entry}
-use Rattle.ert_defs.specs.declared.settings.Settings.{Settings}
-use Rattle.ert_table.specs.Calls.{AreOnlyOf, IsMade}
-use Rattle.ert_table.specs.Desks.{settings_of, view_of, front_of, Belongs}
-use Rattle.ert_table.specs.declared.desk.Desk.{Desk}
-use Rattle.ert_table.specs.declared.desk.Pass.{Pass}
-use Rattle.ert_timers.specs.Parts.{Part, PartStands as WheelStands}
-use Rattle.ert_world.proofs.Armed.{AreCalm}
-use Rattle.ert_timers.specs.Searching.{HasOpenSlot}
-use Rattle.ert_world.proofs.Calls.{Does, Has, parts_in, seen_at}
-use Rattle.ert_world.specs.Frees.{HasOpenSlotAt}
-use Rattle.ert_world.proofs.WheelCalls.{wheel_stepped}
-use Rattle.ert_world.specs.Worlds.{Seen, AreSound, By}
-use Rattle.ert_world.specs.declared.world.World.TheInside.{Inside}
+use Rattle.ert_effects.specs.{RoomCalls.{TellsRoom, ShowsRoom, no_room, with_found}, declared.answers.Room.Room}
+use Rattle.ert_defs.specs.{States.{State, state}, declared.entry.Actor.TheVariants.{Wheel, Caller}, declared.entry.Entry.Entry, declared.settings.Settings.Settings}
+use Rattle.ert_table.specs.{Calls.{AreOnlyOf, IsMade}, Desks.{settings_of, view_of, front_of, Belongs}, declared.desk.Desk.Desk, declared.desk.Pass.Pass}
+use Rattle.ert_timers.specs.{Parts.{Part, PartStands as WheelStands}, Searching.HasOpenSlot}
+use Rattle.ert_world.proofs.{Armed.AreCalm, Calls.{Does, Has, parts_in, seen_at}, WheelCalls.wheel_stepped}
+use Rattle.ert_world.specs.{Frees.HasOpenSlotAt, Worlds.{Seen, AreSound, By}, declared.world.World.TheInside.Inside}
 
 shows_calm : (by w now : ℕ) (s : State) (slot n : ℕ) (before room : Room) (es : List Entry) → ShowsRoom by w now s slot n before room es → AreCalm es
 shows_calm by w now s slot zero before room es shows = subst AreCalm (sym shows.0) tt

@@ -2,46 +2,19 @@
 
 use Rattle.std.proofs.Common.{◌≡◌, ℕ, ◌<◌, List, [], ◌∷◌, slice_index_or, Option, Some, None, Ok, refl, sym, ap, subst, ◌∙◌, append-nil}
 use Rattle.std.specs.Prelude.{slice_set}
-use Rattle.ert_effects.specs.Chains.{Hands}
-use Rattle.ert_effects.specs.MailCalls.{HandsOver}
-use Rattle.ert_effects.specs.RequestCalls.{Picks, Answers}
-use Rattle.ert_effects.specs.Ways.{Growth, Way}
-use Rattle.ert_effects.specs.declared.answers.Handed.{Handed}
-use Rattle.ert_defs.specs.Mails.{SchedState, first_of, others_of}
-use Rattle.ert_defs.specs.States.{State, state}
-use Rattle.ert_defs.specs.Timers.{Row}
-use Rattle.ert_defs.specs.declared.entry.Actor.{Actor}
-use Rattle.ert_defs.specs.declared.entry.Actor.TheVariants.{Wheel, Inbox, Sched, MailOf}
-use Rattle.ert_defs.specs.declared.entry.Entry.{Entry}
-use Rattle.ert_defs.specs.declared.mail.Request.{Request}
-use Rattle.ert_defs.specs.declared.settings.Settings.{Settings}
-use Rattle.ert_mail.specs.Inboxes.{Waiting, sched_after_pick, InboxStands}
-use Rattle.ert_laws.proofs.Requests.{held_have_askers}
-use Rattle.ert_laws.proofs.RowRanges.{first_placed}
+use Rattle.ert_effects.specs.{Chains.Hands, MailCalls.HandsOver, RequestCalls.{Picks, Answers}, Ways.{Growth, Way}, declared.answers.Handed.Handed}
+use Rattle.ert_defs.specs.{Mails.{SchedState, first_of, others_of}, States.{State, state}, Timers.Row, declared.entry.Actor.Actor, declared.entry.Actor.TheVariants.{Wheel, Inbox, Sched, MailOf}, declared.entry.Entry.Entry}
+use Rattle.ert_defs.specs.{declared.mail.Request.Request, declared.settings.Settings.Settings}
+use Rattle.ert_mail.specs.{Inboxes.{Waiting, sched_after_pick, InboxStands}, Mailboxes.{Mailbox, HoldsMailboxAndSched, handed, sched_after_answer, MailboxStands as MailStands}, Turns.TurnRow}
+use Rattle.ert_laws.proofs.{Requests.held_have_askers, RowRanges.first_placed}
 use Rattle.ert_laws.specs.Ranges.{IsPlaced}
 use Rattle.ert_mail.proofs.LawsHold.{handing_only, answers_only, picks_only}
-use Rattle.ert_mail.specs.Mailboxes.{Mailbox, HoldsMailboxAndSched, handed, sched_after_answer, MailboxStands as MailStands}
-use Rattle.ert_world.proofs.Calm.{picks_calm, hands_calm}
-use Rattle.ert_world.proofs.Returned.{inbox_back, mail_back, sched_back}
-use Rattle.ert_timers.specs.SchedParts.{SchedStands}
-use Rattle.ert_world.specs.Parts.{AllParts, Stand}
-use Rattle.ert_timers.specs.declared.sched_part.SchedPart.{SchedPart}
-use Rattle.ert_table.specs.Calls.{IsMade}
-use Rattle.ert_table.specs.Desks.{settings_of, view_of, front_of, Belongs}
-use Rattle.ert_table.specs.Takes.{TakesPlace}
-use Rattle.ert_table.specs.declared.desk.Desk.{Desk}
-use Rattle.ert_table.specs.declared.desk.Pass.{Pass}
+use Rattle.ert_world.proofs.{Calm.{picks_calm, hands_calm}, Returned.{inbox_back, mail_back, sched_back}, Calls.{Has, Does, Makes, ComeBack, parts_in, exact, added, calm_called, called_with, inbox_named, mail_named, schedulers_at}}
+use Rattle.ert_world.proofs.{CancelCalls.{DoesBut, finish_but}, Cancelled.answer_settles, Gone.answers_hit, Forgotten.answer_cancels, Standing.free_kept}
+use Rattle.ert_timers.specs.{SchedParts.SchedStands, declared.sched_part.SchedPart.SchedPart, ExpiredLists.Queue}
+use Rattle.ert_world.specs.{Parts.{AllParts, Stand}, Worlds.{Seen, seen, IsHandedIn, By, world_sched, cancelled_by}, declared.world.World.TheInside.Inside}
+use Rattle.ert_table.specs.{Calls.IsMade, Desks.{settings_of, view_of, front_of, Belongs}, Takes.TakesPlace, declared.desk.Desk.Desk, declared.desk.Pass.Pass}
 use Rattle.ert_timers.proofs.Settled.{expired_let_go, handed_free}
-use Rattle.ert_timers.specs.ExpiredLists.{Queue}
-use Rattle.ert_mail.specs.Turns.{TurnRow}
-use Rattle.ert_world.proofs.Calls.{Has, Does, Makes, ComeBack, parts_in, exact, added, calm_called, called_with, inbox_named, mail_named, schedulers_at}
-use Rattle.ert_world.proofs.CancelCalls.{DoesBut, finish_but}
-use Rattle.ert_world.proofs.Cancelled.{answer_settles}
-use Rattle.ert_world.proofs.Gone.{answers_hit}
-use Rattle.ert_world.proofs.Forgotten.{answer_cancels}
-use Rattle.ert_world.proofs.Standing.{free_kept}
-use Rattle.ert_world.specs.Worlds.{Seen, seen, IsHandedIn, By, world_sched, cancelled_by}
-use Rattle.ert_world.specs.declared.world.World.TheInside.{Inside}
 
 -- a scheduler's part stands that has what the state has
 pub sched_stands : (g : Settings) (h : List Entry) (x : SchedPart) (t : SchedState) → x.wheel < g.schedulers → (state g h).scheds x.wheel ≡ t → x.hand ≡ t.hand

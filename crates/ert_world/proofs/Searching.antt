@@ -2,26 +2,13 @@
 
 use Rattle.std.proofs.Common.{◌≡◌, ℕ, ◌<◌, Result, Err, slice_index_or}
 use Rattle.std.specs.Prelude.{slice_set}
-use Rattle.ert_defs.specs.declared.settings.Settings.{Settings}
-use Rattle.ert_defs.specs.declared.timer.Start.{Start}
-use Rattle.ert_defs.specs.declared.timer.TimerRef.{TimerRef}
-use Rattle.ert_effects.specs.TimerCalls.{Starts}
-use Rattle.ert_effects.specs.declared.answers.StartErr.{StartErr}
-use Rattle.ert_effects.specs.declared.answers.StartErr.TheVariants.{NoMemory}
-use Rattle.ert_table.specs.Calls.{IsMade}
-use Rattle.ert_table.specs.Desks.{settings_of, view_of, front_of, Belongs}
-use Rattle.ert_table.specs.declared.desk.Desk.{Desk}
-use Rattle.ert_table.specs.declared.desk.Pass.{Pass}
-use Rattle.ert_timers.proofs.LawsHold.{starts_only}
-use Rattle.ert_timers.proofs.Searching.{searches_probe}
-use Rattle.ert_timers.specs.Parts.{Part, PartStands as WheelStands}
-use Rattle.ert_timers.specs.Passed.{GainsOne}
-use Rattle.ert_timers.specs.Searching.{Searches}
-use Rattle.ert_world.proofs.Calls.{has_at, parts_in, seen_at}
-use Rattle.ert_world.proofs.Replaced.{replaced_by}
-use Rattle.ert_world.proofs.WheelCalls.{wheel_stepped, starts_calm, started_hold}
-use Rattle.ert_world.specs.Worlds.{AreSound, By, Goes, Seen, seen}
-use Rattle.ert_world.specs.declared.world.World.TheInside.{Inside}
+use Rattle.ert_defs.specs.declared.{settings.Settings.Settings, timer.Start.Start, timer.TimerRef.TimerRef}
+use Rattle.ert_effects.specs.{TimerCalls.Starts, declared.answers.StartErr.StartErr, declared.answers.StartErr.TheVariants.NoMemory}
+use Rattle.ert_table.specs.{Calls.IsMade, Desks.{settings_of, view_of, front_of, Belongs}, declared.desk.Desk.Desk, declared.desk.Pass.Pass}
+use Rattle.ert_timers.proofs.{LawsHold.starts_only, Searching.searches_probe}
+use Rattle.ert_timers.specs.{Parts.{Part, PartStands as WheelStands}, Passed.GainsOne, Searching.Searches}
+use Rattle.ert_world.proofs.{Calls.{has_at, parts_in, seen_at}, Replaced.replaced_by, WheelCalls.{wheel_stepped, starts_calm, started_hold}}
+use Rattle.ert_world.specs.{Worlds.{AreSound, By, Goes, Seen, seen}, declared.world.World.TheInside.Inside}
 
 pub searched_at : (before : Seen) (b : Inside) (d e : Desk) (q : Pass) (i : ℕ) (start : Start) (answer : Result TimerRef StartErr) (old new : Part)
     → d ≡ e → seen_at e b ≡ before → AreSound e b.pass b.next (parts_in b) → Belongs d q → i < before.settings.schedulers

@@ -2,39 +2,14 @@
 
 use Rattle.std.proofs.Common.{◌≡◌, ℕ, ◌-◌, ◌<◌, true, List, [], ◌∷◌, ◌++◌, length, slice_index_or, Result, Ok, Err, refl, sym, ap, subst, ◌∙◌, arith, append-nil}
 use Rattle.std.specs.Prelude.{slice_set}
-use Rattle.ert_defs.specs.Entries.{look_entry, advanced_entry}
-use Rattle.ert_defs.specs.States.{State, state}
-use Rattle.ert_defs.specs.declared.entry.Actor.{Actor}
-use Rattle.ert_defs.specs.declared.entry.Actor.TheVariants.{Wheel, Sched}
-use Rattle.ert_defs.specs.declared.entry.Entry.{Entry}
-use Rattle.ert_defs.specs.declared.memory.NoMemory.{NoMemory}
-use Rattle.ert_defs.specs.declared.settings.Settings.{Settings}
-use Rattle.ert_effects.specs.SomeCalls.{AdvancesSome, HasAdvancedSome}
-use Rattle.ert_effects.specs.WheelCalls.{Advances, expiry_entries}
-use Rattle.ert_effects.specs.declared.answers.Left.{Left}
-use Rattle.ert_effects.specs.declared.answers.Left.TheVariants.{Nothing, Due, Moving}
-use Rattle.ert_table.specs.Calls.{AreOnlyOf}
-use Rattle.ert_table.specs.Desks.{settings_of, view_of, front_of, Belongs}
-use Rattle.ert_table.specs.Held.{is_held}
-use Rattle.ert_table.specs.declared.desk.Desk.{Desk}
-use Rattle.ert_table.specs.declared.desk.Pass.{Pass}
-use Rattle.ert_timers.proofs.Passing.{rows_lost}
-use Rattle.ert_timers.specs.Parts.{Part, PartStands as WheelStands}
-use Rattle.ert_timers.specs.Passed.{LosesRows}
-use Rattle.ert_timers.specs.Trying.{HasExpiredSome, HasRefusedSome, IsLeft, LosesSome}
-use Rattle.ert_timers.proofs.SchedParts.{LeaveHand, advance_still}
-use Rattle.ert_world.proofs.Advances.{AreOfAdvance, advances_are, advanced, counted}
-use Rattle.ert_world.proofs.Armed.{AreCalm}
-use Rattle.ert_world.proofs.Calls.{Has, Does, parts_in, schedulers_at}
-use Rattle.ert_world.proofs.NextDue.{part_at}
-use Rattle.ert_world.proofs.Returned.{at_place}
-use Rattle.ert_world.proofs.SchedCalls.{Had, had}
-use Rattle.ert_world.proofs.WheelCalls.{wheel_named}
-use Rattle.ert_world.specs.Bounded.{LosesSomeAt}
-use Rattle.ert_world.specs.Held.{HoldsFewer}
-use Rattle.ert_world.specs.Worlds.{Seen, LoseRows}
-use Rattle.ert_timers.specs.declared.sched_part.SchedPart.{SchedPart}
-use Rattle.ert_world.specs.declared.world.World.TheInside.{Inside}
+use Rattle.ert_defs.specs.{Entries.{look_entry, advanced_entry}, States.{State, state}, declared.entry.Actor.Actor, declared.entry.Actor.TheVariants.{Wheel, Sched}, declared.entry.Entry.Entry, declared.memory.NoMemory.NoMemory}
+use Rattle.ert_defs.specs.{declared.settings.Settings.Settings}
+use Rattle.ert_effects.specs.{SomeCalls.{AdvancesSome, HasAdvancedSome}, WheelCalls.{Advances, expiry_entries}, declared.answers.Left.Left, declared.answers.Left.TheVariants.{Nothing, Due, Moving}}
+use Rattle.ert_table.specs.{Calls.AreOnlyOf, Desks.{settings_of, view_of, front_of, Belongs}, Held.is_held, declared.desk.Desk.Desk, declared.desk.Pass.Pass}
+use Rattle.ert_timers.proofs.{Passing.rows_lost, SchedParts.{LeaveHand, advance_still}}
+use Rattle.ert_timers.specs.{Parts.{Part, PartStands as WheelStands}, Passed.LosesRows, Trying.{HasExpiredSome, HasRefusedSome, IsLeft, LosesSome}, declared.sched_part.SchedPart.SchedPart}
+use Rattle.ert_world.proofs.{Advances.{AreOfAdvance, advances_are, advanced, counted}, Armed.AreCalm, Calls.{Has, Does, parts_in, schedulers_at}, NextDue.part_at, Returned.at_place, SchedCalls.{Had, had}, WheelCalls.wheel_named}
+use Rattle.ert_world.specs.{Bounded.LosesSomeAt, Held.HoldsFewer, Worlds.{Seen, LoseRows}, declared.world.World.TheInside.Inside}
 
 -- its entries are the first of an advance: of all, or but for the record
 record IsFront (g : Settings) (w to expired : ℕ) (s : State) (es : List Entry) : Type 0 where

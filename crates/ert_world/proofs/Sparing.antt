@@ -2,17 +2,9 @@
 
 use Rattle.std.specs.Prelude.{◌≡◌, ◌≢◌, ℕ, ◌<◌, List, [], ◌∷◌, ◌++◌, filter, slice_index_or, Option, Some, None}
 use Rattle.ert_effects.specs.Ways.{Growth, Way, Grows, alone}
-use Rattle.ert_defs.specs.Legal.{Legal}
-use Rattle.ert_defs.specs.States.{state}
-use Rattle.ert_defs.specs.declared.entry.Entry.{Entry}
-use Rattle.ert_defs.specs.declared.entry.Event.TheVariants.{Cancel}
-use Rattle.ert_defs.specs.declared.timer.Status.TheVariants.{Armed}
-use Rattle.ert_defs.specs.declared.timer.TimerRef.{TimerRef}
-use Rattle.ert_timers.specs.Freeing.{IsLast}
-use Rattle.ert_timers.specs.Parts.{Part}
-use Rattle.ert_timers.specs.Tidy.{IsTidy, IsTidyBut}
-use Rattle.ert_world.specs.Ways.{is_unseated}
-use Rattle.ert_world.specs.Worlds.{Seen, HasForgotten, LoseRows, TurnsGrow, way_of}
+use Rattle.ert_defs.specs.{Legal.Legal, States.state, declared.entry.Entry.Entry, declared.entry.Event.TheVariants.Cancel, declared.timer.Status.TheVariants.Armed, declared.timer.TimerRef.TimerRef}
+use Rattle.ert_timers.specs.{Freeing.IsLast, Parts.Part, Tidy.{IsTidy, IsTidyBut}}
+use Rattle.ert_world.specs.{Ways.is_unseated, Worlds.{Seen, HasForgotten, LoseRows, TurnsGrow, way_of}}
 
 -- a wheel of a world is tidy
 abbrev pub IsTidyAt : Seen → ℕ → Type 0

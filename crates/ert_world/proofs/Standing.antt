@@ -1,28 +1,14 @@
 -- After a call that others stepped beside, all parts stand that weren't lent to it.
 
 use Rattle.std.proofs.Common.{◌≡◌, ℕ, ◌<◌, true, false, List, [], ◌++◌, slice_index_or, refl, sym, ap, subst, ◌∙◌, append-nil}
-use Rattle.ert_defs.specs.Actors.{IsFree, of, has_actor}
-use Rattle.ert_defs.specs.declared.entry.Actor.{Actor}
-use Rattle.ert_defs.specs.declared.entry.Actor.TheVariants.{Keeper, Wheel, Inbox, Sched, MailOf}
-use Rattle.ert_defs.specs.declared.entry.Entry.{Entry}
-use Rattle.ert_defs.specs.declared.settings.Settings.{Settings}
-use Rattle.ert_mail.specs.Inboxes.{Waiting, InboxStands}
+use Rattle.ert_defs.specs.{Actors.{IsFree, of, has_actor}, declared.entry.Actor.Actor, declared.entry.Actor.TheVariants.{Keeper, Wheel, Inbox, Sched, MailOf}, declared.entry.Entry.Entry, declared.settings.Settings.Settings}
+use Rattle.ert_mail.specs.{Inboxes.{Waiting, InboxStands}, Mailboxes.{Mailbox, MailboxStands as MailStands}}
 use Rattle.ert_mail.proofs.LawsHold.{inbox_on, mail_on}
-use Rattle.ert_mail.specs.Mailboxes.{Mailbox, MailboxStands as MailStands}
-use Rattle.ert_timers.specs.SchedParts.{SchedStands}
-use Rattle.ert_world.specs.Parts.{AllParts, AreOrdered, Stand}
-use Rattle.ert_timers.specs.declared.sched_part.SchedPart.{SchedPart}
-use Rattle.ert_table.proofs.StandOn.{keeper_on}
-use Rattle.ert_timers.proofs.SchedParts.{sched_on}
-use Rattle.ert_table.proofs.Parts.{entries_after, not_of, free_of_others, free_later}
-use Rattle.ert_table.specs.Calls.{AreOnlyOf}
-use Rattle.ert_table.specs.Held.{is_held, IsActor}
-use Rattle.ert_table.specs.Takes.{TakesPlace}
-use Rattle.ert_table.specs.Views.{Begins}
-use Rattle.ert_table.specs.declared.view.View.{View}
-use Rattle.ert_timers.proofs.LawsHold.{stand_on as wheel_on}
-use Rattle.ert_timers.specs.Parts.{Part, PartStands as WheelStands}
-use Rattle.ert_world.specs.Worlds.{IsUnseated, HoldsRest}
+use Rattle.ert_timers.specs.{SchedParts.SchedStands, declared.sched_part.SchedPart.SchedPart, Parts.{Part, PartStands as WheelStands}}
+use Rattle.ert_world.specs.{Parts.{AllParts, AreOrdered, Stand}, Worlds.{IsUnseated, HoldsRest}}
+use Rattle.ert_table.proofs.{StandOn.keeper_on, Parts.{entries_after, not_of, free_of_others, free_later}}
+use Rattle.ert_timers.proofs.{SchedParts.sched_on, LawsHold.stand_on as wheel_on}
+use Rattle.ert_table.specs.{Calls.AreOnlyOf, Held.{is_held, IsActor}, Takes.TakesPlace, Views.Begins, declared.view.View.View}
 
 -- the front before a call begins that after it
 pub grown_by : (g : Settings) (v : View) (es : List Entry) (w : View) → TakesPlace g v es w → Begins v.front w.front

@@ -2,40 +2,19 @@
 
 use Rattle.std.proofs.Common.{◌≡◌, ◌≢◌, ◌⊎◌, ⊎_elim, ℕ, ◌<◌, Bool, true, false, cond, ◌&&◌, List, [], ◌∷◌, ◌++◌, filter, length, slice_index_or, Option, Some, None, Result, Ok, inl, inr, refl, sym, ap, subst, ◌∙◌, eq-eqb, arith}
 use Rattle.std.specs.Prelude.{slice_set, nat_eq}
-use Rattle.ert_defs.proofs.Runs.{legal_then}
-use Rattle.ert_defs.proofs.Slots.{IsOrdered, can_use, next_is_new, ordered, ordered_next}
-use Rattle.ert_defs.specs.Entries.{arm_entry}
-use Rattle.ert_defs.specs.Legal.{Can, Legal, LegalFrom}
-use Rattle.ert_defs.specs.Milliseconds.{deadline_of}
-use Rattle.ert_defs.specs.States.{State, opening, next, state, uses_at}
-use Rattle.ert_defs.specs.Timers.{same_timer, settled_as, handed_as, status_after, timer_at}
-use Rattle.ert_defs.specs.declared.entry.Actor.TheVariants.{Wheel, Caller}
-use Rattle.ert_defs.specs.declared.entry.Entry.{Entry}
-use Rattle.ert_defs.specs.declared.entry.Event.{Event}
-use Rattle.ert_defs.specs.declared.entry.Event.TheVariants.{Arm, Cancel, Expire, Orphan, Deliver, Drop}
-use Rattle.ert_defs.specs.declared.settings.Settings.{Settings}
-use Rattle.ert_defs.specs.declared.timer.Start.{Start}
-use Rattle.ert_defs.specs.declared.timer.Status.{Status}
-use Rattle.ert_defs.specs.declared.timer.Status.TheVariants.{Armed, Expired, Delivered, Cancelled, Orphaned, Dropped}
-use Rattle.ert_defs.specs.declared.timer.TimerRef.{TimerRef}
-use Rattle.ert_defs.specs.Actors.{has_actor}
-use Rattle.ert_effects.specs.TimerCalls.{Starts}
-use Rattle.ert_effects.specs.declared.answers.StartErr.{StartErr}
-use Rattle.ert_table.specs.Desks.{settings_of, front_of}
-use Rattle.ert_table.specs.declared.desk.Desk.{Desk}
+use Rattle.ert_defs.proofs.{Runs.legal_then, Slots.{IsOrdered, can_use, next_is_new, ordered, ordered_next}}
+use Rattle.ert_defs.specs.{Entries.arm_entry, Legal.{Can, Legal, LegalFrom}, Milliseconds.deadline_of, States.{State, opening, next, state, uses_at}, Timers.{same_timer, settled_as, handed_as, status_after, timer_at}}
+use Rattle.ert_defs.specs.{declared.entry.Actor.TheVariants.{Wheel, Caller}, declared.entry.Entry.Entry, declared.entry.Event.Event, declared.entry.Event.TheVariants.{Arm, Cancel, Expire, Orphan, Deliver, Drop}}
+use Rattle.ert_defs.specs.{declared.settings.Settings.Settings, declared.timer.Start.Start, declared.timer.Status.Status, declared.timer.Status.TheVariants.{Armed, Expired, Delivered, Cancelled, Orphaned, Dropped}}
+use Rattle.ert_defs.specs.{declared.timer.TimerRef.TimerRef, Actors.has_actor}
+use Rattle.ert_effects.specs.{TimerCalls.Starts, declared.answers.StartErr.StartErr}
+use Rattle.ert_table.specs.{Desks.{settings_of, front_of}, declared.desk.Desk.Desk}
 use Rattle.ert_timers.proofs.Settled.{HasOne}
-use Rattle.ert_timers.specs.Freeing.{IsHeld}
-use Rattle.ert_timers.specs.Parts.{Part, PartStands as WheelStands}
-use Rattle.ert_timers.specs.Passed.{GainsOne, WasHeld}
+use Rattle.ert_timers.specs.{Freeing.IsHeld, Parts.{Part, PartStands as WheelStands}, Passed.{GainsOne, WasHeld}}
 use Rattle.ert_wheel.proofs.Looking.{key_low}
-use Rattle.ert_wheel.specs.Rows.{key_in}
-use Rattle.ert_wheel.specs.declared.row.Key.{Key}
-use Rattle.ert_world.proofs.Calls.{Has, schedulers_at}
-use Rattle.ert_world.proofs.NextDue.{part_at}
-use Rattle.ert_world.proofs.Returned.{at_place}
-use Rattle.ert_world.specs.Ways.{is_unseated}
-use Rattle.ert_world.specs.Worlds.{Seen, Goes, By, HasForgotten}
-use Rattle.ert_world.specs.declared.world.World.TheInside.{Inside}
+use Rattle.ert_wheel.specs.{Rows.key_in, declared.row.Key.Key}
+use Rattle.ert_world.proofs.{Calls.{Has, schedulers_at}, NextDue.part_at, Returned.at_place}
+use Rattle.ert_world.specs.{Ways.is_unseated, Worlds.{Seen, Goes, By, HasForgotten}, declared.world.World.TheInside.Inside}
 
 -- settling and handing over leave a status
 settled_some : (to : Status) (x : Option Status) → x ≢ None → settled_as to x ≢ None

@@ -3,31 +3,15 @@
 use Rattle.std.proofs.Common.{◌≡◌, ◌≢◌, ◌⊎◌, ℕ, ◌<◌, Bool, true, false, cond, ◌&&◌, List, [], ◌∷◌, ◌++◌, length, slice_index_or, Option, Some, None, Result, Ok, inl, inr, refl, sym, ap, subst, ◌∙◌, eq-eqb}
 use Rattle.std.specs.Prelude.{slice_set, nat_eq}
 use Rattle.std.proofs.lemmas.List.{get_or_default}
-use Rattle.ert_effects.specs.TimerCalls.{Starts}
-use Rattle.ert_effects.specs.declared.answers.StartErr.{StartErr}
-use Rattle.ert_defs.proofs.ExpiredTimers.{same_timer_self}
-use Rattle.ert_defs.proofs.Runs.{run-append}
-use Rattle.ert_defs.specs.Actors.{has_actor}
-use Rattle.ert_defs.specs.Entries.{look_entry, arm_entry, mark_entry}
-use Rattle.ert_defs.specs.States.{State, next, run}
-use Rattle.ert_defs.specs.Timers.{same_timer, status_after, settled_as, handed_as}
-use Rattle.ert_defs.specs.declared.entry.Actor.TheVariants.{Wheel, Caller}
-use Rattle.ert_defs.specs.declared.entry.Entry.{Entry}
-use Rattle.ert_defs.specs.declared.entry.Event.{Event}
-use Rattle.ert_defs.specs.declared.entry.Event.TheVariants.{Arm, Cancel, Expire, Orphan, Deliver, Drop}
-use Rattle.ert_defs.specs.declared.settings.Settings.{Settings}
-use Rattle.ert_defs.specs.declared.timer.Start.{Start}
-use Rattle.ert_defs.specs.declared.timer.Status.{Status}
-use Rattle.ert_defs.specs.declared.timer.Status.TheVariants.{Armed, Expired, Delivered, Cancelled, Orphaned, Dropped}
-use Rattle.ert_defs.specs.declared.timer.TimerRef.{TimerRef}
+use Rattle.ert_effects.specs.{TimerCalls.Starts, declared.answers.StartErr.StartErr}
+use Rattle.ert_defs.proofs.{ExpiredTimers.same_timer_self, Runs.run-append}
+use Rattle.ert_defs.specs.{Actors.has_actor, Entries.{look_entry, arm_entry, mark_entry}, States.{State, next, run}, Timers.{same_timer, status_after, settled_as, handed_as}, declared.entry.Actor.TheVariants.{Wheel, Caller}}
+use Rattle.ert_defs.specs.{declared.entry.Entry.Entry, declared.entry.Event.Event, declared.entry.Event.TheVariants.{Arm, Cancel, Expire, Orphan, Deliver, Drop}, declared.settings.Settings.Settings, declared.timer.Start.Start}
+use Rattle.ert_defs.specs.{declared.timer.Status.Status, declared.timer.Status.TheVariants.{Armed, Expired, Delivered, Cancelled, Orphaned, Dropped}, declared.timer.TimerRef.TimerRef}
 use Rattle.ert_timers.proofs.Passing.{same_last}
-use Rattle.ert_timers.specs.Parts.{IsLive, Part, last_timer}
-use Rattle.ert_timers.specs.Passed.{GainsOne, LosesRows, WasHeld}
-use Rattle.ert_timers.specs.Tidy.{IsTidy}
-use Rattle.ert_wheel.specs.Rows.{key_in}
-use Rattle.ert_wheel.specs.declared.row.Key.{Key}
-use Rattle.ert_world.proofs.Armed.{AreCalm, is_cancel}
-use Rattle.ert_world.proofs.Returned.{at_place}
+use Rattle.ert_timers.specs.{Parts.{IsLive, Part, last_timer}, Passed.{GainsOne, LosesRows, WasHeld}, Tidy.IsTidy}
+use Rattle.ert_wheel.specs.{Rows.key_in, declared.row.Key.Key}
+use Rattle.ert_world.proofs.{Armed.{AreCalm, is_cancel}, Returned.at_place}
 
 cond_was : (b : Bool) (x y : Option Status) → (y ≡ Some Cancelled → x ≡ Some Cancelled) → cond b y x ≡ Some Cancelled → x ≡ Some Cancelled
 cond_was true x y was is = was is

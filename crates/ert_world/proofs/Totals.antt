@@ -1,29 +1,16 @@
 -- The counts of all parts of a world together.
 
 use Rattle.std.proofs.Common.{◌^◌, ◌≡◌, ℕ, zero, suc, ◌+◌, ◌-◌, ◌<◌, ◌≤◌, List, length, slice_index_or, count_by, refl, sym, ap, subst, ◌∙◌, arith, Fits, w64}
-use Rattle.std.specs.Arc.{arc_value}
-use Rattle.std.specs.Option.{is_some}
-use Rattle.ert_defs.specs.Legal.{Legal}
-use Rattle.ert_defs.specs.Settings.{IsChecked}
-use Rattle.ert_defs.specs.States.{State, state}
-use Rattle.ert_defs.specs.declared.entry.Entry.{Entry}
-use Rattle.ert_defs.specs.declared.settings.Settings.{Settings}
-use Rattle.ert_defs.specs.declared.timer.Status.TheVariants.{Armed, Delivered}
-use Rattle.ert_laws.proofs.Counting.{arms_counted, expiries_counted, orphans_counted, six_statuses}
-use Rattle.ert_laws.proofs.CountTotals.{deliveries_counted, counts_agree}
-use Rattle.ert_laws.proofs.ExpiredCounts.{expired_wait}
-use Rattle.ert_laws.proofs.SlotUses.{all_few}
-use Rattle.ert_laws.proofs.Totals.{total_grows}
+use Rattle.std.specs.{Arc.arc_value, Option.is_some}
+use Rattle.ert_defs.specs.{Legal.Legal, Settings.IsChecked, States.{State, state}, declared.entry.Entry.Entry, declared.settings.Settings.Settings, declared.timer.Status.TheVariants.{Armed, Delivered}}
+use Rattle.ert_laws.proofs.{Counting.{arms_counted, expiries_counted, orphans_counted, six_statuses}, CountTotals.{deliveries_counted, counts_agree}, ExpiredCounts.expired_wait, SlotUses.all_few, Totals.total_grows}
 use Rattle.ert_laws.specs.Counts.{Counts as Numbers, Agrees, counts_of, count_at, count_in, entries_of, is_arm, is_expire, is_orphan, deliveries, total}
 use Rattle.ert_mail.specs.Mailboxes.{Mailbox}
 use Rattle.ert_table.specs.Desks.{settings_of, front_of}
 use Rattle.ert_timers.proofs.Counted.{tidy_counts}
-use Rattle.ert_timers.specs.Parts.{Part, PartStands as WheelStands}
-use Rattle.ert_timers.specs.Tidy.{IsTidy}
-use Rattle.ert_world.specs.Worlds.{Seen, AreSound, world_sched}
+use Rattle.ert_timers.specs.{Parts.{Part, PartStands as WheelStands}, Tidy.IsTidy, declared.sched_part.SchedPart.SchedPart}
+use Rattle.ert_world.specs.{Worlds.{Seen, AreSound, world_sched}, declared.world.World.TheInside.Inside}
 use Rattle.ert_world.specs.contracts.world.World.{the_view}
-use Rattle.ert_timers.specs.declared.sched_part.SchedPart.{SchedPart}
-use Rattle.ert_world.specs.declared.world.World.TheInside.{Inside}
 use Rattle.ert_world.proofs.Calls.{parts_in}
 
 -- no sum of counts is greater: each of 1,024 wheels at most has 2^53 timers at most

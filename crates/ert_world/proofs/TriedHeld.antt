@@ -2,30 +2,14 @@
 
 use Rattle.std.proofs.Common.{◌≡◌, ℕ, ◌<◌, List, [], ◌∷◌, ◌++◌, slice_index_or, refl, sym, ap, subst, ◌∙◌}
 use Rattle.std.specs.Prelude.{slice_set}
-use Rattle.ert_defs.specs.States.{State}
-use Rattle.ert_defs.specs.declared.entry.Actor.TheVariants.{Wheel}
-use Rattle.ert_defs.specs.declared.entry.Entry.{Entry}
-use Rattle.ert_defs.specs.declared.settings.Settings.{Settings}
+use Rattle.ert_defs.specs.{States.State, declared.entry.Actor.TheVariants.Wheel, declared.entry.Entry.Entry, declared.settings.Settings.Settings}
 use Rattle.ert_effects.proofs.Advanced.{IsAdvance}
 use Rattle.ert_effects.specs.WheelCalls.{hits}
-use Rattle.ert_table.specs.Calls.{IsMade}
-use Rattle.ert_table.specs.Desks.{settings_of, view_of, front_of, Belongs}
-use Rattle.ert_table.specs.declared.desk.Desk.{Desk}
-use Rattle.ert_table.specs.declared.desk.Pass.{Pass}
-use Rattle.ert_timers.proofs.LawsHold.{advance_only}
-use Rattle.ert_timers.specs.Expiring.{HasExpired, TriesHeld}
-use Rattle.ert_timers.specs.Parts.{Part, PartStands as WheelStands}
-use Rattle.ert_timers.specs.Passed.{LosesRows}
-use Rattle.ert_timers.specs.Trying.{expired_after}
-use Rattle.ert_timers.proofs.SchedParts.{advance_leaves}
-use Rattle.ert_world.proofs.Advances.{AreOfAdvance, advanced}
-use Rattle.ert_world.proofs.Calls.{Has, does_at, has_at, parts_in, schedulers_at, seen_at}
-use Rattle.ert_world.proofs.Replaced.{replaced_by}
-use Rattle.ert_world.proofs.SchedCalls.{Had, had}
-use Rattle.ert_world.proofs.WheelCalls.{advance_calm, wheel_named}
-use Rattle.ert_world.specs.Worlds.{AreSound, Goes, Seen, seen}
-use Rattle.ert_timers.specs.declared.sched_part.SchedPart.{SchedPart}
-use Rattle.ert_world.specs.declared.world.World.TheInside.{Inside}
+use Rattle.ert_table.specs.{Calls.IsMade, Desks.{settings_of, view_of, front_of, Belongs}, declared.desk.Desk.Desk, declared.desk.Pass.Pass}
+use Rattle.ert_timers.proofs.{LawsHold.advance_only, SchedParts.advance_leaves}
+use Rattle.ert_timers.specs.{Expiring.{HasExpired, TriesHeld}, Parts.{Part, PartStands as WheelStands}, Passed.LosesRows, Trying.expired_after, declared.sched_part.SchedPart.SchedPart}
+use Rattle.ert_world.proofs.{Advances.{AreOfAdvance, advanced}, Calls.{Has, does_at, has_at, parts_in, schedulers_at, seen_at}, Replaced.replaced_by, SchedCalls.{Had, had}, WheelCalls.{advance_calm, wheel_named}}
+use Rattle.ert_world.specs.{Worlds.{AreSound, Goes, Seen, seen}, declared.world.World.TheInside.Inside}
 
 pub held_is : (p : Part) (to : ℕ) (s : State) (es : List Entry) (held : TriesHeld p to s es) → IsAdvance p.number (to, hits held.tries) es
 held_is p to s es held = record { now = held.now; tries = held.tries; expired = refl; entries = held.entries }

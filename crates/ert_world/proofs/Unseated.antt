@@ -2,23 +2,11 @@
 
 use Rattle.std.proofs.Common.{◌≡◌, ℕ, ◌<◌, ◌≤◌, Bool, true, false, ◌&&◌, List, [], ◌∷◌, filter, inl, inr, refl, sym, ap, subst, ◌∙◌, arith, ltb-false, nat_lt}
 use Rattle.ert_defs.proofs.Runs.{legal_then}
-use Rattle.ert_defs.specs.Actors.{same_actor}
-use Rattle.ert_defs.specs.Entries.{is_ours}
-use Rattle.ert_defs.specs.Legal.{Legal, LegalFrom}
-use Rattle.ert_defs.specs.States.{State, opening, next, state}
-use Rattle.ert_defs.specs.declared.entry.Actor.{Actor}
-use Rattle.ert_defs.specs.declared.entry.Actor.TheVariants.{Keeper, Wheel, Inbox, Sched, MailOf, Caller}
-use Rattle.ert_defs.specs.declared.entry.Entry.{Entry}
-use Rattle.ert_defs.specs.declared.settings.Settings.{Settings}
-use Rattle.ert_table.proofs.Calls.{made_ours}
-use Rattle.ert_table.proofs.Closings.{maker_in_range}
-use Rattle.ert_table.proofs.Holders.{held_maker, same_actor-true}
-use Rattle.ert_table.specs.Calls.{AreOnlyOf}
-use Rattle.ert_table.specs.Held.{is_held, IsActor}
-use Rattle.ert_table.specs.Takes.{TakesPlace}
-use Rattle.ert_table.specs.declared.view.View.{View}
-use Rattle.ert_world.specs.Worlds.{IsUnseated, HoldsRest}
-use Rattle.ert_world.specs.Ways.{has_seat, is_unseated}
+use Rattle.ert_defs.specs.{Actors.same_actor, Entries.is_ours, Legal.{Legal, LegalFrom}, States.{State, opening, next, state}, declared.entry.Actor.Actor, declared.entry.Actor.TheVariants.{Keeper, Wheel, Inbox, Sched, MailOf, Caller}}
+use Rattle.ert_defs.specs.{declared.entry.Entry.Entry, declared.settings.Settings.Settings}
+use Rattle.ert_table.proofs.{Calls.made_ours, Closings.maker_in_range, Holders.{held_maker, same_actor-true}}
+use Rattle.ert_table.specs.{Calls.AreOnlyOf, Held.{is_held, IsActor}, Takes.TakesPlace, declared.view.View.View}
+use Rattle.ert_world.specs.{Worlds.{IsUnseated, HoldsRest}, Ways.{has_seat, is_unseated}}
 
 -- none of these actors has a seat
 abbrev pub AreUnseated : ℕ → List Actor → Type 0

@@ -1,37 +1,15 @@
 -- The time and the offset that a world answers are those of its clock: nobody else moves that.
 
 use Rattle.std.proofs.Common.{◌≡◌, ℕ, ℤ, ◌+ℤ◌, Bool, true, false, List, [], ◌∷◌, filter, None, Err, refl, sym, ap, subst, ◌∙◌}
-use Rattle.ert_effects.specs.ClockCalls.{TellsTime, TellsOffset, TellsSystemTime}
-use Rattle.ert_effects.specs.TimerCalls.{Starts}
-use Rattle.ert_effects.specs.declared.answers.StartErr.TheVariants.{BadArg}
+use Rattle.ert_effects.specs.{ClockCalls.{TellsTime, TellsOffset, TellsSystemTime}, TimerCalls.Starts, declared.answers.StartErr.TheVariants.BadArg}
 use Rattle.ert_defs.proofs.Runs.{clock_stays, free_first, free_rest, legal_then}
-use Rattle.ert_defs.specs.Actors.{IsFree}
-use Rattle.ert_defs.specs.Clocks.{Clock, face}
-use Rattle.ert_defs.specs.Entries.{is_ours}
-use Rattle.ert_defs.specs.Legal.{Found, Legal, LegalFrom}
-use Rattle.ert_defs.specs.Lines.{Face}
-use Rattle.ert_defs.specs.Milliseconds.{deadline_of}
-use Rattle.ert_defs.specs.States.{State, opening, next, state}
-use Rattle.ert_defs.specs.declared.entry.Actor.{Actor}
-use Rattle.ert_defs.specs.declared.entry.Actor.TheVariants.{Keeper, Caller}
-use Rattle.ert_defs.specs.declared.entry.Entry.{Entry}
-use Rattle.ert_defs.specs.declared.entry.Event.{Event}
-use Rattle.ert_defs.specs.declared.entry.Event.TheVariants.{Look, Off}
-use Rattle.ert_defs.specs.declared.settings.OffsetState.{OffsetState}
-use Rattle.ert_defs.specs.declared.settings.Settings.{Settings}
-use Rattle.ert_defs.specs.declared.timer.Start.{Start}
-use Rattle.ert_world.proofs.Calm.{time_quiet, offset_quiet, system_quiet}
+use Rattle.ert_defs.specs.{Actors.IsFree, Clocks.{Clock, face}, Entries.is_ours, Legal.{Found, Legal, LegalFrom}, Lines.Face, Milliseconds.deadline_of, States.{State, opening, next, state}, declared.entry.Actor.Actor}
+use Rattle.ert_defs.specs.{declared.entry.Actor.TheVariants.{Keeper, Caller}, declared.entry.Entry.Entry, declared.entry.Event.Event, declared.entry.Event.TheVariants.{Look, Off}, declared.settings.OffsetState.OffsetState}
+use Rattle.ert_defs.specs.{declared.settings.Settings.Settings, declared.timer.Start.Start}
+use Rattle.ert_world.proofs.{Calm.{time_quiet, offset_quiet, system_quiet}, Calls.Has, Standing.free_kept}
 use Rattle.ert_table.proofs.Holders.{free_one}
-use Rattle.ert_table.specs.Calls.{AreOnlyOf, IsMade}
-use Rattle.ert_table.specs.Desks.{settings_of, view_of, front_of}
-use Rattle.ert_table.specs.declared.desk.Desk.{Desk}
-use Rattle.ert_table.specs.declared.desk.Pass.{Pass}
-use Rattle.ert_table.specs.declared.view.View.{View}
-use Rattle.ert_world.proofs.Calls.{Has}
-use Rattle.ert_world.proofs.Standing.{free_kept}
-use Rattle.ert_world.specs.Restarts.{HasNoDeadline}
-use Rattle.ert_world.specs.Worlds.{Seen}
-use Rattle.ert_world.specs.declared.world.World.TheInside.{Inside}
+use Rattle.ert_table.specs.{Calls.{AreOnlyOf, IsMade}, Desks.{settings_of, view_of, front_of}, declared.desk.Desk.Desk, declared.desk.Pass.Pass, declared.view.View.View}
+use Rattle.ert_world.specs.{Restarts.HasNoDeadline, Worlds.Seen, declared.world.World.TheInside.Inside}
 
 -- what an event shows of a clock is what that shows
 abbrev Sees : Face → Event → Type 0

@@ -2,17 +2,12 @@
 
 use Rattle.std.proofs.Common.{◌≡◌, ℕ, ◌<◌, length, count_by, slice_index_or, refl, sym, ap, subst, ◌∙◌}
 use Rattle.std.specs.Option.{is_some}
-use Rattle.ert_defs.specs.Mails.{MailState}
-use Rattle.ert_defs.specs.States.{state}
-use Rattle.ert_defs.specs.declared.settings.Settings.{Settings}
+use Rattle.ert_defs.specs.{Mails.MailState, States.state, declared.settings.Settings.Settings}
 use Rattle.ert_mail.specs.Mailboxes.{Mailbox}
-use Rattle.ert_table.specs.Desks.{settings_of, front_of}
-use Rattle.ert_table.specs.declared.desk.Desk.{Desk}
+use Rattle.ert_table.specs.{Desks.{settings_of, front_of}, declared.desk.Desk.Desk}
 use Rattle.ert_timers.specs.Parts.{Part}
-use Rattle.ert_world.proofs.Calls.{Has}
-use Rattle.ert_world.proofs.NextDue.{part_at}
-use Rattle.ert_world.specs.Worlds.{Seen}
-use Rattle.ert_world.specs.declared.world.World.TheInside.{Inside}
+use Rattle.ert_world.proofs.{Calls.Has, NextDue.part_at}
+use Rattle.ert_world.specs.{Worlds.Seen, declared.world.World.TheInside.Inside}
 
 pub rows_in : (before : Seen) (b : Inside) (d : Desk) (i : ℕ) (p : Part) (n : ℕ) → Has before b d → i < before.settings.schedulers
     → p ≡ slice_index_or b.wheels.items i p → n ≡ count_by is_some p.keys → (e : Part) → n ≡ count_by is_some (slice_index_or before.wheels i e).keys

@@ -2,41 +2,18 @@
 
 use Rattle.std.proofs.Common.{◌≡◌, ℕ, ◌<◌, Bool, true, false, List, [], ◌∷◌, ◌++◌, slice_index_or, Option, Some, None, Result, Ok, Err, inl, inr, refl, sym, ap, subst, ◌∙◌, length}
 use Rattle.std.specs.Prelude.{slice_set}
-use Rattle.ert_effects.proofs.Advanced.{IsAdvance, advance_is}
-use Rattle.ert_effects.proofs.Told.{round_probes}
-use Rattle.ert_effects.specs.TimerCalls.{Starts, Closes, AreProbes}
-use Rattle.ert_effects.specs.Chains.{SweepsWheel}
-use Rattle.ert_effects.specs.WheelCalls.{Advances, Sweeps, IsSwept, Try, expires_by, expiry_entries, orphans_by, orphan_entries}
-use Rattle.ert_effects.specs.Ways.{Growth, Way}
-use Rattle.ert_effects.specs.declared.answers.StartErr.{StartErr}
-use Rattle.ert_effects.specs.declared.answers.StartErr.TheVariants.{BadArg, Full, NoMemory}
+use Rattle.ert_effects.proofs.{Advanced.{IsAdvance, advance_is}, Told.round_probes}
+use Rattle.ert_effects.specs.{TimerCalls.{Starts, Closes, AreProbes}, Chains.SweepsWheel, WheelCalls.{Advances, Sweeps, IsSwept, Try, expires_by, expiry_entries, orphans_by, orphan_entries}, Ways.{Growth, Way}}
+use Rattle.ert_effects.specs.{declared.answers.StartErr.StartErr, declared.answers.StartErr.TheVariants.{BadArg, Full, NoMemory}}
 use Rattle.std.proofs.lemmas.List.{get_or_default}
-use Rattle.ert_defs.specs.States.{State, state}
-use Rattle.ert_defs.specs.declared.entry.Actor.{Actor}
-use Rattle.ert_defs.specs.declared.entry.Actor.TheVariants.{Wheel, Caller}
-use Rattle.ert_defs.specs.declared.entry.Entry.{Entry}
-use Rattle.ert_defs.specs.declared.memory.NoMemory.{NoMemory as OutOfMemory}
-use Rattle.ert_defs.specs.declared.settings.Settings.{Settings}
-use Rattle.ert_defs.specs.declared.timer.Start.{Start}
-use Rattle.ert_defs.specs.declared.timer.Status.{Status}
-use Rattle.ert_defs.specs.declared.timer.TimerRef.{TimerRef}
-use Rattle.ert_table.specs.Calls.{AreOnlyOf, IsMade}
-use Rattle.ert_table.specs.Desks.{settings_of, view_of, front_of, Belongs}
-use Rattle.ert_table.specs.Takes.{TakesPlace}
-use Rattle.ert_table.specs.declared.desk.Desk.{Desk}
-use Rattle.ert_table.specs.declared.desk.Pass.{Pass}
-use Rattle.ert_timers.proofs.LawsHold.{sweeps_only}
-use Rattle.ert_timers.proofs.Passing.{loses_none}
-use Rattle.ert_timers.specs.Passed.{GainsOne, HasPassed, LosesRows}
-use Rattle.ert_timers.specs.Parts.{Part, PartStands as WheelStands}
-use Rattle.ert_world.proofs.Armed.{is_cancel, AreCalm}
-use Rattle.ert_world.proofs.Calm.{calm_as}
-use Rattle.ert_world.proofs.Calls.{Has, Does, Makes, parts_in, seen_at, has_at, does_at, exact, after, finish, makes, schedulers_at}
-use Rattle.ert_world.proofs.Returned.{at_place, wheel_back, caller_back}
-use Rattle.ert_world.proofs.Tidying.{HoldsOn, lost_hold, one_holds, start_holds}
-use Rattle.ert_world.specs.Parts.{AllParts, Stand}
-use Rattle.ert_world.specs.Worlds.{Seen, AreSound, By}
-use Rattle.ert_world.specs.declared.world.World.TheInside.{Inside}
+use Rattle.ert_defs.specs.{States.{State, state}, declared.entry.Actor.Actor, declared.entry.Actor.TheVariants.{Wheel, Caller}, declared.entry.Entry.Entry, declared.memory.NoMemory.NoMemory as OutOfMemory}
+use Rattle.ert_defs.specs.{declared.settings.Settings.Settings, declared.timer.Start.Start, declared.timer.Status.Status, declared.timer.TimerRef.TimerRef}
+use Rattle.ert_table.specs.{Calls.{AreOnlyOf, IsMade}, Desks.{settings_of, view_of, front_of, Belongs}, Takes.TakesPlace, declared.desk.Desk.Desk, declared.desk.Pass.Pass}
+use Rattle.ert_timers.proofs.{LawsHold.sweeps_only, Passing.loses_none}
+use Rattle.ert_timers.specs.{Passed.{GainsOne, HasPassed, LosesRows}, Parts.{Part, PartStands as WheelStands}}
+use Rattle.ert_world.proofs.{Armed.{is_cancel, AreCalm}, Calm.calm_as, Calls.{Has, Does, Makes, parts_in, seen_at, has_at, does_at, exact, after, finish, makes, schedulers_at}, Returned.{at_place, wheel_back, caller_back}, Tidying.HoldsOn}
+use Rattle.ert_world.proofs.{Tidying.{lost_hold, one_holds, start_holds}}
+use Rattle.ert_world.specs.{Parts.{AllParts, Stand}, Worlds.{Seen, AreSound, By}, declared.world.World.TheInside.Inside}
 
 pub calm_append : (es fs : List Entry) → AreCalm es → AreCalm fs → AreCalm (es ++ fs)
 calm_append [] fs one other = other

@@ -1,22 +1,11 @@
 -- The turn of a scheduler in which so many timers at most expire, and so many are handed over.
 
 use Rattle.std.specs.Prelude.{◌≡◌, ◌≢◌, ◌⊎◌, ℕ, ◌+◌, ◌<◌, ◌≤◌, Bool, true, false, ◌||◌, List, [], ◌++◌, length, Result, Ok, Err, slice_index_or}
-use Rattle.ert_defs.specs.States.{state}
-use Rattle.ert_defs.specs.Timers.{Row}
-use Rattle.ert_defs.specs.declared.entry.Entry.{Entry}
-use Rattle.ert_defs.specs.declared.memory.NoMemory.{NoMemory}
-use Rattle.ert_defs.specs.declared.settings.Settings.{Settings}
-use Rattle.ert_effects.specs.Chains.{ServesAll, Hands, HandsMany, puts, drops}
-use Rattle.ert_effects.specs.SomeCalls.{AdvancesWheelSome, is_more}
-use Rattle.ert_effects.specs.Ways.{Growth, Way, Then}
-use Rattle.ert_effects.specs.declared.answers.Handed.{Handed}
-use Rattle.ert_effects.specs.declared.answers.Left.{Left}
-use Rattle.ert_effects.specs.declared.answers.Left.TheVariants.{Nothing, Due, Moving}
-use Rattle.ert_effects.specs.declared.answers.Turned.{Turned}
-use Rattle.ert_timers.specs.Parts.{Part}
-use Rattle.ert_timers.specs.Trying.{IsLeft, LosesSome}
-use Rattle.ert_world.specs.Held.{HoldsFewer}
-use Rattle.ert_world.specs.Worlds.{Seen, world_sched}
+use Rattle.ert_defs.specs.{States.state, Timers.Row, declared.entry.Entry.Entry, declared.memory.NoMemory.NoMemory, declared.settings.Settings.Settings}
+use Rattle.ert_effects.specs.{Chains.{ServesAll, Hands, HandsMany, puts, drops}, SomeCalls.{AdvancesWheelSome, is_more}, Ways.{Growth, Way, Then}, declared.answers.Handed.Handed, declared.answers.Left.Left}
+use Rattle.ert_effects.specs.{declared.answers.Left.TheVariants.{Nothing, Due, Moving}, declared.answers.Turned.Turned}
+use Rattle.ert_timers.specs.{Parts.Part, Trying.{IsLeft, LosesSome}}
+use Rattle.ert_world.specs.{Held.HoldsFewer, Worlds.{Seen, world_sched}}
 
 -- whether expired timers are left, of which so many were handed over: they are left only after the most
 abbrev pub AreLeft : Bool → ℕ → ℕ → List Row → Type 0

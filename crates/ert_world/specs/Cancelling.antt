@@ -2,16 +2,9 @@
 
 use Rattle.std.specs.Prelude.{◌≡◌, ◌≢◌, ℕ, suc, ◌+◌, cond, sum, List, [], ◌∷◌, ◌++◌, length, slice_index_or, Option, Some, None}
 use Rattle.std.specs.Option.{is_some}
-use Rattle.ert_defs.specs.States.{state}
-use Rattle.ert_defs.specs.declared.entry.Actor.TheVariants.{Caller}
-use Rattle.ert_defs.specs.declared.entry.Entry.{Entry}
-use Rattle.ert_defs.specs.declared.settings.Settings.{Settings}
-use Rattle.ert_defs.specs.declared.timer.TimerRef.{TimerRef}
-use Rattle.ert_effects.specs.TimerCalls.{Cancels}
-use Rattle.ert_effects.specs.Ways.{Way, Many}
-use Rattle.ert_effects.specs.WheelCalls.{IsFor, IsSwept}
-use Rattle.ert_timers.specs.Freeing.{IsHeld}
-use Rattle.ert_timers.specs.Parts.{Part}
+use Rattle.ert_defs.specs.{States.state, declared.entry.Actor.TheVariants.Caller, declared.entry.Entry.Entry, declared.settings.Settings.Settings, declared.timer.TimerRef.TimerRef}
+use Rattle.ert_effects.specs.{TimerCalls.Cancels, Ways.{Way, Many}, WheelCalls.{IsFor, IsSwept}}
+use Rattle.ert_timers.specs.{Freeing.IsHeld, Parts.Part}
 use Rattle.ert_world.specs.Worlds.{Seen}
 
 -- a timer that was tried, and what was left of it where it was cancelled; nothing where a seat had cancelled it before

@@ -2,17 +2,9 @@
 -- the laws as a contract, so that they are proved.
 
 use Rattle.std.specs.Prelude.{◌≡◌, ◌≢◌, ℕ, ◌≤◌, Bool, false, List, ◌++◌, Some, Ok}
-use Rattle.ert_defs.specs.Legal.{Legal}
-use Rattle.ert_defs.specs.States.{state}
-use Rattle.ert_defs.specs.Timers.{Row}
-use Rattle.ert_defs.specs.declared.entry.Actor.{Actor}
-use Rattle.ert_defs.specs.declared.entry.Entry.{Entry}
-use Rattle.ert_defs.specs.declared.settings.Settings.{Settings}
-use Rattle.ert_defs.specs.declared.timer.Status.TheVariants.{Cancelled, Orphaned}
-use Rattle.ert_defs.specs.declared.timer.TimerRef.{TimerRef}
-use Rattle.ert_effects.specs.Chains.{AdvancesWheel, Delivers, Turns}
-use Rattle.ert_effects.specs.Ways.{Growth, Way, Then, alone, beside}
-use Rattle.ert_effects.specs.declared.answers.Turned.{Turned}
+use Rattle.ert_defs.specs.{Legal.Legal, States.state, Timers.Row, declared.entry.Actor.Actor, declared.entry.Entry.Entry, declared.settings.Settings.Settings, declared.timer.Status.TheVariants.{Cancelled, Orphaned}}
+use Rattle.ert_defs.specs.{declared.timer.TimerRef.TimerRef}
+use Rattle.ert_effects.specs.{Chains.{AdvancesWheel, Delivers, Turns}, Ways.{Growth, Way, Then, alone, beside}, declared.answers.Turned.Turned}
 use Rattle.ert_laws.specs.Punctual.{IsRowIn, IsMessagePut}
 use Rattle.ert_world.specs.Ways.{among}
 

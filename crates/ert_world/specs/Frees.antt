@@ -1,11 +1,8 @@
 -- What a start leaves of the slots that the wheels of a world hold free, and where it finds one.
 
 use Rattle.std.specs.Prelude.{ℕ, ◌<◌, Result, slice_index_or}
-use Rattle.ert_defs.specs.declared.timer.TimerRef.{TimerRef}
-use Rattle.ert_timers.specs.Frees.{IsUsedUp, UsesFree}
-use Rattle.ert_timers.specs.Parts.{Part}
-use Rattle.ert_timers.specs.Searching.{HasOpenSlot, Searches}
-use Rattle.ert_defs.specs.States.{state}
+use Rattle.ert_defs.specs.{declared.timer.TimerRef.TimerRef, States.state}
+use Rattle.ert_timers.specs.{Frees.{IsUsedUp, UsesFree}, Parts.Part, Searching.{HasOpenSlot, Searches}}
 use Rattle.ert_world.specs.Worlds.{Seen, Goes, By}
 
 -- there is a reason to refuse a timer on a wheel: it has had 2^53 timers before, or it holds no slot free afterwards

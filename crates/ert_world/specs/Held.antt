@@ -2,8 +2,7 @@
 
 use Rattle.std.specs.Prelude.{◌≡◌, ℕ, ◌+◌, ◌≤◌, count_by, slice_index_or}
 use Rattle.std.specs.Option.{is_some}
-use Rattle.ert_defs.specs.States.{state}
-use Rattle.ert_defs.specs.declared.timer.Status.TheVariants.{Armed}
+use Rattle.ert_defs.specs.{States.state, declared.timer.Status.TheVariants.Armed}
 use Rattle.ert_laws.specs.Counts.{count_at}
 use Rattle.ert_timers.specs.Parts.{Part}
 use Rattle.ert_world.specs.Worlds.{Seen}

@@ -2,16 +2,8 @@
 -- contract, so that they are proved.
 
 use Rattle.std.specs.Prelude.{◌≡◌, ◌≢◌, ◌⊎◌, ℕ, Bool, true, List, ◌++◌, None, Ok}
-use Rattle.ert_defs.specs.Laws.{has_settled}
-use Rattle.ert_defs.specs.Legal.{Legal}
-use Rattle.ert_defs.specs.States.{State, state}
-use Rattle.ert_defs.specs.declared.entry.Actor.{Actor}
-use Rattle.ert_defs.specs.declared.entry.Entry.{Entry}
-use Rattle.ert_defs.specs.declared.settings.Settings.{Settings}
-use Rattle.ert_defs.specs.declared.timer.Start.{Start}
-use Rattle.ert_defs.specs.declared.timer.TimerRef.{TimerRef}
-use Rattle.ert_effects.specs.TimerCalls.{Starts, Reads, Cancels}
-use Rattle.ert_effects.specs.Ways.{Way, alone, beside}
+use Rattle.ert_defs.specs.{Laws.has_settled, Legal.Legal, States.{State, state}, declared.entry.Actor.Actor, declared.entry.Entry.Entry, declared.settings.Settings.Settings, declared.timer.Start.Start, declared.timer.TimerRef.TimerRef}
+use Rattle.ert_effects.specs.{TimerCalls.{Starts, Reads, Cancels}, Ways.{Way, alone, beside}}
 use Rattle.ert_world.specs.Ways.{among}
 
 -- a timer was started, whatever became of it

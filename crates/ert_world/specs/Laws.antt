@@ -2,10 +2,8 @@
 -- contracts, so that they are proved.
 
 use Rattle.std.specs.Prelude.{◌≡◌, ℕ, ◌<◌, false, List, filter, Some}
-use Rattle.ert_defs.specs.declared.entry.Actor.TheVariants.{Caller}
-use Rattle.ert_defs.specs.declared.entry.Entry.{Entry}
-use Rattle.ert_world.specs.Ways.{is_unseated}
-use Rattle.ert_world.specs.Worlds.{Seen, HasPassedAt, IsNextHeldAt}
+use Rattle.ert_defs.specs.declared.entry.{Actor.TheVariants.Caller, Entry.Entry}
+use Rattle.ert_world.specs.{Ways.is_unseated, Worlds.{Seen, HasPassedAt, IsNextHeldAt}}
 
 -- where no seat was given out every entry is the world's: its steps come about as those of one thread
 abbrev pub LawOfNoSeats : Type 0

@@ -2,17 +2,10 @@
 
 use Rattle.std.specs.Prelude.{◌≡◌, ◌≢◌, ℕ, ◌<◌, true, List, [], ◌++◌, length, Option, Some, None}
 use Rattle.std.specs.List.{range_with_len}
-use Rattle.ert_defs.specs.States.{state}
-use Rattle.ert_defs.specs.declared.mail.Mail.{Mail}
-use Rattle.ert_defs.specs.declared.settings.Settings.{Settings}
-use Rattle.ert_effects.specs.MailCalls.{Takes}
-use Rattle.ert_effects.specs.Ways.{Growth, Way, Then, Many}
-use Rattle.ert_effects.specs.declared.answers.Taken.TheVariants.{Mail as Took, Empty, Exited}
-use Rattle.ert_mail.specs.Turns.{is_listed, TurnRow}
-use Rattle.ert_mail.specs.Lists.{LooksForMail}
-use Rattle.ert_world.specs.Worlds.{Seen, Goes, By, HasProcessExited}
-use Rattle.ert_world.specs.declared.mailing.TakeEnd.{TakeEnd}
-use Rattle.ert_world.specs.declared.mailing.TakeEnd.TheVariants.{Most, Empty as FoundEmpty, Exited as HadExited}
+use Rattle.ert_defs.specs.{States.state, declared.mail.Mail.Mail, declared.settings.Settings.Settings}
+use Rattle.ert_effects.specs.{MailCalls.Takes, Ways.{Growth, Way, Then, Many}, declared.answers.Taken.TheVariants.{Mail as Took, Empty, Exited}}
+use Rattle.ert_mail.specs.{Turns.{is_listed, TurnRow}, Lists.LooksForMail}
+use Rattle.ert_world.specs.{Worlds.{Seen, Goes, By, HasProcessExited}, declared.mailing.TakeEnd.TakeEnd, declared.mailing.TakeEnd.TheVariants.{Most, Empty as FoundEmpty, Exited as HadExited}}
 
 -- the messages of a process in the history of a world
 abbrev pub mail_of : Seen → ℕ → List Mail

@@ -3,9 +3,8 @@
 use Rattle.std.specs.Prelude.{◌≡◌, ℕ, ◌<◌, List, [], length, slice_index_or, None}
 use Rattle.ert_defs.specs.declared.settings.Settings.{Settings}
 use Rattle.ert_mail.specs.Inboxes.{Waiting}
-use Rattle.ert_timers.specs.Parts.{Part, PartStands}
+use Rattle.ert_timers.specs.{Parts.{Part, PartStands}, declared.sched_part.SchedPart.SchedPart}
 use Rattle.ert_world.specs.Worlds.{Seen, StandsFor}
-use Rattle.ert_timers.specs.declared.sched_part.SchedPart.{SchedPart}
 
 -- a world was opened: it stands for the empty history, has given out no seat, and no process waits for a turn
 pub record IsOpened (g : Settings) (w : Seen) : Type 0 where

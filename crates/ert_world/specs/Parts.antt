@@ -2,18 +2,10 @@
 
 use Rattle.std.specs.Prelude.{◌≡◌, ℕ, ◌<◌, false, List, length, Option, None, slice_index_or}
 use Rattle.ert_clock.specs.Shown.{Shown, ClockStands}
-use Rattle.ert_defs.specs.Legal.{Legal}
-use Rattle.ert_defs.specs.declared.entry.Actor.{Actor}
-use Rattle.ert_defs.specs.declared.entry.Actor.TheVariants.{Keeper, Wheel, Inbox, Sched, MailOf}
-use Rattle.ert_defs.specs.declared.entry.Entry.{Entry}
-use Rattle.ert_defs.specs.declared.settings.Settings.{Settings}
-use Rattle.ert_mail.specs.Inboxes.{Waiting, InboxStands}
-use Rattle.ert_mail.specs.Mailboxes.{Mailbox, MailboxStands as MailStands}
+use Rattle.ert_defs.specs.{Legal.Legal, declared.entry.Actor.Actor, declared.entry.Actor.TheVariants.{Keeper, Wheel, Inbox, Sched, MailOf}, declared.entry.Entry.Entry, declared.settings.Settings.Settings}
+use Rattle.ert_mail.specs.{Inboxes.{Waiting, InboxStands}, Mailboxes.{Mailbox, MailboxStands as MailStands}, Turns.TurnRow}
 use Rattle.ert_table.specs.Held.{is_held}
-use Rattle.ert_timers.specs.Parts.{Part, PartStands as WheelStands}
-use Rattle.ert_mail.specs.Turns.{TurnRow}
-use Rattle.ert_timers.specs.SchedParts.{SchedStands}
-use Rattle.ert_timers.specs.declared.sched_part.SchedPart.{SchedPart}
+use Rattle.ert_timers.specs.{Parts.{Part, PartStands as WheelStands}, SchedParts.SchedStands, declared.sched_part.SchedPart.SchedPart}
 
 -- the parts of a service: the clock's, those of each wheel, inbox, process and scheduler, and the row of the processes that
 -- may have mail, where there is one

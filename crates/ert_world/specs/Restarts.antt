@@ -1,10 +1,7 @@
 -- What a world tells of a start that has no deadline, and of a timer that was given a new one.
 
 use Rattle.std.specs.Prelude.{◌≡◌, ℕ, cond, nat_lt, None, Result, Ok, Err}
-use Rattle.ert_defs.specs.Milliseconds.{deadline_of}
-use Rattle.ert_defs.specs.declared.settings.Settings.{Settings}
-use Rattle.ert_defs.specs.declared.timer.Start.{Start}
-use Rattle.ert_defs.specs.declared.timer.TimerRef.{TimerRef}
+use Rattle.ert_defs.specs.{Milliseconds.deadline_of, declared.settings.Settings.Settings, declared.timer.Start.Start, declared.timer.TimerRef.TimerRef}
 use Rattle.ert_effects.specs.declared.answers.RestartErr.{RestartErr}
 use Rattle.ert_world.specs.Worlds.{Seen, HasForgotten}
 

@@ -3,19 +3,9 @@
 use Rattle.std.specs.Prelude.{◌≡◌, ℕ, ◌+◌, ◌<◌, ◌≤◌, List, [], ◌∷◌}
 use Rattle.atomic_table.specs.Seated.{TableId}
 use Rattle.ert_effects.specs.Ways.{Growth, Grows}
-use Rattle.ert_defs.specs.Legal.{Legal}
-use Rattle.ert_defs.specs.States.{State}
-use Rattle.ert_defs.specs.declared.entry.Actor.TheVariants.{Caller}
-use Rattle.ert_defs.specs.declared.entry.Entry.{Entry}
-use Rattle.ert_defs.specs.declared.settings.Settings.{Settings}
-use Rattle.ert_table.specs.Desks.{settings_of, front_of, actors_of, Belongs}
-use Rattle.ert_table.specs.Views.{longer}
-use Rattle.ert_table.specs.declared.desk.Desk.{Desk}
-use Rattle.ert_table.specs.declared.desk.Pass.{Pass}
-use Rattle.ert_world.specs.Worlds.{Seen, Goes, By}
-use Rattle.ert_world.specs.Ways.{MakesNone, as_caller}
-use Rattle.ert_world.specs.declared.seat_err.SeatErr.{SeatErr}
-use Rattle.ert_world.specs.declared.seat_err.SeatErr.TheVariants.{NoSeat, NoMemory}
+use Rattle.ert_defs.specs.{Legal.Legal, States.State, declared.entry.Actor.TheVariants.Caller, declared.entry.Entry.Entry, declared.settings.Settings.Settings}
+use Rattle.ert_table.specs.{Desks.{settings_of, front_of, actors_of, Belongs}, Views.longer, declared.desk.Desk.Desk, declared.desk.Pass.Pass}
+use Rattle.ert_world.specs.{Worlds.{Seen, Goes, By}, Ways.{MakesNone, as_caller}, declared.seat_err.SeatErr.SeatErr, declared.seat_err.SeatErr.TheVariants.{NoSeat, NoMemory}}
 
 -- what callers see of a seat: which desk it is of, with its settings, the history that it knows, and its caller
 pub record Seated : Type 0 where

@@ -3,10 +3,8 @@
 use Rattle.std.specs.Prelude.{◌≡◌, ℕ, List, Option, Some, slice_index_or}
 use Rattle.ert_defs.specs.States.{state}
 use Rattle.ert_effects.specs.Sleeping.{Probed, DropsSettled, FindsArmed}
-use Rattle.ert_timers.specs.Parts.{Part}
-use Rattle.ert_timers.specs.Sleeping.{HasLost, IsFoundNext}
-use Rattle.ert_wheel.specs.Rows.{key_in}
-use Rattle.ert_wheel.specs.declared.row.Key.{Key}
+use Rattle.ert_timers.specs.{Parts.Part, Sleeping.{HasLost, IsFoundNext}}
+use Rattle.ert_wheel.specs.{Rows.key_in, declared.row.Key.Key}
 use Rattle.ert_world.specs.Worlds.{Seen, Goes, By}
 
 -- a time that is answered is that of a timer which is armed; or one is armed, and it is the begin of a window; or 1,024 rows of

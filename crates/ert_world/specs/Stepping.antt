@@ -2,19 +2,12 @@
 
 use Rattle.std.specs.Prelude.{◌≡◌, ℕ, ◌<◌, List, [], ◌∷◌, ◌++◌, filter, length, Option, Some, None, slice_index_or}
 use Rattle.std.proofs.Common.{refl, ap, append-nil, append_assoc, subst, sym, ◌∙◌}
-use Rattle.std.proofs.Math.Nat.{le_refl, le_trans, lt_of_lt_of_le}
-use Rattle.std.proofs.lemmas.List.Elements.{filter-append}
-use Rattle.ert_defs.specs.declared.entry.Entry.{Entry}
-use Rattle.ert_defs.specs.declared.timer.TimerRef.{TimerRef}
-use Rattle.ert_timers.specs.Freeing.{IsHeld}
-use Rattle.ert_timers.specs.Parts.{Part, last_timer}
-use Rattle.ert_timers.specs.Slots.{Slot}
-use Rattle.ert_timers.specs.Passed.{LosesRows}
-use Rattle.ert_wheel.specs.Rows.{key_in}
-use Rattle.ert_wheel.specs.declared.row.Key.{Key}
+use Rattle.std.proofs.{Math.Nat.{le_refl, le_trans, lt_of_lt_of_le}, lemmas.List.Elements.filter-append}
+use Rattle.ert_defs.specs.declared.{entry.Entry.Entry, timer.TimerRef.TimerRef}
+use Rattle.ert_timers.specs.{Freeing.IsHeld, Parts.{Part, last_timer}, Slots.Slot, Passed.LosesRows}
+use Rattle.ert_wheel.specs.{Rows.key_in, declared.row.Key.Key}
 use Rattle.ert_mail.specs.Turns.{TurnRow}
-use Rattle.ert_world.specs.Ways.{is_unseated}
-use Rattle.ert_world.specs.Worlds.{Seen, ForgetsCancelled, HasForgottenAll, HasPassedAt, LoseRows, TurnsGrow}
+use Rattle.ert_world.specs.{Ways.is_unseated, Worlds.{Seen, ForgetsCancelled, HasForgottenAll, HasPassedAt, LoseRows, TurnsGrow}}
 use Rattle.ert_wheel.proofs.StandsOn.{stay_all, stay_then}
 
 -- the desk, its settings, the clock and the seats stay, who waits for a turn keeps its place, no row of a timer comes, each slot

@@ -2,8 +2,7 @@
 
 use Rattle.std.specs.Prelude.{ℕ, [], ◌∷◌, slice_index_or}
 use Rattle.ert_defs.specs.declared.entry.Actor.TheVariants.{Wheel}
-use Rattle.ert_timers.specs.Expiring.{TriesHeld}
-use Rattle.ert_timers.specs.Parts.{Part}
+use Rattle.ert_timers.specs.{Expiring.TriesHeld, Parts.Part}
 use Rattle.ert_world.specs.Worlds.{Seen, Goes}
 
 -- in an advance of a wheel of a world up to a time only timers were tried of which the wheel held a row before it. So none is

@@ -4,35 +4,13 @@ use Rattle.std.specs.Prelude.{◌≡◌, ◌≢◌, ℕ, ◌<◌, ◌≤◌, ◌
 use Rattle.atomic_table.specs.Seated.{TableId}
 use Rattle.ert_effects.specs.Ways.{Growth, Way, Grows, alone}
 use Rattle.ert_clock.specs.Shown.{Shown, ClockStands}
-use Rattle.ert_defs.specs.Legal.{Legal}
-use Rattle.ert_defs.specs.Mails.{SchedState}
-use Rattle.ert_defs.specs.Settings.{IsChecked}
-use Rattle.ert_defs.specs.States.{State, state, HasExited as HasExitedIn, sched_of}
-use Rattle.ert_defs.specs.Timers.{is_taken}
-use Rattle.ert_defs.specs.declared.entry.Actor.{Actor}
-use Rattle.ert_defs.specs.declared.entry.Actor.TheVariants.{Caller}
-use Rattle.ert_defs.specs.declared.entry.Entry.{Entry}
-use Rattle.ert_defs.specs.declared.entry.Event.TheVariants.{Cancel}
-use Rattle.ert_defs.specs.declared.mail.Request.{Request}
-use Rattle.ert_defs.specs.declared.mail.RequestKind.{RequestKind}
-use Rattle.ert_defs.specs.declared.mail.RequestKind.TheVariants.{Cancel as ToCancel, Read as ToRead}
-use Rattle.ert_defs.specs.declared.memory.NoMemory.{NoMemory}
-use Rattle.ert_defs.specs.declared.settings.Settings.{Settings}
-use Rattle.ert_defs.specs.declared.timer.TimerRef.{TimerRef}
-use Rattle.ert_mail.specs.Lists.{AreListed}
-use Rattle.ert_mail.specs.Mailboxes.{Mailbox}
-use Rattle.ert_table.specs.Desks.{settings_of, front_of, actors_of, Belongs}
-use Rattle.ert_table.specs.Held.{is_held, IsActor}
-use Rattle.ert_table.specs.declared.desk.Desk.{Desk}
-use Rattle.ert_table.specs.declared.desk.Pass.{Pass}
-use Rattle.ert_timers.specs.Freeing.{IsHeld, IsLetGo}
-use Rattle.ert_timers.specs.NextDue.{IsNearest, IsNextHeld}
-use Rattle.ert_timers.specs.Parts.{Part}
-use Rattle.ert_timers.specs.Passed.{HasPassed, LosesRows}
-use Rattle.ert_timers.specs.Tidy.{IsTidy}
-use Rattle.ert_mail.specs.Turns.{TurnRow}
-use Rattle.ert_world.specs.Parts.{AllParts, Stand}
-use Rattle.ert_world.specs.Ways.{beside_seats, is_unseated}
+use Rattle.ert_defs.specs.{Legal.Legal, Mails.SchedState, Settings.IsChecked, States.{State, state, HasExited as HasExitedIn, sched_of}, Timers.is_taken, declared.entry.Actor.Actor, declared.entry.Actor.TheVariants.Caller}
+use Rattle.ert_defs.specs.{declared.entry.Entry.Entry, declared.entry.Event.TheVariants.Cancel, declared.mail.Request.Request, declared.mail.RequestKind.RequestKind, declared.mail.RequestKind.TheVariants.Cancel as ToCancel}
+use Rattle.ert_defs.specs.{declared.mail.RequestKind.TheVariants.Read as ToRead, declared.memory.NoMemory.NoMemory, declared.settings.Settings.Settings, declared.timer.TimerRef.TimerRef}
+use Rattle.ert_mail.specs.{Lists.AreListed, Mailboxes.Mailbox, Turns.TurnRow}
+use Rattle.ert_table.specs.{Desks.{settings_of, front_of, actors_of, Belongs}, Held.{is_held, IsActor}, declared.desk.Desk.Desk, declared.desk.Pass.Pass}
+use Rattle.ert_timers.specs.{Freeing.{IsHeld, IsLetGo}, NextDue.{IsNearest, IsNextHeld}, Parts.Part, Passed.{HasPassed, LosesRows}, Tidy.IsTidy}
+use Rattle.ert_world.specs.{Parts.{AllParts, Stand}, Ways.{beside_seats, is_unseated}}
 
 -- what callers see of a world: which desk it is of, with its settings, the history that it knows, what its clock
 -- shows, the next caller that is to get a seat, its wheels, and the row of the processes that may have mail, from the first

@@ -11,11 +11,8 @@ use ert_mail::Handed;
 impl World {
     ghost use Rattle.std.specs.Prelude.{◌≡◌, ◌<◌, true, IfOk};
     ghost use Rattle.ert_defs.specs.Legal.{Legal};
-    ghost use Rattle.ert_effects.specs.SomeCalls.{AdvancesWheelSome};
-    ghost use Rattle.ert_effects.specs.Ways.{Grows};
-    ghost use Rattle.ert_world.specs.Bounded.{DeliversSome, TurnsSome, IsLeftAt, IsMoreAt, LosesSomeAt, HasDoneMost};
-    ghost use Rattle.ert_world.specs.Stepping.{Stays};
-    ghost use Rattle.ert_world.specs.Worlds.{Goes, KeepRows, way_of};
+    ghost use Rattle.ert_effects.specs.{SomeCalls.AdvancesWheelSome, Ways.Grows};
+    ghost use Rattle.ert_world.specs.{Bounded.{DeliversSome, TurnsSome, IsLeftAt, IsMoreAt, LosesSomeAt, HasDoneMost}, Stepping.Stays, Worlds.{Goes, KeepRows, way_of}};
 
     /// Lets so many timers at most of the scheduler's wheel expire that are due, and answers the time, in whole
     /// milliseconds since the start time, how many expired, and what is left.

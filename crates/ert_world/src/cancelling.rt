@@ -5,16 +5,10 @@ use ert_defs::{Actor, TimerRef};
 impl World {
     ghost use Rattle.std.specs.Option.{is_some};
     ghost use Rattle.std.specs.Prelude.{◌≡◌, ◌<◌, ◌≤◌, count_by, slice_index_or};
-    ghost use Rattle.ert_defs.specs.Legal.{Legal};
-    ghost use Rattle.ert_defs.specs.declared.entry.Actor.TheVariants.{Caller};
-    ghost use Rattle.ert_defs.specs.declared.settings.TheConstants.{MOST_SLOTS};
+    ghost use Rattle.ert_defs.specs.{Legal.Legal, declared.entry.Actor.TheVariants.Caller, declared.settings.TheConstants.MOST_SLOTS};
     ghost use Rattle.ert_effects.specs.TimerCalls.{Cancels};
-    ghost use Rattle.ert_timers.specs.Freeing.{IsHeld};
-    ghost use Rattle.ert_timers.specs.Parts.{Part};
-    ghost use Rattle.ert_world.specs.Cancelling.{CancelsAll, CancelsOn, IsHeldAt};
-    ghost use Rattle.ert_world.specs.Held.{HoldsFewer};
-    ghost use Rattle.ert_world.specs.Stepping.{Stays};
-    ghost use Rattle.ert_world.specs.Worlds.{Goes, HasForgotten, By};
+    ghost use Rattle.ert_timers.specs.{Freeing.IsHeld, Parts.Part};
+    ghost use Rattle.ert_world.specs.{Cancelling.{CancelsAll, CancelsOn, IsHeldAt}, Held.HoldsFewer, Stepping.Stays, Worlds.{Goes, HasForgotten, By}};
 
     /// Cancels all timers of a process (`cancel_timer`), in all wheels, and answers how many were cancelled. The process
     /// lives on, and can have timers again. Messages of timers that had expired stay.

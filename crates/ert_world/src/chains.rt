@@ -1,7 +1,6 @@
 //! Chains of single steps, whatever makes these: a scheduler's turn and its parts, and the exit of a process.
 ghost use Rattle.std.specs.Prelude.{◌≡◌, ◌<◌, IfOk, true};
-ghost use Rattle.ert_effects.specs.Chains.{Serves, ServesAll, Delivers, Turns, SweepsWheels, Exits};
-ghost use Rattle.ert_effects.specs.Ways.{Grows};
+ghost use Rattle.ert_effects.specs.{Chains.{Serves, ServesAll, Delivers, Turns, SweepsWheels, Exits}, Ways.Grows};
 ghost use Rattle.ert_defs.specs.States.{state};
 
 use crate::steps::{CallerSteps, SchedSteps};

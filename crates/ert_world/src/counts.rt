@@ -19,12 +19,9 @@ pub struct Counts {
 
 impl World {
     ghost use Rattle.std.specs.Prelude.{◌≡◌, length};
-    ghost use Rattle.ert_defs.specs.Legal.{Legal};
-    ghost use Rattle.ert_defs.specs.States.{state};
-    ghost use Rattle.ert_defs.specs.declared.timer.Status.TheVariants.{Armed};
+    ghost use Rattle.ert_defs.specs.{Legal.Legal, States.state, declared.timer.Status.TheVariants.Armed};
     ghost use Rattle.ert_laws.specs.Counts.{counts_of, count_in, entries_of, is_arm, is_expire, is_orphan, deliveries, total};
-    ghost use Rattle.ert_world.specs.Counted.{numbers_of};
-    ghost use Rattle.ert_world.specs.Worlds.{world_sched};
+    ghost use Rattle.ert_world.specs.{Counted.numbers_of, Worlds.world_sched};
 
     /// Counts the timers by their status, of a world that gave out no seat. No entry is made.
     pub fn counts(&self) -> Counts

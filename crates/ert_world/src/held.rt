@@ -4,8 +4,7 @@ use crate::world::World;
 impl World {
     ghost use Rattle.std.specs.Prelude.{◌≡◌, ◌<◌, length};
     ghost use Rattle.ert_defs.specs.States.{state};
-    ghost use Rattle.ert_world.specs.Held.{HoldsSoManyRows, AreArmed};
-    ghost use Rattle.ert_world.specs.Worlds.{world_sched};
+    ghost use Rattle.ert_world.specs.{Held.{HoldsSoManyRows, AreArmed}, Worlds.world_sched};
 
     /// How many timers the wheel of a scheduler holds. No entry is made.
     ///

@@ -1,8 +1,6 @@
 //! Laws on whose entries are whose, on how early a timer may be due, on what a turn puts into mailboxes, and on what is known
 //! of a timer that was started.
-ghost use Rattle.ert_world.specs.DueTurns.{LawOfDueHandings, LawOfDueTurns};
-ghost use Rattle.ert_world.specs.Known.{LawOfStarted, LawOfKnownStarts, LawOfNone};
-ghost use Rattle.ert_world.specs.Laws.{LawOfNoSeats, LawOfSeats, LawOfLaterAnswers};
+ghost use Rattle.ert_world.specs.{DueTurns.{LawOfDueHandings, LawOfDueTurns}, Known.{LawOfStarted, LawOfKnownStarts, LawOfNone}, Laws.{LawOfNoSeats, LawOfSeats, LawOfLaterAnswers}};
 
 /// Where no seat was given out all entries are the world's own, and none of a caller with a seat ever is.
 pub fn entries_are_divided()

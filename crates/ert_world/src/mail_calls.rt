@@ -6,8 +6,7 @@ use ert_mail::{MonitorErr, Taken};
 
 impl World {
     ghost use Rattle.std.specs.Prelude.{◌≡◌, ◌<◌};
-    ghost use Rattle.ert_effects.specs.MailCalls.{Takes, Monitors, Demonitors, Notifies};
-    ghost use Rattle.ert_effects.specs.RequestCalls.{Asks, inbox_for};
+    ghost use Rattle.ert_effects.specs.{MailCalls.{Takes, Monitors, Demonitors, Notifies}, RequestCalls.{Asks, inbox_for}};
     ghost use Rattle.ert_world.specs.Worlds.{Goes, By};
 
     /// Asks the scheduler of a timer to cancel or to read it (`erlang` module reference, `cancel_timer` and

@@ -5,10 +5,8 @@ use ert_table::Note;
 
 impl Seat {
     ghost use Rattle.std.specs.Prelude.{◌≡◌};
-    ghost use Rattle.ert_table.specs.Notes.{IsNoteOf};
-    ghost use Rattle.ert_table.specs.Views.{Begins, longer};
-    ghost use Rattle.ert_world.specs.Seats.{Steps, BySeat};
-    ghost use Rattle.ert_world.specs.Ways.{MakesNone};
+    ghost use Rattle.ert_table.specs.{Notes.IsNoteOf, Views.{Begins, longer}};
+    ghost use Rattle.ert_world.specs.{Seats.{Steps, BySeat}, Ways.MakesNone};
 
     /// Takes a note of what the seat knows, for whoever the program gives it to. No entry is made.
     pub fn note(&mut self) -> Note
@@ -34,10 +32,8 @@ impl Seat {
 
 impl World {
     ghost use Rattle.std.specs.Prelude.{◌≡◌};
-    ghost use Rattle.ert_table.specs.Notes.{IsNoteOf};
-    ghost use Rattle.ert_table.specs.Views.{Begins, longer};
-    ghost use Rattle.ert_world.specs.Worlds.{Goes, By};
-    ghost use Rattle.ert_world.specs.Ways.{MakesNone};
+    ghost use Rattle.ert_table.specs.{Notes.IsNoteOf, Views.{Begins, longer}};
+    ghost use Rattle.ert_world.specs.{Worlds.{Goes, By}, Ways.MakesNone};
 
     /// Takes a note of what the world knows, for whoever the program gives it to. No entry is made.
     pub fn note(&mut self) -> Note

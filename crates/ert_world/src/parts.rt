@@ -1,12 +1,9 @@
 //! A world taken apart, and put together.
 ghost use Rattle.std.specs.Prelude.{◌≡◌, ℕ, [], slice_index_or};
 ghost use Rattle.ert_defs.specs.declared.entry.Actor.TheVariants.{Wheel};
-ghost use Rattle.ert_table.specs.Desks.{settings_of, view_of, front_of, actors_of, Belongs};
-ghost use Rattle.ert_table.specs.Held.{IsWhole};
-ghost use Rattle.ert_timers.specs.Parts.{Part, PartStands};
-ghost use Rattle.ert_timers.specs.Passed.{LosesRows};
-ghost use Rattle.ert_world.specs.Parts.{AreOrdered};
-ghost use Rattle.ert_world.specs.Worlds.{AreTidy};
+ghost use Rattle.ert_table.specs.{Desks.{settings_of, view_of, front_of, actors_of, Belongs}, Held.IsWhole};
+ghost use Rattle.ert_timers.specs.{Parts.{Part, PartStands}, Passed.LosesRows};
+ghost use Rattle.ert_world.specs.{Parts.AreOrdered, Worlds.AreTidy};
 
 use crate::world::{CALLER, World};
 use ert_defs::Settings;
@@ -32,8 +29,7 @@ impl World {
     ghost use Rattle.std.specs.Arc.{arc_value};
     ghost use Rattle.std.specs.Prelude.{None};
     ghost use Rattle.ert_table.specs.Desks.{settings_of};
-    ghost use Rattle.ert_world.specs.Parts.{parts_of};
-    ghost use Rattle.ert_world.specs.Worlds.{seen, AreFit, IsPutTogether};
+    ghost use Rattle.ert_world.specs.{Parts.parts_of, Worlds.{seen, AreFit, IsPutTogether}};
 
     /// Takes a world apart that gave out no seat. No entry is made, and no memory is taken.
     pub fn into_parts(self) -> Parts

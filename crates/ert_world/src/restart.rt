@@ -8,11 +8,8 @@ use ert_effects::RestartErr;
 
 impl World {
     ghost use Rattle.std.specs.Prelude.{◌≡◌, ◌<◌, Err};
-    ghost use Rattle.ert_effects.specs.RestartCalls.{Restarts};
-    ghost use Rattle.ert_effects.specs.declared.answers.RestartErr.TheVariants.{BadArg, Full};
-    ghost use Rattle.ert_world.specs.Frees.{IsUsedUpAt, UsesFreeAt};
-    ghost use Rattle.ert_world.specs.Restarts.{Forgets, HasNoDeadline, wheel_for};
-    ghost use Rattle.ert_world.specs.Worlds.{Goes, By};
+    ghost use Rattle.ert_effects.specs.{RestartCalls.Restarts, declared.answers.RestartErr.TheVariants.{BadArg, Full}};
+    ghost use Rattle.ert_world.specs.{Frees.{IsUsedUpAt, UsesFreeAt}, Restarts.{Forgets, HasNoDeadline, wheel_for}, Worlds.{Goes, By}};
 
     /// Gives an armed timer a new deadline, and answers its new name (as `uv_timer_again` of libuv): it is
     /// cancelled, and one is started on its wheel.

@@ -30,9 +30,7 @@ impl Model for Seat {
 
 impl Seat {
     ghost use Rattle.std.specs.Prelude.{◌≡◌, ◌<◌};
-    ghost use Rattle.ert_effects.specs.ClockCalls.{TellsTime, TellsOffset, TellsSystemTime};
-    ghost use Rattle.ert_effects.specs.TimerCalls.{Reads, Cancels};
-    ghost use Rattle.ert_effects.specs.WheelCalls.{TellsAlive};
+    ghost use Rattle.ert_effects.specs.{ClockCalls.{TellsTime, TellsOffset, TellsSystemTime}, TimerCalls.{Reads, Cancels}, WheelCalls.TellsAlive};
     ghost use Rattle.ert_defs.specs.declared.entry.Actor.TheVariants.{Caller};
     ghost use Rattle.ert_world.specs.Seats.{Steps, BySeat};
 

@@ -6,9 +6,7 @@ impl World {
     ghost use Rattle.ert_defs.specs.States.{state};
     ghost use Rattle.ert_effects.specs.Sleeping.{ProbesForNext};
     ghost use Rattle.ert_timers.specs.NextDue.{NoneArmedBefore};
-    ghost use Rattle.ert_world.specs.Sleeping.{DropsSettledAt, HasSameTimeAt, IsFoundAt};
-    ghost use Rattle.ert_world.specs.Stepping.{Stays};
-    ghost use Rattle.ert_world.specs.Worlds.{Goes, By, IsNextHeldAt, IsNearestAt};
+    ghost use Rattle.ert_world.specs.{Sleeping.{DropsSettledAt, HasSameTimeAt, IsFoundAt}, Stepping.Stays, Worlds.{Goes, By, IsNextHeldAt, IsNearestAt}};
 
     /// How early a timer of the scheduler's wheel may be due, in whole milliseconds since the start time, as
     /// `advance` answers; None where no timer is held.

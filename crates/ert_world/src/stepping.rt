@@ -9,9 +9,7 @@ use ert_mail::Handed;
 impl SchedSteps for World {
     ghost use Rattle.std.specs.Prelude.{◌≡◌, ◌<◌};
     ghost use Rattle.ert_defs.specs.Legal.{Legal};
-    ghost use Rattle.ert_world.specs.Stepping.{Stays, stay, same, in_range, still_passed};
-    ghost use Rattle.ert_world.specs.Worlds.{HasPassedAt};
-    ghost use Rattle.ert_world.specs.Ways.{beside_seats};
+    ghost use Rattle.ert_world.specs.{Stepping.{Stays, stay, same, in_range, still_passed}, Worlds.HasPassedAt, Ways.beside_seats};
 
     ghost settings = { λ w. w.settings };
 
@@ -82,8 +80,7 @@ impl SchedSteps for World {
 impl CallerSteps for World {
     ghost use Rattle.std.specs.Prelude.{◌≡◌};
     ghost use Rattle.ert_defs.specs.Legal.{Legal};
-    ghost use Rattle.ert_world.specs.Stepping.{Stays, stay, same};
-    ghost use Rattle.ert_world.specs.Ways.{beside_seats};
+    ghost use Rattle.ert_world.specs.{Stepping.{Stays, stay, same}, Ways.beside_seats};
 
     ghost settings = { λ w. w.settings };
 

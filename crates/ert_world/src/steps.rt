@@ -1,15 +1,7 @@
 //! The single steps of schedulers and of callers, of which the chains are made.
 ghost use Rattle.std.specs.Prelude.{◌≡◌, ◌<◌, ◌≤◌, ℕ, true, List, [], ◌∷◌, Some, length, IfOk, OnOk};
-ghost use Rattle.ert_effects.specs.Chains.{HoldsRequest, AdvancesWheel, Hands, SweepsWheel};
-ghost use Rattle.ert_effects.specs.RequestCalls.{Answers};
-ghost use Rattle.ert_effects.specs.Ways.{Way, Grows};
-ghost use Rattle.ert_effects.specs.WheelCalls.{MarksExit};
-ghost use Rattle.ert_defs.specs.Mails.{first_of, others_of};
-ghost use Rattle.ert_defs.specs.States.{state};
-ghost use Rattle.ert_defs.specs.declared.entry.Actor.TheVariants.{Caller, MailOf};
-ghost use Rattle.ert_defs.specs.declared.entry.Entry.{Entry};
-ghost use Rattle.ert_defs.specs.declared.settings.Settings.{Settings};
-ghost use Rattle.ert_defs.specs.declared.settings.TheConstants.{MOST_SLOTS};
+ghost use Rattle.ert_effects.specs.{Chains.{HoldsRequest, AdvancesWheel, Hands, SweepsWheel}, RequestCalls.Answers, Ways.{Way, Grows}, WheelCalls.MarksExit};
+ghost use Rattle.ert_defs.specs.{Mails.{first_of, others_of}, States.state, declared.entry.Actor.TheVariants.{Caller, MailOf}, declared.entry.Entry.Entry, declared.settings.Settings.Settings, declared.settings.TheConstants.MOST_SLOTS};
 
 use ert_defs::{NoMemory, Request, TimerRow};
 use ert_mail::Handed;

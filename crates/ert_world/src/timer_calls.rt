@@ -8,18 +8,9 @@ use ert_timers::StartErr;
 
 impl World {
     ghost use Rattle.std.specs.Prelude.{◌≡◌, ◌≢◌, ◌<◌, ◌≤◌, true, false, Err, OnSome};
-    ghost use Rattle.ert_effects.specs.Chains.{Exits};
-    ghost use Rattle.ert_effects.specs.RoomCalls.{TellsRoom};
-    ghost use Rattle.ert_effects.specs.TimerCalls.{Reads, Cancels, Starts};
-    ghost use Rattle.ert_effects.specs.WheelCalls.{TellsAlive, MarksExit};
-    ghost use Rattle.ert_effects.specs.declared.answers.StartErr.TheVariants.{BadArg, Full, NoMemory};
-    ghost use Rattle.ert_defs.specs.declared.entry.Actor.TheVariants.{Caller};
-    ghost use Rattle.ert_defs.specs.States.{state};
-    ghost use Rattle.ert_defs.specs.Timers.{is_taken, timer_at};
-    ghost use Rattle.ert_world.specs.Frees.{IsUsedUpAt, HasOpenSlotAt, SearchesAt, UsesFreeAt};
-    ghost use Rattle.ert_world.specs.Restarts.{HasNoDeadline};
-    ghost use Rattle.ert_world.specs.Stepping.{Stays};
-    ghost use Rattle.ert_world.specs.Worlds.{Goes, HasForgotten, StayForgotten, By, HasProcessExited, IsLetGoIn, KeepRows};
+    ghost use Rattle.ert_effects.specs.{Chains.Exits, RoomCalls.TellsRoom, TimerCalls.{Reads, Cancels, Starts}, WheelCalls.{TellsAlive, MarksExit}, declared.answers.StartErr.TheVariants.{BadArg, Full, NoMemory}};
+    ghost use Rattle.ert_defs.specs.{declared.entry.Actor.TheVariants.Caller, States.state, Timers.{is_taken, timer_at}};
+    ghost use Rattle.ert_world.specs.{Frees.{IsUsedUpAt, HasOpenSlotAt, SearchesAt, UsesFreeAt}, Restarts.HasNoDeadline, Stepping.Stays, Worlds.{Goes, HasForgotten, StayForgotten, By, HasProcessExited, IsLetGoIn, KeepRows}};
 
     /// Starts a timer on a wheel (`erlang` module reference, `start_timer` and `send_after`).
     ///

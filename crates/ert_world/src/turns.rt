@@ -11,15 +11,9 @@ use ert_mail::Handed;
 
 impl World {
     ghost use Rattle.std.specs.Prelude.{◌≡◌, ◌<◌, ◌≤◌, Some, None, length, IfOk, OnOk};
-    ghost use Rattle.ert_effects.specs.Chains.{Serves, AdvancesWheel, Hands, Delivers, Turns};
-    ghost use Rattle.ert_effects.specs.RequestCalls.{Picks};
-    ghost use Rattle.ert_effects.specs.Ways.{Grows};
-    ghost use Rattle.ert_defs.specs.Legal.{Legal};
-    ghost use Rattle.ert_defs.specs.Mails.{first_of, others_of};
-    ghost use Rattle.ert_defs.specs.States.{state};
-    ghost use Rattle.ert_world.specs.Worlds.{Goes, HasPassedAt, By, IsHandedIn, KeepRows, way_of, world_sched};
-    ghost use Rattle.ert_world.specs.Stepping.{Stays};
-    ghost use Rattle.ert_world.specs.Tried.{TriesHeldAt};
+    ghost use Rattle.ert_effects.specs.{Chains.{Serves, AdvancesWheel, Hands, Delivers, Turns}, RequestCalls.Picks, Ways.Grows};
+    ghost use Rattle.ert_defs.specs.{Legal.Legal, Mails.{first_of, others_of}, States.state};
+    ghost use Rattle.ert_world.specs.{Worlds.{Goes, HasPassedAt, By, IsHandedIn, KeepRows, way_of, world_sched}, Stepping.Stays, Tried.TriesHeldAt};
 
     /// Serves one request: that in the scheduler's hand, or the first of its inbox. False comes where there is
     /// none. Where it cancelled a timer, the wheel of that holds no row of it.

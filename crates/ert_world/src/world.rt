@@ -44,12 +44,10 @@ pub struct World {
 }
 
 impl Model for World {
-    ghost use Rattle.std.specs.Arc.{arc_value};
-    ghost use Rattle.std.specs.Coded.{codes};
+    ghost use Rattle.std.specs.{Arc.arc_value, Coded.codes};
     ghost use Rattle.ert_timers.specs.Parts.{part_code};
     ghost use Rattle.ert_mail.specs.Turns.{row_code};
-    ghost use Rattle.ert_world.specs.Parts.{parts_of};
-    ghost use Rattle.ert_world.specs.Worlds.{Seen, seen, AreKept};
+    ghost use Rattle.ert_world.specs.{Parts.parts_of, Worlds.{Seen, seen, AreKept}};
 
     ghost Value = { Seen };
 
@@ -66,9 +64,7 @@ impl World {
     ghost use Rattle.ert_defs.specs.Legal.{Legal};
     ghost use Rattle.ert_laws.specs.KeptLaws.{KeepsLaws};
     ghost use Rattle.ert_table.specs.Desks.{settings_of, KnowsAll};
-    ghost use Rattle.ert_world.specs.Openings.{IsOpened};
-    ghost use Rattle.ert_world.specs.Seats.{GivesSeat, IsSeatRefused};
-    ghost use Rattle.ert_world.specs.Worlds.{StandsFor};
+    ghost use Rattle.ert_world.specs.{Openings.IsOpened, Seats.{GivesSeat, IsSeatRefused}, Worlds.StandsFor};
 
     /// Opens a service. Its history is empty, and no seat is given out.
     pub fn open(alloc: Global, settings: &Settings) -> Result<World, NoMemory>

@@ -1,9 +1,7 @@
 //! The actors of an entry.
 
 ghost use Rattle.std.specs.Prelude.{◌≡◌, Some};
-ghost use Rattle.ert_audit.specs.Cuts.{words_of};
-ghost use Rattle.ert_audit.specs.Readers.{value_and_rest};
-ghost use Rattle.ert_audit.specs.Reading.{lettered, actor_of, with_of, read_actor, read_with};
+ghost use Rattle.ert_audit.specs.{Cuts.words_of, Readers.value_and_rest, Reading.{lettered, actor_of, with_of, read_actor, read_with}};
 
 use crate::spelling::numbers::small_of;
 use crate::spelling::words::{Words, next_word};

@@ -1,9 +1,7 @@
 //! Entries.
 
 ghost use Rattle.std.specs.Prelude.{◌≡◌};
-ghost use Rattle.ert_audit.specs.Cuts.{words_of, words_in};
-ghost use Rattle.ert_audit.specs.Readers.{value_and_rest, whole};
-ghost use Rattle.ert_audit.specs.Events.{read_one_entry};
+ghost use Rattle.ert_audit.specs.{Cuts.{words_of, words_in}, Readers.{value_and_rest, whole}, Events.read_one_entry};
 
 use crate::spelling::actors::{actor, with};
 use crate::spelling::events::event;

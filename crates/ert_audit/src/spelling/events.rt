@@ -1,11 +1,8 @@
 //! Events: a function for each, that reads its fields.
 
 ghost use Rattle.std.specs.Prelude.{◌≡◌};
-ghost use Rattle.ert_audit.specs.Cuts.{words_of};
-ghost use Rattle.ert_audit.specs.Readers.{value_and_rest, read_named};
-ghost use Rattle.ert_audit.specs.Events.{read_tick, read_shift, read_look, read_off, read_arm, read_probe, read_peek, read_cancel, read_expire, read_orphan};
-ghost use Rattle.ert_audit.specs.Events.{read_deliver, read_drop, read_mark, read_advanced, read_ask, read_pick, read_answer, read_take};
-ghost use Rattle.ert_audit.specs.Events.{read_unwatch, read_watch, read_tell, event_rows, later_rows, read_event};
+ghost use Rattle.ert_audit.specs.{Cuts.words_of, Readers.{value_and_rest, read_named}, Events.{read_tick, read_shift, read_look, read_off, read_arm, read_probe, read_peek, read_cancel, read_expire, read_orphan, read_deliver, read_drop}};
+ghost use Rattle.ert_audit.specs.{Events.{read_mark, read_advanced, read_ask, read_pick, read_answer, read_take, read_unwatch, read_watch, read_tell, event_rows, later_rows, read_event}};
 
 use crate::spelling::mails::{picked, request, taken};
 use crate::spelling::numbers::{integer, natural, small};

@@ -2,10 +2,7 @@
 
 ghost use Rattle.std.specs.Prelude.{◌≡◌, ◌≤◌, ◌+◌, ◌∷◌, length, drop, is_some, IfSome, IfNone};
 ghost use Rattle.ert_defs.specs.declared.settings.SettingsFault as settings;
-ghost use Rattle.ert_audit.specs.Cuts.{words_in};
-ghost use Rattle.ert_audit.specs.Faults.{word_in, words_from, is_read, fault_from, line_fault, first_turns, turns_after, IsUnfit};
-ghost use Rattle.ert_audit.specs.Readers.{meant_by};
-ghost use Rattle.ert_audit.specs.Reading.{when_rows};
+ghost use Rattle.ert_audit.specs.{Cuts.words_in, Faults.{word_in, words_from, is_read, fault_from, line_fault, first_turns, turns_after, IsUnfit}, Readers.meant_by, Reading.when_rows};
 
 use crate::spelling::actors::{actor, with};
 use crate::spelling::cutting::cut;

@@ -1,7 +1,6 @@
 ghost use Rattle.std.specs.Prelude.{◌≡◌, ◌↔◌, ℕ, [], IsTrue, IfOk, IfSome, IfNone, Err};
 ghost use Rattle.ert_defs.specs.Settings.{IsChecked};
-ghost use Rattle.ert_audit.specs.Spelling.{Spells, IsSettingsLine, BeginsWithSettings, IsEntryLine, BeginsWithEntry};
-ghost use Rattle.ert_audit.specs.Spelling.{AreEntryLines, MisspelledIn, MisspelledAt};
+ghost use Rattle.ert_audit.specs.Spelling.{Spells, IsSettingsLine, BeginsWithSettings, IsEntryLine, BeginsWithEntry, AreEntryLines, MisspelledIn, MisspelledAt};
 
 use crate::spelling::cutting::cut;
 use crate::spelling::entries::entry_of;

@@ -1,9 +1,7 @@
 //! Laws of the definitions, the contract of a function with no body.
 
 ghost use Rattle.std.specs.Prelude.{◌≡◌, ℕ, List};
-ghost use Rattle.ert_defs.specs.Settings.{IsChecked};
-ghost use Rattle.ert_defs.specs.declared.entry.Entry.{Entry};
-ghost use Rattle.ert_defs.specs.declared.settings.Settings.{Settings};
+ghost use Rattle.ert_defs.specs.{Settings.IsChecked, declared.entry.Entry.Entry, declared.settings.Settings.Settings};
 ghost use Rattle.ert_audit.specs.Spelling.{Spells, MisspelledAt};
 
 /// Bytes spell one history at most, and are misspelled at one line at most. None are both, where the

@@ -1,10 +1,7 @@
 //! Requests, and messages in mailboxes.
 
 ghost use Rattle.std.specs.Prelude.{◌≡◌};
-ghost use Rattle.ert_audit.specs.Cuts.{words_of};
-ghost use Rattle.ert_audit.specs.Readers.{value_and_rest, optional, read_named};
-ghost use Rattle.ert_audit.specs.Reading.{read_request_kind, read_request, read_mail, mail_rows};
-ghost use Rattle.ert_audit.specs.Reading.{read_timeout, read_bare, read_cancel_done, read_read_done, read_change};
+ghost use Rattle.ert_audit.specs.{Cuts.words_of, Readers.{value_and_rest, optional, read_named}, Reading.{read_request_kind, read_request, read_mail, mail_rows, read_timeout, read_bare, read_cancel_done, read_read_done, read_change}};
 
 use crate::spelling::numbers::{integer, natural, small};
 use crate::spelling::timers::{left, timer};

@@ -1,9 +1,7 @@
 //! Numbers: decimal, with a leading minus where negative, and with no other sign and no leading zero.
 
 ghost use Rattle.std.specs.Prelude.{◌≡◌};
-ghost use Rattle.ert_audit.specs.Cuts.{words_of};
-ghost use Rattle.ert_audit.specs.Readers.{value_and_rest, is_plain, natural_of, small_of, integer_of, negative_by};
-ghost use Rattle.ert_audit.specs.Reading.{read_small, read_natural, read_integer};
+ghost use Rattle.ert_audit.specs.{Cuts.words_of, Readers.{value_and_rest, is_plain, natural_of, small_of, integer_of, negative_by}, Reading.{read_small, read_natural, read_integer}};
 
 use crate::spelling::words::{Words, next_word};
 use std::str;

@@ -1,10 +1,7 @@
 //! Settings, and the parts that they and the events of the clock have.
 
 ghost use Rattle.std.specs.Prelude.{◌≡◌};
-ghost use Rattle.ert_audit.specs.Cuts.{words_of, words_in};
-ghost use Rattle.ert_audit.specs.Readers.{value_and_rest, whole};
-ghost use Rattle.ert_audit.specs.Reading.{read_mode, read_state, read_act, read_reading};
-ghost use Rattle.ert_audit.specs.Events.{read_fields, read_later_fields, read_settings};
+ghost use Rattle.ert_audit.specs.{Cuts.{words_of, words_in}, Readers.{value_and_rest, whole}, Reading.{read_mode, read_state, read_act, read_reading}, Events.{read_fields, read_later_fields, read_settings}};
 
 use crate::spelling::numbers::{integer, small};
 use crate::spelling::words::{Words, next_text, truth};

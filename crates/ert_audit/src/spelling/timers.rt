@@ -1,9 +1,7 @@
 //! The parts that events of timers have.
 
 ghost use Rattle.std.specs.Prelude.{◌≡◌};
-ghost use Rattle.ert_audit.specs.Cuts.{words_of};
-ghost use Rattle.ert_audit.specs.Readers.{value_and_rest, optional};
-ghost use Rattle.ert_audit.specs.Reading.{read_timer, read_when, read_kind, read_start, read_status, read_left};
+ghost use Rattle.ert_audit.specs.{Cuts.words_of, Readers.{value_and_rest, optional}, Reading.{read_timer, read_when, read_kind, read_start, read_status, read_left}};
 
 use crate::spelling::numbers::{integer, natural, small};
 use crate::spelling::words::{Words, next_text, none};

@@ -1,8 +1,7 @@
 //! Whose turn it is to read each word of a line.
 
 ghost use Rattle.std.specs.Prelude.{◌≡◌, [], option_map, unwrap_or};
-ghost use Rattle.ert_audit.specs.Faults.{first_turns, turns_after, request_turns, turn_rows, later_turn_rows, mail_turn_rows, meaning};
-ghost use Rattle.ert_audit.specs.Readers.{meant_by};
+ghost use Rattle.ert_audit.specs.{Faults.{first_turns, turns_after, request_turns, turn_rows, later_turn_rows, mail_turn_rows, meaning}, Readers.meant_by};
 
 use crate::spelling::wanted::Wanted;
 use crate::spelling::words::next_text;

@@ -1,9 +1,7 @@
 //! The words of a line, and those of them that are names.
 
 ghost use Rattle.std.specs.Prelude.{◌≡◌, option_map};
-ghost use Rattle.ert_audit.specs.Cuts.{words_of};
-ghost use Rattle.ert_audit.specs.Readers.{value_and_rest, read_word, read_text, none_at};
-ghost use Rattle.ert_audit.specs.Reading.{read_bool};
+ghost use Rattle.ert_audit.specs.{Cuts.words_of, Readers.{value_and_rest, read_word, read_text, none_at}, Reading.read_bool};
 
 use crate::spelling::cutting::cut;
 use std::str;

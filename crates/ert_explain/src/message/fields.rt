@@ -1,7 +1,6 @@
 //! What a message says of a field.
 ghost use Rattle.std.specs.Prelude.{◌≡◌, ◌++◌, OnOk, string_bytes};
-ghost use Rattle.ert_explain.specs.declared.field_range.FieldRange.TheVariants.{ManySlots};
-ghost use Rattle.ert_explain.specs.Messages.{fields_front, range_front, fields_back, range_back, missing_text, caller_text};
+ghost use Rattle.ert_explain.specs.{declared.field_range.FieldRange.TheVariants.ManySlots, Messages.{fields_front, range_front, fields_back, range_back, missing_text, caller_text}};
 
 use super::hints::{write_has_to, write_limits, write_named, write_near, write_param};
 use crate::field::Field;

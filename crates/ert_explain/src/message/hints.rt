@@ -1,8 +1,7 @@
 //! What a message says that there has to be, and which name may be meant.
 ghost use Rattle.std.specs.Prelude.{◌≡◌, ◌++◌, OnOk, codes, string_bytes};
 ghost use Rattle.std.specs.Fmt.{signed_decimal};
-ghost use Rattle.ert_explain.specs.Messages.{from_front, from_text, to_text, between_text, limits_text, has_to_text, hint_text, near_text};
-ghost use Rattle.ert_explain.specs.Words.{param_word};
+ghost use Rattle.ert_explain.specs.{Messages.{from_front, from_text, to_text, between_text, limits_text, has_to_text, hint_text, near_text}, Words.param_word};
 
 use crate::near::Near;
 use crate::op_range::Limits;

@@ -1,8 +1,6 @@
 //! What a message says of an op, or of too many of something.
 ghost use Rattle.std.specs.Prelude.{◌≡◌, ◌++◌, OnOk, string_bytes};
-ghost use Rattle.ert_explain.specs.Messages.{op_front, op_back, excess_front, late_text, elsewhere_text, not_in_text};
-ghost use Rattle.ert_explain.specs.declared.excess.Excess.TheVariants.{Callers, Turns};
-ghost use Rattle.ert_explain.specs.declared.op_shape.OpShape.TheVariants.{Count};
+ghost use Rattle.ert_explain.specs.{Messages.{op_front, op_back, excess_front, late_text, elsewhere_text, not_in_text}, declared.excess.Excess.TheVariants.{Callers, Turns}, declared.op_shape.OpShape.TheVariants.Count};
 
 use super::hints::{write_has_to, write_named, write_near, write_param};
 use crate::excess::Excess;

@@ -1,9 +1,5 @@
 ghost use Rattle.std.specs.Prelude.{◌≡◌, ◌↔◌, IsTrue};
-ghost use Rattle.ert_defs.specs.Clocks.{face, first_clock};
-ghost use Rattle.ert_defs.specs.Lines.{IsInRange, MayAct};
-ghost use Rattle.ert_defs.specs.Lines.{time_after, due_after, ticked, shifted};
-ghost use Rattle.ert_defs.specs.Legal.{CanTick};
-ghost use Rattle.ert_defs.specs.Settings.{IsChecked};
+ghost use Rattle.ert_defs.specs.{Clocks.{face, first_clock}, Lines.{IsInRange, MayAct, time_after, due_after, ticked, shifted}, Legal.CanTick, Settings.IsChecked};
 ghost use Rattle.ert_clock.specs.Faces.{face_of};
 
 use ert_clock::Face;

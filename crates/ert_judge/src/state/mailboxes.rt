@@ -129,8 +129,7 @@ pub struct Mailboxes {
 
 impl Mailboxes {
     ghost use Rattle.std.specs.Prelude.{◌≡◌, ℕ, OnOk, length};
-    ghost use Rattle.ert_defs.specs.Legal.{stands_in};
-    ghost use Rattle.ert_defs.specs.Mails.{first_of, no_mail};
+    ghost use Rattle.ert_defs.specs.{Legal.stands_in, Mails.{first_of, no_mail}};
     ghost use Rattle.ert_judge.specs.Parts.{mail_at, mail_after_with, scheds_in};
 
     /// No process has anything.

@@ -22,10 +22,7 @@ impl Model for Timers {
 impl Timers {
     ghost use Rattle.std.specs.Prelude.{◌≡◌, ◌≢◌, ◌≤◌, ◌↔◌, IfOk, IfSome, MatchOption, OnOk, IsTrue, replicate, [], true, nat_le, length};
     ghost use Rattle.ert_defs.specs.Timers.{row_of};
-    ghost use Rattle.ert_judge.specs.Wheels.{timers_at, timer_in, is_settled, IsFirstDue};
-    ghost use Rattle.ert_judge.specs.Indexes.{IsFirstArmed};
-    ghost use Rattle.ert_judge.specs.Uses.{uses_of, uses_in, IsNewUse};
-    ghost use Rattle.ert_judge.specs.Parts.{status_at, rows_in, timers_after, with_moved, with_armed, ArmsNew};
+    ghost use Rattle.ert_judge.specs.{Wheels.{timers_at, timer_in, is_settled, IsFirstDue}, Indexes.IsFirstArmed, Uses.{uses_of, uses_in, IsNewUse}, Parts.{status_at, rows_in, timers_after, with_moved, with_armed, ArmsNew}};
 
     /// So many wheels with no timers.
     pub fn new(alloc: Global, schedulers: u32) -> Result<Timers, NoMemory>

@@ -1,6 +1,5 @@
 ghost use Rattle.std.specs.Prelude.{◌≡◌, ◌==◌, ◌↔◌, ◌≤ℤ◌, ℕ, pos, IsTrue, true, OnOk, OnErr, IsSome, if◌then◌else◌};
-ghost use Rattle.std.specs.BTreeMap.{get};
-ghost use Rattle.std.specs.Ordering.{nat_cmp};
+ghost use Rattle.std.specs.{BTreeMap.get, Ordering.nat_cmp};
 ghost use Rattle.ert_judge.specs.Indexes.{PutsPlace, Sets, kept_at};
 
 use crate::state::lists::push;
@@ -32,8 +31,7 @@ pub struct Wheel {
 
 impl Model for Wheel {
     ghost use Rattle.std.specs.Prelude.{List};
-    ghost use Rattle.ert_judge.specs.declared.state.wheels.Timer.{Timer};
-    ghost use Rattle.ert_judge.specs.Indexes.{IsIndexed};
+    ghost use Rattle.ert_judge.specs.{declared.state.wheels.Timer.Timer, Indexes.IsIndexed};
 
     ghost Value = { List Timer };
 
@@ -44,9 +42,7 @@ impl Model for Wheel {
 
 impl Wheel {
     ghost use Rattle.std.specs.Prelude.{◌≡◌, ◌≢◌, ◌≤◌, ◌++◌, ◌∷◌, [], OnOk, OnErr, MatchOption, slice_get, length, ◌↔◌, IsTrue, nat_le, true};
-    ghost use Rattle.ert_judge.specs.Wheels.{timer_in, is_settled, moved, IsFirstDue};
-    ghost use Rattle.ert_judge.specs.Uses.{uses_of, uses_in, IsNewUse};
-    ghost use Rattle.ert_judge.specs.Indexes.{IsUnknown, StandsAt, HasNoneBefore, IsFirstArmed};
+    ghost use Rattle.ert_judge.specs.{Wheels.{timer_in, is_settled, moved, IsFirstDue}, Uses.{uses_of, uses_in, IsNewUse}, Indexes.{IsUnknown, StandsAt, HasNoneBefore, IsFirstArmed}};
 
     /// A wheel with no timers.
     pub fn new(alloc: Global) -> Wheel

@@ -13,13 +13,9 @@ use std::marker::Brand;
 
 impl<L: DeskName> Locked<MailPart, L> {
     ghost use Rattle.std.specs.Prelude.{◌≡◌, Some, OnOk};
-    ghost use Rattle.ert_effects.specs.Chains.{Hands};
-    ghost use Rattle.ert_effects.specs.RequestCalls.{Answers};
-    ghost use Rattle.ert_effects.specs.Ways.{beside};
-    ghost use Rattle.ert_defs.specs.Mails.{first_of, others_of};
-    ghost use Rattle.ert_defs.specs.declared.entry.Actor.TheVariants.{MailOf, Sched};
-    ghost use Rattle.ert_locks.specs.Names.{IsDesk};
-    ghost use Rattle.ert_locks.specs.Passes.{FrontGrows, StepsWith};
+    ghost use Rattle.ert_effects.specs.{Chains.Hands, RequestCalls.Answers, Ways.beside};
+    ghost use Rattle.ert_defs.specs.{Mails.{first_of, others_of}, declared.entry.Actor.TheVariants.{MailOf, Sched}};
+    ghost use Rattle.ert_locks.specs.{Names.IsDesk, Passes.{FrontGrows, StepsWith}};
 
     /// Answers the request in the hand of a scheduler, of which this mailbox's process is to get the answer,
     /// and empties the hand. It tells the whole milliseconds that were left of the timer.

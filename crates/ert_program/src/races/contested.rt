@@ -1,8 +1,7 @@
 //! A worked race, of which a history and its report are known.
 
 ghost use Rattle.std.specs.Prelude.{codes};
-ghost use Rattle.ert_program.specs.WorkedRace.{two_callers, one_start, two_cancels, contest};
-ghost use Rattle.ert_program.specs.Outcomes.{IsOutcome};
+ghost use Rattle.ert_program.specs.{WorkedRace.{two_callers, one_start, two_cancels, contest}, Outcomes.IsOutcome};
 
 /// Two callers cancel one timer at once: one of them is told what was left of it, and the other that it had ended.
 pub fn a_contest_has_an_outcome()

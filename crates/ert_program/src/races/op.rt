@@ -1,10 +1,8 @@
 ghost use Rattle.std.specs.Prelude.{◌≡◌, ◌++◌};
-ghost use Rattle.ert_ops.specs.Races.{IsCallersOp};
-ghost use Rattle.ert_ops.specs.Ranges.{IsOpInRange};
+ghost use Rattle.ert_ops.specs.{Races.IsCallersOp, Ranges.IsOpInRange, Labels.ref_of};
 ghost use Rattle.ert_program.specs.Workers.{AnswersOwn};
 ghost use Rattle.ert_script.specs.Doing.{IsTimerOf};
 ghost use Rattle.ert_table.specs.Desks.{front_of};
-ghost use Rattle.ert_ops.specs.Labels.{ref_of};
 
 use crate::races::session_doer::SessionDoer;
 use ert_defs::{NoMemory, TimerRef};

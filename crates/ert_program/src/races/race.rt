@@ -4,11 +4,8 @@ ghost use Rattle.std.specs.Prelude.{◌≡◌, suc, List, length, IfOk, None};
 ghost use Rattle.ert_defs.specs.declared.entry.Entry.{Entry};
 ghost use Rattle.ert_locks.specs.Names.{IsDesk};
 ghost use Rattle.ert_ops.specs.Races.{MayDoAll, lists_of, race_of};
-ghost use Rattle.ert_program.specs.Ends.{RunsAtOnce, RacesTo};
-ghost use Rattle.ert_program.specs.Lists.{dids_of};
-ghost use Rattle.ert_program.specs.Worked.{ListsDone, TurnsDone};
-ghost use Rattle.ert_world.specs.Parts.{parts_of};
-ghost use Rattle.ert_world.specs.Worlds.{AreFit, seen};
+ghost use Rattle.ert_program.specs.{Ends.{RunsAtOnce, RacesTo}, Lists.dids_of, Worked.{ListsDone, TurnsDone}};
+ghost use Rattle.ert_world.specs.{Parts.parts_of, Worlds.{AreFit, seen}};
 ghost use Rattle.ert_service.specs.Dividing.{AreSeated};
 ghost use Rattle.ert_table.specs.Desks.{front_of};
 

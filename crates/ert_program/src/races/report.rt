@@ -1,7 +1,6 @@
 //! The text of a report behind the lines of the ops.
 ghost use Rattle.std.specs.Prelude.{◌≡◌, ◌++◌, OnOk, string_bytes};
-ghost use Rattle.ert_program.specs.Reports.{all_labels, heading, lines_by, lists_text};
-ghost use Rattle.ert_program.specs.Lists.{dids_of};
+ghost use Rattle.ert_program.specs.{Reports.{all_labels, heading, lines_by, lists_text}, Lists.dids_of};
 
 use crate::races::list::ListDone;
 use ert_defs::NoMemory;

@@ -1,12 +1,9 @@
 //! A race from its settings to its report.
 ghost use Rattle.std.specs.Prelude.{◌≡◌, ◌≤◌, None, IfOk, OnErr, IsErrOf, string_bytes};
 ghost use Rattle.ert_defs.specs.Settings.{IsChecked};
-ghost use Rattle.ert_io.specs.Faults.{Rose};
-ghost use Rattle.ert_io.specs.Told.{sink_told};
-ghost use Rattle.ert_ops.specs.Races.{IsRace, race_of};
-ghost use Rattle.ert_ops.specs.Ranges.{AreOpsInRange};
-ghost use Rattle.ert_program.specs.Lists.{dids_of};
-ghost use Rattle.ert_program.specs.Written.{RacesOn, StopsRace, report_behind};
+ghost use Rattle.ert_io.specs.{Faults.Rose, Told.sink_told};
+ghost use Rattle.ert_ops.specs.{Races.{IsRace, race_of}, Ranges.AreOpsInRange};
+ghost use Rattle.ert_program.specs.{Lists.dids_of, Written.{RacesOn, StopsRace, report_behind}};
 
 use crate::races::gates::Gate;
 use crate::races::race::{RaceEnd, race_on};

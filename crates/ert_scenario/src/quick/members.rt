@@ -2,10 +2,8 @@
 
 ghost use Rattle.std.specs.Prelude.{◌≡◌, ◌<◌, ◌∷◌, [], ℕ, suc, Some, None, false, codes, length, IsTrue, IfOk, IfSome};
 ghost use Rattle.std.specs.Str.{bytes_eq};
-ghost use Rattle.json.specs.Json.{value as json_value, members as json_members};
-ghost use Rattle.json.specs.Token.{begin_object};
-ghost use Rattle.serde_json.specs.Data.{Members, object, no_members};
-ghost use Rattle.serde_json.specs.Read.{of_json, of_members, converted};
+ghost use Rattle.json.specs.{Json.{value as json_value, members as json_members}, Token.begin_object};
+ghost use Rattle.serde_json.specs.{Data.{Members, object, no_members}, Read.{of_json, of_members, converted}};
 ghost use Rattle.ert_scenario.specs.QuickMembers.{IsSeenAs, ReadsMember};
 
 use super::ops::read_ops;

@@ -1,12 +1,8 @@
 //! Values that hold no object, and no array in an array, from the tokens of a text.
 
 ghost use Rattle.std.specs.Prelude.{◌≡◌, ◌<◌, ◌∷◌, ◌==◌, [], ℕ, suc, true, false, Some, length, slice_index, option_map, IsTrue, IfOk, IfSome};
-ghost use Rattle.json.specs.Json.{value as json_value, items as json_items};
-ghost use Rattle.json.specs.Reads.{token_of};
-ghost use Rattle.json.specs.Token.{begin_array};
-ghost use Rattle.serde_json.specs.Data.{number as number_data};
-ghost use Rattle.serde_json.specs.Read.{number_of, number_from, of_json, of_items, converted};
-ghost use Rattle.serde_json.specs.View.{view, items_view};
+ghost use Rattle.json.specs.{Json.{value as json_value, items as json_items}, Reads.token_of, Token.begin_array};
+ghost use Rattle.serde_json.specs.{Data.number as number_data, Read.{number_of, number_from, of_json, of_items, converted}, View.{view, items_view}};
 ghost use Rattle.ert_scenario.specs.Quick.{scalar_of};
 
 use fast_float::Numeral;

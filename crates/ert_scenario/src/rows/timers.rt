@@ -2,8 +2,7 @@
 
 ghost use Rattle.std.specs.Prelude.{◌≡◌, map, option_map, Some, None};
 ghost use Rattle.serde_json.specs.View.{view};
-ghost use Rattle.ert_scenario.specs.Kinds.{called};
-ghost use Rattle.ert_scenario.specs.Rows.{timer_rows, row_in, since_names, since as since_by, when_from, message_args, deadline_args, start_args, start_row};
+ghost use Rattle.ert_scenario.specs.{Kinds.called, Rows.{timer_rows, row_in, since_names, since as since_by, when_from, message_args, deadline_args, start_args, start_row}};
 
 use crate::fault::Fault;
 use crate::kinds::{both, end, integer, natural, next, one_word, text, word};

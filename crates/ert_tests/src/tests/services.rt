@@ -1,8 +1,7 @@
 //! A service from its opening to its closing. What its calls answer is shown by `examples/races`.
 ghost use Rattle.std.specs.Arc.{arc_value};
 ghost use Rattle.ert_locks.specs.Names.{IsDesk};
-ghost use Rattle.ert_world.specs.Parts.{parts_of};
-ghost use Rattle.ert_world.specs.Worlds.{AreFit};
+ghost use Rattle.ert_world.specs.{Parts.parts_of, Worlds.AreFit};
 
 use crate::examples::{first_timer, handed_timer};
 use crate::tests::seats::{are_callers, are_scheds};

@@ -1,7 +1,6 @@
 //! The calls of a hub and of a shard. What a caller has to know is looked up first.
 ghost use Rattle.std.specs.Prelude.{IfOk};
-ghost use Rattle.ert_shard.specs.Shards.{IsHome};
-ghost use Rattle.ert_shard.specs.Hubs.{AreOurs};
+ghost use Rattle.ert_shard.specs.{Shards.IsHome, Hubs.AreOurs};
 ghost use Rattle.ert_tests.specs.Kept.{IsOfHub, IsSameShard, IsCut};
 
 use ert_defs::{Kind, Mode, NoMemory, Reading, Settings, Start, TimerRef, When};

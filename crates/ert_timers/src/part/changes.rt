@@ -5,11 +5,8 @@ ghost use Rattle.ert_defs.specs.Timers as timers;
 ghost use Rattle.ert_defs.specs.Words as words;
 ghost use Rattle.ert_defs.specs.declared.timer.Status.TheVariants.{Armed};
 ghost use Rattle.ert_timers.specs.Changes as changes;
-ghost use Rattle.ert_timers.specs.Owners.{MayJoin, Joins};
-ghost use Rattle.ert_timers.specs.Parts.{AreJoined, IsWritten, all_slots};
-ghost use Rattle.ert_timers.specs.Slots.{stored_slot, stored_key};
+ghost use Rattle.ert_timers.specs.{Owners.{MayJoin, Joins}, Parts.{AreJoined, IsWritten, all_slots}, Slots.{stored_slot, stored_key}, Free.{free_set, with_short, with_long, TakesLong, TakesNextSlot}};
 ghost use Rattle.ert_wheel.specs.Rings.{Place, AreChains, MayTake, GivesUpPlace};
-ghost use Rattle.ert_timers.specs.Free.{free_set, with_short, with_long, TakesLong, TakesNextSlot};
 ghost use Rattle.ert_table.specs.Ranges.{IsTimer};
 
 use super::{Use, WheelPart, are_short, is_long};
@@ -92,11 +89,8 @@ impl WheelPart {
     ghost use Rattle.std.specs.Bool.{OnTrue};
     ghost use Rattle.std.specs.FinSet as set;
     ghost use Rattle.std.specs.Prelude.{◌≡◌, ◌↔◌, ◌<◌, ◌≤◌, IfSome, IfNone, IsSome, IsTrue, ℕ, false, true, length, max, None};
-    ghost use Rattle.ert_timers.specs.Parts.{slot_at, last_timer};
-    ghost use Rattle.ert_timers.specs.Changes.{MayBecomeFree, freed, picked, kept, dropped, let_go, given_back, reused, LostRow};
-    ghost use Rattle.ert_timers.specs.Freeing.{IsHeld, IsInUse, IsLetGo};
-    ghost use Rattle.ert_wheel.specs.Rows.{key_in};
-    ghost use Rattle.ert_wheel.specs.Standing.{ComesTo};
+    ghost use Rattle.ert_timers.specs.{Parts.{slot_at, last_timer}, Changes.{MayBecomeFree, freed, picked, kept, dropped, let_go, given_back, reused, LostRow}, Freeing.{IsHeld, IsInUse, IsLetGo}};
+    ghost use Rattle.ert_wheel.specs.{Rows.key_in, Standing.ComesTo};
 
     /// Takes a slot out that is held free, for a timer that is started at a time with a deadline, both in
     /// milliseconds after the start time; None exactly where none is.

@@ -6,16 +6,10 @@ use ert_defs::TimerRef;
 use ert_wheel::{FirstDue, HeldRow};
 
 impl WheelPart {
-    ghost use Rattle.std.specs.Bool.{OnTrue};
-    ghost use Rattle.ert_timers.specs.Expiring.{AreDue};
-    ghost use Rattle.std.specs.Option.{is_some};
+    ghost use Rattle.std.specs.{Bool.OnTrue, Option.is_some};
+    ghost use Rattle.ert_timers.specs.{Expiring.AreDue, NextDue.IsNextHeld, Parts.last_timer, Trying.come_to};
     ghost use Rattle.std.specs.Prelude.{◌≡◌, ◌<◌, ◌≤◌, IfNone, IfSome, MatchOption, Some, [], count_by, length, min, vec_capacity};
-    ghost use Rattle.ert_timers.specs.NextDue.{IsNextHeld};
-    ghost use Rattle.ert_timers.specs.Parts.{last_timer};
-    ghost use Rattle.ert_timers.specs.Trying.{come_to};
-    ghost use Rattle.ert_wheel.specs.NextDue.{IsNextDue, TellsNext};
-    ghost use Rattle.ert_wheel.specs.FirstDue.{IsFirstTold};
-    ghost use Rattle.ert_wheel.specs.Standing.{StayOrFall};
+    ghost use Rattle.ert_wheel.specs.{NextDue.{IsNextDue, TellsNext}, FirstDue.IsFirstTold, Standing.StayOrFall};
 
     /// The first row that is due at `to`, by deadline and then by start, where so many rows at most may move in the wheel; they are
     /// counted down. The time of the wheel goes on with it, and past `to` where no row is due. `scratch` is the

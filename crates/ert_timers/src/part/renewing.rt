@@ -7,10 +7,8 @@ use ert_wheel::Row;
 
 impl WheelPart {
     ghost use Rattle.std.specs.Prelude.{◌≡◌, ◌↔◌, ◌<◌, ◌≤◌, ◌-◌, IsTrue, length, max, true, false};
-    ghost use Rattle.ert_timers.specs.Changes.{kept};
+    ghost use Rattle.ert_timers.specs.{Changes.kept, Parts.{last_timer, slot_at}, Restarting.{CanRenew, MayStay}};
     ghost use Rattle.ert_effects.specs.RestartCalls.{NeedsSlot};
-    ghost use Rattle.ert_timers.specs.Parts.{last_timer, slot_at};
-    ghost use Rattle.ert_timers.specs.Restarting.{CanRenew, MayStay};
     ghost use Rattle.ert_wheel.specs.Standing.{ComesOrStays};
     ghost use Rattle.ert_table.specs.Ranges.{IsTimer};
     ghost use Rattle.ert_defs.specs.Words as words;

@@ -13,11 +13,7 @@ use crate::windows::{begin_of, bucket_of_window, window_on};
 impl<T: Keyed> Wheel<T> {
     ghost use Rattle.std.specs.Bool.{OnTrue};
     ghost use Rattle.std.specs.Prelude.{◌≡◌, ◌+◌, ◌-◌, ◌<◌, ◌≤◌, ℕ, IfSome, MatchBool, MatchOption, length, max, min, vec_capacity};
-    ghost use Rattle.ert_wheel.specs.FirstDue.{NoRowDue, HasToMove, IsFirstDueAt, IsFirstTold, IsNextStop, IsReached, MayBeDue, SomeRowDue};
-    ghost use Rattle.ert_wheel.specs.NextDue.{NoneBefore};
-    ghost use Rattle.ert_wheel.specs.Rows.{key_in};
-    ghost use Rattle.ert_wheel.specs.Standing.{StayOrFall};
-    ghost use Rattle.ert_wheel.specs.declared.row.TheConstants.{LAST};
+    ghost use Rattle.ert_wheel.specs.{FirstDue.{NoRowDue, HasToMove, IsFirstDueAt, IsFirstTold, IsNextStop, IsReached, MayBeDue, SomeRowDue}, NextDue.NoneBefore, Rows.key_in, Standing.StayOrFall, declared.row.TheConstants.LAST};
 
     /// Whether a row may be due at `to`: one is due by then or by the next time, or a window begins by then where rows stand. False
     /// comes only where none is due by then.

@@ -9,8 +9,7 @@ use crate::windows::{begin_of, bucket_of_window, window_on, windows_end};
 
 impl<T: Keyed> Wheel<T> {
     ghost use Rattle.std.specs.Prelude.{◌≡◌, ◌↔◌, ◌<◌, ◌≤◌, IfNone, IfSome, IsSome, IsTrue, MatchOption};
-    ghost use Rattle.ert_wheel.specs.FirstDue.{SomeRowDue};
-    ghost use Rattle.ert_wheel.specs.NextDue.{NoRow, NoneBeginsOn, IsDueAt, IsDueOf, IsNextDue, TellsNext, WindowBegins};
+    ghost use Rattle.ert_wheel.specs.{FirstDue.SomeRowDue, NextDue.{NoRow, NoneBeginsOn, IsDueAt, IsDueOf, IsNextDue, TellsNext, WindowBegins}};
 
     /// How early the next row may be due, in milliseconds; None exactly where there is no row.
     ///

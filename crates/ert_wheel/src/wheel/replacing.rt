@@ -1,10 +1,7 @@
 //! A slot's row that another takes the place of.
 ghost use Rattle.std.specs.Bool.{OnTrue};
 ghost use Rattle.std.specs.Prelude.{◌≡◌, ◌<◌, max};
-ghost use Rattle.ert_wheel.specs.Levels.{StaysPut};
-ghost use Rattle.ert_wheel.specs.Replacing.{MovesOrStays};
-ghost use Rattle.ert_wheel.specs.Rings.{MayTake};
-ghost use Rattle.ert_wheel.specs.declared.row.TheConstants.{NEVER};
+ghost use Rattle.ert_wheel.specs.{Levels.StaysPut, Replacing.MovesOrStays, Rings.MayTake, declared.row.TheConstants.NEVER};
 
 use super::{Wheel, lower};
 use crate::keyed::Keyed;
@@ -14,9 +11,7 @@ use crate::windows::bucket;
 
 impl<T: Keyed> Wheel<T> {
     ghost use Rattle.std.specs.Prelude.{◌≡◌, ◌<◌, ℕ, Some, IfSome, IsSome, max, slice_set};
-    ghost use Rattle.ert_wheel.specs.Rows.{key_in, key_of};
-    ghost use Rattle.ert_wheel.specs.Standing.{ComesOrStays};
-    ghost use Rattle.ert_wheel.specs.declared.row.TheConstants.{NEVER};
+    ghost use Rattle.ert_wheel.specs.{Rows.{key_in, key_of}, Standing.ComesOrStays, declared.row.TheConstants.NEVER};
 
     /// Puts a row in the place of the one that its slot has, with a value of the slot that has the row's key in it, as a
     /// `remove` and an `insert` do.

@@ -2,8 +2,7 @@ use Rattle.std.proofs.Common.{◌≡◌, ◌∙◌, sym, subst, ap, Some, false,
 use Rattle.ert_c.proofs.Sharing.{opens_shard, none_there, cuts_some, taken_back, given_next}
 use Rattle.ert_c.proofs.hub_exports.ert_hub_shard.Goals as goal
 use Rattle.ert_c.specs.Places.{is_there}
-use Rattle.ert_shard.specs.Hubs.{Rest, IsLastOut, TakesBack}
-use Rattle.ert_shard.specs.Shards.{Owned}
+use Rattle.ert_shard.specs.{Hubs.{Rest, IsLastOut, TakesBack}, Shards.Owned}
 
 pub join-requires-clause-table : goal.join-requires-clause-table
 join-requires-clause-table c =

@@ -1,7 +1,6 @@
 use Rattle.std.proofs.Common.{◌≡◌, ◌-◌, ◌≤◌, List, length}
 use Rattle.ert_defs.specs.declared.mail.Mail.{Mail}
-use Rattle.ert_world.specs.Mailing.{TakesMails}
-use Rattle.ert_world.specs.Worlds.{Goes}
+use Rattle.ert_world.specs.{Mailing.TakesMails, Worlds.Goes}
 use Rattle.ert_c.specs.Mailing.{StandFirst}
 use Rattle.ert_c.proofs.mail_calls.take_places.Given as goal
 

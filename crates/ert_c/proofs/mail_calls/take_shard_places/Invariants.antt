@@ -1,7 +1,6 @@
 use Rattle.std.proofs.Common.{◌≡◌, ◌+◌, ◌-◌, ◌≤◌, List, length}
 use Rattle.ert_defs.specs.declared.mail.Mail.{Mail}
-use Rattle.ert_shard.specs.Receiving.{CallerTakesMails}
-use Rattle.ert_shard.specs.Shards.{ShardSteps}
+use Rattle.ert_shard.specs.{Receiving.CallerTakesMails, Shards.ShardSteps}
 use Rattle.ert_c.specs.Mailing.{StandFirst}
 use Rattle.ert_c.proofs.mail_calls.take_shard_places.Given as goal
 

@@ -1,6 +1,5 @@
 use Rattle.std.proofs.Common.{refl, ap, ◌∙◌, rules}
-use Rattle.ert_c.proofs.Sharing.{made_through, below_home, above_home, at_home}
-use Rattle.ert_c.proofs.shard_exports.ert_shard_start.Goals.{then-process-from-via-then-process-from, then-process-from-via-else-process-from+then-process-to}
+use Rattle.ert_c.proofs.{Sharing.{made_through, below_home, above_home, at_home}, shard_exports.ert_shard_start.Goals.{then-process-from-via-then-process-from, then-process-from-via-else-process-from+then-process-to}}
 use Rattle.ert_c.specs.declared.shard_handle.ErtShard.{ErtShard}
 use Rattle.ert_c.proofs.shard_exports.ert_shard_start.Goals as goal
 

@@ -1,11 +1,7 @@
 use Rattle.std.proofs.Common.{refl, ap, subst, ◌∙◌, rules}
-use Rattle.ert_c.proofs.Sharing.{made_through, below_home, above_home, at_home}
-use Rattle.ert_c.proofs.shard_waiting_exports.ert_shard_restart.Goals.{then-process-from-via-then-process-from, then-process-from-via-else-process-from+then-process-to}
-use Rattle.ert_c.specs.declared.shard_handle.ErtShard.{ErtShard}
-use Rattle.ert_c.specs.ShardCalls.{ShardRestartsBy}
-use Rattle.ert_c.specs.Told.{timer_from_c}
-use Rattle.ert_defs.specs.declared.timer.Start.{Start}
-use Rattle.ert_defs.specs.declared.timer.TimerRef.{TimerRef}
+use Rattle.ert_c.proofs.{Sharing.{made_through, below_home, above_home, at_home}, shard_waiting_exports.ert_shard_restart.Goals.{then-process-from-via-then-process-from, then-process-from-via-else-process-from+then-process-to}}
+use Rattle.ert_c.specs.{declared.shard_handle.ErtShard.ErtShard, ShardCalls.ShardRestartsBy, Told.timer_from_c}
+use Rattle.ert_defs.specs.declared.timer.{Start.Start, TimerRef.TimerRef}
 use Rattle.ert_c.proofs.shard_waiting_exports.ert_shard_restart.Goals as goal
 
 pub returns-then-process-from : goal.returns-then-process-from

@@ -2,8 +2,7 @@ use Rattle.std.proofs.Common.{refl, ap, subst, ◌∙◌, rules, arith}
 use Rattle.ert_c.proofs.Ways.{through}
 use Rattle.ert_c.proofs.timer_exports.ert_world_start.Goals as goal
 use Rattle.ert_c.specs.Calls.{StartsBy}
-use Rattle.ert_defs.specs.declared.settings.Settings.{Settings}
-use Rattle.ert_defs.specs.declared.timer.Start.{Start}
+use Rattle.ert_defs.specs.declared.{settings.Settings.Settings, timer.Start.Start}
 
 pub returns : goal.returns
 returns c =

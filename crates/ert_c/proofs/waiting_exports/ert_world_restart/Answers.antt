@@ -1,11 +1,8 @@
 use Rattle.std.proofs.Common.{refl, ap, subst, ◌∙◌, rules, arith}
 use Rattle.ert_c.proofs.Ways.{through}
 use Rattle.ert_c.proofs.waiting_exports.ert_world_restart.Goals as goal
-use Rattle.ert_c.specs.Told.{timer_from_c}
-use Rattle.ert_c.specs.Waiting.{RestartsBy}
-use Rattle.ert_defs.specs.declared.settings.Settings.{Settings}
-use Rattle.ert_defs.specs.declared.timer.Start.{Start}
-use Rattle.ert_defs.specs.declared.timer.TimerRef.{TimerRef}
+use Rattle.ert_c.specs.{Told.timer_from_c, Waiting.RestartsBy}
+use Rattle.ert_defs.specs.declared.{settings.Settings.Settings, timer.Start.Start, timer.TimerRef.TimerRef}
 
 pub returns : goal.returns
 returns c =

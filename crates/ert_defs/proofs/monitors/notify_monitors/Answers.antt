@@ -1,7 +1,5 @@
 use Rattle.std.proofs.Common.{arith, ◌<◌, List, [], ◌∷◌, get_or, slice_index_or, ◌≡◌, ◌∙◌, sym, ap, ℤ, pos, ◌++◌, length, take, to_z, of_z, w64, to_z-of_z, append_assoc, length-append}
-use Rattle.ert_defs.specs.Mails.{changes_of}
-use Rattle.ert_defs.specs.declared.mail.Mail.{Mail}
-use Rattle.ert_defs.specs.declared.mail.Monitor.{Monitor}
+use Rattle.ert_defs.specs.{Mails.changes_of, declared.mail.Mail.Mail, declared.mail.Monitor.Monitor}
 use Rattle.ert_defs.proofs.MonitorLaws.{changes_more, told_more, told_whole, untold}
 use Rattle.ert_defs.proofs.monitors.notify_monitors.Goals as goal
 

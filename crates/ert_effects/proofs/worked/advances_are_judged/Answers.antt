@@ -1,19 +1,9 @@
 use Rattle.std.proofs.Common.{◌≡◌, ℕ, pos, cond, nat_eq, Bool, true, false, List, [], ◌∷◌, ◌++◌, Option, Some, None, refl, sym, ap, ◌∙◌, subst, arith, lit≤}
 use Rattle.ert_effects.proofs.Told.{advances_same, event_same}
-use Rattle.ert_effects.specs.WheelCalls.{Try, AllMissesSettled, HasAdvanced, expires_by, expiry_entries, IsSettled, IsDueBy, AllDue, AreOnce}
-use Rattle.ert_effects.specs.Worked.{one, asked_at_once, missing}
-use Rattle.ert_defs.specs.Entries.{probe_entry, expire_entry, advanced_entry}
-use Rattle.ert_defs.specs.States.{state}
-use Rattle.ert_defs.specs.Timers.{Row, same_timer}
+use Rattle.ert_effects.specs.{WheelCalls.{Try, AllMissesSettled, HasAdvanced, expires_by, expiry_entries, IsSettled, IsDueBy, AllDue, AreOnce}, Worked.{one, asked_at_once, missing}}
+use Rattle.ert_defs.specs.{Entries.{probe_entry, expire_entry, advanced_entry}, States.state, Timers.{Row, same_timer}, declared.timer.Kind.TheVariants.Wrapped, Worked.timer, declared.entry.Actor.TheVariants.Sched}
+use Rattle.ert_defs.specs.{declared.entry.Entry.Entry, declared.entry.Event.TheVariants.{Probe, Expire, Advanced}, declared.timer.Status.Status, declared.timer.Status.TheVariants.{Armed, Cancelled}, declared.timer.TimerRef.TimerRef}
 use Rattle.ert_defs.proofs.ExpiredTimers.{row_named}
-use Rattle.ert_defs.specs.declared.timer.Kind.TheVariants.{Wrapped}
-use Rattle.ert_defs.specs.Worked.{timer}
-use Rattle.ert_defs.specs.declared.entry.Actor.TheVariants.{Sched}
-use Rattle.ert_defs.specs.declared.entry.Entry.{Entry}
-use Rattle.ert_defs.specs.declared.entry.Event.TheVariants.{Probe, Expire, Advanced}
-use Rattle.ert_defs.specs.declared.timer.Status.{Status}
-use Rattle.ert_defs.specs.declared.timer.Status.TheVariants.{Armed, Cancelled}
-use Rattle.ert_defs.specs.declared.timer.TimerRef.{TimerRef}
 use Rattle.ert_effects.proofs.worked.advances_are_judged.Goals as goal
 
 -- the timer is due at the time of the advance

@@ -1,14 +1,8 @@
 use Rattle.std.proofs.Common.{◌≡◌, ℕ, List, [], ◌∷◌, Option, Some, None, refl, ap, ◌∙◌}
 use Rattle.ert_effects.proofs.Told.{event_same}
-use Rattle.ert_effects.specs.WheelCalls.{Try, IsFor, MaySweep, AllMaySweep, orphans_by, orphan_entries}
-use Rattle.ert_effects.specs.Worked.{first_timer_of, exiting, probed}
-use Rattle.ert_defs.specs.Entries.{orphan_entry}
-use Rattle.ert_defs.specs.Timers.{Row}
-use Rattle.ert_defs.specs.declared.entry.Event.TheVariants.{Probe, Orphan}
-use Rattle.ert_defs.specs.declared.timer.Kind.TheVariants.{Wrapped}
-use Rattle.ert_defs.specs.declared.timer.Status.{Status}
-use Rattle.ert_defs.specs.declared.timer.Status.TheVariants.{Cancelled}
-use Rattle.ert_defs.specs.declared.timer.TimerRef.{TimerRef}
+use Rattle.ert_effects.specs.{WheelCalls.{Try, IsFor, MaySweep, AllMaySweep, orphans_by, orphan_entries}, Worked.{first_timer_of, exiting, probed}}
+use Rattle.ert_defs.specs.{Entries.orphan_entry, Timers.Row, declared.entry.Event.TheVariants.{Probe, Orphan}, declared.timer.Kind.TheVariants.Wrapped, declared.timer.Status.Status, declared.timer.Status.TheVariants.Cancelled}
+use Rattle.ert_defs.specs.{declared.timer.TimerRef.TimerRef}
 use Rattle.ert_effects.proofs.worked.exits_are_judged.Goals as goal
 
 -- the row of the timer of a wheel for a process

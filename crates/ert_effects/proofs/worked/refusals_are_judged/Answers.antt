@@ -1,6 +1,5 @@
 use Rattle.std.proofs.Common.{◌≡◌, ◌+◌, [], length, Some, inl, inr, refl, sym, ap, arith}
-use Rattle.ert_effects.specs.TimerCalls.{Round}
-use Rattle.ert_effects.specs.Worked.{armed, probed}
+use Rattle.ert_effects.specs.{TimerCalls.Round, Worked.{armed, probed}}
 use Rattle.ert_effects.proofs.Rounds.{round_many, round_first}
 use Rattle.ert_defs.specs.declared.timer.Status.TheVariants.{Armed, Cancelled}
 use Rattle.ert_effects.proofs.worked.refusals_are_judged.Goals as goal

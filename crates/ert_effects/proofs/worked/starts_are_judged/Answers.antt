@@ -1,13 +1,8 @@
 use Rattle.std.proofs.Common.{◌≡◌, pos, Bool, true, false, List, [], ◌∷◌, ◌++◌, Some, inl, inr, refl, subst}
 use Rattle.ert_effects.proofs.Told.{event_same, armed_same}
-use Rattle.ert_effects.specs.TimerCalls.{Closes, IsStarted}
-use Rattle.ert_effects.specs.Worked.{one, idle, starting, probed}
-use Rattle.ert_defs.specs.Entries.{probe_entry, arm_entry, orphan_entry, mark_entry}
-use Rattle.ert_defs.specs.Worked.{timer, start_after}
-use Rattle.ert_defs.specs.declared.entry.Actor.TheVariants.{Caller}
-use Rattle.ert_defs.specs.declared.entry.Entry.{Entry}
-use Rattle.ert_defs.specs.declared.entry.Event.TheVariants.{Probe, Orphan, Mark}
-use Rattle.ert_defs.specs.declared.timer.Status.TheVariants.{Armed, Cancelled}
+use Rattle.ert_effects.specs.{TimerCalls.{Closes, IsStarted}, Worked.{one, idle, starting, probed}}
+use Rattle.ert_defs.specs.{Entries.{probe_entry, arm_entry, orphan_entry, mark_entry}, Worked.{timer, start_after}, declared.entry.Actor.TheVariants.Caller, declared.entry.Entry.Entry, declared.entry.Event.TheVariants.{Probe, Orphan, Mark}}
+use Rattle.ert_defs.specs.{declared.timer.Status.TheVariants.{Armed, Cancelled}}
 use Rattle.ert_effects.proofs.worked.starts_are_judged.Goals as goal
 
 -- a start without probes ends as it may

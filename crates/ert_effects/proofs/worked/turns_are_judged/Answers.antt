@@ -1,15 +1,7 @@
 use Rattle.std.proofs.Common.{◌≡◌, ◌∙◌, pos, List, [], ◌∷◌, ◌++◌, Some, None, Ok, refl, rules, sym, ap, subst, append_assoc, lit≤}
-use Rattle.ert_effects.specs.Chains.{HasServed, ServesAll, AdvancesWheel, HasDelivered}
-use Rattle.ert_effects.specs.Ways.{alone}
-use Rattle.ert_effects.specs.Worked.{one, request_to_read, asked_at_once, serving, idling, advancing, delivering, turning}
-use Rattle.ert_effects.specs.declared.answers.Handed.TheVariants.{Put}
-use Rattle.ert_defs.specs.States.{state}
-use Rattle.ert_defs.specs.Timers.{Row}
-use Rattle.ert_defs.specs.Worked.{timer, by_sched}
-use Rattle.ert_defs.specs.declared.entry.Actor.TheVariants.{Inbox, MailOf}
-use Rattle.ert_defs.specs.declared.entry.Entry.{Entry}
-use Rattle.ert_defs.specs.declared.entry.Event.TheVariants.{Look, Peek, Pick, Answer}
-use Rattle.ert_defs.specs.declared.timer.Kind.TheVariants.{Wrapped}
+use Rattle.ert_effects.specs.{Chains.{HasServed, ServesAll, AdvancesWheel, HasDelivered}, Ways.alone, Worked.{one, request_to_read, asked_at_once, serving, idling, advancing, delivering, turning}, declared.answers.Handed.TheVariants.Put}
+use Rattle.ert_defs.specs.{States.state, Timers.Row, Worked.{timer, by_sched}, declared.entry.Actor.TheVariants.{Inbox, MailOf}, declared.entry.Entry.Entry, declared.entry.Event.TheVariants.{Look, Peek, Pick, Answer}}
+use Rattle.ert_defs.specs.{declared.timer.Kind.TheVariants.Wrapped}
 use Rattle.ert_effects.proofs.worked.turns_are_judged.Goals as goal
 
 -- the scheduler takes the request

@@ -1,15 +1,6 @@
 use Rattle.std.proofs.Common.{◌≡◌, ◌≤◌, pos, List, [], ◌∷◌, ◌++◌, length, None, refl, arith, lit≤}
-use Rattle.ert_defs.specs.Entries.{look_entry}
-use Rattle.ert_defs.specs.States.{state}
-use Rattle.ert_defs.specs.Timers.{Row}
-use Rattle.ert_defs.specs.Worked.{timer}
-use Rattle.ert_defs.specs.declared.entry.Actor.TheVariants.{Sched}
-use Rattle.ert_defs.specs.declared.entry.Entry.{Entry}
-use Rattle.ert_defs.specs.declared.timer.Kind.TheVariants.{Wrapped}
-use Rattle.ert_effects.specs.SomeCalls.{end_entries}
-use Rattle.ert_effects.specs.WheelCalls.{Try, hits, expiry_entries, IsDueBy}
-use Rattle.ert_effects.specs.declared.answers.Left.TheVariants.{Due}
-use Rattle.ert_effects.specs.Worked.{one, asked_at_once}
+use Rattle.ert_defs.specs.{Entries.look_entry, States.state, Timers.Row, Worked.timer, declared.entry.Actor.TheVariants.Sched, declared.entry.Entry.Entry, declared.timer.Kind.TheVariants.Wrapped}
+use Rattle.ert_effects.specs.{SomeCalls.end_entries, WheelCalls.{Try, hits, expiry_entries, IsDueBy}, declared.answers.Left.TheVariants.Due, Worked.{one, asked_at_once}}
 use Rattle.ert_effects.proofs.worked_some.bounded_advances_are_judged.Goals as goal
 
 -- the timer is due at the time of the advance

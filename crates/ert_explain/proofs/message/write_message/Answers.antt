@@ -1,7 +1,6 @@
 use Rattle.std.proofs.Common.{◌≡◌, ◌++◌, ℕ, List, codes, string_bytes}
 use Rattle.ert_explain.proofs.Texts.{joined, ok_map}
-use Rattle.ert_explain.specs.Explained.{shown_bytes}
-use Rattle.ert_explain.specs.Messages.{head_text, front_text, middle_text, back_text, message}
+use Rattle.ert_explain.specs.{Explained.shown_bytes, Messages.{head_text, front_text, middle_text, back_text, message}}
 use Rattle.ert_explain.proofs.message.write_message.Goals as goal
 
 pub returns : goal.returns

@@ -1,7 +1,6 @@
 use Rattle.std.proofs.Common.{◌≡◌, true, false, not, refl, sym, ap, ◌∙◌, inl, inr}
 use Rattle.ert_defs.specs.States.{state}
-use Rattle.ert_interval.proofs.Onward.{still_then, still_kept, armed_runs, ended, other_later, new_before}
-use Rattle.ert_interval.proofs.Stepping.{goes_armed, goes_high, goes_dead, goes_start}
+use Rattle.ert_interval.proofs.{Onward.{still_then, still_kept, armed_runs, ended, other_later, new_before}, Stepping.{goes_armed, goes_high, goes_dead, goes_start}}
 use Rattle.ert_interval.proofs.going.go_on.Goals as goal
 
 pub returns-then-is_armed-clause-kept : goal.returns-then-is_armed-clause-kept

@@ -1,17 +1,8 @@
 use Rattle.std.proofs.Common.{◌≡◌, ℕ, ◌+◌, refl, sym, ap, subst, ◌∙◌, ◌≤◌, inl, inr, Some, Ok, Err, ◌∷◌, [], ◌++◌}
-use Rattle.ert_effects.specs.TimerCalls.{Starts}
-use Rattle.ert_effects.specs.declared.answers.StartErr.TheVariants.{Full}
-use Rattle.ert_defs.specs.States.{state}
-use Rattle.ert_defs.specs.declared.settings.Settings.{Settings}
-use Rattle.ert_defs.specs.declared.timer.Start.{Start}
-use Rattle.ert_defs.specs.declared.timer.Status.TheVariants.{Armed}
-use Rattle.ert_interval.specs.Deadlines.{start_at, time_of_deadline}
-use Rattle.ert_interval.specs.Going.{next_start}
-use Rattle.ert_interval.specs.declared.interval.Interval.{Interval}
-use Rattle.ert_interval.specs.declared.interval.IntervalState.TheVariants.{Running}
-use Rattle.ert_interval.proofs.Onward.{waits, lives_still, open_going, due_at}
-use Rattle.ert_interval.proofs.Pushing.{pushed}
-use Rattle.ert_interval.proofs.Starting.{started, refused_full, full_answer, full_start}
+use Rattle.ert_effects.specs.{TimerCalls.Starts, declared.answers.StartErr.TheVariants.Full}
+use Rattle.ert_defs.specs.{States.state, declared.settings.Settings.Settings, declared.timer.Start.Start, declared.timer.Status.TheVariants.Armed}
+use Rattle.ert_interval.specs.{Deadlines.{start_at, time_of_deadline}, Going.next_start, declared.interval.Interval.Interval, declared.interval.IntervalState.TheVariants.Running}
+use Rattle.ert_interval.proofs.{Onward.{waits, lives_still, open_going, due_at}, Pushing.pushed, Starting.{started, refused_full, full_answer, full_start}}
 use Rattle.ert_world.specs.Worlds.{Seen, Goes, By}
 use Rattle.ert_interval.proofs.going.start_next.Goals as goal
 

@@ -1,9 +1,7 @@
 use Rattle.std.proofs.Common.{◌≡◌, ◌≤◌, ◌∙◌, ap, sym, length, take, arith, Err}
-use Rattle.std.proofs.lemmas.List.{length-take}
-use Rattle.std.proofs.lemmas.Result.{err_from_is_err_and}
+use Rattle.std.proofs.lemmas.{List.length-take, Result.err_from_is_err_and}
 use Rattle.ert_io.proofs.SeveralReads.{handed_more}
-use Rattle.ert_io.specs.declared.reading.ReadErr.{ReadErr}
-use Rattle.ert_io.specs.declared.reading.ReadErr.TheVariants.{NoMemory}
+use Rattle.ert_io.specs.declared.reading.ReadErr.{ReadErr, TheVariants.NoMemory}
 use Rattle.ert_io.proofs.reading.read_all.Goals as goal
 
 pub returns-in_err-append_piece-clause-memory : goal.returns-in_err-append_piece-clause-memory

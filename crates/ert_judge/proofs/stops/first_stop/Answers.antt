@@ -1,6 +1,5 @@
 use Rattle.std.proofs.Common.{rules, take}
-use Rattle.ert_judge.proofs.Opens.{stands_open}
-use Rattle.ert_judge.proofs.Walks.{walk_on, walk_stops, arms_new}
+use Rattle.ert_judge.proofs.{Opens.stands_open, Walks.{walk_on, walk_stops, arms_new}}
 use Rattle.ert_judge.proofs.stops.first_stop.Goals as goal
 
 pub loop-i-init : goal.loop-i-init

@@ -1,10 +1,7 @@
 use Rattle.std.proofs.Common.{rules, sym, ◌∙◌}
 use Rattle.ert_defs.specs.Milliseconds.{down}
-use Rattle.ert_judge.proofs.FirstArmed.{found_status}
-use Rattle.ert_judge.proofs.Knows.{next_known}
-use Rattle.ert_judge.proofs.Seen.{refuted}
-use Rattle.ert_judge.specs.Parts.{looks_in, look_of}
-use Rattle.ert_judge.specs.Wheels.{timers_at, IsFirstDue}
+use Rattle.ert_judge.proofs.{FirstArmed.found_status, Knows.next_known, Seen.refuted}
+use Rattle.ert_judge.specs.{Parts.{looks_in, look_of}, Wheels.{timers_at, IsFirstDue}}
 use Rattle.ert_judge.proofs.timers.of_expire.Goals as goal
 
 pub of_not_next-requires-clause-never : goal.of_not_next-requires-clause-never

@@ -1,10 +1,7 @@
 use Rattle.std.proofs.Common.{rules, subst, ◌≡◌, Option, ℕ}
 use Rattle.ert_defs.specs.Milliseconds.{natural, down, deadline_of}
-use Rattle.ert_judge.specs.Parts.{looks_in, look_of}
-use Rattle.ert_judge.specs.Uses.{uses_of}
+use Rattle.ert_judge.specs.{Parts.{looks_in, look_of}, Uses.uses_of, Breaks.IsUse, Shown.shown}
 use Rattle.ert_judge.proofs.NewTimers.{use_known, use_breaks, wheel_used}
-use Rattle.ert_judge.specs.Breaks.{IsUse}
-use Rattle.ert_judge.specs.Shown.{shown}
 use Rattle.ert_judge.proofs.timers.of_free.Goals as goal
 
 pub returns-in-Some-clause-some : goal.returns-in-Some-clause-some

@@ -2,8 +2,7 @@ use Rattle.std.proofs.Common.{rules, refl, subst, ◌≡◌, ◌≤ℤ◌, ℤ, 
 use Rattle.std.specs.Int.{w128}
 use Rattle.ert_defs.specs.Milliseconds.{down}
 use Rattle.ert_judge.specs.Parts.{looks_in, look_of}
-use Rattle.ert_judge.proofs.FirstArmed.{found_armed, kept_back, later_first, second_first, none_first}
-use Rattle.ert_judge.proofs.Seen.{never_next}
+use Rattle.ert_judge.proofs.{FirstArmed.{found_armed, kept_back, later_first, second_first, none_first}, Seen.never_next}
 use Rattle.ert_judge.proofs.timers.of_not_next.Goals as goal
 
 pub returns-then-is_early : goal.returns-then-is_early

@@ -1,6 +1,4 @@
-use Rattle.ert_laws.proofs.CountTotals.{deliveries_counted}
-use Rattle.ert_laws.proofs.Counting.{arms_counted, expiries_counted, orphans_counted, six_statuses}
-use Rattle.ert_laws.proofs.ExpiredCounts.{expired_wait}
+use Rattle.ert_laws.proofs.{CountTotals.deliveries_counted, Counting.{arms_counted, expiries_counted, orphans_counted, six_statuses}, ExpiredCounts.expired_wait}
 use Rattle.ert_laws.proofs.counts.timers_are_counted.Goals as goal
 
 pub returns-clause-arms : goal.returns-clause-arms

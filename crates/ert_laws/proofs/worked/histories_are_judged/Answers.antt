@@ -1,13 +1,8 @@
 use Rattle.std.proofs.Common.{◌≡◌, ℕ, pos, ◌≤ℤ◌, List, [], ◌∷◌, ◌++◌, Some, refl, subst, rules, arith}
 use Rattle.std.proofs.lemmas.Int.{ints}
 use Rattle.ert_defs.proofs.Runs.{legal_parts, legal_one_more}
-use Rattle.ert_defs.specs.Legal.{IsNext, IsFirst, HasDestExited, CanAnswer}
-use Rattle.ert_defs.specs.States.{state}
-use Rattle.ert_defs.specs.Timers.{Row}
-use Rattle.ert_defs.specs.Worked.{small, timer, started, expiry, exit, asked, answer, request}
-use Rattle.ert_defs.specs.declared.entry.Actor.TheVariants.{Sched, MailOf}
-use Rattle.ert_defs.specs.declared.settings.Mode.TheVariants.{No}
-use Rattle.ert_defs.specs.declared.timer.Kind.TheVariants.{Wrapped}
+use Rattle.ert_defs.specs.{Legal.{IsNext, IsFirst, HasDestExited, CanAnswer}, States.state, Timers.Row, Worked.{small, timer, started, expiry, exit, asked, answer, request}, declared.entry.Actor.TheVariants.{Sched, MailOf}}
+use Rattle.ert_defs.specs.{declared.settings.Mode.TheVariants.No, declared.timer.Kind.TheVariants.Wrapped}
 use Rattle.ert_laws.proofs.worked.histories_are_judged.Goals as goal
 
 -- the row of the timer with a deadline

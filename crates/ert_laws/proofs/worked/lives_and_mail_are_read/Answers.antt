@@ -1,10 +1,6 @@
 use Rattle.std.proofs.Common.{◌≡◌, refl, rules, [], ◌∷◌, Some}
 use Rattle.ert_defs.proofs.Runs.{legal_parts}
-use Rattle.ert_defs.specs.Legal.{IsNext, IsFirst}
-use Rattle.ert_defs.specs.States.{next, state}
-use Rattle.ert_defs.specs.Worked.{by_sched}
-use Rattle.ert_defs.specs.declared.entry.Actor.TheVariants.{Sched, Wheel, MailOf}
-use Rattle.ert_defs.specs.declared.entry.Event.TheVariants.{Expire}
+use Rattle.ert_defs.specs.{Legal.{IsNext, IsFirst}, States.{next, state}, Worked.by_sched, declared.entry.Actor.TheVariants.{Sched, Wheel, MailOf}, declared.entry.Event.TheVariants.Expire}
 use Rattle.ert_laws.specs.WorkedMail.{wide, slow, fast, both_started, both_expired}
 use Rattle.ert_laws.proofs.worked.lives_and_mail_are_read.Goals as goal
 

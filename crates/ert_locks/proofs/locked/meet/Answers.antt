@@ -1,8 +1,7 @@
 use Rattle.std.proofs.Common.{sym, subst, subst₂}
 use Rattle.ert_defs.specs.Legal.{Legal}
 use Rattle.ert_locks.proofs.Lent.{holds_self}
-use Rattle.ert_table.specs.Desks.{front_of, view_of}
-use Rattle.ert_table.specs.Views.{Joined}
+use Rattle.ert_table.specs.{Desks.{front_of, view_of}, Views.Joined}
 use Rattle.ert_locks.proofs.locked.meet.Goals as goal
 
 pub returns-clause-stands : goal.returns-clause-stands

@@ -1,12 +1,9 @@
 use Rattle.std.proofs.Common.{◌≡◌, true, refl, sym, subst}
 use Rattle.ert_defs.specs.declared.entry.Actor.TheVariants.{Sched}
 use Rattle.ert_effects.specs.WheelCalls.{Advances}
-use Rattle.ert_locks.proofs.Scheds.{Advanced, advanced}
-use Rattle.ert_table.specs.Calls.{IsMade}
-use Rattle.ert_table.specs.Desks.{settings_of, view_of}
-use Rattle.ert_table.specs.Held.{is_held}
+use Rattle.ert_locks.proofs.{Scheds.{Advanced, advanced}, wheel.advance_for.Goals.After-len-after}
+use Rattle.ert_table.specs.{Calls.IsMade, Desks.{settings_of, view_of}, Held.is_held}
 use Rattle.ert_timers.specs.Expiring.{IsAdvanced}
-use Rattle.ert_locks.proofs.wheel.advance_for.Goals.{After-len-after}
 use Rattle.ert_locks.proofs.wheel.advance_for.Goals as goal
 
 done : (c : After-len-after) → Advanced (settings_of c.args.desk.now) c.len-after.result c.len-before.result c.advance-to.result c.args.sched.now

@@ -1,8 +1,6 @@
 use Rattle.std.proofs.Common.{false, subst}
-use Rattle.ert_defs.specs.Entries.{mark_entry}
-use Rattle.ert_defs.specs.declared.entry.Actor.TheVariants.{Sched}
-use Rattle.ert_table.specs.Desks.{settings_of, view_of}
-use Rattle.ert_table.specs.Takes.{Appends}
+use Rattle.ert_defs.specs.{Entries.mark_entry, declared.entry.Actor.TheVariants.Sched}
+use Rattle.ert_table.specs.{Desks.{settings_of, view_of}, Takes.Appends}
 use Rattle.ert_mail.proofs.Handings.{ready, has_row, may_deliver, may_drop, exit_seen, put_handed, drop_handed}
 use Rattle.ert_mail.proofs.handing.hand_over.Goals as goal
 

@@ -1,6 +1,5 @@
 use Rattle.std.proofs.Common.{refl}
-use Rattle.std.proofs.Math.Nat.{sub-zero}
-use Rattle.std.proofs.lemmas.Iterator.{items_from_collect, YieldsList-from_range}
+use Rattle.std.proofs.{Math.Nat.sub-zero, lemmas.Iterator.{items_from_collect, YieldsList-from_range}}
 use Rattle.ert_mail.proofs.turns.below.Goals as goal
 
 pub returns : goal.returns

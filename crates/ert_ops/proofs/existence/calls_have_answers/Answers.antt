@@ -1,19 +1,11 @@
 -- Each call has an answer after each legal history.
 
-use Rattle.ert_defs.specs.States.{state}
-use Rattle.ert_laws.proofs.SlotUses.{timers_few}
-use Rattle.ert_ops.proofs.PossibleCalls.{clock_answers, processes_answer, possible_read, possible_cancel}
-use Rattle.ert_laws.proofs.Since.{rounds_begun}
-use Rattle.ert_ops.proofs.PossibleRestarts.{possible_restart, possible_room}
+use Rattle.ert_defs.specs.{States.state, declared.entry.Actor.TheVariants.Wheel}
+use Rattle.ert_laws.proofs.{SlotUses.timers_few, Since.rounds_begun}
+use Rattle.ert_ops.proofs.{PossibleCalls.{clock_answers, processes_answer, possible_read, possible_cancel}, PossibleRestarts.{possible_restart, possible_room}, Following.follow_step, PossibleSome.possible_advance_some}
+use Rattle.ert_ops.proofs.{PossibleStarts.possible_start, PossibleSweeps.possible_exit, PossibleTurns.{possible_serve, can_advance, possible_deliver, possible_turn}, Reached.reached}
 use Rattle.std.proofs.Common.{[], ◌∷◌}
-use Rattle.ert_defs.specs.declared.entry.Actor.TheVariants.{Wheel}
 use Rattle.ert_effects.specs.SomeCalls.{HasAdvancedSome}
-use Rattle.ert_ops.proofs.Following.{follow_step}
-use Rattle.ert_ops.proofs.PossibleSome.{possible_advance_some}
-use Rattle.ert_ops.proofs.PossibleStarts.{possible_start}
-use Rattle.ert_ops.proofs.PossibleSweeps.{possible_exit}
-use Rattle.ert_ops.proofs.PossibleTurns.{possible_serve, can_advance, possible_deliver, possible_turn}
-use Rattle.ert_ops.proofs.Reached.{reached}
 use Rattle.ert_ops.proofs.existence.calls_have_answers.Goals as goal
 
 pub returns : goal.returns

@@ -2,21 +2,11 @@
 
 use Rattle.std.proofs.Common.{◌≡◌, pos, true, false, List, [], ◌∷◌, ◌++◌, Some, None, refl, rules}
 use Rattle.std.specs.Fmt.{digits}
-use Rattle.ert_effects.specs.TimerCalls.{IsStarted, Cancels}
-use Rattle.ert_effects.specs.Ways.{alone}
-use Rattle.ert_defs.specs.Entries.{look_entry, arm_entry, mark_entry, peek_entry, cancel_entry}
-use Rattle.ert_defs.specs.States.{state}
-use Rattle.ert_defs.specs.Timers.{timer_at}
-use Rattle.ert_defs.specs.declared.entry.Actor.TheVariants.{Caller}
-use Rattle.ert_defs.specs.declared.entry.Entry.{Entry}
-use Rattle.ert_defs.specs.declared.timer.Kind.TheVariants.{Wrapped}
-use Rattle.ert_defs.specs.declared.timer.TimerRef.{TimerRef}
-use Rattle.ert_defs.specs.declared.timer.When.TheVariants.{After}
-use Rattle.ert_ops.specs.Calls.{start_for_op}
-use Rattle.ert_ops.specs.Scripts.{Script}
-use Rattle.ert_ops.specs.Worked.{plain}
+use Rattle.ert_effects.specs.{TimerCalls.{IsStarted, Cancels}, Ways.alone}
+use Rattle.ert_defs.specs.{Entries.{look_entry, arm_entry, mark_entry, peek_entry, cancel_entry}, States.state, Timers.timer_at, declared.entry.Actor.TheVariants.Caller, declared.entry.Entry.Entry, declared.timer.Kind.TheVariants.Wrapped}
+use Rattle.ert_defs.specs.{declared.timer.TimerRef.TimerRef, declared.timer.When.TheVariants.After}
+use Rattle.ert_ops.specs.{Calls.start_for_op, Scripts.Script, Worked.plain, declared.reply.Reply.TheVariants.{StartOk, Cancel}}
 use Rattle.ert_ops.specs.declared.op.Op.TheVariants as ops
-use Rattle.ert_ops.specs.declared.reply.Reply.TheVariants.{StartOk, Cancel}
 use Rattle.ert_ops.proofs.worked.a_cancel_has_a_transcript.Goals as goal
 
 -- a service may take any free slot for a timer, as slot 3

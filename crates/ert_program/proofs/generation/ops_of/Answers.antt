@@ -1,6 +1,5 @@
 use Rattle.std.proofs.Common.{◌∙◌, sym, subst}
-use Rattle.ert_program.proofs.Chosen.{one_more}
-use Rattle.ert_program.proofs.Within.{IsWithin, next_within}
+use Rattle.ert_program.proofs.{Chosen.one_more, Within.{IsWithin, next_within}}
 use Rattle.ert_program.proofs.generation.ops_of.Goals as goal
 
 pub ops-preserved : goal.ops-preserved

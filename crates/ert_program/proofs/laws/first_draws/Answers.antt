@@ -1,7 +1,6 @@
 -- Each is computed.
 use Rattle.std.proofs.Common.{refl}
-use Rattle.ert_program.specs.Draws.{after, drawn, draw}
-use Rattle.ert_program.specs.Steps.{next_op}
+use Rattle.ert_program.specs.{Draws.{after, drawn, draw}, Steps.next_op}
 use Rattle.ert_program.proofs.laws.first_draws.Goals as goal
 
 pub returns-clause-state : goal.returns-clause-state

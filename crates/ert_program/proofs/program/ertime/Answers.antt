@@ -1,16 +1,7 @@
 use Rattle.std.proofs.Common.{rules, ◌≡◌, ℕ, true, false, Some, ap, subst, sym, ◌∙◌, map, string_bytes}
-use Rattle.ert_program.specs.declared.command.Command.TheVariants.{Live, Stress}
-use Rattle.ert_program.proofs.Ends.{memory_ends, memory_refusal}
-use Rattle.ert_program.specs.Written.{MayWrite}
-use Rattle.ert_program.proofs.Made.{stress_ends}
-use Rattle.ert_program.proofs.Ranges.{of_command, found_is, same_live, same_stress}
-use Rattle.ert_program.specs.Endings.{command_asked}
-use Rattle.ert_program.specs.Lives.{LiveEnds}
-use Rattle.ert_program.specs.Races.{IsReport, RaceWrites}
-use Rattle.ert_program.specs.Runs.{RunWrites}
-use Rattle.ert_program.specs.Stresses.{StressEnds}
-use Rattle.ert_program.specs.Streams.{Output, output_of, clock_stream_of}
-use Rattle.ert_program.specs.declared.ending.Ended.{Ended}
+use Rattle.ert_program.specs.{declared.command.Command.TheVariants.{Live, Stress}, Written.MayWrite, Endings.command_asked, Lives.LiveEnds, Races.{IsReport, RaceWrites}, Runs.RunWrites, Stresses.StressEnds, Streams.{Output, output_of}}
+use Rattle.ert_program.specs.{Streams.clock_stream_of, declared.ending.Ended.Ended}
+use Rattle.ert_program.proofs.{Ends.{memory_ends, memory_refusal}, Made.stress_ends, Ranges.{of_command, found_is, same_live, same_stress}}
 use Rattle.ert_program.proofs.program.ertime.Goals as goal
 
 pub live-requires-clause-some : goal.live-requires-clause-some

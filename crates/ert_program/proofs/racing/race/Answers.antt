@@ -1,14 +1,8 @@
 use Rattle.std.proofs.Common.{true, subst, sym}
-use Rattle.ert_program.proofs.Listed.{wanted_of}
+use Rattle.ert_program.proofs.{Listed.wanted_of, Ends.{unread_ends, unread_refusal, ran_ends, ran_refusal}, Raced.{reported, reported_some, race_is_of}}
 use Rattle.ert_io.specs.Reads.{Input, input_of}
 use Rattle.ert_scenario.specs.Scenarios.{plan_of}
-use Rattle.ert_program.specs.Written.{MayWrite}
-use Rattle.ert_program.specs.Races.{IsReport, RaceWrites, RaceEnds}
-use Rattle.ert_program.specs.RefusedInputs.{RefusalEnds}
-use Rattle.ert_program.specs.Streams.{Output, output_of}
-use Rattle.ert_program.specs.declared.ending.Ended.{Ended}
-use Rattle.ert_program.proofs.Ends.{unread_ends, unread_refusal, ran_ends, ran_refusal}
-use Rattle.ert_program.proofs.Raced.{reported, reported_some, race_is_of}
+use Rattle.ert_program.specs.{Written.MayWrite, Races.{IsReport, RaceWrites, RaceEnds}, RefusedInputs.RefusalEnds, Streams.{Output, output_of}, declared.ending.Ended.Ended}
 use Rattle.ert_program.proofs.racing.race.Goals as goal
 
 pub race_scenario-requires-clause-checked : goal.race_scenario-requires-clause-checked

@@ -1,14 +1,9 @@
 use Rattle.std.proofs.Common.{◌≤◌, false, length, subst, sym, arith}
 use Rattle.ert_io.specs.Reads.{Input, input_of}
 use Rattle.ert_ops.specs.Labels.{AreOps}
-use Rattle.ert_scenario.specs.Acceptance.{IsRunnable}
-use Rattle.ert_scenario.specs.Scenarios.{plan_of}
-use Rattle.ert_program.specs.RefusedInputs.{RefusalEnds}
-use Rattle.ert_program.specs.Runs.{RunWrites, RunEnds}
-use Rattle.ert_program.specs.Streams.{Output, output_of}
-use Rattle.ert_program.specs.declared.ending.Ended.{Ended}
-use Rattle.ert_program.proofs.Ends.{possible, unread_ends, unread_refusal, ran_ends, ran_refusal}
-use Rattle.ert_program.proofs.Transcripts.{run_writes, wrote_all, wrote_some, run_is_of}
+use Rattle.ert_scenario.specs.{Acceptance.IsRunnable, Scenarios.plan_of}
+use Rattle.ert_program.specs.{RefusedInputs.RefusalEnds, Runs.{RunWrites, RunEnds}, Streams.{Output, output_of}, declared.ending.Ended.Ended}
+use Rattle.ert_program.proofs.{Ends.{possible, unread_ends, unread_refusal, ran_ends, ran_refusal}, Transcripts.{run_writes, wrote_all, wrote_some, run_is_of}}
 use Rattle.ert_program.proofs.running.run.Goals as goal
 
 pub run_scenario-requires-clause-checked : goal.run_scenario-requires-clause-checked

@@ -1,11 +1,9 @@
 use Rattle.std.proofs.Common.{rules, List, [], ℤ, length, sym, subst, ◌∙◌, FitsSigned, w64, to_z-of_z}
 use Rattle.std.proofs.lemmas.Result.{err_from_is_err_and}
-use Rattle.ert_io.specs.Known.{HasRoomFor}
-use Rattle.ert_io.specs.Told.{sink_told}
+use Rattle.ert_io.specs.{Known.HasRoomFor, Told.sink_told}
 use Rattle.ert_scenario.specs.Scenarios.{plan_of}
-use Rattle.ert_ops.specs.declared.op.Op.{Op}
+use Rattle.ert_ops.specs.{declared.op.Op.Op, Texts.end_line}
 use Rattle.ert_script.specs.Written.{WritesRun, WritesSome, LinesFit}
-use Rattle.ert_ops.specs.Texts.{end_line}
 use Rattle.ert_program.proofs.Transcripts.{ends, breaks_last, breaks, lines_fit, end_fits}
 use Rattle.ert_program.proofs.running.run_scenario.Goals as goal
 

@@ -1,9 +1,8 @@
 use Rattle.std.proofs.Common.{◌≡◌, List, [], subst}
-use Rattle.ert_program.specs.Generated.{generated}
+use Rattle.ert_program.specs.{Generated.generated, Stresses.HasRun}
 use Rattle.ert_ops.specs.declared.op.Op.{Op}
 use Rattle.ert_scenario.specs.Scenarios.{Plan, plan_of}
 use Rattle.ert_script.specs.Written.{RunsAll}
-use Rattle.ert_program.specs.Stresses.{HasRun}
 use Rattle.ert_program.proofs.Made.{has_run}
 use Rattle.ert_program.proofs.stressing.run_generated.Goals as goal
 

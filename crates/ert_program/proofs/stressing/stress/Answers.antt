@@ -1,9 +1,8 @@
 use Rattle.std.proofs.Common.{rules, ◌≡◌, ℕ, List, string_bytes, subst}
 use Rattle.ert_defs.specs.States.{state}
-use Rattle.ert_program.specs.Generated.{generated}
+use Rattle.ert_program.specs.{Generated.generated, Stresses.summary_of}
 use Rattle.ert_io.specs.Told.{sink_told, took, TakesFront}
 use Rattle.ert_laws.specs.Counts.{counts_of}
-use Rattle.ert_program.specs.Stresses.{summary_of}
 use Rattle.ert_program.proofs.Made.{counts_on, summary_stops}
 use Rattle.ert_program.proofs.stressing.stress.Goals as goal
 

@@ -1,7 +1,5 @@
 use Rattle.std.proofs.Common.{List, map, Ok, Err, Bor, codes, ap, ◌∙◌}
-use Rattle.serde_json.specs.Data.{Data}
-use Rattle.serde_json.specs.View.{view}
-use Rattle.serde_json.specs.declared.value.Value.{Value}
+use Rattle.serde_json.specs.{Data.Data, View.view, declared.value.Value.Value}
 use Rattle.ert_scenario.specs.Fields.{field}
 use Rattle.ert_scenario.specs.Kinds.{FoundOrFault, ◌>>=◌, listed, arrays}
 use Rattle.ert_scenario.proofs.Founds.{both_read}

@@ -1,10 +1,7 @@
 use Rattle.std.proofs.Common.{List, map, Some, Ok, Err, Bor, codes, ap, ◌∙◌}
-use Rattle.serde_json.specs.Data.{Data}
-use Rattle.serde_json.specs.View.{view}
-use Rattle.serde_json.specs.declared.value.Value.{Value}
-use Rattle.ert_scenario.specs.Fields.{field}
+use Rattle.serde_json.specs.{Data.Data, View.view, declared.value.Value.Value}
+use Rattle.ert_scenario.specs.{Fields.field, Lists.{RaceValues, race_seen, race_lists}}
 use Rattle.ert_scenario.specs.Kinds.{FoundOrFault, ◌>>=◌, listed}
-use Rattle.ert_scenario.specs.Lists.{RaceValues, race_seen, race_lists}
 use Rattle.ert_scenario.proofs.Founds.{both_read}
 use Rattle.ert_scenario.proofs.lists.lists_with_race.Goals as goal
 

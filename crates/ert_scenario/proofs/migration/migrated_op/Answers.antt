@@ -1,6 +1,5 @@
 use Rattle.std.proofs.Common.{◌≡◌, sym, ap, ◌∙◌}
-use Rattle.serde_json.specs.View.{view}
-use Rattle.serde_json.specs.declared.value.Value.{Array}
+use Rattle.serde_json.specs.{View.view, declared.value.Value.Array}
 use Rattle.ert_scenario.proofs.Migrated.{array_migrated}
 use Rattle.ert_scenario.proofs.migration.migrated_op.Goals as goal
 

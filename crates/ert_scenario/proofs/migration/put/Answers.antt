@@ -1,6 +1,5 @@
 use Rattle.std.proofs.Common.{◌≡◌, string_bytes, ap, ◌∙◌, rules}
-use Rattle.serde_json.specs.Data.{put}
-use Rattle.serde_json.specs.View.{view, members_view}
+use Rattle.serde_json.specs.{Data.put, View.{view, members_view}}
 use Rattle.serde_json.proofs.Views.{members_view-insert_entry}
 use Rattle.ert_scenario.proofs.migration.put.Goals as goal
 

@@ -1,9 +1,7 @@
 use Rattle.std.proofs.Common.{◌≡◌, Some, sym}
-use Rattle.serde_json.specs.View.{view, members_view}
-use Rattle.serde_json.specs.declared.value.Value.{Object}
+use Rattle.serde_json.specs.{View.{view, members_view}, declared.value.Value.Object}
 use Rattle.serde_json.proofs.Views.{view-Object}
-use Rattle.ert_scenario.specs.QuickMembers.{IsPlanOf, IsPlanWith}
-use Rattle.ert_scenario.specs.Scenarios.{plan_of}
+use Rattle.ert_scenario.specs.{QuickMembers.{IsPlanOf, IsPlanWith}, Scenarios.plan_of}
 use Rattle.ert_scenario.proofs.QuickMembers.{under, verdict_seen}
 use Rattle.ert_scenario.proofs.quick.scenario_of.Goals as goal
 

@@ -1,5 +1,4 @@
-use Rattle.ert_scenario.specs.Lists.{lists_seen}
-use Rattle.ert_scenario.specs.Walks.{race_raws, all_raws}
+use Rattle.ert_scenario.specs.{Lists.lists_seen, Walks.{race_raws, all_raws}}
 use Rattle.ert_scenario.proofs.Scanned.{stands_first, over_at_end}
 use Rattle.ert_scenario.proofs.scanning.scan.Goals as goal
 

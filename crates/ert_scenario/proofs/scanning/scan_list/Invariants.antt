@@ -1,9 +1,7 @@
 use Rattle.std.proofs.Common.{◌++◌, List, map, drop}
 use Rattle.serde_json.specs.View.{view}
 use Rattle.ert_ops.specs.declared.op.Op.{Op}
-use Rattle.ert_scenario.specs.Kinds.{FoundOrFault}
-use Rattle.ert_scenario.specs.Walked.{WalkIsAt}
-use Rattle.ert_scenario.specs.Walks.{raws_of}
+use Rattle.ert_scenario.specs.{Kinds.FoundOrFault, Walked.WalkIsAt, Walks.raws_of}
 use Rattle.ert_scenario.proofs.scanning.scan_list.Given as goal
 
 abbrev pub invariant-loop-value : goal.invariant-loop-value

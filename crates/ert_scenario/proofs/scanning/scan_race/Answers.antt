@@ -1,9 +1,7 @@
 use Rattle.std.proofs.Common.{◌≡◌, ◌+◌, List, map, drop, Err, subst, rules}
 use Rattle.serde_json.specs.View.{view}
 use Rattle.ert_ops.specs.declared.op.Op.{Op}
-use Rattle.ert_scenario.specs.Kinds.{FoundOrFault}
-use Rattle.ert_scenario.specs.Walked.{WalkIsAt}
-use Rattle.ert_scenario.specs.Walks.{caller_raws}
+use Rattle.ert_scenario.specs.{Kinds.FoundOrFault, Walked.WalkIsAt, Walks.caller_raws}
 use Rattle.ert_scenario.proofs.Scanned.{next_list, last_list}
 use Rattle.ert_scenario.proofs.scanning.scan_race.Goals as goal
 

@@ -1,10 +1,7 @@
 use Rattle.std.proofs.Common.{List, Some, map, drop}
 use Rattle.serde_json.specs.View.{view}
 use Rattle.ert_ops.specs.declared.op.Op.{Op}
-use Rattle.ert_scenario.specs.Kinds.{FoundOrFault}
-use Rattle.ert_scenario.specs.Lists.{race_seen}
-use Rattle.ert_scenario.specs.Walked.{WalkIsAt}
-use Rattle.ert_scenario.specs.Walks.{caller_raws, race_raws}
+use Rattle.ert_scenario.specs.{Kinds.FoundOrFault, Lists.race_seen, Walked.WalkIsAt, Walks.{caller_raws, race_raws}}
 use Rattle.ert_scenario.proofs.scanning.scan_race.Given as goal
 
 abbrev pub invariant-loop-list : goal.invariant-loop-list

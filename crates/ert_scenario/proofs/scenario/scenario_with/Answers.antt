@@ -1,12 +1,6 @@
 use Rattle.std.proofs.Common.{◌≡◌, ℕ, [], length, Some, None, Err, Bool, true, false, sym, ap, ◌∙◌, rules}
-use Rattle.ert_scenario.specs.Labels.{tested}
-use Rattle.ert_scenario.specs.Lists.{lists_seen, list_count}
-use Rattle.ert_scenario.specs.Scenarios.{is_over}
-use Rattle.ert_scenario.specs.Walks.{all_raws, first_range}
-use Rattle.ert_scenario.proofs.Cut.{cut_plan_same}
-use Rattle.ert_scenario.proofs.Accepted.{few_from}
-use Rattle.ert_scenario.proofs.Judged.{ends_walk, judged_range, judged_limit, judged_ok}
-use Rattle.ert_scenario.proofs.Tested.{whole_walk}
+use Rattle.ert_scenario.specs.{Labels.tested, Lists.{lists_seen, list_count}, Scenarios.is_over, Walks.{all_raws, first_range}}
+use Rattle.ert_scenario.proofs.{Cut.cut_plan_same, Accepted.few_from, Judged.{ends_walk, judged_range, judged_limit, judged_ok}, Tested.whole_walk}
 use Rattle.ert_scenario.proofs.scenario.scenario_with.Goals as goal
 
 -- what was tested, in terms of the walk

@@ -1,7 +1,6 @@
 use Rattle.std.proofs.Common.{sym, subst}
 use Rattle.std.proofs.lemmas.Result.{err_from_is_err_and}
-use Rattle.ert_ops.specs.Ranges.{IsOpInRange}
-use Rattle.ert_ops.specs.declared.op.Op.{Op}
+use Rattle.ert_ops.specs.{Ranges.IsOpInRange, declared.op.Op.Op}
 use Rattle.ert_script.specs.Scripts.{DoesWith, Fails}
 use Rattle.ert_script.proofs.Runs.{op_may, done_none, done_more, some_done}
 use Rattle.ert_script.proofs.run.do_ops.Goals as goal

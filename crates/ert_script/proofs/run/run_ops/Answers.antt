@@ -1,13 +1,9 @@
 use Rattle.std.proofs.Common.{arith, sym, subst}
 use Rattle.std.proofs.lemmas.Result.{err_from_is_err_and}
 use Rattle.ert_io.specs.Told.{SinkTold, sink_told}
-use Rattle.ert_script.specs.declared.output.RunErr.{RunErr}
-use Rattle.ert_ops.specs.Ranges.{IsOpInRange}
-use Rattle.ert_ops.specs.declared.op.Op.{Op}
-use Rattle.ert_script.specs.Scripts.{DoesWith, Fails}
-use Rattle.ert_script.specs.Written.{WritesSome}
-use Rattle.ert_script.proofs.Texts.{ok_map}
-use Rattle.ert_script.proofs.Runs.{so_far_first, op_may, goes_on_at, fails_at, breaks_at, ends, breaks_last, err_map, line_fits, page_fits}
+use Rattle.ert_script.specs.{declared.output.RunErr.RunErr, Scripts.{DoesWith, Fails}, Written.WritesSome}
+use Rattle.ert_ops.specs.{Ranges.IsOpInRange, declared.op.Op.Op}
+use Rattle.ert_script.proofs.{Texts.ok_map, Runs.{so_far_first, op_may, goes_on_at, fails_at, breaks_at, ends, breaks_last, err_map, line_fits, page_fits}}
 use Rattle.ert_script.proofs.run.run_ops.Goals as goal
 
 pub loop-op-init : goal.loop-op-init

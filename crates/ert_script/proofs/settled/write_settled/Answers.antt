@@ -1,6 +1,5 @@
 use Rattle.std.proofs.Common.{ap, ◌∙◌, List, ℕ, ◌++◌, string_bytes}
-use Rattle.ert_script.proofs.Texts.{ok_map, joined}
-use Rattle.ert_script.proofs.SixCounts.{in_two}
+use Rattle.ert_script.proofs.{Texts.{ok_map, joined}, SixCounts.in_two}
 use Rattle.ert_script.proofs.settled.write_settled.Goals as goal
 
 pub returns : goal.returns

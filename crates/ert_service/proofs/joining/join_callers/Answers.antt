@@ -1,7 +1,6 @@
 use Rattle.std.proofs.Common.{length, arith, ap, subst}
 use Rattle.ert_defs.specs.Legal.{Legal}
-use Rattle.ert_service.proofs.Gathered.{seen_then, seen_left}
-use Rattle.ert_service.proofs.Joined.{joins_next}
+use Rattle.ert_service.proofs.{Gathered.{seen_then, seen_left}, Joined.joins_next}
 use Rattle.ert_table.specs.Desks.{front_of, view_of}
 use Rattle.ert_service.proofs.joining.join_callers.Goals as goal
 

@@ -1,9 +1,7 @@
 use Rattle.std.proofs.Common.{◌≡◌, length}
 use Rattle.std.specs.Vec.Iter.{into_iter_items, into_iter_len}
-use Rattle.ert_defs.specs.Legal.{Legal}
-use Rattle.ert_defs.specs.declared.entry.Actor.TheVariants.{Caller}
-use Rattle.ert_service.specs.Gathering.{IsSeen}
-use Rattle.ert_service.specs.Joining.{JoinsSeats}
+use Rattle.ert_defs.specs.{Legal.Legal, declared.entry.Actor.TheVariants.Caller}
+use Rattle.ert_service.specs.{Gathering.IsSeen, Joining.JoinsSeats}
 use Rattle.ert_table.specs.Desks.{front_of, view_of, Belongs}
 use Rattle.ert_service.proofs.joining.join_callers.Given as goal
 

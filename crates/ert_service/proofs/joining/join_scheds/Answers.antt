@@ -1,11 +1,8 @@
 use Rattle.std.proofs.Common.{◌+◌, ◌<◌, [], ◌∷◌, ◌++◌, length, rules, arith, sym, ap, subst, ◌∙◌}
-use Rattle.ert_defs.specs.Legal.{Legal}
-use Rattle.ert_defs.specs.declared.entry.Actor.TheVariants.{Sched}
+use Rattle.ert_defs.specs.{Legal.Legal, declared.entry.Actor.TheVariants.Sched}
 use Rattle.ert_locks.proofs.Lent.{holds_self}
-use Rattle.ert_locks.specs.KindLaws.{scheds_are}
-use Rattle.ert_locks.specs.Kinds.{scheds}
-use Rattle.ert_service.proofs.Gathered.{seen_then, seen_left, seen_right, in_later, in_more}
-use Rattle.ert_service.proofs.Joined.{joins_next, next_named, one_longer}
+use Rattle.ert_locks.specs.{KindLaws.scheds_are, Kinds.scheds}
+use Rattle.ert_service.proofs.{Gathered.{seen_then, seen_left, seen_right, in_later, in_more}, Joined.{joins_next, next_named, one_longer}}
 use Rattle.ert_service.specs.Gathering.{AreIn}
 use Rattle.ert_table.specs.Desks.{front_of, view_of}
 use Rattle.ert_service.proofs.joining.join_scheds.Goals as goal

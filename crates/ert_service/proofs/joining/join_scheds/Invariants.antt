@@ -1,10 +1,8 @@
 use Rattle.std.proofs.Common.{◌≡◌, ◌≤◌, length}
 use Rattle.std.specs.Vec.Iter.{into_iter_items, into_iter_len}
-use Rattle.ert_defs.specs.Legal.{Legal}
-use Rattle.ert_defs.specs.declared.entry.Actor.TheVariants.{Sched}
+use Rattle.ert_defs.specs.{Legal.Legal, declared.entry.Actor.TheVariants.Sched}
 use Rattle.ert_locks.specs.Kinds.{scheds}
-use Rattle.ert_service.specs.Gathering.{IsSeen, AreIn}
-use Rattle.ert_service.specs.Joining.{JoinsSeats}
+use Rattle.ert_service.specs.{Gathering.{IsSeen, AreIn}, Joining.JoinsSeats}
 use Rattle.ert_table.specs.Desks.{front_of, view_of, Belongs}
 use Rattle.ert_service.proofs.joining.join_scheds.Given as goal
 

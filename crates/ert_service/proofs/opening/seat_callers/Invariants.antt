@@ -1,8 +1,7 @@
 use Rattle.std.proofs.Common.{◌≡◌, ℕ, ◌<◌, ◌≤◌, true}
 use Rattle.ert_defs.specs.declared.entry.Actor.TheVariants.{Caller}
 use Rattle.ert_service.specs.Dividing.{AreSeated}
-use Rattle.ert_table.specs.Desks.{front_of, actors_of, Belongs}
-use Rattle.ert_table.specs.Held.{is_held}
+use Rattle.ert_table.specs.{Desks.{front_of, actors_of, Belongs}, Held.is_held}
 use Rattle.ert_service.proofs.opening.seat_callers.Given as goal
 
 abbrev pub invariant-loop-number : goal.invariant-loop-number

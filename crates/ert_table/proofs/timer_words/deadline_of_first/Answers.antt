@@ -1,7 +1,6 @@
 use Rattle.std.proofs.Common.{refl, arith}
-use Rattle.ert_table.proofs.Armed.{first_tells, first_tells_none}
+use Rattle.ert_table.proofs.{Armed.{first_tells, first_tells_none}, timer_words.deadline_of_first.Goals.{else-rest-eq0-via-then-rest-eq0+else-rest-lt-GENERATION, else-rest-eq0-via-else-rest-eq0}}
 use Rattle.ert_table.proofs.timer_words.deadline_of_first.Goals as goal
-use Rattle.ert_table.proofs.timer_words.deadline_of_first.Goals.{else-rest-eq0-via-then-rest-eq0+else-rest-lt-GENERATION, else-rest-eq0-via-else-rest-eq0}
 
 pub returns-then-rest-lt-GENERATION : goal.returns-then-rest-lt-GENERATION
 returns-then-rest-lt-GENERATION c =

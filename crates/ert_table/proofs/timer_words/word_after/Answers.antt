@@ -1,6 +1,5 @@
 use Rattle.std.proofs.Common.{◌+◌, ◌*◌, ap, ◌∙◌}
-use Rattle.ert_defs.specs.Timers.{use_of}
-use Rattle.ert_defs.specs.Words.{status_code}
+use Rattle.ert_defs.specs.{Timers.use_of, Words.status_code}
 use Rattle.ert_table.proofs.Armed.{changed, code_high}
 use Rattle.ert_table.proofs.timer_words.word_after.Goals as goal
 

@@ -1,7 +1,6 @@
 use Rattle.std.proofs.Common.{◌∙◌, ◌<◌, IfSome, sym, ap, subst}
 use Rattle.ert_timers.proofs.Openings.{key_nowhere}
-use Rattle.ert_wheel.specs.Rows.{key_in}
-use Rattle.ert_wheel.specs.declared.row.Key.{Key}
+use Rattle.ert_wheel.specs.{Rows.key_in, declared.row.Key.Key}
 use Rattle.ert_tests.proofs.examples.due_rows.Goals as goal
 
 -- a new wheel has no row

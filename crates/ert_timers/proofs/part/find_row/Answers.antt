@@ -2,9 +2,7 @@ use Rattle.std.proofs.Common.{List, Option, Some, None, length, option_map, refl
 use Rattle.ert_timers.specs.Owners.{Thinned, FindsRow}
 use Rattle.ert_timers.proofs.Owners.{thinned_none, thinned_more, linked_falls, finds_some, finds_none, no_row, told_row}
 use Rattle.ert_timers.proofs.part.find_row.Goals as goal
-use Rattle.ert_wheel.specs.Rings.{with_place}
-use Rattle.ert_wheel.specs.Rows.{key_in, row_told}
-use Rattle.ert_wheel.specs.declared.row.Key.{Key}
+use Rattle.ert_wheel.specs.{Rings.with_place, Rows.{key_in, row_told}, declared.row.Key.Key}
 
 pub loop-slot-init : goal.loop-slot-init
 loop-slot-init c = record {

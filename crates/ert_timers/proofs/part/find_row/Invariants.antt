@@ -1,11 +1,8 @@
 use Rattle.std.proofs.Common.{◌≡◌, ℕ, Option}
-use Rattle.ert_timers.specs.Owners.{Thinned}
-use Rattle.ert_timers.specs.Parts.{AreJoined, all_slots}
-use Rattle.ert_timers.specs.declared.slot.Stored.{Stored}
+use Rattle.ert_timers.specs.{Owners.Thinned, Parts.{AreJoined, all_slots}, declared.slot.Stored.Stored}
 use Rattle.ert_timers.proofs.Owners.{linked}
 use Rattle.ert_timers.proofs.part.find_row.Given as goal
-use Rattle.ert_wheel.specs.Rings.{Place, AreChains}
-use Rattle.ert_wheel.specs.Rows.{Held}
+use Rattle.ert_wheel.specs.{Rings.{Place, AreChains}, Rows.Held}
 
 -- what stays, and which slots have left
 pub record Keeps (old new : Held Stored) : Type 0 where

@@ -1,10 +1,7 @@
 use Rattle.std.proofs.Common.{◌<◌, ◌+◌, ◌/◌, ◌^◌, ℕ, max, ap, ◌∙◌, subst, sym, arith}
-use Rattle.ert_wheel.proofs.Seen.{seen_start, seen_skip, may_collect, seen_more, seen_end}
-use Rattle.ert_wheel.proofs.Standing.{end_after, end_low, end_of}
-use Rattle.ert_wheel.proofs.Times.{later}
+use Rattle.ert_wheel.proofs.{Seen.{seen_start, seen_skip, may_collect, seen_more, seen_end}, Standing.{end_after, end_low, end_of}, Times.later}
 use Rattle.ert_wheel.proofs.levels.collect_level.Goals as goal
-use Rattle.ert_wheel.specs.Walks.{MayCollect, Collects}
-use Rattle.ert_wheel.specs.Wheels.{held_keys, stand_on, places}
+use Rattle.ert_wheel.specs.{Walks.{MayCollect, Collects}, Wheels.{held_keys, stand_on, places}}
 
 pub first_window-window-requires-clause-from : goal.first_window-window-requires-clause-from
 first_window-window-requires-clause-from g c =

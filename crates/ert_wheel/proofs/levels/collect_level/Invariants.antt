@@ -1,9 +1,7 @@
 use Rattle.std.proofs.Common.{◌≡◌, ◌≤◌, ◌+◌, ◌-◌, ◌/◌, ◌^◌, ℕ, vec_capacity}
 use Rattle.ert_wheel.proofs.Seen.{IsSeen}
 use Rattle.ert_wheel.proofs.levels.collect_level.Given as goal
-use Rattle.ert_wheel.specs.Walks.{StandOnLevels, AreCollected}
-use Rattle.ert_wheel.specs.Wheels.{held_keys}
-use Rattle.ert_wheel.specs.declared.row.Key.{Key}
+use Rattle.ert_wheel.specs.{Walks.{StandOnLevels, AreCollected}, Wheels.held_keys, declared.row.Key.Key}
 
 -- the windows before one were seen
 pub record Sees (room capacity from window end : ℕ) (seen : Type 0) : Type 0 where

@@ -1,6 +1,5 @@
 use Rattle.std.proofs.Common.{◌+◌, ◌*◌, ◌^◌, arith, ap}
-use Rattle.ert_wheel.proofs.NextDue.{none_above, none_at_all, none_more}
-use Rattle.ert_wheel.proofs.Standing.{begin_after}
+use Rattle.ert_wheel.proofs.{NextDue.{none_above, none_at_all, none_more}, Standing.begin_after}
 use Rattle.ert_wheel.proofs.levels.early_above.Goals as goal
 use Rattle.ert_wheel.specs.Wheels.{held_keys}
 

@@ -1,11 +1,7 @@
 use Rattle.std.proofs.Common.{◌-◌, ◌≤◌, ℕ}
 use Rattle.ert_wheel.proofs.NextDue.{NoneBelow}
 use Rattle.ert_wheel.proofs.levels.early_above.Given as goal
-use Rattle.ert_wheel.specs.NextDue.{IsEarlyOrNever, NoneOn}
-use Rattle.ert_wheel.specs.Standing.{homes_of}
-use Rattle.ert_wheel.specs.Walks.{StandOnLevels}
-use Rattle.ert_wheel.specs.Wheels.{held_keys}
-use Rattle.ert_wheel.specs.declared.row.Key.{Key}
+use Rattle.ert_wheel.specs.{NextDue.{IsEarlyOrNever, NoneOn}, Standing.homes_of, Walks.StandOnLevels, Wheels.held_keys, declared.row.Key.Key}
 
 -- the levels below one were looked at
 pub record Looked (level : ℕ) (early below : Type 0) : Type 0 where

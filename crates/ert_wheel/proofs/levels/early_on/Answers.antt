@@ -1,10 +1,7 @@
 use Rattle.std.proofs.Common.{◌≡◌, ◌+◌, ◌*◌, ◌^◌, ◌∙◌, ℕ, ap, subst, sym, arith}
-use Rattle.ert_wheel.proofs.NextDue.{NoneUpTo, none_first, none_skip, none_looked, none_left, none_at_end, has_there, begins_there, early_looked, earlier_is}
-use Rattle.ert_wheel.proofs.Standing.{end_after, end_low}
+use Rattle.ert_wheel.proofs.{NextDue.{NoneUpTo, none_first, none_skip, none_looked, none_left, none_at_end, has_there, begins_there, early_looked, earlier_is}, Standing.{end_after, end_low}}
 use Rattle.ert_wheel.proofs.levels.early_on.Goals as goal
-use Rattle.ert_wheel.specs.NextDue.{IsEarlyOrNever}
-use Rattle.ert_wheel.specs.Standing.{homes_of}
-use Rattle.ert_wheel.specs.Wheels.{held_keys, stand_on, places}
+use Rattle.ert_wheel.specs.{NextDue.IsEarlyOrNever, Standing.homes_of, Wheels.{held_keys, stand_on, places}}
 
 pub first_window-window-requires-clause-from : goal.first_window-window-requires-clause-from
 first_window-window-requires-clause-from g c =

@@ -1,12 +1,7 @@
 use Rattle.std.proofs.Common.{◌-◌, ◌<◌, ◌≤◌, ◌/◌, ◌^◌, ℕ, List, Option}
 use Rattle.ert_wheel.proofs.NextDue.{NoneUpTo}
 use Rattle.ert_wheel.proofs.levels.early_on.Given as goal
-use Rattle.ert_wheel.specs.Falling.{HasRowIn}
-use Rattle.ert_wheel.specs.NextDue.{IsEarlyOrNever}
-use Rattle.ert_wheel.specs.Standing.{homes_of}
-use Rattle.ert_wheel.specs.Walks.{StandOnLevels}
-use Rattle.ert_wheel.specs.Wheels.{held_keys}
-use Rattle.ert_wheel.specs.declared.row.Key.{Key}
+use Rattle.ert_wheel.specs.{Falling.HasRowIn, NextDue.IsEarlyOrNever, Standing.homes_of, Walks.StandOnLevels, Wheels.held_keys, declared.row.Key.Key}
 
 -- the windows before one were looked at
 pub record Looked (keys : List (Option Key)) (stands : List (Option ℕ)) (level next window end earliest before : ℕ) (early none : Type 0) : Type 0 where

@@ -1,9 +1,7 @@
 use Rattle.std.proofs.Common.{subst, sym, arith}
 use Rattle.ert_wheel.proofs.Climbing.{climb_starts, reads, climb_finds, climbs_on, climb_falls, climb_ends}
 use Rattle.ert_wheel.proofs.oldest.oldest_due.Goals as goal
-use Rattle.ert_wheel.specs.FirstDue.{IsOldestDue}
-use Rattle.ert_wheel.specs.Rows.{row_told}
-use Rattle.ert_wheel.specs.Wheels.{no_key, held_keys, places}
+use Rattle.ert_wheel.specs.{FirstDue.IsOldestDue, Rows.row_told, Wheels.{no_key, held_keys, places}}
 
 pub loop-next-init : goal.loop-next-init
 loop-next-init g c = λ spot are.

@@ -1,9 +1,6 @@
-use Rattle.ert_wheel.proofs.Steps.{left_newer}
-use Rattle.ert_wheel.proofs.Climbing.{IsClimbed}
+use Rattle.ert_wheel.proofs.{Steps.left_newer, Climbing.IsClimbed}
 use Rattle.ert_wheel.proofs.oldest.oldest_due.Given as goal
-use Rattle.ert_wheel.specs.Rings.{Place, AreChains}
-use Rattle.ert_wheel.specs.Wheels.{held_keys, places}
-use Rattle.ert_wheel.specs.declared.row.Key.{Key}
+use Rattle.ert_wheel.specs.{Rings.{Place, AreChains}, Wheels.{held_keys, places}, declared.row.Key.Key}
 
 abbrev pub invariant-loop-next : goal.invariant-loop-next
 invariant-loop-next g l =

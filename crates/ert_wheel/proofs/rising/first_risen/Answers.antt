@@ -1,10 +1,7 @@
 use Rattle.std.proofs.Common.{◌^◌, ℕ, Option, Some, None, IfSome, subst}
 use Rattle.ert_wheel.proofs.Risen.{begins_newest, newest_due, wheel_again}
 use Rattle.ert_wheel.proofs.rising.first_risen.Goals as goal
-use Rattle.ert_wheel.specs.Levels.{bucket_of_window}
-use Rattle.ert_wheel.specs.Ordering.{HasRowDue}
-use Rattle.ert_wheel.specs.Rings.{Place, AreChains, Finds}
-use Rattle.ert_wheel.specs.Wheels.{held_keys}
+use Rattle.ert_wheel.specs.{Levels.bucket_of_window, Ordering.HasRowDue, Rings.{Place, AreChains, Finds}, Wheels.held_keys}
 
 pub returns-then-is_due-clause-wheel : goal.returns-then-is_due-clause-wheel
 returns-then-is_due-clause-wheel g c = λ count w. wheel_again c.if-ordered-next_time.true w

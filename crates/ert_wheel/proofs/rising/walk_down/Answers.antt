@@ -1,6 +1,5 @@
 use Rattle.std.proofs.Common.{arith}
-use Rattle.ert_wheel.proofs.Risen.{older_due, step_on, step_ends}
-use Rattle.ert_wheel.proofs.Views.{key_stored}
+use Rattle.ert_wheel.proofs.{Risen.{older_due, step_on, step_ends}, Views.key_stored}
 use Rattle.ert_wheel.proofs.rising.walk_down.Goals as goal
 
 pub older-requires : goal.older-requires

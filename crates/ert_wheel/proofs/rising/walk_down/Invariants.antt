@@ -1,8 +1,6 @@
 use Rattle.std.proofs.Common.{◌≡◌, ◌≤◌, ◌+◌, ◌*◌, ℕ}
 use Rattle.ert_wheel.proofs.rising.walk_down.Given as goal
-use Rattle.ert_wheel.specs.Ordering.{HasRowDue}
-use Rattle.ert_wheel.specs.Wheels.{held_keys, IsWheel}
-use Rattle.ert_wheel.specs.declared.ordered.Ordered.{Ordered}
+use Rattle.ert_wheel.specs.{Ordering.HasRowDue, Wheels.{held_keys, IsWheel}, declared.ordered.Ordered.Ordered}
 
 -- the walk has come to a row, and so much is known
 pub record Walks (next left moves most : ℕ) (now : Ordered) (due : Type 0) (wheel : Type 0) : Type 0 where

@@ -1,9 +1,7 @@
 use Rattle.std.proofs.Common.{List, [], ◌∷◌, ◌++◌, ap, refl, subst, sym, ◌∙◌, arith}
-use Rattle.ert_wheel.proofs.Collect.{reads_here}
-use Rattle.ert_wheel.proofs.Collecting.{IsCollecting, collect_starts, collect_ends, collect_room, turn_adds, turn_falls, turn_leaves}
+use Rattle.ert_wheel.proofs.{Collect.reads_here, Collecting.{IsCollecting, collect_starts, collect_ends, collect_room, turn_adds, turn_falls, turn_leaves}}
 use Rattle.ert_wheel.proofs.walk.collect.Goals as goal
-use Rattle.ert_wheel.specs.Wheels.{no_key, held_keys, places}
-use Rattle.ert_wheel.specs.declared.row.HeldRow.{HeldRow}
+use Rattle.ert_wheel.specs.{Wheels.{no_key, held_keys, places}, declared.row.HeldRow.HeldRow}
 
 pub loop-next-init : goal.loop-next-init
 loop-next-init g c = record {

@@ -1,11 +1,7 @@
 use Rattle.std.proofs.Common.{◌≡◌, ℕ, vec_capacity}
-use Rattle.ert_wheel.proofs.Steps.{left_newer}
-use Rattle.ert_wheel.proofs.Collecting.{IsCollecting}
+use Rattle.ert_wheel.proofs.{Steps.left_newer, Collecting.IsCollecting}
 use Rattle.ert_wheel.proofs.walk.collect.Given as goal
-use Rattle.ert_wheel.specs.Rings.{Place}
-use Rattle.ert_wheel.specs.Walks.{MayCollect}
-use Rattle.ert_wheel.specs.Wheels.{held_keys}
-use Rattle.ert_wheel.specs.declared.row.Key.{Key}
+use Rattle.ert_wheel.specs.{Rings.Place, Walks.MayCollect, Wheels.held_keys, declared.row.Key.Key}
 
 pub record Walks (capacity start : ℕ) (walked : Type 0) : Type 0 where
   pub room : capacity ≡ start

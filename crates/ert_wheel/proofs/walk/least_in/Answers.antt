@@ -1,10 +1,7 @@
 use Rattle.std.proofs.Common.{ℕ, min, ap, ◌∙◌, subst, sym, arith}
-use Rattle.ert_wheel.proofs.Looking.{at_key, stands_low, steps_fall}
-use Rattle.ert_wheel.proofs.Least.{IsPassed, never_over, is_answered, passes_none, steps_on, passes_all}
+use Rattle.ert_wheel.proofs.{Looking.{at_key, stands_low, steps_fall}, Least.{IsPassed, never_over, is_answered, passes_none, steps_on, passes_all}}
 use Rattle.ert_wheel.proofs.walk.least_in.Goals as goal
-use Rattle.ert_wheel.specs.Wheels.{no_key, held_keys, places}
-use Rattle.ert_wheel.specs.declared.telling.Early.{Early}
-use Rattle.ert_wheel.specs.declared.row.TheConstants.{NEVER}
+use Rattle.ert_wheel.specs.{Wheels.{no_key, held_keys, places}, declared.telling.Early.Early, declared.row.TheConstants.NEVER}
 
 pub loop-next-init : goal.loop-next-init
 loop-next-init g c = λ spot are.

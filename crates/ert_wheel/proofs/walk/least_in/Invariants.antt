@@ -1,10 +1,6 @@
-use Rattle.ert_wheel.proofs.Least.{IsPassed}
+use Rattle.ert_wheel.proofs.{Least.IsPassed, Steps.left_older}
 use Rattle.ert_wheel.proofs.walk.least_in.Given as goal
-use Rattle.ert_wheel.proofs.Steps.{left_older}
-use Rattle.ert_wheel.specs.Rings.{Place, AreChains}
-use Rattle.ert_wheel.specs.Wheels.{held_keys, places}
-use Rattle.ert_wheel.specs.declared.row.Key.{Key}
-use Rattle.ert_wheel.specs.declared.row.TheConstants.{NEVER}
+use Rattle.ert_wheel.specs.{Rings.{Place, AreChains}, Wheels.{held_keys, places}, declared.row.Key.Key, declared.row.TheConstants.NEVER}
 
 abbrev pub invariant-loop-next : goal.invariant-loop-next
 invariant-loop-next g l =

@@ -1,8 +1,7 @@
 use Rattle.std.proofs.Common.{◌≡◌, ◌⊎◌, ◌≤◌, ◌+◌, length}
-use Rattle.ert_defs.specs.States.{state}
+use Rattle.ert_defs.specs.{States.state, declared.settings.TheConstants.MOST_SLOTS}
 use Rattle.ert_world.proofs.Chained.{HasHanded}
 use Rattle.ert_world.proofs.chains.deliver.Given as goal
-use Rattle.ert_defs.specs.declared.settings.TheConstants.{MOST_SLOTS}
 
 abbrev pub invariant-loop-expired : goal.invariant-loop-expired
 invariant-loop-expired g l =

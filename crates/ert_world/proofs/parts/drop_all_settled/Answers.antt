@@ -1,11 +1,7 @@
 use Rattle.std.proofs.Common.{◌≡◌, ◌<◌, refl, sym, subst, ◌∙◌, rules}
-use Rattle.ert_defs.specs.States.{state}
-use Rattle.ert_defs.specs.declared.settings.Settings.{Settings}
-use Rattle.ert_table.specs.Desks.{settings_of, front_of}
-use Rattle.ert_table.specs.Held.{IsWhole}
-use Rattle.ert_table.specs.declared.view.View.{View}
-use Rattle.ert_timers.specs.Parts.{PartStands}
-use Rattle.ert_timers.specs.Tidy.{IsTidy}
+use Rattle.ert_defs.specs.{States.state, declared.settings.Settings.Settings}
+use Rattle.ert_table.specs.{Desks.{settings_of, front_of}, Held.IsWhole, declared.view.View.View}
+use Rattle.ert_timers.specs.{Parts.PartStands, Tidy.IsTidy}
 use Rattle.ert_world.proofs.Dropping.{none_dropped, one_dropped}
 use Rattle.ert_world.proofs.parts.drop_all_settled.Goals as goal
 

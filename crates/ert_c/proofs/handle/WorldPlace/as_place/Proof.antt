@@ -1,11 +1,10 @@
 -- `as_place` lends all that C holds.
 use base.Logic.{id⊢}
 use denote.Memory.{part_of}
-use Rattle.ert_c.proofs.Cast.{casts}
+use Rattle.ert_c.proofs.{Cast.casts, handle.WorldPlace.as_place.Statement.statement}
 use Rattle.ert_c.specs.contracts.handle.WorldPlace as own
 use Rattle.ert_world.specs.contracts.world.World as world
 use Rattle.ert_c.specs.contracts.handle.WorldPlace.as_place.Key.{name}
-use Rattle.ert_c.proofs.handle.WorldPlace.as_place.Statement.{statement}
 use Rattle.ert_c.proofs.handle.WorldPlace.as_place.Code as code
 
 pub as_place_spec : {M : Type 1} → statement M

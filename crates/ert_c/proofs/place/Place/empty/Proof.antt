@@ -30,17 +30,13 @@ use denote.Triple.Spec.{triple_of}
 use denote.Triple.Call.{calls_at_last}
 use denote.Triple.Table.{framed}
 use denote.Triple.Walked.{Stays, stay_dropped, stay_ref, walk_of, Goes-ref}
-use Rattle.std.proofs.alloc.Calls.{Goes-blank}
-use Rattle.std.proofs.alloc.Shapes.{after}
-use Rattle.std.proofs.raw_atomic.Walks.{proved_at, leaves}
+use Rattle.std.proofs.{alloc.Calls.Goes-blank, alloc.Shapes.after, raw_atomic.Walks.{proved_at, leaves}}
 use Rattle.std_alloc.specs.Box.Ownership.{box_owns}
-use Rattle.std_alloc.proofs.BoxSteps.Steps.{el_tells}
+use Rattle.std_alloc.proofs.{BoxSteps.Steps.el_tells, boxed.Box.from_raw.Met.met}
 use Rattle.std_alloc.specs.contracts.boxed.Box as box
 use Rattle.std_alloc.proofs.boxed.Box.TheLaws as box_laws
 use Rattle.std_alloc.specs.contracts.boxed.Box.from_raw as callee
-use Rattle.std_alloc.proofs.boxed.Box.from_raw.Met.{met}
-use Rattle.ert_c.proofs.Carried.{word, there, place_out, place_in}
-use Rattle.ert_c.proofs.Heap.{Z, LZ, drops, boxes, passed, glued}
+use Rattle.ert_c.proofs.{Carried.{word, there, place_out, place_in}, Heap.{Z, LZ, drops, boxes, passed, glued}, place.Place.empty.Statement.statement}
 use Rattle.std_heap.specs.contracts.Global as heap
 use Rattle.std_heap.proofs.Global.TheLaws as heap_laws
 use Rattle.std_heap.specs.contracts.GlobalAllocator.TheImpl.{ghosts, dict}
@@ -48,7 +44,6 @@ use Rattle.ert_c.specs.Places.{chunk, held, is_there}
 use Rattle.ert_c.specs.contracts.place.Place as place
 use Rattle.ert_c.specs.contracts.place.Place.empty as f
 use Rattle.ert_c.specs.contracts.place.Place.empty.Key.{name as #self}
-use Rattle.ert_c.proofs.place.Place.empty.Statement.{statement}
 use Rattle.ert_c.proofs.place.Place.empty.Code as code
 
 pub empty_spec : {M : Type 1} → statement M

@@ -30,16 +30,13 @@ use denote.Triple.Spec.{triple_of}
 use denote.Triple.Call.{calls_at}
 use denote.Triple.Table.{framed}
 use denote.Triple.Walked.{Stays, stay_dropped, stay_ref, walk_of, Goes-ref}
-use Rattle.std.proofs.alloc.Calls.{Goes-blank}
-use Rattle.std.proofs.raw_atomic.Walks.{proved_at, leaves}
+use Rattle.std.proofs.{alloc.Calls.Goes-blank, raw_atomic.Walks.{proved_at, leaves}}
 use Rattle.std_alloc.specs.Box.Ownership.{box_owns}
-use Rattle.std_alloc.proofs.BoxSteps.Steps.{el_tells}
+use Rattle.std_alloc.proofs.{BoxSteps.Steps.el_tells, boxed.Box.into_raw.Met.met}
 use Rattle.std_alloc.specs.contracts.boxed.Box as box
 use Rattle.std_alloc.proofs.boxed.Box.TheLaws as box_laws
 use Rattle.std_alloc.specs.contracts.boxed.Box.into_raw as callee
-use Rattle.std_alloc.proofs.boxed.Box.into_raw.Met.{met}
-use Rattle.ert_c.proofs.Carried.{word, place_out, place_in}
-use Rattle.ert_c.proofs.Heap.{Z, LZ, drops, boxes, passed, glued}
+use Rattle.ert_c.proofs.{Carried.{word, place_out, place_in}, Heap.{Z, LZ, drops, boxes, passed, glued}, place.Place.fill.Statement.statement}
 use Rattle.std_heap.specs.contracts.Global as heap
 use Rattle.std_heap.proofs.Global.TheLaws as heap_laws
 use Rattle.std_heap.specs.contracts.GlobalAllocator.TheImpl.{ghosts, dict}
@@ -47,7 +44,6 @@ use Rattle.ert_c.specs.Places.{chunk, is_there}
 use Rattle.ert_c.specs.contracts.place.Place as place
 use Rattle.ert_c.specs.contracts.place.Place.fill as f
 use Rattle.ert_c.specs.contracts.place.Place.fill.Key.{name as #self}
-use Rattle.ert_c.proofs.place.Place.fill.Statement.{statement}
 use Rattle.ert_c.proofs.place.Place.fill.Code as code
 
 pub fill_spec : {M : Type 1} → statement M

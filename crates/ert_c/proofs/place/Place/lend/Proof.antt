@@ -27,15 +27,13 @@ use denote.Signature.{plain, mut_ref_to}
 use denote.Steps.{nothing, heard, opens}
 use denote.Param.{param, layouts}
 use denote.Triple.Walked.{Stays, stay_dropped, walk_of, says, ends_at, Goes-spent_ref}
-use Rattle.std.proofs.VecSteps.Shapes.{after}
-use Rattle.std.proofs.raw_atomic.Walks.{proved}
+use Rattle.std.proofs.{VecSteps.Shapes.after, raw_atomic.Walks.proved}
 use Rattle.std_alloc.specs.Box.Ownership.{box_owns}
-use Rattle.ert_c.proofs.Carried.{word, there, place_out, place_in}
+use Rattle.ert_c.proofs.{Carried.{word, there, place_out, place_in}, place.Place.lend.Statement.statement}
 use Rattle.ert_c.specs.Places.{chunk, held, is_there}
 use Rattle.ert_c.specs.contracts.place.Place as place
 use Rattle.ert_c.specs.contracts.place.Place.lend as f
 use Rattle.ert_c.specs.contracts.place.Place.lend.Key.{name as #self}
-use Rattle.ert_c.proofs.place.Place.lend.Statement.{statement}
 use Rattle.ert_c.proofs.place.Place.lend.Code as code
 
 module _ (R : RattleType) where

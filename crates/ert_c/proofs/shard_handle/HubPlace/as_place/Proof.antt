@@ -1,11 +1,10 @@
 -- `as_place` lends all that C holds.
 use base.Logic.{id⊢}
 use denote.Memory.{part_of}
-use Rattle.ert_c.proofs.Cast.{casts}
+use Rattle.ert_c.proofs.{Cast.casts, shard_handle.HubPlace.as_place.Statement.statement}
 use Rattle.ert_c.specs.contracts.shard_handle.HubPlace as own
 use Rattle.ert_shard.specs.contracts.hub.Hub as hub
 use Rattle.ert_c.specs.contracts.shard_handle.HubPlace.as_place.Key.{name}
-use Rattle.ert_c.proofs.shard_handle.HubPlace.as_place.Statement.{statement}
 use Rattle.ert_c.proofs.shard_handle.HubPlace.as_place.Code as code
 
 pub as_place_spec : {M : Type 1} → statement M

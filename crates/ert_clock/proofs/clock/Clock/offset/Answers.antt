@@ -1,8 +1,7 @@
 use Rattle.std.proofs.Common.{arith, subst, ◌+ℤ◌, FitsSigned, w64}
 use Rattle.std.proofs.lemmas.Int.{ints}
 use Rattle.ert_defs.proofs.Bounds.{sum_fits}
-use Rattle.ert_clock.specs.Faces.{face_of}
-use Rattle.ert_clock.specs.Shown.{Shown}
+use Rattle.ert_clock.specs.{Faces.face_of, Shown.Shown}
 use Rattle.ert_clock.proofs.clock.Clock.offset.Goals as goal
 
 pub returns-clause-sum : goal.returns-clause-sum

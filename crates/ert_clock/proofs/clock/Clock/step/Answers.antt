@@ -1,11 +1,8 @@
 use Rattle.std.proofs.Common.{rules, None, sym, refl, ◌∙◌, ap, subst, FitsSigned, w64, to_z-of_z}
 use Rattle.std.specs.Prelude.{Ok, Err}
 use Rattle.std.proofs.lemmas.Result.{err_from_is_err_and}
-use Rattle.ert_defs.specs.Lines.{Face, shifted}
-use Rattle.ert_defs.specs.declared.settings.Settings.{Settings}
-use Rattle.ert_clock.specs.Faces.{face_of}
-use Rattle.ert_clock.specs.Shown.{Shown}
-use Rattle.ert_clock.specs.Ticks.{Limits, Gives}
+use Rattle.ert_defs.specs.{Lines.{Face, shifted}, declared.settings.Settings.Settings}
+use Rattle.ert_clock.specs.{Faces.face_of, Shown.Shown, Ticks.{Limits, Gives}}
 use Rattle.ert_clock.proofs.Steps.{Done, refuses, done_keeps, done_gives, quiet}
 use Rattle.ert_clock.proofs.clock.Clock.step.Goals as goal
 

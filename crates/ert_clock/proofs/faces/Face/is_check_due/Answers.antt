@@ -1,7 +1,6 @@
 use Rattle.std.proofs.Common.{rules}
 use Rattle.ert_clock.specs.Faces.{face_of}
-use Rattle.ert_clock.proofs.Casts.{apart}
-use Rattle.ert_clock.proofs.Rules.{due_is}
+use Rattle.ert_clock.proofs.{Casts.apart, Rules.due_is}
 use Rattle.ert_clock.proofs.faces.Face.is_check_due.Goals as goal
 
 pub returns-then-settings : goal.returns-then-settings

@@ -3,8 +3,7 @@ use Rattle.std.specs.Prelude.{ℤ, ◌-ℤ◌, ◌+ℤ◌}
 use Rattle.std.specs.Int.{w16, w128}
 use Rattle.ert_clock.specs.Faces.{face_of}
 use Rattle.ert_defs.proofs.Numbers.{wide}
-use Rattle.ert_clock.proofs.Casts.{wide_sum, wide_error}
-use Rattle.ert_clock.proofs.Rules.{base_is}
+use Rattle.ert_clock.proofs.{Casts.{wide_sum, wide_error}, Rules.base_is}
 use Rattle.ert_clock.proofs.faces.Face.line_from.Goals as goal
 
 pub returns : goal.returns

@@ -1,17 +1,8 @@
 use Rattle.std.proofs.Common.{◌≡◌, ℕ, ◌∷◌, ◌++◌, [], ℤ, ◌-ℤ◌, Some, None, Ok, Err, refl, sym, ap, subst, ◌∙◌, inl, inr, length, rules, FitsSigned, w64, to_z, of_z, to_z-of_z}
-use Rattle.ert_defs.specs.States.{state}
-use Rattle.ert_defs.specs.Milliseconds.{deadline_at}
-use Rattle.ert_defs.specs.declared.settings.Settings.{Settings}
-use Rattle.ert_interval.specs.Calls.{HasBadArguments}
-use Rattle.ert_interval.specs.Deadlines.{start_at, base}
+use Rattle.ert_defs.specs.{States.state, Milliseconds.deadline_at, declared.settings.Settings.Settings}
+use Rattle.ert_interval.specs.{Calls.HasBadArguments, Deadlines.{start_at, base}, Intervals.AreIntervalsKept, declared.interval.Interval.Interval, declared.interval.IntervalState.TheVariants.Running}
 use Rattle.ert_effects.specs.TimerCalls.{Starts}
-use Rattle.ert_interval.specs.Intervals.{AreIntervalsKept}
-use Rattle.ert_interval.specs.declared.interval.Interval.{Interval}
-use Rattle.ert_interval.specs.declared.interval.IntervalState.TheVariants.{Running}
-use Rattle.ert_interval.proofs.Plain.{starts_plain}
-use Rattle.ert_interval.proofs.Pushing.{begun}
-use Rattle.ert_interval.proofs.Starting.{started, full_answer, full_start}
-use Rattle.ert_interval.proofs.Tables.{all_kept, pushed_kept}
+use Rattle.ert_interval.proofs.{Plain.starts_plain, Pushing.begun, Starting.{started, full_answer, full_start}, Tables.{all_kept, pushed_kept}}
 use Rattle.ert_world.specs.Worlds.{Goes, By}
 use Rattle.ert_interval.proofs.intervals.IntervalWorld.every.Goals as goal
 

@@ -1,5 +1,4 @@
-use Rattle.ert_interval.proofs.Plain.{exits_plain}
-use Rattle.ert_interval.proofs.Tables.{all_kept}
+use Rattle.ert_interval.proofs.{Plain.exits_plain, Tables.all_kept}
 use Rattle.ert_interval.proofs.intervals.IntervalWorld.exit.Goals as goal
 
 pub returns-clause-kept : goal.returns-clause-kept

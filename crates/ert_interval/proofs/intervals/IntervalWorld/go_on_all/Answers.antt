@@ -1,10 +1,7 @@
 use Rattle.std.proofs.Common.{◌≡◌, ◌<◌, ◌≤◌, length, ◌+◌, Err, rules, arith, sym, ap, ◌∙◌}
 use Rattle.ert_interval.specs.Going.{one_if}
-use Rattle.ert_interval.proofs.Onward.{still_then}
-use Rattle.ert_interval.proofs.Passing.{passes_more, passes_some, count_is}
-use Rattle.ert_interval.proofs.Stepping.{stays_then, steps_more}
+use Rattle.ert_interval.proofs.{Onward.still_then, Passing.{passes_more, passes_some, count_is}, Stepping.{stays_then, steps_more}, intervals.IntervalWorld.go_on_all.Goals.{then-branch, else-branch}}
 use Rattle.ert_interval.proofs.intervals.IntervalWorld.go_on_all.Goals as goal
-use Rattle.ert_interval.proofs.intervals.IntervalWorld.go_on_all.Goals.{then-branch, else-branch}
 
 pub returns-in_err-go_on_one-clause-still : goal.returns-in_err-go_on_one-clause-still
 returns-in_err-go_on_one-clause-still c =

@@ -1,7 +1,5 @@
 use Rattle.std.proofs.Common.{◌≤◌}
-use Rattle.ert_interval.specs.Going.{KeepsSeats, StepsTo}
-use Rattle.ert_interval.specs.Calls.{Still}
-use Rattle.ert_interval.specs.Intervals.{AreIntervalsKept}
+use Rattle.ert_interval.specs.{Going.{KeepsSeats, StepsTo}, Calls.Still, Intervals.AreIntervalsKept}
 use Rattle.ert_interval.proofs.Passing.{PassesTo}
 use Rattle.ert_interval.proofs.intervals.IntervalWorld.go_on_all.Given as goal
 

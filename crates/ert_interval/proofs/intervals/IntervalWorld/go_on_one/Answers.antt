@@ -1,13 +1,9 @@
 use Rattle.std.proofs.Common.{◌≡◌, subst, ◌∙◌, rules}
 use Rattle.ert_interval.specs.Calls.{IsNewOrSame}
 use Rattle.ert_defs.specs.States.{state}
-use Rattle.ert_interval.proofs.Onward.{still_kept}
-use Rattle.ert_interval.proofs.Plain.{still_plain, plain_asks}
-use Rattle.ert_interval.proofs.Passing.{counts_by}
-use Rattle.ert_interval.proofs.Tables.{set_kept, idle_then, still_none, any_default}
-use Rattle.ert_interval.proofs.Stepping.{stays_none, on_stays, step_on}
+use Rattle.ert_interval.proofs.{Onward.still_kept, Plain.{still_plain, plain_asks}, Passing.counts_by, Tables.{set_kept, idle_then, still_none, any_default}, Stepping.{stays_none, on_stays, step_on}}
+use Rattle.ert_interval.proofs.{intervals.IntervalWorld.go_on_one.Goals.{then-interval-sched-via-then-interval-sched, then-interval-sched-via-else-interval-sched+then-not-is_open}}
 use Rattle.ert_interval.proofs.intervals.IntervalWorld.go_on_one.Goals as goal
-use Rattle.ert_interval.proofs.intervals.IntervalWorld.go_on_one.Goals.{then-interval-sched-via-then-interval-sched, then-interval-sched-via-else-interval-sched+then-not-is_open}
 
 pub returns-then-interval-sched-clause-still : goal.returns-then-interval-sched-clause-still
 returns-then-interval-sched-clause-still c = elim c.then-interval-sched.branch [

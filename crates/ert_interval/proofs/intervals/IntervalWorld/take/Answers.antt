@@ -1,6 +1,5 @@
 use Rattle.ert_defs.specs.States.{state}
-use Rattle.ert_interval.proofs.Plain.{takes_plain}
-use Rattle.ert_interval.proofs.Tables.{all_kept}
+use Rattle.ert_interval.proofs.{Plain.takes_plain, Tables.all_kept}
 use Rattle.ert_interval.proofs.intervals.IntervalWorld.take.Goals as goal
 
 pub returns-clause-kept : goal.returns-clause-kept

@@ -1,8 +1,7 @@
 use Rattle.ert_defs.specs.States.{state}
 use Rattle.ert_interval.specs.Intervals.{AreIntervalsKept}
 use Rattle.ert_world.specs.Worlds.{Seen}
-use Rattle.ert_interval.proofs.Plain.{ticks_plain}
-use Rattle.ert_interval.proofs.Tables.{all_kept}
+use Rattle.ert_interval.proofs.{Plain.ticks_plain, Tables.all_kept}
 use Rattle.ert_interval.proofs.intervals.IntervalWorld.tick.Goals as goal
 
 pub returns-clause-kept : goal.returns-clause-kept

@@ -1,6 +1,5 @@
 use Rattle.std.proofs.Common.{◌≡◌, Ok, Err, inr, rules, subst}
-use Rattle.ert_interval.specs.Calls.{PassesAll, PassesSome}
-use Rattle.ert_interval.specs.Going.{StepsAll}
+use Rattle.ert_interval.specs.{Calls.{PassesAll, PassesSome}, Going.StepsAll}
 use Rattle.ert_interval.proofs.intervals.IntervalWorld.turn.Goals as goal
 
 pub returns-in_err-armed-clause-turns : goal.returns-in_err-armed-clause-turns

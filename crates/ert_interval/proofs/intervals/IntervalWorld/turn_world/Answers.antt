@@ -1,6 +1,4 @@
-use Rattle.ert_interval.proofs.Plain.{turns_plain}
-use Rattle.ert_interval.proofs.Reading.{piece_legal}
-use Rattle.ert_interval.proofs.Tables.{all_kept}
+use Rattle.ert_interval.proofs.{Plain.turns_plain, Reading.piece_legal, Tables.all_kept}
 use Rattle.ert_interval.proofs.intervals.IntervalWorld.turn_world.Goals as goal
 
 pub returns-clause-kept : goal.returns-clause-kept

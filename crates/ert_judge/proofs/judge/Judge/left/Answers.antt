@@ -1,8 +1,7 @@
 use Rattle.std.proofs.Common.{rules, ◌≡◌, ◌∙◌, ap, Some, FitsSigned, w64, to_z-of_z}
 use Rattle.std.specs.Prelude.{ℤ}
 use Rattle.ert_defs.specs.declared.timer.Status.TheVariants.{Armed}
-use Rattle.ert_judge.specs.Parts.{looks_in, look_of}
-use Rattle.ert_judge.specs.Wheels.{timers_at}
+use Rattle.ert_judge.specs.{Parts.{looks_in, look_of}, Wheels.timers_at}
 use Rattle.ert_judge.proofs.Finds.{left_armed}
 use Rattle.ert_judge.proofs.judge.Judge.left.Goals as goal
 

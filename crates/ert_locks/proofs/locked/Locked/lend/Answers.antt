@@ -1,10 +1,7 @@
 use Rattle.std.proofs.Common.{rules, ◌≡◌, true, refl, sym, ap, subst, ◌∙◌}
-use Rattle.ert_locks.proofs.Lent.{lent_out, lent_to, fits_again}
+use Rattle.ert_locks.proofs.{Lent.{lent_out, lent_to, fits_again}, locked.Locked.lend.Given.Over, locked.Locked.lend.Goals.{After-meet, After-call-answer}}
 use Rattle.ert_locks.specs.Lent.{IsLent, IsGivenBack}
-use Rattle.ert_table.specs.Desks.{front_of, actors_of}
-use Rattle.ert_table.specs.Held.{is_held, actors_but}
-use Rattle.ert_locks.proofs.locked.Locked.lend.Given.{Over}
-use Rattle.ert_locks.proofs.locked.Locked.lend.Goals.{After-meet, After-call-answer}
+use Rattle.ert_table.specs.{Desks.{front_of, actors_of}, Held.{is_held, actors_but}}
 use Rattle.ert_locks.proofs.locked.Locked.lend.Goals as goal
 
 lent : (g : Over) (c : After-meet g) → IsLent c.args.desk.now g.P.DeskPart.kind g.S.DeskPart.kind c.args.self.now (front_of c.args.seat.now) c.self.inside.part c.meet.new.pass

@@ -1,7 +1,6 @@
 use Rattle.std.proofs.Common.{rules, refl}
 use Rattle.std.proofs.iter.Serving.{serving}
-use Rattle.ert_locks.proofs.Own.{sweeps_have}
-use Rattle.ert_locks.proofs.Scheds.{exited_lent}
+use Rattle.ert_locks.proofs.{Own.sweeps_have, Scheds.exited_lent}
 use Rattle.ert_locks.proofs.wheel.Locked+WheelPart+L.sweep.Goals as goal
 
 pub lend-requires-clause-may : goal.lend-requires-clause-may

@@ -1,8 +1,7 @@
 use Rattle.std.proofs.Common.{◌≡◌, ◌∙◌, refl, sym, ap, subst, Ok, List, [], ◌∷◌, ◌++◌}
 use Rattle.ert_effects.specs.RequestCalls.{Asks}
 use Rattle.ert_defs.specs.declared.mail.Request.{Request}
-use Rattle.ert_table.specs.Calls.{IsMade}
-use Rattle.ert_table.specs.Desks.{settings_of, view_of}
+use Rattle.ert_table.specs.{Calls.IsMade, Desks.{settings_of, view_of}}
 use Rattle.ert_mail.specs.Inboxes.{Waiting, IsAskers, InboxStands}
 use Rattle.ert_mail.specs.contracts.inbox.InboxPart.{the_view}
 use Rattle.ert_mail.proofs.InboxStanding.{ask_made, stands_asked}

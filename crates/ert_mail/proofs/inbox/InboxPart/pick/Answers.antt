@@ -1,8 +1,7 @@
 use Rattle.std.proofs.Common.{◌≡◌, refl, sym, subst}
 use Rattle.ert_effects.specs.RequestCalls.{Picks}
 use Rattle.ert_defs.specs.States.{state}
-use Rattle.ert_table.specs.Calls.{IsMade}
-use Rattle.ert_table.specs.Desks.{settings_of, view_of}
+use Rattle.ert_table.specs.{Calls.IsMade, Desks.{settings_of, view_of}}
 use Rattle.ert_table.proofs.Parts.{popped}
 use Rattle.ert_mail.specs.Inboxes.{Waiting, HoldsInboxAndSched, InboxStands, sched_after_pick}
 use Rattle.ert_mail.specs.contracts.inbox.InboxPart.{the_view}

@@ -1,13 +1,8 @@
 use Rattle.std.proofs.Common.{◌≡◌, ◌+◌, ◌<◌, ◌∷◌, ◌++◌, [], true, false, refl, sym, ap, subst, ◌∙◌, arith}
-use Rattle.ert_defs.specs.Entries.{mark_entry}
-use Rattle.ert_defs.specs.declared.entry.Actor.TheVariants.{Caller}
-use Rattle.ert_table.specs.Calls.{IsMade}
-use Rattle.ert_table.specs.Desks.{settings_of, view_of, state_of}
-use Rattle.ert_table.specs.Takes.{Appends}
-use Rattle.ert_mail.specs.Lists.{AreListed, exited_from}
-use Rattle.ert_mail.proofs.Listing.{listed_again, none_next, none_waits, some_next, still_listed, with_new}
-use Rattle.ert_mail.proofs.Looked.{Passes, listed_then, look_found, looked_all, looked_last, looked_more, none_there, passed_more, some_there}
-use Rattle.ert_mail.specs.Turns.{TurnRow}
+use Rattle.ert_defs.specs.{Entries.mark_entry, declared.entry.Actor.TheVariants.Caller}
+use Rattle.ert_table.specs.{Calls.IsMade, Desks.{settings_of, view_of, state_of}, Takes.Appends}
+use Rattle.ert_mail.specs.{Lists.{AreListed, exited_from}, Turns.TurnRow}
+use Rattle.ert_mail.proofs.{Listing.{listed_again, none_next, none_waits, some_next, still_listed, with_new}, Looked.{Passes, listed_then, look_found, looked_all, looked_last, looked_more, none_there, passed_more, some_there}}
 use Rattle.ert_mail.proofs.list.MailList.next.Goals as goal
 
 pub returns : goal.returns

@@ -1,8 +1,7 @@
 use Rattle.std.proofs.Common.{◌≡◌, length}
 use Rattle.ert_mail.proofs.Looked.{Passes}
 use Rattle.ert_mail.specs.Lists.{AreListed, exited_from}
-use Rattle.ert_table.specs.Calls.{IsMade}
-use Rattle.ert_table.specs.Desks.{settings_of, view_of, state_of, Belongs}
+use Rattle.ert_table.specs.{Calls.IsMade, Desks.{settings_of, view_of, state_of, Belongs}}
 use Rattle.ert_mail.proofs.list.MailList.next.Given as goal
 
 abbrev pub invariant-loop-process : goal.invariant-loop-process

@@ -1,7 +1,6 @@
 use Rattle.std.proofs.Common.{◌≡◌, ◌<◌, sym, subst, ◌∙◌, true, false}
 use Rattle.ert_mail.proofs.Listing.{flag_is, row_put, with_new, with_there}
-use Rattle.ert_mail.specs.Lists.{with_listed}
-use Rattle.ert_mail.specs.Turns.{TurnRow, is_listed}
+use Rattle.ert_mail.specs.{Lists.with_listed, Turns.{TurnRow, is_listed}}
 use Rattle.ert_mail.proofs.list.MailList.put.Goals as goal
 
 pub put-requires-clause-away : goal.put-requires-clause-away

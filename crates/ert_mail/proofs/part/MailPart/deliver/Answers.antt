@@ -1,7 +1,6 @@
 use Rattle.std.proofs.Common.{◌^◌, ◌≡◌, ◌∙◌, ◌≤◌, ◌+◌, ◌-◌, List, [], ◌∷◌, ◌++◌, add-zero, rules, refl, sym, ap, subst}
 use Rattle.std.specs.VecDeque.{deque_len, deque_capacity}
-use Rattle.ert_defs.specs.Mails.{message_of}
-use Rattle.ert_defs.specs.declared.mail.Mail.{Mail}
+use Rattle.ert_defs.specs.{Mails.message_of, declared.mail.Mail.Mail}
 use Rattle.ert_effects.specs.declared.answers.Handed.TheVariants.{Put, Dropped}
 use Rattle.ert_table.specs.Desks.{settings_of, view_of}
 use Rattle.ert_mail.specs.Mailboxes.{Mailbox, mailbox_seen}

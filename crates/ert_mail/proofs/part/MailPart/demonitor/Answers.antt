@@ -1,7 +1,6 @@
 use Rattle.std.proofs.Common.{sym, subst, refl}
 use Rattle.ert_effects.specs.MailCalls.{Demonitors}
-use Rattle.ert_table.specs.Calls.{IsMade}
-use Rattle.ert_table.specs.Desks.{settings_of, view_of}
+use Rattle.ert_table.specs.{Calls.IsMade, Desks.{settings_of, view_of}}
 use Rattle.ert_mail.specs.Mailboxes.{Mailbox, MailboxStands, IsCallers}
 use Rattle.ert_mail.specs.contracts.part.MailPart.{the_view}
 use Rattle.ert_mail.proofs.Watchings.{unwatch_made, stands_unwatched}

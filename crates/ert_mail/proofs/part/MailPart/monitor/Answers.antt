@@ -1,12 +1,9 @@
 use Rattle.std.proofs.Common.{◌≡◌, ℤ, rules, true, Ok, FitsSigned, List, [], ◌∷◌, ◌++◌, ◌∙◌, ◌≤◌, sym, ap, subst, refl, to_z, of_z, w64, to_z-of_z}
 use Rattle.ert_effects.specs.MailCalls.{Monitors}
-use Rattle.ert_table.specs.Calls.{IsMade}
-use Rattle.ert_table.specs.Desks.{settings_of, view_of}
+use Rattle.ert_table.specs.{Calls.IsMade, Desks.{settings_of, view_of}, Takes.Appends}
 use Rattle.ert_mail.specs.Mailboxes.{Mailbox, MailboxStands, IsCallers, AreMany}
 use Rattle.ert_mail.specs.contracts.part.MailPart.{the_view}
-use Rattle.ert_defs.specs.Entries.{watch_entry}
-use Rattle.ert_defs.specs.declared.mail.Monitor.{Monitor}
-use Rattle.ert_table.specs.Takes.{Appends}
+use Rattle.ert_defs.specs.{Entries.watch_entry, declared.mail.Monitor.Monitor}
 use Rattle.ert_mail.proofs.Watchings.{full_made, stands_full, not_many, watch_made, stands_watched}
 use Rattle.ert_mail.proofs.part.MailPart.monitor.Goals as goal
 

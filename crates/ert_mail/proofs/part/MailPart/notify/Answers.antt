@@ -1,18 +1,11 @@
 use Rattle.std.proofs.Common.{◌≡◌, ℤ, arith, rules, Ok, List, length, FitsSigned, ◌++◌, ◌-◌, sym, ap, subst, refl, ◌∙◌, to_z, of_z, w64, to_z-of_z}
 use Rattle.ert_effects.specs.MailCalls.{Notifies}
-use Rattle.ert_table.specs.Calls.{IsMade}
-use Rattle.ert_table.specs.Desks.{settings_of, view_of}
-use Rattle.ert_mail.specs.Mailboxes.{Mailbox, MailboxStands, IsCallers}
+use Rattle.ert_table.specs.{Calls.IsMade, Desks.{settings_of, view_of}, Takes.Appends}
+use Rattle.ert_mail.specs.Mailboxes.{Mailbox, MailboxStands, IsCallers, mailbox_seen}
 use Rattle.ert_mail.specs.contracts.part.MailPart.{the_view}
-use Rattle.ert_defs.specs.Entries.{tell_entry}
-use Rattle.ert_defs.specs.Mails.{changes_of, told_of}
-use Rattle.ert_defs.specs.declared.mail.Mail.{Mail}
-use Rattle.ert_defs.specs.declared.mail.Monitor.{Monitor}
-use Rattle.ert_table.specs.Takes.{Appends}
-use Rattle.ert_mail.specs.Mailboxes.{mailbox_seen}
+use Rattle.ert_defs.specs.{Entries.tell_entry, Mails.{changes_of, told_of}, declared.mail.Mail.Mail, declared.mail.Monitor.Monitor}
 use Rattle.std.proofs.lemmas.List.{with_items_is}
-use Rattle.std.specs.Vec.{with_items}
-use Rattle.std.specs.VecDeque.{deque_len, deque_capacity}
+use Rattle.std.specs.{Vec.with_items, VecDeque.{deque_len, deque_capacity}}
 use Rattle.ert_mail.proofs.Watchings.{tell_made, stands_told}
 use Rattle.ert_mail.proofs.part.MailPart.notify.Goals as goal
 

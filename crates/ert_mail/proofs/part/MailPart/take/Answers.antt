@@ -1,17 +1,12 @@
 use Rattle.std.proofs.Common.{false, sym, subst, refl}
-use Rattle.ert_defs.specs.Entries.{mark_entry}
-use Rattle.ert_defs.specs.declared.entry.Actor.TheVariants.{Caller}
-use Rattle.ert_effects.specs.MailCalls.{Takes}
-use Rattle.ert_effects.specs.declared.answers.Taken.TheVariants.{Exited}
-use Rattle.ert_table.specs.Calls.{IsMade}
-use Rattle.ert_table.specs.Desks.{settings_of, view_of}
-use Rattle.ert_table.specs.Takes.{Appends}
+use Rattle.ert_defs.specs.{Entries.mark_entry, declared.entry.Actor.TheVariants.Caller}
+use Rattle.ert_effects.specs.{MailCalls.Takes, declared.answers.Taken.TheVariants.Exited}
+use Rattle.ert_table.specs.{Calls.IsMade, Desks.{settings_of, view_of}, Takes.Appends}
 use Rattle.ert_table.proofs.Parts.{popped}
 use Rattle.ert_mail.specs.Mailboxes.{Mailbox, MailboxStands}
 use Rattle.ert_mail.specs.contracts.part.MailPart.{the_view}
-use Rattle.ert_mail.proofs.Takings.{marked, exited_made, may_take, first_made, empty_made, stands_taken}
+use Rattle.ert_mail.proofs.{Takings.{marked, exited_made, may_take, first_made, empty_made, stands_taken}, part.MailPart.take.Goals.{in-Some, in-None}}
 use Rattle.ert_mail.proofs.part.MailPart.take.Goals as goal
-use Rattle.ert_mail.proofs.part.MailPart.take.Goals.{in-Some, in-None}
 
 pub returns-then-mark-clause-call : goal.returns-then-mark-clause-call
 returns-then-mark-clause-call c =

@@ -1,9 +1,7 @@
 use Rattle.std.proofs.Common.{true, false, refl, subst}
 use Rattle.std.specs.Prelude.{length}
-use Rattle.ert_effects.specs.Chains.{Exits}
-use Rattle.ert_effects.specs.Ways.{Way}
-use Rattle.ert_names.specs.Calls.{ExitDropsName}
-use Rattle.ert_names.specs.Registered.{Registered, seen_with_names}
+use Rattle.ert_effects.specs.{Chains.Exits, Ways.Way}
+use Rattle.ert_names.specs.{Calls.ExitDropsName, Registered.{Registered, seen_with_names}}
 use Rattle.ert_world.specs.Worlds.{Goes}
 use Rattle.ert_names.proofs.Living.{exited_old, exited_new, exited_unnamed, without_unnamed}
 use Rattle.ert_names.proofs.world.NameWorld.exit.Goals as goal

@@ -1,6 +1,5 @@
 use Rattle.std.proofs.Common.{◌≡◌, ℕ, suc, ◌+◌, ◌<◌, ◌≤◌, true, false, nat_eq, length, slice_index_or, Some, rules, sym, ap, subst, ◌∙◌, arith}
-use Rattle.std.proofs.lemmas.Bool.{eq-eqb, ne_eqb}
-use Rattle.std.proofs.lemmas.List.{get_or_default}
+use Rattle.std.proofs.lemmas.{Bool.{eq-eqb, ne_eqb}, List.get_or_default}
 use Rattle.ert_names.specs.declared.named.NamedMail.{NamedMail}
 use Rattle.ert_names.proofs.Handing.{past_more, found_value, found_others, none_value, none_others}
 use Rattle.ert_names.proofs.world.NameWorld.first_place.Goals as goal

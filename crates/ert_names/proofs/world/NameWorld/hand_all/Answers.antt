@@ -1,10 +1,7 @@
 use Rattle.std.proofs.Common.{◌^◌, ◌≡◌, ◌≤◌, true, false, Some, None, Ok, Err, length, [], ◌∷◌, ◌++◌, rules, subst, arith}
-use Rattle.ert_defs.specs.Legal.{Legal}
-use Rattle.ert_defs.specs.declared.memory.NoMemory.{NoMemory}
-use Rattle.ert_names.specs.Handing.{waiting, HandsNext, HandsOne, HandsNone}
-use Rattle.ert_names.specs.Registered.{Registered}
-use Rattle.ert_names.proofs.Handing.{hands_none, counted_none, hands_more, counted_true, counted_false, few_handed, few_lost, hands_all}
-use Rattle.ert_names.proofs.Waiting.{few_waiting}
+use Rattle.ert_defs.specs.{Legal.Legal, declared.memory.NoMemory.NoMemory}
+use Rattle.ert_names.specs.{Handing.{waiting, HandsNext, HandsOne, HandsNone}, Registered.Registered}
+use Rattle.ert_names.proofs.{Handing.{hands_none, counted_none, hands_more, counted_true, counted_false, few_handed, few_lost, hands_all}, Waiting.few_waiting}
 use Rattle.ert_names.proofs.world.NameWorld.hand_all.Goals as goal
 
 pub loop-was_handed-init : goal.loop-was_handed-init

@@ -1,6 +1,5 @@
 use Rattle.std.proofs.Common.{◌^◌, ◌≤◌, ◌+◌, List, length}
-use Rattle.ert_names.specs.Calls.{HandsMessagesOver, AreCounted, Message, TakesMany}
-use Rattle.ert_names.specs.Handing.{waiting}
+use Rattle.ert_names.specs.{Calls.{HandsMessagesOver, AreCounted, Message, TakesMany}, Handing.waiting}
 use Rattle.ert_names.proofs.world.NameWorld.hand_all.Given as goal
 
 abbrev pub invariant-loop-was_handed : goal.invariant-loop-was_handed

@@ -1,11 +1,7 @@
 use Rattle.std.proofs.Common.{◌≡◌, ℕ, ◌<◌, length, true, false, [], ◌∷◌, ◌++◌, Some, None, rules, refl, sym, ap, subst, ◌∙◌, arith, append-nil}
 use Rattle.std.proofs.lemmas.List.{length-map}
-use Rattle.ert_names.specs.Calls.{named_mail_of}
-use Rattle.ert_names.specs.Handing.{TakesNext, HandsNone, HandsOne}
-use Rattle.ert_names.specs.declared.named.NamedMail.{NamedMail}
-use Rattle.ert_names.specs.Registered.{Registered, seen_with_names, row_seen}
-use Rattle.ert_names.proofs.Handing.{posted_row, hands_one}
-use Rattle.ert_names.proofs.Living.{names_next}
+use Rattle.ert_names.specs.{Calls.named_mail_of, Handing.{TakesNext, HandsNone, HandsOne}, declared.named.NamedMail.NamedMail, Registered.{Registered, seen_with_names, row_seen}}
+use Rattle.ert_names.proofs.{Handing.{posted_row, hands_one}, Living.names_next}
 use Rattle.ert_names.proofs.world.NameWorld.hand_next.Goals as goal
 
 pub take_message-requires : goal.take_message-requires

@@ -1,8 +1,7 @@
 use Rattle.std.specs.Prelude.{length}
 use Rattle.ert_effects.specs.TimerCalls.{Reads}
 use Rattle.ert_defs.specs.declared.entry.Actor.TheVariants.{Caller}
-use Rattle.ert_names.proofs.Fitting.{reads_fit}
-use Rattle.ert_names.proofs.Living.{names_by}
+use Rattle.ert_names.proofs.{Fitting.reads_fit, Living.names_by}
 use Rattle.ert_names.proofs.world.NameWorld.read_timer.Goals as goal
 
 pub invariant_of-self : goal.invariant_of-self

@@ -1,12 +1,10 @@
 use Rattle.std.proofs.Common.{true, inr, length, rules, refl, subst}
 use Rattle.ert_effects.specs.WheelCalls.{TellsAlive}
 use Rattle.ert_defs.specs.declared.entry.Actor.TheVariants.{Caller}
-use Rattle.ert_names.specs.Calls.{GoesLone, IsBadName, AreFree, HasRegistered, SeesAlive}
-use Rattle.ert_names.specs.Registered.{Registered, seen_with_names}
-use Rattle.ert_names.proofs.Living.{names_looked, registered_if, seen_living}
+use Rattle.ert_names.specs.{Calls.{GoesLone, IsBadName, AreFree, HasRegistered, SeesAlive}, Registered.{Registered, seen_with_names}}
+use Rattle.ert_names.proofs.{Living.{names_looked, registered_if, seen_living}, world.NameWorld.register.Goals.{in-Ok, in-Err}}
 use Rattle.ert_world.specs.Worlds.{Goes, By}
 use Rattle.ert_names.proofs.world.NameWorld.register.Goals as goal
-use Rattle.ert_names.proofs.world.NameWorld.register.Goals.{in-Ok, in-Err}
 
 pub invariant_of-self : goal.invariant_of-self
 invariant_of-self c =

@@ -1,7 +1,6 @@
 use Rattle.std.specs.Prelude.{length}
 use Rattle.ert_effects.specs.TimerCalls.{Starts}
-use Rattle.ert_names.proofs.Fitting.{starts_fit}
-use Rattle.ert_names.proofs.Living.{names_by}
+use Rattle.ert_names.proofs.{Fitting.starts_fit, Living.names_by}
 use Rattle.ert_names.proofs.world.NameWorld.start.Goals as goal
 
 pub invariant_of-self : goal.invariant_of-self

@@ -1,17 +1,10 @@
 use Rattle.std.proofs.Common.{◌≡◌, ◌≢◌, ◌+◌, ◌<◌, [], ◌∷◌, ◌++◌, length, map, Result, Ok, Err, string_bytes, rules, refl, sym, ap, subst, ◌∙◌, arith}
 use Rattle.std.proofs.lemmas.List.{map_push}
-use Rattle.ert_effects.specs.TimerCalls.{Starts}
-use Rattle.ert_effects.specs.declared.answers.StartErr.{StartErr}
-use Rattle.ert_effects.specs.declared.answers.StartErr.TheVariants.{NoMemory}
+use Rattle.ert_effects.specs.{TimerCalls.Starts, declared.answers.StartErr.StartErr, declared.answers.StartErr.TheVariants.NoMemory}
 use Rattle.ert_defs.specs.declared.timer.TimerRef.{TimerRef}
-use Rattle.ert_names.specs.Calls.{HasStartedForName, StartsAt, StartsNamed, start_for_name}
-use Rattle.ert_names.specs.Fits.{FitsNames}
-use Rattle.ert_names.specs.Registered.{Registered, RowSeen, seen_with_names, row_seen}
-use Rattle.ert_names.proofs.Fitting.{starts_fit, refused_start_fits}
-use Rattle.ert_names.proofs.Handing.{refused_named, place_is, place_of, longer_by}
-use Rattle.ert_names.proofs.Living.{names_by, names_more}
-use Rattle.ert_world.specs.Frees.{IsUsedUpAt}
-use Rattle.ert_world.specs.Worlds.{Goes, By}
+use Rattle.ert_names.specs.{Calls.{HasStartedForName, StartsAt, StartsNamed, start_for_name}, Fits.FitsNames, Registered.{Registered, RowSeen, seen_with_names, row_seen}}
+use Rattle.ert_names.proofs.{Fitting.{starts_fit, refused_start_fits}, Handing.{refused_named, place_is, place_of, longer_by}, Living.{names_by, names_more}}
+use Rattle.ert_world.specs.{Frees.IsUsedUpAt, Worlds.{Goes, By}}
 use Rattle.ert_names.proofs.world.NameWorld.start_named.Goals as goal
 
 pub invariant_of-self-in_err-timer : goal.invariant_of-self-in_err-timer

@@ -1,7 +1,6 @@
 use Rattle.std.specs.Prelude.{length}
 use Rattle.ert_effects.specs.MailCalls.{Takes}
-use Rattle.ert_names.proofs.Fitting.{takes_fit}
-use Rattle.ert_names.proofs.Living.{names_by}
+use Rattle.ert_names.proofs.{Fitting.takes_fit, Living.names_by}
 use Rattle.ert_names.proofs.world.NameWorld.take.Goals as goal
 
 pub invariant_of-self : goal.invariant_of-self

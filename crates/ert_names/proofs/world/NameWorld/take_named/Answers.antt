@@ -1,12 +1,10 @@
 use Rattle.std.proofs.Common.{◌≡◌, true, None, rules, refl, sym, subst, ◌∙◌}
-use Rattle.ert_names.specs.Calls.{SeesAlive, first_for, others_for}
-use Rattle.ert_names.specs.Registered.{Registered, seen_with_names}
-use Rattle.ert_names.proofs.Handing.{none_goes}
+use Rattle.ert_names.specs.{Calls.{SeesAlive, first_for, others_for}, Registered.{Registered, seen_with_names}}
+use Rattle.ert_names.proofs.{Handing.none_goes, Living.names_looked}
 use Rattle.ert_world.specs.Worlds.{Goes, By}
 use Rattle.std.specs.Prelude.{length}
 use Rattle.ert_effects.specs.WheelCalls.{TellsAlive}
 use Rattle.ert_defs.specs.declared.entry.Actor.TheVariants.{Caller}
-use Rattle.ert_names.proofs.Living.{names_looked}
 use Rattle.ert_names.proofs.world.NameWorld.take_named.Goals as goal
 
 pub invariant_of-self : goal.invariant_of-self

@@ -1,11 +1,8 @@
 use Rattle.std.proofs.Common.{length, refl, subst}
 use Rattle.ert_effects.specs.ClockCalls.{Ticks}
 use Rattle.ert_clock.specs.Ticks.{act_of}
-use Rattle.ert_names.specs.Calls.{GoesAloneOnClock}
-use Rattle.ert_names.specs.Fits.{FitsRows}
-use Rattle.ert_names.specs.Registered.{Registered, seen_with_names}
-use Rattle.ert_names.proofs.Fitting.{acts_fit}
-use Rattle.ert_names.proofs.Living.{names_by}
+use Rattle.ert_names.specs.{Calls.GoesAloneOnClock, Fits.FitsRows, Registered.{Registered, seen_with_names}}
+use Rattle.ert_names.proofs.{Fitting.acts_fit, Living.names_by}
 use Rattle.ert_world.specs.Worlds.{Seen, By}
 use Rattle.ert_names.proofs.world.NameWorld.tick.Goals as goal
 

@@ -1,12 +1,8 @@
 use Rattle.std.proofs.Common.{◌≡◌, Ok, Err, inl, inr, length, rules, refl, subst}
 use Rattle.ert_effects.specs.Chains.{Turns}
 use Rattle.ert_defs.specs.declared.memory.NoMemory.{NoMemory}
-use Rattle.ert_names.specs.Calls.{TurnsNamed, HasTurnedAndHanded}
-use Rattle.ert_names.specs.Handing.{HandsAll, HandsThem, HandsSome}
-use Rattle.ert_names.specs.Registered.{Registered, seen_with_names}
-use Rattle.ert_names.proofs.Fitting.{turns_fit}
-use Rattle.ert_names.proofs.Handing.{turned, stopped}
-use Rattle.ert_names.proofs.Living.{names_on}
+use Rattle.ert_names.specs.{Calls.{TurnsNamed, HasTurnedAndHanded}, Handing.{HandsAll, HandsThem, HandsSome}, Registered.{Registered, seen_with_names}}
+use Rattle.ert_names.proofs.{Fitting.turns_fit, Handing.{turned, stopped}, Living.names_on}
 use Rattle.ert_world.specs.Worlds.{Goes}
 use Rattle.ert_names.proofs.world.NameWorld.turn.Goals as goal
 

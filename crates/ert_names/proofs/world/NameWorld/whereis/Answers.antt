@@ -1,6 +1,5 @@
 use Rattle.std.proofs.Common.{IfSome, subst}
-use Rattle.ert_names.specs.Living.{Lives}
-use Rattle.ert_names.specs.Registered.{Registered}
+use Rattle.ert_names.specs.{Living.Lives, Registered.Registered}
 use Rattle.ert_names.proofs.Living.{found_living}
 use Rattle.ert_names.proofs.world.NameWorld.whereis.Goals as goal
 

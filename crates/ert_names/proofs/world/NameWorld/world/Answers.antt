@@ -1,8 +1,6 @@
 use Rattle.std.proofs.Common.{length, subst}
 use Rattle.std.proofs.lemmas.List.{length-map}
-use Rattle.ert_names.specs.Living.{AreLiving}
-use Rattle.ert_names.specs.Promised.{IsPromised}
-use Rattle.ert_names.specs.Registered.{Registered}
+use Rattle.ert_names.specs.{Living.AreLiving, Promised.IsPromised, Registered.Registered}
 use Rattle.ert_names.proofs.Promised.{promised}
 use Rattle.ert_names.proofs.world.NameWorld.world.Goals as goal
 

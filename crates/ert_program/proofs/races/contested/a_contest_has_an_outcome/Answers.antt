@@ -2,23 +2,12 @@
 
 use Rattle.std.proofs.Common.{◌≡◌, ℕ, pos, true, false, List, [], ◌∷◌, ◌++◌, Option, Some, None, Ok, refl, rules, arith}
 use Rattle.std.specs.Fmt.{digits}
-use Rattle.ert_effects.specs.Chains.{Turns}
-use Rattle.ert_effects.specs.TimerCalls.{IsStarted, Cancels}
-use Rattle.ert_effects.specs.Ways.{alone}
-use Rattle.ert_effects.specs.WheelCalls.{HasAdvanced}
-use Rattle.ert_effects.specs.declared.answers.Turned.{Turned}
-use Rattle.ert_defs.specs.Entries.{look_entry, peek_entry, cancel_entry, pick_entry, advanced_entry}
-use Rattle.ert_defs.specs.States.{state}
-use Rattle.ert_defs.specs.declared.entry.Actor.TheVariants.{Caller, Sched}
-use Rattle.ert_defs.specs.declared.entry.Entry.{Entry}
-use Rattle.ert_defs.specs.declared.timer.Kind.TheVariants.{Wrapped}
-use Rattle.ert_defs.specs.declared.timer.When.TheVariants.{After}
+use Rattle.ert_effects.specs.{Chains.Turns, TimerCalls.{IsStarted, Cancels}, Ways.alone, WheelCalls.HasAdvanced, declared.answers.Turned.Turned}
+use Rattle.ert_defs.specs.{Entries.{look_entry, peek_entry, cancel_entry, pick_entry, advanced_entry}, States.state, declared.entry.Actor.TheVariants.{Caller, Sched}, declared.entry.Entry.Entry, declared.timer.Kind.TheVariants.Wrapped}
+use Rattle.ert_defs.specs.{declared.timer.When.TheVariants.After}
 use Rattle.ert_ops.specs.declared.op.Op.TheVariants as ops
-use Rattle.ert_program.specs.WorkedRace.{two_callers, two_cancels, contested_timer, contest_start, contested, closing_turn}
-use Rattle.ert_program.specs.Made.{MakesTurns, MakesRound}
-use Rattle.ert_program.specs.Outcomes.{DoesList, ActAtOnce}
-use Rattle.ert_ops.specs.Calls.{start_for_op}
-use Rattle.ert_ops.specs.declared.reply.Reply.TheVariants.{StartOk, Cancel}
+use Rattle.ert_program.specs.{WorkedRace.{two_callers, two_cancels, contested_timer, contest_start, contested, closing_turn}, Made.{MakesTurns, MakesRound}, Outcomes.{DoesList, ActAtOnce}}
+use Rattle.ert_ops.specs.{Calls.start_for_op, declared.reply.Reply.TheVariants.{StartOk, Cancel}}
 use Rattle.ert_program.proofs.races.contested.a_contest_has_an_outcome.Goals as goal
 
 starts : IsStarted two_callers 0 0 (start_for_op (After (pos 5)) 0 7 Wrapped) contested_timer (state two_callers []) contest_start

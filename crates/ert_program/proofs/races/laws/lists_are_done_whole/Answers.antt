@@ -1,5 +1,4 @@
-use Rattle.ert_program.proofs.Advancing.{turns_advance, rounds_advance}
-use Rattle.ert_program.proofs.Kept.{lists_in_pieces, turns_in_pieces, replies_are_many}
+use Rattle.ert_program.proofs.{Advancing.{turns_advance, rounds_advance}, Kept.{lists_in_pieces, turns_in_pieces, replies_are_many}}
 use Rattle.ert_program.proofs.races.laws.lists_are_done_whole.Goals as goal
 
 pub returns-clause-pieces : goal.returns-clause-pieces

@@ -1,7 +1,5 @@
 use Rattle.std.proofs.Common.{rules, ◌≡◌, ℕ, ◌+◌, [], ◌∷◌, ◌++◌, sym, subst, ◌∙◌}
-use Rattle.ert_ops.specs.Races.{IsCallersOp}
-use Rattle.ert_ops.specs.Ranges.{IsOpInRange}
-use Rattle.ert_ops.specs.declared.op.Op.{Op}
+use Rattle.ert_ops.specs.{Races.IsCallersOp, Ranges.IsOpInRange, declared.op.Op.Op}
 use Rattle.ert_table.specs.Desks.{front_of}
 use Rattle.ert_program.specs.Workers.{DoesOwn, FailsOwn}
 use Rattle.ert_program.proofs.ListsMade.{may_do_at, list_more_at, some_done, reply_lost}

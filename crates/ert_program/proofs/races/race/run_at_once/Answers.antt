@@ -1,15 +1,10 @@
 use Rattle.std.proofs.Common.{List, sym, subst, ◌∙◌}
 use Rattle.ert_effects.specs.Ways.{Grows}
-use Rattle.ert_defs.specs.Legal.{Legal}
-use Rattle.ert_defs.specs.declared.entry.Entry.{Entry}
-use Rattle.ert_defs.specs.declared.settings.Settings.{Settings}
+use Rattle.ert_defs.specs.{Legal.Legal, declared.entry.Entry.Entry, declared.settings.Settings.Settings}
 use Rattle.ert_ops.specs.Races.{race_of}
-use Rattle.ert_program.specs.Outcomes.{ActAtOnce}
-use Rattle.ert_program.proofs.AtOnce.{at_once, count_callers}
-use Rattle.ert_program.proofs.Worked.{if_ok_at}
-use Rattle.ert_program.specs.Lists.{dids_of}
-use Rattle.ert_table.specs.Desks.{front_of}
-use Rattle.ert_table.specs.Views.{Begins}
+use Rattle.ert_program.specs.{Outcomes.ActAtOnce, Lists.dids_of}
+use Rattle.ert_program.proofs.{AtOnce.{at_once, count_callers}, Worked.if_ok_at}
+use Rattle.ert_table.specs.{Desks.front_of, Views.Begins}
 use Rattle.ert_program.proofs.races.race.run_at_once.Goals as goal
 
 pub close-world-requires-clause-scheds : goal.close-world-requires-clause-scheds

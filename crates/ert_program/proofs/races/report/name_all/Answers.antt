@@ -1,8 +1,6 @@
 use Rattle.std.proofs.Common.{◌++◌, ◌∙◌, ap, take}
-use Rattle.ert_program.specs.Reports.{all_labels}
+use Rattle.ert_program.specs.{Reports.all_labels, Lists.dids_of, declared.races.list.ListDone.ListDone}
 use Rattle.ert_program.proofs.Reported.{labels_more}
-use Rattle.ert_program.specs.Lists.{dids_of}
-use Rattle.ert_program.specs.declared.races.list.ListDone.{ListDone}
 use Rattle.ert_ops.specs.Labels.{Labels}
 use Rattle.ert_program.proofs.races.report.name_all.Goals as goal
 

@@ -1,6 +1,5 @@
 use Rattle.std.proofs.Common.{◌≡◌, take}
-use Rattle.ert_program.specs.Reports.{all_labels}
-use Rattle.ert_program.specs.Lists.{dids_of}
+use Rattle.ert_program.specs.{Reports.all_labels, Lists.dids_of}
 use Rattle.ert_program.proofs.races.report.name_all.Given as goal
 
 abbrev pub invariant-loop-list : goal.invariant-loop-list

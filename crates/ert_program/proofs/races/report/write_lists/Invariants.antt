@@ -1,6 +1,5 @@
 use Rattle.std.proofs.Common.{◌≡◌, ◌++◌, string_bytes, take}
-use Rattle.ert_program.specs.Reports.{lists_text}
-use Rattle.ert_program.specs.Lists.{dids_of}
+use Rattle.ert_program.specs.{Reports.lists_text, Lists.dids_of}
 use Rattle.ert_program.proofs.races.report.write_lists.Given as goal
 
 abbrev pub invariant-loop-number : goal.invariant-loop-number

@@ -1,11 +1,9 @@
 use Rattle.std.proofs.Common.{◌≡◌, ◌++◌, string_bytes, rules, subst, FitsSigned, w64, to_z-of_z}
 use Rattle.ert_defs.specs.States.{state}
 use Rattle.ert_laws.specs.Counts.{Counts, counts_of}
-use Rattle.ert_program.specs.Reports.{all_labels, lists_text}
+use Rattle.ert_program.specs.{Reports.{all_labels, lists_text}, Lists.dids_of}
 use Rattle.ert_program.proofs.Reported.{page_of}
-use Rattle.ert_program.specs.Lists.{dids_of}
-use Rattle.ert_ops.specs.Counts.{settled_line}
-use Rattle.ert_ops.specs.Texts.{end_line}
+use Rattle.ert_ops.specs.{Counts.settled_line, Texts.end_line}
 use Rattle.ert_program.proofs.races.run.report_page.Goals as goal
 
 pub returns : goal.returns

@@ -1,6 +1,5 @@
 use Rattle.std.proofs.Common.{ℕ, subst, ◌∙◌}
-use Rattle.ert_effects.specs.Chains.{Turns}
-use Rattle.ert_effects.specs.Ways.{Grows, beside}
+use Rattle.ert_effects.specs.{Chains.Turns, Ways.{Grows, beside}}
 use Rattle.ert_defs.specs.declared.entry.Actor.TheVariants.{Sched}
 use Rattle.ert_table.specs.Desks.{front_of}
 use Rattle.ert_program.proofs.TurnsMade.{turns_more}

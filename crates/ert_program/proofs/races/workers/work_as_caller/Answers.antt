@@ -1,6 +1,5 @@
 use Rattle.std.proofs.Common.{List, sym, subst}
-use Rattle.ert_ops.specs.Races.{MayDo, lists_of, race_of}
-use Rattle.ert_ops.specs.declared.op.Op.{Op}
+use Rattle.ert_ops.specs.{Races.{MayDo, lists_of, race_of}, declared.op.Op.Op}
 use Rattle.ert_program.proofs.Worked.{may_at}
 use Rattle.ert_program.proofs.races.workers.work_as_caller.Goals as goal
 

@@ -1,7 +1,6 @@
 use Rattle.std.proofs.Common.{◌≡◌, ℕ, suc, Some, refl}
 use Rattle.json.specs.Json.{value}
-use Rattle.serde_json.specs.Read.{of_json, converted}
-use Rattle.serde_json.specs.View.{view}
+use Rattle.serde_json.specs.{Read.{of_json, converted}, View.view}
 use Rattle.ert_scenario.proofs.QuickMembers.{member_field}
 use Rattle.ert_scenario.proofs.quick.members.read_field.Goals as goal
 

@@ -1,6 +1,5 @@
 use Rattle.std.proofs.Common.{◌≡◌, ◌∷◌, ap, ◌∙◌}
-use Rattle.json.specs.Json.{value}
-use Rattle.json.specs.Token.{begin_object}
+use Rattle.json.specs.{Json.value, Token.begin_object}
 use Rattle.serde_json.specs.Read.{of_json, converted}
 use Rattle.ert_scenario.proofs.QuickMembers.{object_read}
 use Rattle.ert_scenario.proofs.quick.members.read_object.Goals as goal

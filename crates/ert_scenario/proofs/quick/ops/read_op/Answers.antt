@@ -1,9 +1,7 @@
 use Rattle.std.proofs.Common.{◌≡◌, ◌∷◌, map, true, sym, subst, ap, ◌∙◌, arith}
 use Rattle.json.specs.Token.{begin_array}
 use Rattle.serde_json.specs.View.{view}
-use Rattle.ert_scenario.specs.Quick.{ReadsOp}
-use Rattle.ert_scenario.specs.Rows.{op_from}
-use Rattle.ert_scenario.specs.declared.doer.ListDoer.TheVariants.{Everyone}
+use Rattle.ert_scenario.specs.{Quick.ReadsOp, Rows.op_from, declared.doer.ListDoer.TheVariants.Everyone}
 use Rattle.ert_scenario.proofs.QuickLemmas.{op_read}
 use Rattle.ert_scenario.proofs.quick.ops.read_op.Goals as goal
 

@@ -1,6 +1,5 @@
 use Rattle.std.proofs.Common.{◌≡◌, ◌<◌, ◌∷◌, length, None, true, sym, subst, arith}
-use Rattle.json.specs.Json.{after_end_array}
-use Rattle.json.specs.Token.{begin_array}
+use Rattle.json.specs.{Json.after_end_array, Token.begin_array}
 use Rattle.ert_scenario.specs.Quick.{ReadsOp, ReadsOps}
 use Rattle.ert_scenario.proofs.QuickLemmas.{OpsSoFar, ops_start, ops_more, ops_done}
 use Rattle.ert_scenario.proofs.quick.ops.read_ops.Goals as goal

@@ -1,10 +1,7 @@
 use Rattle.std.proofs.Common.{◌≡◌, drop, get_or, true, false, ◌==◌, Some, Option, option_map, sym, subst, ap, ◌∙◌, arith, take_all, length-drop}
 use Rattle.std.specs.Prelude.{IfSome}
 use Rattle.fast_float.specs.Text.{scan}
-use Rattle.serde_json.specs.Data.{Num, number}
-use Rattle.serde_json.specs.Read.{number_of, number_from}
-use Rattle.serde_json.specs.View.{view}
-use Rattle.serde_json.specs.declared.value.Value.{Value}
+use Rattle.serde_json.specs.{Data.{Num, number}, Read.{number_of, number_from}, View.view, declared.value.Value.Value}
 use Rattle.ert_scenario.proofs.quick.tokens.integer.Goals as goal
 
 -- what is read of a number, where there is one

@@ -1,6 +1,5 @@
 use Rattle.std.proofs.Common.{◌≡◌, ◌∷◌, Some, None, sym, subst, arith}
-use Rattle.json.specs.Json.{after_end_array}
-use Rattle.json.specs.Reads.{token_of}
+use Rattle.json.specs.{Json.after_end_array, Reads.token_of}
 use Rattle.serde_json.specs.View.{view}
 use Rattle.ert_scenario.specs.Quick.{scalar_of}
 use Rattle.ert_scenario.proofs.QuickLemmas.{ItemsSoFar, items_more, items_done}

@@ -1,11 +1,8 @@
 use Rattle.std.proofs.Common.{◌≡◌, ◌<◌, ◌∷◌, ℕ, suc, length, Some, ap, ◌∙◌, arith}
-use Rattle.json.specs.Json.{value}
-use Rattle.json.specs.Reads.{token_of}
-use Rattle.serde_json.specs.Read.{of_json, converted}
-use Rattle.serde_json.specs.View.{view}
+use Rattle.json.specs.{Json.value, Reads.token_of}
+use Rattle.serde_json.specs.{Read.{of_json, converted}, View.view}
 use Rattle.ert_scenario.specs.Quick.{scalar_of}
-use Rattle.ert_scenario.proofs.QuickLemmas.{scalar_read}
-use Rattle.ert_scenario.proofs.QuickMembers.{under}
+use Rattle.ert_scenario.proofs.{QuickLemmas.scalar_read, QuickMembers.under}
 use Rattle.ert_scenario.proofs.quick.tokens.read_value.Goals as goal
 
 pub returns-in_default-token : goal.returns-in_default-token

@@ -1,6 +1,5 @@
 use Rattle.std.proofs.Common.{subst}
-use Rattle.ert_effects.specs.Chains.{Exits}
-use Rattle.ert_effects.specs.Ways.{Grows, beside}
+use Rattle.ert_effects.specs.{Chains.Exits, Ways.{Grows, beside}}
 use Rattle.ert_defs.specs.declared.entry.Actor.TheVariants.{Caller}
 use Rattle.ert_service.proofs.Settling.{swept_in}
 use Rattle.ert_table.specs.Desks.{front_of}

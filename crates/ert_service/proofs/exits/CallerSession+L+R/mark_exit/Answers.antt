@@ -2,8 +2,7 @@ use Rattle.std.proofs.Common.{subst}
 use Rattle.ert_effects.specs.WheelCalls.{MarksExit}
 use Rattle.ert_defs.specs.declared.entry.Actor.TheVariants.{Caller}
 use Rattle.ert_service.proofs.Chained.{marked}
-use Rattle.ert_table.specs.Calls.{IsMade}
-use Rattle.ert_table.specs.Desks.{view_of}
+use Rattle.ert_table.specs.{Calls.IsMade, Desks.view_of}
 use Rattle.ert_service.proofs.exits.CallerSession+L+R.mark_exit.Goals as goal
 
 pub returns-clause-exited : goal.returns-clause-exited

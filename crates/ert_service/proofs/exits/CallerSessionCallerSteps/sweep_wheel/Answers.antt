@@ -1,6 +1,5 @@
 use Rattle.std.proofs.Common.{rules}
-use Rattle.ert_effects.specs.Chains.{SweepsWheel}
-use Rattle.ert_effects.specs.Ways.{Grows, beside}
+use Rattle.ert_effects.specs.{Chains.SweepsWheel, Ways.{Grows, beside}}
 use Rattle.ert_defs.specs.declared.entry.Actor.TheVariants.{Caller}
 use Rattle.ert_service.proofs.Chained.{still_exited}
 use Rattle.ert_table.specs.Desks.{front_of}

@@ -1,8 +1,7 @@
 use Rattle.std.proofs.Common.{◌≡◌, true, [], ◌∷◌, refl, length, rules, arith, sym, ap, subst, ◌∙◌}
 use Rattle.ert_locks.proofs.Lent.{is_of}
 use Rattle.ert_service.proofs.Divided.{next_of, divides_none, divides_next}
-use Rattle.ert_table.specs.Desks.{actors_of}
-use Rattle.ert_table.specs.Held.{is_held, actors_but}
+use Rattle.ert_table.specs.{Desks.actors_of, Held.{is_held, actors_but}}
 use Rattle.ert_service.proofs.rooms.Room.lock_all.Goals as goal
 
 pub split-own-requires-clause-held : goal.split-own-requires-clause-held

@@ -1,10 +1,9 @@
 use Rattle.std.proofs.Common.{ℕ, ◌≤◌, length, subst}
 use Rattle.std.specs.Arc.{arc_value}
-use Rattle.ert_defs.specs.States.{state}
+use Rattle.ert_defs.specs.{States.state, declared.settings.TheConstants.MOST_SLOTS}
 use Rattle.ert_service.proofs.Chained.{rows_few}
 use Rattle.ert_table.specs.Desks.{front_of}
 use Rattle.ert_service.proofs.sched_steps.SchedSessionSchedSteps.first_of_expired.Goals as goal
-use Rattle.ert_defs.specs.declared.settings.TheConstants.{MOST_SLOTS}
 
 pub returns-clause-few : goal.returns-clause-few
 returns-clause-few g c =

@@ -1,16 +1,12 @@
 use Rattle.std.proofs.Common.{sym, ap, subst}
 use Rattle.std.specs.Arc.{arc_value}
-use Rattle.ert_defs.specs.Legal.{Legal}
-use Rattle.ert_defs.specs.declared.entry.Actor.TheVariants.{Caller, Sched}
+use Rattle.ert_defs.specs.{Legal.Legal, declared.entry.Actor.TheVariants.{Caller, Sched}}
 use Rattle.ert_laws.proofs.Kept.{keeps_laws}
 use Rattle.ert_laws.specs.KeptLaws.{KeepsLaws}
 use Rattle.ert_locks.specs.KindLaws.{wheels_are, inboxes_are, mails_are, scheds_are}
 use Rattle.ert_world.specs.Worlds.{Seen as Shows}
-use Rattle.ert_service.proofs.Closed.{fit_of, own_of}
-use Rattle.ert_service.proofs.Gathered.{seen_then, seen_right, in_later}
-use Rattle.ert_service.proofs.Joined.{all_as}
-use Rattle.ert_service.specs.Gathering.{IsSeen}
-use Rattle.ert_service.specs.Joining.{HasOwn}
+use Rattle.ert_service.proofs.{Closed.{fit_of, own_of}, Gathered.{seen_then, seen_right, in_later}, Joined.all_as}
+use Rattle.ert_service.specs.{Gathering.IsSeen, Joining.HasOwn}
 use Rattle.ert_table.specs.Desks.{settings_of, front_of, view_of, Belongs}
 use Rattle.ert_service.proofs.service.Service.close.Goals as goal
 

@@ -1,8 +1,7 @@
 use Rattle.std.proofs.Common.{Some, ap, ◌∙◌}
 use Rattle.ert_effects.specs.TimerCalls.{Reads}
 use Rattle.ert_defs.specs.declared.entry.Actor.TheVariants.{Caller}
-use Rattle.ert_service.proofs.Alone.{made_alone}
-use Rattle.ert_service.proofs.Knowing.{none_read}
+use Rattle.ert_service.proofs.{Alone.made_alone, Knowing.none_read}
 use Rattle.ert_service.proofs.timer_calls.CallerSession+L+R.read_timer.Goals as goal
 
 pub returns-clause-call : goal.returns-clause-call

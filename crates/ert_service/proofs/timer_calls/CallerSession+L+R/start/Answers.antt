@@ -1,9 +1,7 @@
 use Rattle.ert_defs.specs.declared.entry.Actor.TheVariants.{Caller, Wheel}
 use Rattle.std.proofs.Common.{[], ◌∷◌, rules}
-use Rattle.ert_effects.specs.TimerCalls.{Starts}
-use Rattle.ert_effects.specs.Ways.{Grows, beside}
-use Rattle.ert_service.proofs.Knowing.{started_in}
-use Rattle.ert_service.proofs.Settling.{settled_in}
+use Rattle.ert_effects.specs.{TimerCalls.Starts, Ways.{Grows, beside}}
+use Rattle.ert_service.proofs.{Knowing.started_in, Settling.settled_in}
 use Rattle.ert_table.specs.Desks.{front_of}
 use Rattle.ert_service.proofs.timer_calls.CallerSession+L+R.start.Goals as goal
 

@@ -1,7 +1,6 @@
 use Rattle.std.proofs.Common.{◌≡◌, ◌<◌, ◌≤◌, ◌-◌, length, slice_index_or, Some, refl, sym, subst, ◌∙◌, arith}
 use Rattle.std.proofs.lemmas.Option.{slice_get_read}
-use Rattle.std.specs.Arc.{arc_value}
-use Rattle.std.specs.List.{slice_get}
+use Rattle.std.specs.{Arc.arc_value, List.slice_get}
 use Rattle.ert_laws.specs.Counts.{entries_of, is_arm}
 use Rattle.ert_shard.proofs.Cut.{told_unarmed, told_few, told_home, wheel_arms}
 use Rattle.ert_shard.specs.Hubs.{Rest}

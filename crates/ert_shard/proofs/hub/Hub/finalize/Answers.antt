@@ -2,8 +2,7 @@ use Rattle.std.proofs.Common.{sym, subst}
 use Rattle.ert_effects.specs.ClockCalls.{Finalizes}
 use Rattle.ert_shard.specs.Hubs.{IsRest}
 use Rattle.ert_shard.proofs.Ticked.{ticked, reads_by}
-use Rattle.ert_table.specs.Desks.{settings_of}
-use Rattle.ert_table.specs.declared.desk.Desk.{Desk}
+use Rattle.ert_table.specs.{Desks.settings_of, declared.desk.Desk.Desk}
 use Rattle.ert_world.proofs.Calm.{finalizes_quiet}
 use Rattle.ert_world.specs.Parts.{parts_of}
 use Rattle.ert_shard.proofs.hub.Hub.finalize.Goals as goal

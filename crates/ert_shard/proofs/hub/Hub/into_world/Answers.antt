@@ -2,8 +2,7 @@ use Rattle.std.proofs.Common.{◌≡◌, ◌+◌, ap, subst, sym, ◌∙◌}
 use Rattle.std.specs.Arc.{arc_value}
 use Rattle.ert_shard.proofs.Parted.{whole}
 use Rattle.ert_shard.specs.Hubs.{Rest}
-use Rattle.ert_world.specs.Parts.{parts_of}
-use Rattle.ert_world.specs.Worlds.{Seen}
+use Rattle.ert_world.specs.{Parts.parts_of, Worlds.Seen}
 use Rattle.ert_shard.proofs.hub.Hub.into_world.Goals as goal
 
 pub from_parts-requires-clause-fit : goal.from_parts-requires-clause-fit

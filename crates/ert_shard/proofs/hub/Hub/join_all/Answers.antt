@@ -2,8 +2,7 @@ use Rattle.std.proofs.Common.{◌≡◌, suc, ◌<◌, List, length, slice_index
 use Rattle.std.proofs.lemmas.Option.{slice_get_read}
 use Rattle.std.specs.List.{All, slice_get}
 use Rattle.ert_shard.proofs.Returned.{come_more, come_begins, ours_left}
-use Rattle.ert_shard.specs.Hubs.{IsLastOut, AreOurs, ComeBack}
-use Rattle.ert_shard.specs.Shards.{Owned}
+use Rattle.ert_shard.specs.{Hubs.{IsLastOut, AreOurs, ComeBack}, Shards.Owned}
 use Rattle.ert_shard.proofs.hub.Hub.join_all.Goals as goal
 
 pub loop-place-preserved : goal.loop-place-preserved

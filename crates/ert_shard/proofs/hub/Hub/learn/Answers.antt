@@ -3,8 +3,7 @@ use Rattle.ert_defs.specs.declared.entry.Actor.TheVariants.{Caller}
 use Rattle.ert_shard.proofs.Ticked.{alone_made}
 use Rattle.ert_table.specs.Desks.{settings_of, view_of}
 use Rattle.ert_world.proofs.Noted.{learned_made, none_quiet}
-use Rattle.ert_world.specs.Parts.{parts_of}
-use Rattle.ert_world.specs.Ways.{MakesNone}
+use Rattle.ert_world.specs.{Parts.parts_of, Ways.MakesNone}
 use Rattle.ert_shard.proofs.hub.Hub.learn.Goals as goal
 
 pub invariant_of-self : goal.invariant_of-self

@@ -1,11 +1,9 @@
 use Rattle.std.proofs.Common.{◌≡◌, ◌<◌, length, ap, subst, ◌∙◌, arith}
-use Rattle.std.specs.Arc.{arc_value}
-use Rattle.std.specs.Vec.{vec_len}
+use Rattle.std.specs.{Arc.arc_value, Vec.vec_len}
 use Rattle.ert_defs.specs.declared.settings.Settings.{Settings}
 use Rattle.ert_shard.proofs.Parted.{fresh}
 use Rattle.ert_table.specs.Desks.{settings_of}
-use Rattle.ert_world.specs.Parts.{parts_of}
-use Rattle.ert_world.specs.Worlds.{Seen}
+use Rattle.ert_world.specs.{Parts.parts_of, Worlds.Seen}
 use Rattle.ert_shard.proofs.hub.Hub.new.Goals as goal
 
 pub invariant_of-result : goal.invariant_of-result

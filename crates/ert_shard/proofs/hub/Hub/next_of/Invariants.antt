@@ -1,6 +1,5 @@
 use Rattle.std.proofs.Common.{ℕ, ◌<◌, slice_index_or}
-use Rattle.ert_shard.specs.Hubs.{IsLastOut}
-use Rattle.ert_shard.specs.Shards.{Owned}
+use Rattle.ert_shard.specs.{Hubs.IsLastOut, Shards.Owned}
 use Rattle.ert_shard.proofs.hub.Hub.next_of.Given as goal
 
 abbrev pub invariant-loop-place : goal.invariant-loop-place

@@ -1,12 +1,9 @@
 use Rattle.std.proofs.Common.{◌<◌, [], ◌∷◌, ◌++◌, sym, ap, subst, ◌∙◌}
-use Rattle.ert_defs.specs.declared.entry.Actor.TheVariants.{Caller}
-use Rattle.ert_defs.specs.declared.settings.Settings.{Settings}
+use Rattle.ert_defs.specs.declared.{entry.Actor.TheVariants.Caller, settings.Settings.Settings}
 use Rattle.ert_shard.proofs.Seats.{seated_fit, back_fit}
-use Rattle.ert_table.specs.Desks.{settings_of, front_of, actors_of}
-use Rattle.ert_table.specs.declared.desk.Desk.{Desk}
+use Rattle.ert_table.specs.{Desks.{settings_of, front_of, actors_of}, declared.desk.Desk.Desk}
 use Rattle.ert_world.proofs.Given.{longer_same}
-use Rattle.ert_world.specs.Parts.{parts_of}
-use Rattle.ert_world.specs.Seats.{Seated}
+use Rattle.ert_world.specs.{Parts.parts_of, Seats.Seated}
 use Rattle.ert_shard.proofs.hub.Hub.seat.Goals as goal
 
 pub invariant_of-self : goal.invariant_of-self

@@ -1,7 +1,5 @@
 use Rattle.std.proofs.Common.{◌≡◌, Err, rules, refl, arith}
-use Rattle.ert_shard.proofs.Called.{did_at, has_at}
-use Rattle.ert_shard.proofs.TriedHeld.{shard_tries_held}
-use Rattle.ert_shard.proofs.Turned.{advance_ok, advance_refused}
+use Rattle.ert_shard.proofs.{Called.{did_at, has_at}, TriedHeld.shard_tries_held, Turned.{advance_ok, advance_refused}}
 use Rattle.ert_shard.specs.Shards.{share_of, shard_parts_of}
 use Rattle.ert_table.specs.Desks.{settings_of, view_of}
 use Rattle.ert_timers.proofs.SchedParts.{advance_fits}

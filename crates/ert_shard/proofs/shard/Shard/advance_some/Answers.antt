@@ -1,6 +1,5 @@
 use Rattle.std.proofs.Common.{◌≡◌, Err, rules, refl, arith}
-use Rattle.ert_shard.proofs.Called.{did_at, has_at}
-use Rattle.ert_shard.proofs.Turned.{some_ok, some_refused}
+use Rattle.ert_shard.proofs.{Called.{did_at, has_at}, Turned.{some_ok, some_refused}}
 use Rattle.ert_shard.specs.Shards.{share_of, shard_parts_of}
 use Rattle.ert_table.specs.Desks.{settings_of, view_of}
 use Rattle.ert_timers.proofs.SchedParts.{count_fits}

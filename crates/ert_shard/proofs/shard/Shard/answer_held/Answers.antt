@@ -1,13 +1,9 @@
 use Rattle.std.proofs.Common.{true, ◌≡◌, ◌-◌, [], ◌∷◌, Ok, Err, None, Some, rules, refl, sym, ap, subst}
 use Rattle.std.specs.Arc.{arc_value}
 use Rattle.std.specs.Prelude.{slice_set}
-use Rattle.ert_defs.specs.States.{sched_of}
-use Rattle.ert_defs.specs.declared.entry.Actor.TheVariants.{MailOf}
+use Rattle.ert_defs.specs.{States.sched_of, declared.entry.Actor.TheVariants.MailOf}
 use Rattle.ert_effects.specs.RequestCalls.{Answers}
-use Rattle.ert_shard.proofs.Called.{Has, did_at, has_at, lost, mail_named, place_low, wheel_replaced}
-use Rattle.ert_shard.proofs.Deliveries.{step_refused, sched_holds, mail_stands}
-use Rattle.ert_shard.proofs.Gone.{named_over, named_stands}
-use Rattle.ert_shard.proofs.Requested.{answered_now, asked_gone}
+use Rattle.ert_shard.proofs.{Called.{Has, did_at, has_at, lost, mail_named, place_low, wheel_replaced}, Deliveries.{step_refused, sched_holds, mail_stands}, Gone.{named_over, named_stands}, Requested.{answered_now, asked_gone}}
 use Rattle.ert_shard.specs.Shards.{Owned, IsHome, counted_from, share_of, shard_parts_of}
 use Rattle.ert_table.specs.Desks.{state_of}
 use Rattle.ert_world.proofs.Listed.{list_low, listed_now, listed_grown}

@@ -1,8 +1,7 @@
 use Rattle.std.proofs.Common.{◌≡◌, ◌+◌, None, Some, rules, sym, ap}
 use Rattle.ert_defs.specs.declared.entry.Actor.TheVariants.{Caller}
 use Rattle.ert_effects.specs.TimerCalls.{Cancels}
-use Rattle.ert_shard.proofs.Called.{alone_called, lost, wheel_replaced}
-use Rattle.ert_shard.proofs.Gone.{gone, named_stands, named_over}
+use Rattle.ert_shard.proofs.{Called.{alone_called, lost, wheel_replaced}, Gone.{gone, named_stands, named_over}}
 use Rattle.ert_shard.specs.Shards.{Owned, ShardBy, share_of, shard_parts_of}
 use Rattle.ert_table.specs.Desks.{settings_of}
 use Rattle.ert_world.proofs.Cancelled.{cancel_only}

@@ -1,6 +1,5 @@
 use Rattle.std.proofs.Common.{◌≡◌, ◌⊎◌, ◌≤◌, ◌+◌, List, length}
-use Rattle.ert_effects.specs.Chains.{puts, drops}
-use Rattle.ert_effects.specs.declared.answers.Handed.{Handed}
+use Rattle.ert_effects.specs.{Chains.{puts, drops}, declared.answers.Handed.Handed}
 use Rattle.ert_shard.proofs.Deliveries.{Handing}
 use Rattle.ert_shard.specs.Turning.{shard_expired}
 use Rattle.ert_shard.proofs.shard.Shard.deliver.Given as goal

@@ -1,13 +1,9 @@
 use Rattle.std.proofs.Common.{◌≡◌, ◌+◌, false, [], ◌∷◌, ◌++◌, length, Ok, Err, arith, rules, sym, ap, subst, ◌∙◌, add-zero}
 use Rattle.std.specs.Option.{is_some}
-use Rattle.ert_effects.specs.Chains.{Hands, puts, drops}
-use Rattle.ert_effects.specs.declared.answers.Handed.TheVariants.{Put, Dropped}
-use Rattle.ert_shard.proofs.Deliveries.{one_handed, some_handed, some_unhanded}
-use Rattle.ert_shard.proofs.MoreLeft.{keeps_then}
-use Rattle.ert_shard.specs.Shards.{ShardSteps}
-use Rattle.ert_shard.specs.Turning.{shard_expired}
-use Rattle.ert_world.proofs.Bounding.{at_most, are_left, none_left}
-use Rattle.ert_world.proofs.Chained.{puts_more, drops_more}
+use Rattle.ert_effects.specs.{Chains.{Hands, puts, drops}, declared.answers.Handed.TheVariants.{Put, Dropped}}
+use Rattle.ert_shard.proofs.{Deliveries.{one_handed, some_handed, some_unhanded}, MoreLeft.keeps_then}
+use Rattle.ert_shard.specs.{Shards.ShardSteps, Turning.shard_expired}
+use Rattle.ert_world.proofs.{Bounding.{at_most, are_left, none_left}, Chained.{puts_more, drops_more}}
 use Rattle.ert_shard.proofs.shard.Shard.deliver_some.Goals as goal
 
 pub hands-preserved-in-Put : goal.hands-preserved-in-Put

@@ -1,6 +1,5 @@
 use Rattle.std.proofs.Common.{◌≡◌, ◌≤◌, ◌+◌, ◌-◌, List}
-use Rattle.ert_effects.specs.Chains.{puts, drops}
-use Rattle.ert_effects.specs.declared.answers.Handed.{Handed}
+use Rattle.ert_effects.specs.{Chains.{puts, drops}, declared.answers.Handed.Handed}
 use Rattle.ert_shard.proofs.Deliveries.{Handing}
 use Rattle.ert_world.specs.Worlds.{KeepsRows}
 use Rattle.ert_shard.proofs.shard.Shard.deliver_some.Given as goal

@@ -1,8 +1,7 @@
 use Rattle.std.proofs.Common.{subst, ap, ◌∙◌}
 use Rattle.ert_shard.proofs.Probing.{all_probed}
 use Rattle.ert_shard.specs.Shards.{Owned, share_of, shard_parts_of}
-use Rattle.ert_timers.specs.Parts.{Part}
-use Rattle.ert_timers.specs.Sleeping.{HasLost}
+use Rattle.ert_timers.specs.{Parts.Part, Sleeping.HasLost}
 use Rattle.ert_shard.proofs.shard.Shard.drop_settled.Goals as goal
 
 pub invariant_of-self : goal.invariant_of-self

@@ -1,7 +1,6 @@
 use Rattle.std.proofs.Common.{◌+◌, [], Bool, true, subst}
 use Rattle.ert_defs.specs.declared.entry.Actor.TheVariants.{Caller}
-use Rattle.ert_effects.specs.Chains.{SweepsWheel}
-use Rattle.ert_effects.specs.WheelCalls.{MarksExit}
+use Rattle.ert_effects.specs.{Chains.SweepsWheel, WheelCalls.MarksExit}
 use Rattle.ert_shard.proofs.Stepped.{steps_then}
 use Rattle.ert_shard.proofs.shard.Shard.exit.Goals as goal
 use Rattle.ert_shard.specs.Shards.{ShardSteps, ShardBy}

@@ -1,8 +1,7 @@
 use Rattle.std.proofs.Common.{ap, ◌∙◌}
 use Rattle.std.specs.Arc.{arc_value}
 use Rattle.ert_defs.specs.States.{sched_of}
-use Rattle.ert_shard.proofs.Called.{Has}
-use Rattle.ert_shard.proofs.Turned.{Had, had}
+use Rattle.ert_shard.proofs.{Called.Has, Turned.{Had, had}}
 use Rattle.ert_shard.specs.Shards.{Owned, share_of, shard_parts_of}
 use Rattle.ert_shard.proofs.shard.Shard.hand.Goals as goal
 

@@ -1,21 +1,14 @@
 use Rattle.std.proofs.Common.{◌≡◌, rules, Ok, Err, Some, refl, sym, ap, subst}
 use Rattle.std.specs.Arc.{arc_value}
 use Rattle.std.specs.Prelude.{slice_set, ◌-◌}
-use Rattle.ert_defs.specs.Mails.{first_of, others_of}
-use Rattle.ert_defs.specs.States.{state}
+use Rattle.ert_defs.specs.{Mails.{first_of, others_of}, States.state}
 use Rattle.ert_effects.specs.Chains.{Hands}
-use Rattle.ert_shard.proofs.Called.{Has, does_at, did_at, has_at, lost, mail_named, place_low, wheel_replaced}
-use Rattle.ert_shard.proofs.Gone.{named_stands}
-use Rattle.ert_shard.proofs.Deliveries.{own_first, step_refused, sched_holds, mail_stands, handed_now, hands_on, handed_in, named_free}
-use Rattle.ert_shard.specs.Turning.{shard_expired}
-use Rattle.ert_shard.specs.Shards.{Owned, counted_from, share_of, shard_parts_of}
-use Rattle.ert_table.specs.Desks.{settings_of, front_of, state_of}
-use Rattle.ert_table.specs.declared.desk.Desk.{Desk}
-use Rattle.ert_world.proofs.Listed.{list_low, listed_now, listed_grown}
-use Rattle.ert_timers.specs.Parts.{Part}
-use Rattle.ert_world.proofs.Reusing.{keeps_reused, loses_reused}
+use Rattle.ert_shard.proofs.{Called.{Has, does_at, did_at, has_at, lost, mail_named, place_low, wheel_replaced}, Gone.named_stands, Deliveries.{own_first, step_refused, sched_holds, mail_stands, handed_now, hands_on, handed_in, named_free}}
+use Rattle.ert_shard.specs.{Turning.shard_expired, Shards.{Owned, counted_from, share_of, shard_parts_of}}
+use Rattle.ert_table.specs.{Desks.{settings_of, front_of, state_of}, declared.desk.Desk.Desk}
+use Rattle.ert_world.proofs.{Listed.{list_low, listed_now, listed_grown}, Reusing.{keeps_reused, loses_reused}}
+use Rattle.ert_timers.specs.{Parts.Part, declared.sched_part.SchedPart.SchedPart}
 use Rattle.ert_world.specs.Worlds.{KeepsRows}
-use Rattle.ert_timers.specs.declared.sched_part.SchedPart.{SchedPart}
 use Rattle.ert_shard.proofs.shard.Shard.hand_first.Goals as goal
 
 pub overflow_sub-place : goal.overflow_sub-place

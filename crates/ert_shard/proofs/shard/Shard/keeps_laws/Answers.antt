@@ -1,7 +1,6 @@
 use Rattle.std.proofs.Common.{subst}
 use Rattle.std.specs.Arc.{arc_value}
-use Rattle.ert_defs.specs.Actors.{of}
-use Rattle.ert_defs.specs.declared.entry.Actor.TheVariants.{Wheel}
+use Rattle.ert_defs.specs.{Actors.of, declared.entry.Actor.TheVariants.Wheel}
 use Rattle.ert_laws.proofs.Kept.{keeps_laws}
 use Rattle.ert_laws.specs.KeptLaws.{KeepsLaws}
 use Rattle.ert_shard.specs.Shards.{Owned, AreHome}

@@ -1,11 +1,10 @@
 use Rattle.std.proofs.Common.{◌+◌, ◌-◌, ◌∙◌}
 use Rattle.ert_effects.specs.MailCalls.{Monitors}
-use Rattle.ert_mail.proofs.LawsHold.{monitors_only}
+use Rattle.ert_mail.proofs.{LawsHold.monitors_only, Watchings.monitor_made}
 use Rattle.ert_world.specs.Stepping.{turns_same}
 use Rattle.ert_shard.proofs.Called.{mail_stepped}
 use Rattle.ert_shard.specs.Shards.{share_of, shard_parts_of}
 use Rattle.ert_table.specs.Desks.{settings_of, view_of}
-use Rattle.ert_mail.proofs.Watchings.{monitor_made}
 use Rattle.ert_world.proofs.Listed.{listed_kept}
 use Rattle.ert_shard.proofs.shard.Shard.monitor.Goals as goal
 

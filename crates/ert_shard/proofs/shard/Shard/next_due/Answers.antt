@@ -3,10 +3,8 @@ use Rattle.std.specs.Arc.{arc_value}
 use Rattle.ert_defs.specs.States.{state}
 use Rattle.ert_shard.proofs.Probing.{armed_in, asked}
 use Rattle.ert_shard.specs.Shards.{Owned, share_of, shard_parts_of}
-use Rattle.ert_table.specs.Desks.{settings_of, front_of}
-use Rattle.ert_table.specs.declared.desk.Desk.{Desk}
-use Rattle.ert_timers.specs.Parts.{Part, PartStands as WheelStands}
-use Rattle.ert_timers.specs.Sleeping.{IsFoundNext}
+use Rattle.ert_table.specs.{Desks.{settings_of, front_of}, declared.desk.Desk.Desk}
+use Rattle.ert_timers.specs.{Parts.{Part, PartStands as WheelStands}, Sleeping.IsFoundNext}
 use Rattle.ert_shard.proofs.shard.Shard.next_due.Goals as goal
 
 pub invariant_of-self : goal.invariant_of-self

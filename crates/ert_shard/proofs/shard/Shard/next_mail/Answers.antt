@@ -1,14 +1,9 @@
 use Rattle.std.proofs.Common.{◌≡◌, ◌-◌, List, length, sym, subst, ◌∙◌, arith, ℕ, Option, Some}
 use Rattle.std.specs.Arc.{arc_value}
-use Rattle.ert_mail.specs.Lists.{AreListed, exited_from}
-use Rattle.ert_mail.specs.Mailboxes.{Mailbox}
-use Rattle.ert_shard.proofs.Called.{has_at}
-use Rattle.ert_shard.proofs.Received.{Found, have_mail, mail_found}
-use Rattle.ert_shard.proofs.shard.Shard.next_mail.Goals.{After-deref-2, Joined-next, in-Some, in-None+in_ok-list-in-None, in-Some-next, in-None-next}
-use Rattle.ert_shard.specs.Receiving.{process_from, ShardFindsMail}
-use Rattle.ert_shard.specs.Shards.{counted_from, owned, share_of, shard_parts_of}
-use Rattle.ert_table.specs.Desks.{state_of}
-use Rattle.ert_table.specs.declared.desk.Desk.{Desk}
+use Rattle.ert_mail.specs.{Lists.{AreListed, exited_from}, Mailboxes.Mailbox}
+use Rattle.ert_shard.proofs.{Called.has_at, Received.{Found, have_mail, mail_found}, shard.Shard.next_mail.Goals.{After-deref-2, Joined-next, in-Some, in-None+in_ok-list-in-None, in-Some-next, in-None-next}}
+use Rattle.ert_shard.specs.{Receiving.{process_from, ShardFindsMail}, Shards.{counted_from, owned, share_of, shard_parts_of}}
+use Rattle.ert_table.specs.{Desks.state_of, declared.desk.Desk.Desk}
 use Rattle.ert_world.proofs.Mailed.{Starts, starts_new, starts_there}
 use Rattle.ert_shard.proofs.shard.Shard.next_mail.Goals as goal
 

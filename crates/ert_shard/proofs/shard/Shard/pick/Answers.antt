@@ -1,10 +1,8 @@
 use Rattle.std.proofs.Common.{◌≡◌, refl, subst}
 use Rattle.ert_defs.specs.States.{sched_of}
-use Rattle.ert_shard.proofs.Called.{has_at}
-use Rattle.ert_shard.proofs.Requested.{picked, hand_picked}
+use Rattle.ert_shard.proofs.{Called.has_at, Requested.{picked, hand_picked}}
 use Rattle.ert_shard.specs.Shards.{share_of, shard_parts_of}
-use Rattle.ert_table.specs.Desks.{settings_of, front_of}
-use Rattle.ert_table.specs.declared.desk.Desk.{Desk}
+use Rattle.ert_table.specs.{Desks.{settings_of, front_of}, declared.desk.Desk.Desk}
 use Rattle.ert_timers.specs.declared.sched_part.SchedPart.{SchedPart}
 use Rattle.ert_shard.proofs.shard.Shard.pick.Goals as goal
 

@@ -1,7 +1,6 @@
 use Rattle.std.proofs.Common.{◌+◌, sym, subst}
 use Rattle.ert_effects.specs.RestartCalls.{Restarts}
-use Rattle.ert_shard.proofs.Called.{wheel_stepped}
-use Rattle.ert_shard.proofs.Renewed.{lets_go, restarts_home}
+use Rattle.ert_shard.proofs.{Called.wheel_stepped, Renewed.{lets_go, restarts_home}}
 use Rattle.ert_shard.specs.Shards.{Owned, IsHome, share_of, shard_parts_of}
 use Rattle.ert_table.specs.Desks.{settings_of}
 use Rattle.ert_timers.specs.Frees.{IsUsedUp, UsesFree}

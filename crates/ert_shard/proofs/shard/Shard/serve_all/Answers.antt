@@ -1,9 +1,6 @@
 use Rattle.std.proofs.Common.{◌≡◌, Bool, true, false, inl, inr, rules, Ok, Err, Result, ap, subst, ◌∙◌, arith}
 use Rattle.ert_shard.proofs.Served.{served_more, served_most, served_to_end, unserved}
-use Rattle.ert_shard.specs.Serving.{ShardServes}
-use Rattle.ert_shard.specs.Shards.{ShardSteps}
-use Rattle.ert_shard.specs.declared.requests.ServeErr.{ServeErr}
-use Rattle.ert_shard.specs.declared.requests.ServeErr.TheVariants.{NotHome}
+use Rattle.ert_shard.specs.{Serving.ShardServes, Shards.ShardSteps, declared.requests.ServeErr.ServeErr, declared.requests.ServeErr.TheVariants.NotHome}
 use Rattle.ert_shard.proofs.shard.Shard.serve_all.Goals as goal
 
 pub loop-served-preserved : goal.loop-served-preserved

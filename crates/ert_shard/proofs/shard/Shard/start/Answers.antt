@@ -1,18 +1,10 @@
 use Rattle.std.proofs.Common.{◌+◌, refl, sym, subst}
 use Rattle.ert_effects.specs.TimerCalls.{Starts}
-use Rattle.ert_shard.proofs.Called.{wheel_stepped}
-use Rattle.ert_shard.proofs.Forgets.{shard_forgotten}
-use Rattle.ert_shard.proofs.Home.{starts_home}
-use Rattle.ert_shard.proofs.Searching.{shard_searched}
+use Rattle.ert_shard.proofs.{Called.wheel_stepped, Forgets.shard_forgotten, Home.starts_home, Searching.shard_searched}
 use Rattle.ert_shard.specs.Shards.{Owned, IsHome, share_of, shard_parts_of}
-use Rattle.ert_defs.specs.Legal.{Legal}
-use Rattle.ert_defs.specs.States.{state}
-use Rattle.ert_timers.specs.Parts.{PartStands}
-use Rattle.ert_timers.specs.Passed.{GainsOne}
-use Rattle.ert_table.specs.Desks.{settings_of, front_of}
-use Rattle.ert_table.specs.declared.desk.Desk.{Desk}
-use Rattle.ert_timers.specs.Searching.{HasOpenSlot}
-use Rattle.ert_timers.specs.Frees.{IsUsedUp, UsesFree}
+use Rattle.ert_defs.specs.{Legal.Legal, States.state}
+use Rattle.ert_timers.specs.{Parts.PartStands, Passed.GainsOne, Searching.HasOpenSlot, Frees.{IsUsedUp, UsesFree}}
+use Rattle.ert_table.specs.{Desks.{settings_of, front_of}, declared.desk.Desk.Desk}
 use Rattle.ert_timers.proofs.LawsHold.{starts_only}
 use Rattle.ert_shard.proofs.shard.Shard.start.Goals as goal
 

@@ -1,5 +1,4 @@
-use Rattle.ert_shard.proofs.Called.{did_at, has_at}
-use Rattle.ert_shard.proofs.Turned.{sweep_called}
+use Rattle.ert_shard.proofs.{Called.{did_at, has_at}, Turned.sweep_called}
 use Rattle.ert_shard.specs.Shards.{share_of, shard_parts_of}
 use Rattle.ert_shard.proofs.shard.Shard.sweep.Goals as goal
 

@@ -1,8 +1,7 @@
 use Rattle.std.proofs.Common.{◌≡◌, ◌+◌, ◌-◌, ◌≤◌, ◌++◌, List, length, vec_len}
 use Rattle.std.specs.Vec.{vec_capacity}
 use Rattle.ert_defs.specs.declared.mail.Mail.{Mail}
-use Rattle.ert_shard.specs.Receiving.{CallerTakesMails}
-use Rattle.ert_shard.specs.Shards.{ShardSteps}
+use Rattle.ert_shard.specs.{Receiving.CallerTakesMails, Shards.ShardSteps}
 use Rattle.ert_shard.proofs.shard.Shard.take_some.Given as goal
 
 abbrev pub invariant-loop-taken : goal.invariant-loop-taken

@@ -1,11 +1,7 @@
 use Rattle.std.proofs.Common.{◌≡◌, Bool, ◌||◌, Ok, Err, inl, rules, sym, ap, subst, ◌∙◌}
-use Rattle.ert_shard.proofs.MoreLeft.{delivered_rest, done_most, more_left, waits_left}
-use Rattle.ert_shard.proofs.Stepped.{turned_up_to, some_unserved, some_unadvanced, some_undelivered}
-use Rattle.ert_shard.specs.Shards.{ShardSteps, shard_way}
-use Rattle.ert_shard.specs.Turning.{IsMoreLeft, TurnsUpTo}
-use Rattle.ert_shard.specs.declared.turns.Turn.{Turn}
-use Rattle.ert_world.proofs.Bounding.{delivered_most}
-use Rattle.ert_world.proofs.MoreLeft.{left_kept}
+use Rattle.ert_shard.proofs.{MoreLeft.{delivered_rest, done_most, more_left, waits_left}, Stepped.{turned_up_to, some_unserved, some_unadvanced, some_undelivered}}
+use Rattle.ert_shard.specs.{Shards.{ShardSteps, shard_way}, Turning.{IsMoreLeft, TurnsUpTo}, declared.turns.Turn.Turn}
+use Rattle.ert_world.proofs.{Bounding.delivered_most, MoreLeft.left_kept}
 use Rattle.ert_shard.proofs.shard.Shard.turn_some.Goals as goal
 
 pub returns-in_err-served-clause-call : goal.returns-in_err-served-clause-call

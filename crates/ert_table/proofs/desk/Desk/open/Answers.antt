@@ -1,9 +1,6 @@
 use Rattle.std.proofs.Common.{sym, subst, ◌∷◌, [], ◌∙◌, ◌≡◌, ap, List, ℕ}
-use Rattle.ert_table.specs.Held.{IsWhole}
-use Rattle.ert_table.specs.Rule.{Holds}
-use Rattle.ert_table.specs.Views.{first_view}
-use Rattle.ert_table.proofs.FirstHolds.{opens}
-use Rattle.ert_table.proofs.Holders.{whole_everyone}
+use Rattle.ert_table.specs.{Held.IsWhole, Rule.Holds, Views.first_view}
+use Rattle.ert_table.proofs.{FirstHolds.opens, Holders.whole_everyone}
 use Rattle.ert_table.proofs.desk.Desk.open.Goals as goal
 
 pub of_words-requires : goal.of_words-requires

@@ -1,11 +1,7 @@
 use Rattle.std.proofs.Common.{◌<◌, sym, subst, subst₂}
-use Rattle.ert_defs.specs.Words.{word_count}
-use Rattle.ert_defs.specs.declared.entry.Entry.{Entry}
+use Rattle.ert_defs.specs.{Words.word_count, declared.entry.Entry.Entry, Entries.arm_entry}
 use Rattle.ert_table.specs.Acts.{Acts}
-use Rattle.ert_defs.specs.Entries.{arm_entry}
-use Rattle.ert_table.proofs.ArmActs.{arm_acts}
-use Rattle.ert_table.proofs.OneStep.{may_store_at}
-use Rattle.ert_table.proofs.WordPlaces.{slot_place-high}
+use Rattle.ert_table.proofs.{ArmActs.arm_acts, OneStep.may_store_at, WordPlaces.slot_place-high}
 use Rattle.ert_table.proofs.desk.Pass.arm_as.Goals as goal
 
 pub store-requires : goal.store-requires

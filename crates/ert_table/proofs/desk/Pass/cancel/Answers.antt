@@ -1,7 +1,6 @@
 use Rattle.std.proofs.Common.{◌≡◌, ℕ, Option, Some, true, false, rules, sym, subst}
 use Rattle.ert_defs.specs.States.{state}
-use Rattle.ert_table.specs.Held.{is_held}
-use Rattle.ert_table.specs.Peeking.{HasDeadline}
+use Rattle.ert_table.specs.{Held.is_held, Peeking.HasDeadline}
 use Rattle.ert_table.proofs.Peeks.{slot_named, generation_named, may_peek, may_cancel, peeks, cancels_none, cancels_found}
 use Rattle.ert_table.proofs.desk.Pass.cancel.Goals as goal
 

@@ -1,6 +1,5 @@
 use Rattle.ert_defs.specs.States.{state}
-use Rattle.ert_table.specs.Desks.{settings_of, front_of}
-use Rattle.ert_table.specs.Settlings.{read_entry, settle_entry, parts_in}
+use Rattle.ert_table.specs.{Desks.{settings_of, front_of}, Settlings.{read_entry, settle_entry, parts_in}}
 use Rattle.ert_table.proofs.desk.Pass.cancel.Given as goal
 
 abbrev pub ghosts-load_timer_as : goal.ghosts-load_timer_as

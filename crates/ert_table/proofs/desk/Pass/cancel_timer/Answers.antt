@@ -1,6 +1,5 @@
 use Rattle.std.proofs.Common.{◌≡◌, ◌∙◌, ℕ, Some, None, option_map, sym, ap, rules, ℤ, pos, ◌-ℤ◌, FitsSigned, w64, to_z, of_z, to_z-of_z}
-use Rattle.ert_defs.specs.Milliseconds.{left, up}
-use Rattle.ert_defs.specs.declared.settings.Settings.{Settings}
+use Rattle.ert_defs.specs.{Milliseconds.{left, up}, declared.settings.Settings.Settings}
 use Rattle.ert_table.specs.Desks.{settings_of, view_of}
 use Rattle.ert_table.proofs.Timings.{cancels_none, cancels_all, natural_sub}
 use Rattle.ert_table.proofs.desk.Pass.cancel_timer.Goals as goal

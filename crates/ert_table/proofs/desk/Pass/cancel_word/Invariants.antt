@@ -1,6 +1,5 @@
 use Rattle.ert_defs.specs.States.{state}
-use Rattle.ert_table.specs.Desks.{settings_of, front_of}
-use Rattle.ert_table.specs.Settlings.{settle_entry}
+use Rattle.ert_table.specs.{Desks.{settings_of, front_of}, Settlings.settle_entry}
 use Rattle.ert_table.proofs.desk.Pass.cancel_word.Given as goal
 
 abbrev pub ghosts-settle_as : goal.ghosts-settle_as

@@ -2,8 +2,7 @@ use Rattle.std.proofs.Common.{false, not, ◌∷◌, [], ap}
 use Rattle.ert_effects.specs.WheelCalls.{TellsAlive}
 use Rattle.ert_defs.specs.Entries.{mark_entry}
 use Rattle.ert_table.specs.Desks.{settings_of, view_of}
-use Rattle.ert_table.proofs.Makings.{step_made}
-use Rattle.ert_table.proofs.Looks.{not-not}
+use Rattle.ert_table.proofs.{Makings.step_made, Looks.not-not}
 use Rattle.ert_table.proofs.desk.Pass.is_alive.Goals as goal
 
 pub returns-clause-call : goal.returns-clause-call

@@ -1,6 +1,5 @@
 use Rattle.std.proofs.Common.{sym, ◌≡◌, [], ◌∙◌, ap}
-use Rattle.ert_table.proofs.Joins.{joins, learns_at}
-use Rattle.ert_table.proofs.OneStep.{has_time, has_words}
+use Rattle.ert_table.proofs.{Joins.{joins, learns_at}, OneStep.{has_time, has_words}}
 use Rattle.ert_table.specs.Acts.{Sitter}
 use Rattle.ert_table.proofs.desk.Pass.join_as.Goals as goal
 

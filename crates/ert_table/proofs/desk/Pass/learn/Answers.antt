@@ -1,7 +1,6 @@
 use Rattle.std.proofs.Common.{subst}
 use Rattle.ert_table.proofs.Noting.{learned}
-use Rattle.ert_table.specs.Desks.{settings_of, view_of}
-use Rattle.ert_table.specs.Notes.{Noted, HasLearned}
+use Rattle.ert_table.specs.{Desks.{settings_of, view_of}, Notes.{Noted, HasLearned}}
 use Rattle.ert_table.proofs.desk.Pass.learn.Goals as goal
 
 pub returns : goal.returns

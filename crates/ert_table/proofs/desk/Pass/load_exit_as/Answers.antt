@@ -1,10 +1,7 @@
 use Rattle.std.proofs.Common.{ℕ, ◌<◌, false, nat_eq, sym, subst}
-use Rattle.ert_defs.specs.Words.{word_count}
+use Rattle.ert_defs.specs.{Words.word_count, Entries.mark_entry}
 use Rattle.ert_table.specs.Acts.{Acts}
-use Rattle.ert_defs.specs.Entries.{mark_entry}
-use Rattle.ert_table.proofs.OneStep.{may_step_at}
-use Rattle.ert_table.proofs.ProcessActs.{load_exit_acts}
-use Rattle.ert_table.proofs.WordPlaces.{process_place-high}
+use Rattle.ert_table.proofs.{OneStep.may_step_at, ProcessActs.load_exit_acts, WordPlaces.process_place-high}
 use Rattle.ert_table.proofs.desk.Pass.load_exit_as.Goals as goal
 
 pub process_place-place-requires : goal.process_place-place-requires

@@ -1,13 +1,10 @@
 use Rattle.std.proofs.Common.{◌≡◌, ◌∙◌, ap, sym, subst₂, Bool, ℤ, rules, FitsSigned}
 use Rattle.std.specs.Int.{w64}
 use Rattle.std.proofs.lemmas.Int.{to_z-of_z}
-use Rattle.ert_defs.specs.States.{state}
-use Rattle.ert_defs.specs.Words.{is_final}
-use Rattle.ert_table.specs.Entries.{offset_entry, offset_in, state_in, state_where}
-use Rattle.ert_table.specs.Takes.{Appends}
-use Rattle.ert_table.proofs.ClockActs.{offset_word_is, offset_is, offset_found, mode_kept, state_back}
+use Rattle.ert_defs.specs.{States.state, Words.is_final}
+use Rattle.ert_table.specs.{Entries.{offset_entry, offset_in, state_in, state_where}, Takes.Appends}
+use Rattle.ert_table.proofs.{ClockActs.{offset_word_is, offset_is, offset_found, mode_kept, state_back}, desk.Pass.load_offset.Goals.After-state_at}
 use Rattle.ert_table.proofs.desk.Pass.load_offset.Goals as goal
-use Rattle.ert_table.proofs.desk.Pass.load_offset.Goals.{After-state_at}
 
 pub offset_of-offset-requires : goal.offset_of-offset-requires
 offset_of-offset-requires c =

@@ -1,5 +1,4 @@
-use Rattle.ert_table.specs.Desks.{settings_of, actors_of}
-use Rattle.ert_table.specs.Entries.{offset_entry, offset_in, state_in}
+use Rattle.ert_table.specs.{Desks.{settings_of, actors_of}, Entries.{offset_entry, offset_in, state_in}}
 use Rattle.ert_table.proofs.desk.Pass.load_offset.Given as goal
 
 abbrev pub ghosts-load_offset_as : goal.ghosts-load_offset_as

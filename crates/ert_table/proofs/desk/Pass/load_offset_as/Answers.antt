@@ -2,8 +2,7 @@ use Rattle.std.proofs.Common.{arith}
 use mathlib.Core.Option.{none}
 use Rattle.atomic_table.specs.Table.{step}
 use Rattle.ert_table.specs.Entries.{offset_entry, offset_in, state_in}
-use Rattle.ert_table.proofs.ClockActs.{offset_acts}
-use Rattle.ert_table.proofs.OneStep.{may_load_at}
+use Rattle.ert_table.proofs.{ClockActs.offset_acts, OneStep.may_load_at}
 use Rattle.ert_table.proofs.desk.Pass.load_offset_as.Goals as goal
 
 pub load-requires : goal.load-requires

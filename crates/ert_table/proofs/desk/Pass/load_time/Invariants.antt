@@ -1,5 +1,4 @@
-use Rattle.ert_table.specs.Desks.{settings_of}
-use Rattle.ert_table.specs.Entries.{time_entry, time_in}
+use Rattle.ert_table.specs.{Desks.settings_of, Entries.{time_entry, time_in}}
 use Rattle.ert_table.proofs.desk.Pass.load_time.Given as goal
 
 abbrev pub ghosts-load_time_as : goal.ghosts-load_time_as

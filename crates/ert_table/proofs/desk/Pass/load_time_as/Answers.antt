@@ -2,8 +2,7 @@ use Rattle.std.proofs.Common.{arith}
 use mathlib.Core.Option.{none}
 use Rattle.atomic_table.specs.Table.{step}
 use Rattle.ert_table.specs.Entries.{time_entry, time_in}
-use Rattle.ert_table.proofs.ClockActs.{time_acts}
-use Rattle.ert_table.proofs.OneStep.{has_time, may_load_at}
+use Rattle.ert_table.proofs.{ClockActs.time_acts, OneStep.{has_time, may_load_at}}
 use Rattle.ert_table.proofs.desk.Pass.load_time_as.Goals as goal
 
 pub load-requires : goal.load-requires

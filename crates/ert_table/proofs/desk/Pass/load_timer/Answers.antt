@@ -1,11 +1,7 @@
 use Rattle.std.proofs.Common.{◌≡◌, ℕ, ◌∙◌, None, sym, ap, subst}
-use Rattle.ert_defs.specs.Legal.{IsSlot}
-use Rattle.ert_defs.specs.States.{state}
-use Rattle.ert_table.specs.Places.{slot_place}
-use Rattle.ert_table.specs.Settlings.{wheel_in, slot_in, read_entry, parts_in, shown_in}
-use Rattle.ert_table.specs.Takes.{Appends}
-use Rattle.ert_table.proofs.ReadActs.{read_slot, slot_word_is, parts_shown, unpacked_shown}
-use Rattle.ert_table.proofs.SlotFacts.{slots_kept}
+use Rattle.ert_defs.specs.{Legal.IsSlot, States.state}
+use Rattle.ert_table.specs.{Places.slot_place, Settlings.{wheel_in, slot_in, read_entry, parts_in, shown_in}, Takes.Appends}
+use Rattle.ert_table.proofs.{ReadActs.{read_slot, slot_word_is, parts_shown, unpacked_shown}, SlotFacts.slots_kept}
 use Rattle.ert_table.proofs.desk.Pass.load_timer.Goals as goal
 
 pub slot_place-place-requires : goal.slot_place-place-requires

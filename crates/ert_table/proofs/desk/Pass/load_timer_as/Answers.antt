@@ -1,14 +1,9 @@
 use Rattle.std.proofs.Common.{◌≡◌, ℕ, ◌<◌, ◌∙◌, None, sym, subst, subst₂}
 use mathlib.Core.Option.{none}
 use Rattle.atomic_table.specs.Table.{step}
-use Rattle.ert_defs.specs.States.{state}
-use Rattle.ert_defs.specs.Words.{word_count, word_of}
-use Rattle.ert_table.specs.Acts.{Acts}
-use Rattle.ert_table.specs.Places.{slot_place}
-use Rattle.ert_table.specs.Settlings.{wheel_in, slot_in, read_entry, parts_in}
-use Rattle.ert_table.proofs.OneStep.{may_load_at}
-use Rattle.ert_table.proofs.ReadActs.{read_slot, read_acts}
-use Rattle.ert_table.proofs.WordPlaces.{slot_place-high, word_of-slot}
+use Rattle.ert_defs.specs.{States.state, Words.{word_count, word_of}}
+use Rattle.ert_table.specs.{Acts.Acts, Places.slot_place, Settlings.{wheel_in, slot_in, read_entry, parts_in}}
+use Rattle.ert_table.proofs.{OneStep.may_load_at, ReadActs.{read_slot, read_acts}, WordPlaces.{slot_place-high, word_of-slot}}
 use Rattle.ert_table.proofs.desk.Pass.load_timer_as.Goals as goal
 
 pub load-requires : goal.load-requires

@@ -1,6 +1,5 @@
 use Rattle.std.proofs.Common.{◌≡◌, ◌∙◌, ap, rules, FitsSigned, w64, to_z, of_z, to_z-of_z}
-use Rattle.ert_defs.specs.Milliseconds.{left}
-use Rattle.ert_defs.specs.declared.settings.Settings.{Settings}
+use Rattle.ert_defs.specs.{Milliseconds.left, declared.settings.Settings.Settings}
 use Rattle.ert_table.specs.Desks.{settings_of, view_of}
 use Rattle.ert_table.proofs.Timings.{reads_none, reads_unarmed, reads_armed}
 use Rattle.ert_table.proofs.desk.Pass.read_timer.Goals as goal

@@ -1,10 +1,7 @@
 use Rattle.std.proofs.Common.{nat_eq}
-use Rattle.ert_defs.specs.States.{state}
-use Rattle.ert_defs.specs.declared.entry.Actor.TheVariants.{Caller}
-use Rattle.ert_table.specs.Desks.{settings_of, front_of}
-use Rattle.ert_table.specs.Renewals.{renewal}
+use Rattle.ert_defs.specs.{States.state, declared.entry.Actor.TheVariants.Caller}
+use Rattle.ert_table.specs.{Desks.{settings_of, front_of}, Renewals.renewal, Ranges.word_deadline}
 use Rattle.ert_table.proofs.desk.Pass.renew.Given as goal
-use Rattle.ert_table.specs.Ranges.{word_deadline}
 
 abbrev pub ghosts-renew_as : goal.ghosts-renew_as
 ghosts-renew_as a = record {

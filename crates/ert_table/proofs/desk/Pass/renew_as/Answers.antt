@@ -2,19 +2,10 @@ use Rattle.std.proofs.Common.{◌≡◌, ℕ, ◌<◌, List, nat_eq, sym, subst,
 use mathlib.Core.Option.{none}
 use prog.Atomic.{either}
 use Rattle.atomic_table.specs.Table.{step}
-use Rattle.ert_defs.specs.States.{state}
-use Rattle.ert_defs.specs.Words.{timer_word, word_count}
-use Rattle.ert_defs.specs.declared.entry.Actor.TheVariants.{Caller}
-use Rattle.ert_defs.specs.declared.entry.Entry.{Entry}
-use Rattle.ert_defs.specs.declared.timer.Status.TheVariants.{Armed}
-use Rattle.ert_table.specs.Acts.{ActsAll}
-use Rattle.ert_table.specs.Places.{slot_place}
-use Rattle.ert_table.specs.Renewals.{renewal}
-use Rattle.ert_table.proofs.OneStep.{may_compare_all_at, finds_all_as}
-use Rattle.ert_table.proofs.RenewActs.{renew_acts}
-use Rattle.ert_table.proofs.WordPlaces.{slot_place-high}
+use Rattle.ert_defs.specs.{States.state, Words.{timer_word, word_count}, declared.entry.Actor.TheVariants.Caller, declared.entry.Entry.Entry, declared.timer.Status.TheVariants.Armed}
+use Rattle.ert_table.specs.{Acts.ActsAll, Places.slot_place, Renewals.renewal, Ranges.word_deadline}
+use Rattle.ert_table.proofs.{OneStep.{may_compare_all_at, finds_all_as}, RenewActs.renew_acts, WordPlaces.slot_place-high}
 use Rattle.ert_table.proofs.desk.Pass.renew_as.Goals as goal
-use Rattle.ert_table.specs.Ranges.{word_deadline}
 
 pub compare_exchange-found-requires : goal.compare_exchange-found-requires
 compare_exchange-found-requires g c =

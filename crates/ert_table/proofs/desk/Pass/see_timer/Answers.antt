@@ -1,6 +1,5 @@
 use Rattle.ert_defs.specs.States.{state}
-use Rattle.ert_table.proofs.ReadActs.{slot_word_is, unpacked_shown}
-use Rattle.ert_table.proofs.SlotFacts.{slots_kept}
+use Rattle.ert_table.proofs.{ReadActs.{slot_word_is, unpacked_shown}, SlotFacts.slots_kept}
 use Rattle.ert_table.proofs.desk.Pass.see_timer.Goals as goal
 
 pub timer_of-requires : goal.timer_of-requires

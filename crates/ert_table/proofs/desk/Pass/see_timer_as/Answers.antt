@@ -1,11 +1,9 @@
 use Rattle.std.proofs.Common.{◌≡◌, ◌<◌, ◌∙◌, sym, ap, subst}
 use mathlib.Core.Option.{none}
 use Rattle.atomic_table.specs.Table.{step}
-use Rattle.ert_defs.specs.States.{state}
-use Rattle.ert_defs.specs.Words.{word_count, word_of}
+use Rattle.ert_defs.specs.{States.state, Words.{word_count, word_of}}
 use Rattle.ert_table.specs.Held.{IsWhole}
-use Rattle.ert_table.proofs.WholeLoads.{sees_at}
-use Rattle.ert_table.proofs.WordPlaces.{slot_place-high, word_of-slot}
+use Rattle.ert_table.proofs.{WholeLoads.sees_at, WordPlaces.{slot_place-high, word_of-slot}}
 use Rattle.ert_table.proofs.desk.Pass.see_timer_as.Goals as goal
 
 pub load-requires : goal.load-requires

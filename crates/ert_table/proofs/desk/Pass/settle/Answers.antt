@@ -1,8 +1,6 @@
 use Rattle.std.proofs.Common.{ap, ◌∙◌}
-use Rattle.ert_defs.specs.States.{state}
-use Rattle.ert_defs.specs.Words.{timer_word}
-use Rattle.ert_table.proofs.Hits.{hit_slot}
-use Rattle.ert_table.proofs.SlotFacts.{timer_is}
+use Rattle.ert_defs.specs.{States.state, Words.timer_word}
+use Rattle.ert_table.proofs.{Hits.hit_slot, SlotFacts.timer_is}
 use Rattle.ert_table.proofs.desk.Pass.settle.Goals as goal
 
 pub slot_place-place-requires : goal.slot_place-place-requires

@@ -2,16 +2,9 @@ use Rattle.std.proofs.Common.{◌≡◌, ◌<◌, ◌∙◌, Bool, nat_eq, rules
 use mathlib.Core.Option.{none}
 use prog.Atomic.{either}
 use Rattle.atomic_table.specs.Table.{step}
-use Rattle.ert_defs.specs.States.{state}
-use Rattle.ert_defs.specs.Words.{timer_word, word_count}
-use Rattle.ert_table.specs.Acts.{Acts}
-use Rattle.ert_table.specs.Places.{slot_place}
-use Rattle.ert_table.specs.Settlings.{status_from, status_to, settle_entry}
-use Rattle.ert_table.proofs.OneStep.{may_compare_at, finds_as}
-use Rattle.ert_table.proofs.SlotFacts.{timer_is}
-use Rattle.ert_table.proofs.Hits.{hit_slot}
-use Rattle.ert_table.proofs.SettleActs.{settle_acts, settle_tells, settle_settles}
-use Rattle.ert_table.proofs.WordPlaces.{slot_place-high}
+use Rattle.ert_defs.specs.{States.state, Words.{timer_word, word_count}}
+use Rattle.ert_table.specs.{Acts.Acts, Places.slot_place, Settlings.{status_from, status_to, settle_entry}}
+use Rattle.ert_table.proofs.{OneStep.{may_compare_at, finds_as}, SlotFacts.timer_is, Hits.hit_slot, SettleActs.{settle_acts, settle_tells, settle_settles}, WordPlaces.slot_place-high}
 use Rattle.ert_table.proofs.desk.Pass.settle_as.Goals as goal
 
 pub compare_exchange-found-requires : goal.compare_exchange-found-requires

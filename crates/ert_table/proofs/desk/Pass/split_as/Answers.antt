@@ -1,7 +1,6 @@
 use Rattle.std.proofs.Common.{sym, ◌≡◌, true, [], ◌∷◌, subst}
 use Rattle.ert_table.specs.Held.{is_held, actors_but}
-use Rattle.ert_table.proofs.Splits.{splits, one_shared}
-use Rattle.ert_table.proofs.OneStep.{has_words}
+use Rattle.ert_table.proofs.{Splits.{splits, one_shared}, OneStep.has_words}
 use Rattle.ert_table.proofs.desk.Pass.split_as.Goals as goal
 
 pub split_seat-requires : goal.split_seat-requires

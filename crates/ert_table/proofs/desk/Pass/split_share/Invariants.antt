@@ -1,5 +1,4 @@
-use Rattle.ert_table.specs.Desks.{settings_of}
-use Rattle.ert_table.specs.Shares.{is_of_share}
+use Rattle.ert_table.specs.{Desks.settings_of, Shares.is_of_share}
 use Rattle.ert_table.proofs.desk.Pass.split_share.Given as goal
 
 abbrev pub ghosts-split_share_as : goal.ghosts-split_share_as

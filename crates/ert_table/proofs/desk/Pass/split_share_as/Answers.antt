@@ -1,7 +1,5 @@
 use Rattle.std.proofs.Common.{not, filter}
-use Rattle.ert_table.proofs.Dividing.{divided_by}
-use Rattle.ert_table.proofs.Splits.{splits}
-use Rattle.ert_table.proofs.OneStep.{has_words}
+use Rattle.ert_table.proofs.{Dividing.divided_by, Splits.splits, OneStep.has_words}
 use Rattle.ert_table.proofs.desk.Pass.split_share_as.Goals as goal
 
 pub split_seat-requires : goal.split_seat-requires

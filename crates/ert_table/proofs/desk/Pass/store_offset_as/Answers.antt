@@ -1,12 +1,9 @@
 use Rattle.std.proofs.Common.{◌≡◌, ◌∙◌, ap, subst, sym, arith}
 use Rattle.std.specs.Int.{w64}
 use Rattle.std.proofs.lemmas.Int.{to_z-of_z}
-use Rattle.ert_defs.specs.Words.{offset_word, is_final}
-use Rattle.ert_defs.specs.declared.entry.Entry.{Entry}
-use Rattle.ert_defs.specs.Entries.{shift_entry}
+use Rattle.ert_defs.specs.{Words.{offset_word, is_final}, declared.entry.Entry.Entry, Entries.shift_entry}
 use Rattle.ert_table.specs.Acts.{Acts}
-use Rattle.ert_table.proofs.ClockActs.{shift_is, shift_acts}
-use Rattle.ert_table.proofs.OneStep.{may_store_at}
+use Rattle.ert_table.proofs.{ClockActs.{shift_is, shift_acts}, OneStep.may_store_at}
 use Rattle.ert_table.proofs.desk.Pass.store_offset_as.Goals as goal
 
 pub offset_word-word-requires : goal.offset_word-word-requires

@@ -1,12 +1,9 @@
 use Rattle.std.proofs.Common.{◌≡◌, subst, sym, arith, rules, FitsSigned}
 use Rattle.std.specs.Int.{w64}
 use Rattle.std.proofs.lemmas.Int.{to_z-of_z}
-use Rattle.ert_defs.specs.Words.{time_word}
-use Rattle.ert_defs.specs.declared.entry.Entry.{Entry}
-use Rattle.ert_defs.specs.Entries.{tick_entry}
+use Rattle.ert_defs.specs.{Words.time_word, declared.entry.Entry.Entry, Entries.tick_entry}
 use Rattle.ert_table.specs.Acts.{Acts}
-use Rattle.ert_table.proofs.ClockActs.{tick_is, tick_acts}
-use Rattle.ert_table.proofs.OneStep.{has_time, may_store_at}
+use Rattle.ert_table.proofs.{ClockActs.{tick_is, tick_acts}, OneStep.{has_time, may_store_at}}
 use Rattle.ert_table.proofs.desk.Pass.store_time_as.Goals as goal
 
 pub time_word-word-requires : goal.time_word-word-requires

@@ -1,10 +1,7 @@
 use Rattle.std.proofs.Common.{sym, subst, refl, rules, ℤ, ◌+ℤ◌, ◌∷◌, [], FitsSigned, w64, to_z-of_z}
-use Rattle.ert_defs.specs.Entries.{look_entry, off_entry}
-use Rattle.ert_defs.specs.States.{state}
-use Rattle.ert_table.specs.Desks.{settings_of, view_of}
-use Rattle.ert_table.specs.Takes.{Appends}
-use Rattle.ert_table.proofs.Calls.{step_takes_place, takes_place_then}
-use Rattle.ert_table.proofs.Looks.{off_alone, read_sum_fits}
+use Rattle.ert_defs.specs.{Entries.{look_entry, off_entry}, States.state}
+use Rattle.ert_table.specs.{Desks.{settings_of, view_of}, Takes.Appends}
+use Rattle.ert_table.proofs.{Calls.{step_takes_place, takes_place_then}, Looks.{off_alone, read_sum_fits}}
 use Rattle.ert_table.proofs.desk.Pass.system_time.Goals as goal
 
 reads_offset : (c : goal.After-struct_told-1)

@@ -1,6 +1,5 @@
 use Rattle.std.proofs.Common.{[]}
-use Rattle.ert_table.proofs.Splits.{splits, all_shared}
-use Rattle.ert_table.proofs.OneStep.{has_words}
+use Rattle.ert_table.proofs.{Splits.{splits, all_shared}, OneStep.has_words}
 use Rattle.ert_table.proofs.desk.Pass.take.Goals as goal
 
 pub split_seat-requires : goal.split_seat-requires

@@ -1,10 +1,8 @@
 use Rattle.std.proofs.Common.{subst, refl}
 use Rattle.ert_effects.specs.ClockCalls.{TellsOffset}
 use Rattle.ert_defs.specs.Entries.{off_entry}
-use Rattle.ert_table.specs.Desks.{settings_of, view_of}
-use Rattle.ert_table.specs.Takes.{Appends}
-use Rattle.ert_table.proofs.Makings.{step_made}
-use Rattle.ert_table.proofs.Looks.{off_alone}
+use Rattle.ert_table.specs.{Desks.{settings_of, view_of}, Takes.Appends}
+use Rattle.ert_table.proofs.{Makings.step_made, Looks.off_alone}
 use Rattle.ert_table.proofs.desk.Pass.time_offset.Goals as goal
 
 pub returns-clause-call : goal.returns-clause-call

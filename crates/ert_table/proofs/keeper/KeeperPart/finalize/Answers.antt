@@ -2,8 +2,7 @@ use Rattle.std.proofs.Common.{◌≡◌, rules, refl, sym, subst}
 use Rattle.std.specs.Prelude.{Err}
 use Rattle.ert_effects.specs.ClockCalls.{Finalizes}
 use Rattle.ert_table.proofs.Steps.{final_refused}
-use Rattle.ert_table.specs.Desks.{settings_of, view_of}
-use Rattle.ert_table.specs.Calls.{IsMade}
+use Rattle.ert_table.specs.{Desks.{settings_of, view_of}, Calls.IsMade}
 use Rattle.ert_table.proofs.keeper.KeeperPart.finalize.Goals as goal
 
 pub returns-in_err-state-clause-call : goal.returns-in_err-state-clause-call

@@ -1,12 +1,10 @@
 use Rattle.std.proofs.Common.{rules, FitsSigned, w64}
 use Rattle.std.proofs.lemmas.Int.{to_z-of_z}
-use Rattle.ert_defs.specs.Entries.{keeper_entry, tick_entry}
+use Rattle.ert_defs.specs.{Entries.{keeper_entry, tick_entry}, declared.entry.Event.TheVariants.Shift}
 use Rattle.ert_clock.specs.Ticks.{state_by, tick_entries}
-use Rattle.ert_defs.specs.declared.entry.Event.TheVariants.{Shift}
 use Rattle.ert_table.specs.Takes.{Appends}
-use Rattle.ert_table.proofs.Steps.{Published, may_store_offset, tick_published, shift_published}
+use Rattle.ert_table.proofs.{Steps.{Published, may_store_offset, tick_published, shift_published}, keeper.KeeperPart.publish.Goals.{After-state_by, After-store_offset, In_default}}
 use Rattle.ert_table.proofs.keeper.KeeperPart.publish.Goals as goal
-use Rattle.ert_table.proofs.keeper.KeeperPart.publish.Goals.{After-state_by, After-store_offset, In_default}
 
 pub store_offset-requires-clause-may : goal.store_offset-requires-clause-may
 store_offset-requires-clause-may c =

@@ -1,9 +1,7 @@
 use Rattle.std.proofs.Common.{◌∷◌, []}
-use Rattle.ert_defs.specs.Entries.{keeper_entry}
-use Rattle.ert_defs.specs.declared.entry.Event.TheVariants.{Off}
-use Rattle.ert_table.proofs.Steps.{Published, off_published}
+use Rattle.ert_defs.specs.{Entries.keeper_entry, declared.entry.Event.TheVariants.Off}
+use Rattle.ert_table.proofs.{Steps.{Published, off_published}, keeper.KeeperPart.read_offset.Goals.After-load_offset}
 use Rattle.ert_table.proofs.keeper.KeeperPart.read_offset.Goals as goal
-use Rattle.ert_table.proofs.keeper.KeeperPart.read_offset.Goals.{After-load_offset}
 
 read : (c : After-load_offset) → Published c.args.desk.now.settings c.args.pass.now.seat.me.0
     (keeper_entry c.args.by (Off c.args.self.now.face.offset c.args.self.now.face.state) ∷ [])

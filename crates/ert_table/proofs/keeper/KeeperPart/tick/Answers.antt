@@ -1,11 +1,9 @@
 use Rattle.std.proofs.Common.{◌≡◌, rules, refl, sym, subst}
 use Rattle.std.specs.Prelude.{Err}
 use Rattle.ert_effects.specs.ClockCalls.{Ticks}
-use Rattle.ert_clock.specs.Shown.{Shown}
-use Rattle.ert_clock.specs.Ticks.{act_of, Gives}
+use Rattle.ert_clock.specs.{Shown.Shown, Ticks.{act_of, Gives}}
 use Rattle.ert_table.proofs.Steps.{tick_refused}
-use Rattle.ert_table.specs.Desks.{settings_of, view_of}
-use Rattle.ert_table.specs.Calls.{IsMade}
+use Rattle.ert_table.specs.{Desks.{settings_of, view_of}, Calls.IsMade}
 use Rattle.ert_table.proofs.keeper.KeeperPart.tick.Goals as goal
 
 pub returns-in_err-moved-clause-call : goal.returns-in_err-moved-clause-call

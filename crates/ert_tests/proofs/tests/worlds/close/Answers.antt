@@ -1,7 +1,5 @@
 use Rattle.std.proofs.Common.{sym, subst}
-use Rattle.ert_table.specs.Desks.{actors_of}
-use Rattle.ert_table.specs.Held.{IsWhole}
-use Rattle.ert_table.specs.declared.desk.Desk.{Desk}
+use Rattle.ert_table.specs.{Desks.actors_of, Held.IsWhole, declared.desk.Desk.Desk}
 use Rattle.ert_tests.proofs.tests.worlds.close.Goals as goal
 
 pub close-requires-clause-whole : goal.close-requires-clause-whole

@@ -1,8 +1,6 @@
 use Rattle.std.proofs.Common.{[], refl, sym, ◌∙◌}
 use Rattle.ert_table.specs.Desks.{settings_of, view_of}
-use Rattle.ert_timers.proofs.Trials.{still_held, stands_ended, may_end, has_expired, tries_held}
-use Rattle.ert_timers.proofs.Dues.{none_left}
-use Rattle.ert_timers.proofs.Passing.{passed}
+use Rattle.ert_timers.proofs.{Trials.{still_held, stands_ended, may_end, has_expired, tries_held}, Dues.none_left, Passing.passed}
 use Rattle.ert_timers.proofs.part.WheelPart.advance.Goals as goal
 
 pub load_time-requires-clause-may : goal.load_time-requires-clause-may

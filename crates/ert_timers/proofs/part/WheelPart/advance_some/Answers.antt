@@ -2,8 +2,7 @@ use Rattle.std.proofs.Common.{◌∙◌, ◌++◌, ap, subst, sym}
 use Rattle.ert_table.specs.Desks.{settings_of, view_of}
 use Rattle.ert_timers.proofs.Passing.{loses_none}
 use Rattle.ert_timers.proofs.part.WheelPart.advance_some.Goals as goal
-use Rattle.ert_timers.specs.Parts.{Part}
-use Rattle.ert_timers.specs.Trying.{HasExpiredSome}
+use Rattle.ert_timers.specs.{Parts.Part, Trying.HasExpiredSome}
 
 pub returns-in_err-reserve-clause-loses : goal.returns-in_err-reserve-clause-loses
 returns-in_err-reserve-clause-loses c = loses_none c.args.self.now

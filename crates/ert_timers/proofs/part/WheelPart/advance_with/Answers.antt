@@ -1,14 +1,9 @@
 use Rattle.std.proofs.Common.{◌≡◌, refl, subst, sym, ◌∙◌}
-use Rattle.ert_defs.specs.Entries.{advanced_entry}
-use Rattle.ert_defs.specs.declared.entry.Actor.TheVariants.{Sched}
-use Rattle.ert_effects.specs.declared.answers.Left.{Left}
-use Rattle.ert_effects.specs.declared.answers.Left.TheVariants.{Nothing}
-use Rattle.ert_table.specs.Desks.{settings_of, view_of}
-use Rattle.ert_table.specs.Takes.{Appends}
-use Rattle.ert_timers.specs.Looking.{LooksDown}
-use Rattle.ert_timers.specs.Trying.{HasExpiredSome, IsLeft, IsTriedSome}
-use Rattle.ert_timers.proofs.SomeTried.{is_looked, loses_some, may_end_some, nothing_more, stopped_some, ended_some}
-use Rattle.ert_timers.proofs.Trials.{still_held, stands_ended}
+use Rattle.ert_defs.specs.{Entries.advanced_entry, declared.entry.Actor.TheVariants.Sched}
+use Rattle.ert_effects.specs.declared.answers.Left.{Left, TheVariants.Nothing}
+use Rattle.ert_table.specs.{Desks.{settings_of, view_of}, Takes.Appends}
+use Rattle.ert_timers.specs.{Looking.LooksDown, Trying.{HasExpiredSome, IsLeft, IsTriedSome}}
+use Rattle.ert_timers.proofs.{SomeTried.{is_looked, loses_some, may_end_some, nothing_more, stopped_some, ended_some}, Trials.{still_held, stands_ended}}
 use Rattle.ert_timers.proofs.part.WheelPart.advance_with.Goals as goal
 
 pub try_some-left-requires-clause-holds : goal.try_some-left-requires-clause-holds

@@ -1,12 +1,8 @@
 use Rattle.std.proofs.Common.{◌≡◌, ◌<◌, ◌∙◌, sym, ap, subst, subst₂, arith}
-use Rattle.ert_defs.specs.Words.{timer_word}
-use Rattle.ert_defs.specs.declared.timer.Status.TheVariants.{Armed}
-use Rattle.ert_defs.specs.declared.timer.TimerRef.{TimerRef}
-use Rattle.ert_table.specs.Desks.{settings_of, view_of, front_of}
-use Rattle.ert_table.specs.Places.{IsPlaceOf}
+use Rattle.ert_defs.specs.{Words.timer_word, declared.timer.Status.TheVariants.Armed, declared.timer.TimerRef.TimerRef}
+use Rattle.ert_table.specs.{Desks.{settings_of, view_of, front_of}, Places.IsPlaceOf}
 use Rattle.ert_timers.specs.Parts.{Part}
-use Rattle.ert_timers.proofs.Armings.{arms, may_arm}
-use Rattle.ert_timers.proofs.NextUses.{deadline_is, has_word, new_generation}
+use Rattle.ert_timers.proofs.{Armings.{arms, may_arm}, NextUses.{deadline_is, has_word, new_generation}}
 use Rattle.ert_timers.proofs.part.WheelPart.arm.Goals as goal
 
 pub touch-place-requires : goal.touch-place-requires

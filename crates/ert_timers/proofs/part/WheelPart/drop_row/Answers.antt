@@ -1,16 +1,9 @@
 use Rattle.std.proofs.Common.{◌≡◌, ◌<◌, length, refl, sym, ap, subst, ◌∙◌}
 use Rattle.std.specs.Bool.{OnTrue}
-use Rattle.ert_timers.proofs.Joined.{joined_same}
-use Rattle.ert_timers.specs.Changes.{LostRow, dropped}
-use Rattle.ert_timers.specs.Freeing.{IsInUse}
-use Rattle.ert_timers.specs.Parts.{Part, all_slots}
+use Rattle.ert_timers.proofs.{Joined.joined_same, Fit.{some_key, fit_removed, fit_lost, fit_same, written_used}, Keeping.on_if, part.WheelPart.drop_row.Goals.After-remove}
+use Rattle.ert_timers.specs.{Changes.{LostRow, dropped}, Freeing.IsInUse, Parts.{Part, all_slots}, Free.free_set, declared.slot.Stored.Stored}
 use Rattle.ert_timers.specs.contracts.part.WheelPart.{the_view}
-use Rattle.ert_timers.proofs.Fit.{some_key, fit_removed, fit_lost, fit_same, written_used}
-use Rattle.ert_timers.proofs.Keeping.{on_if}
-use Rattle.ert_timers.specs.Free.{free_set}
 use Rattle.ert_timers.proofs.part.WheelPart.drop_row.Goals as goal
-use Rattle.ert_timers.proofs.part.WheelPart.drop_row.Goals.{After-remove}
-use Rattle.ert_timers.specs.declared.slot.Stored.{Stored}
 use Rattle.ert_wheel.specs.Rows.{Held, key_in}
 
 pub remove-requires : goal.remove-requires

@@ -1,9 +1,6 @@
 use Rattle.std.proofs.Common.{length, refl, sym, ap, subst, ◌∙◌, arith}
-use Rattle.ert_table.specs.Desks.{settings_of, front_of}
-use Rattle.ert_table.specs.Held.{IsWhole}
-use Rattle.ert_table.specs.declared.view.View.{View}
-use Rattle.ert_timers.specs.Dropping.{DropsRow}
-use Rattle.ert_timers.specs.Parts.{PartStands}
+use Rattle.ert_table.specs.{Desks.{settings_of, front_of}, Held.IsWhole, declared.view.View.View}
+use Rattle.ert_timers.specs.{Dropping.DropsRow, Parts.PartStands}
 use Rattle.ert_timers.proofs.Dropped.{drops_first, drops_more, left_tidy}
 use Rattle.ert_timers.proofs.part.WheelPart.drop_settled.Goals as goal
 

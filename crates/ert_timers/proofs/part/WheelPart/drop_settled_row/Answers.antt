@@ -1,21 +1,10 @@
 use Rattle.std.proofs.Common.{◌≡◌, ◌<◌, false, Some, None, inr, refl, sym, ap, subst, ◌∙◌}
-use Rattle.ert_defs.specs.Laws.{is_armed}
-use Rattle.ert_defs.specs.States.{state}
-use Rattle.ert_defs.specs.Timers.{Row}
-use Rattle.ert_defs.specs.declared.settings.Settings.{Settings}
-use Rattle.ert_defs.specs.declared.timer.Status.TheVariants.{Armed}
-use Rattle.ert_defs.specs.declared.timer.TimerRef.{TimerRef}
-use Rattle.ert_table.specs.Desks.{settings_of, front_of}
-use Rattle.ert_table.specs.Settlings.{shown_in}
-use Rattle.ert_table.specs.declared.view.View.{View}
-use Rattle.ert_timers.specs.Changes.{given_back}
-use Rattle.ert_timers.specs.Freeing.{IsHeld, IsLast}
-use Rattle.ert_timers.specs.Parts.{PartStands, last_timer}
-use Rattle.ert_timers.specs.Starting.{status_shown}
+use Rattle.ert_defs.specs.{Laws.is_armed, States.state, Timers.Row, declared.settings.Settings.Settings, declared.timer.Status.TheVariants.Armed, declared.timer.TimerRef.TimerRef}
+use Rattle.ert_table.specs.{Desks.{settings_of, front_of}, Settlings.shown_in, declared.view.View.View}
+use Rattle.ert_timers.specs.{Changes.given_back, Freeing.{IsHeld, IsLast}, Parts.{PartStands, last_timer}, Starting.status_shown}
 use Rattle.ert_timers.proofs.Dropped.{drops_none, drops_one, drops_empty, settled_seen, told_some, told_none}
 use Rattle.ert_timers.proofs.part.WheelPart.drop_settled_row.Goals as goal
-use Rattle.ert_wheel.specs.Rows.{key_in, told_at}
-use Rattle.ert_wheel.specs.declared.row.HeldRow.{HeldRow}
+use Rattle.ert_wheel.specs.{Rows.{key_in, told_at}, declared.row.HeldRow.HeldRow}
 
 pub see_timer-shown-requires-clause-slot : goal.see_timer-shown-requires-clause-slot
 see_timer-shown-requires-clause-slot c = record {

@@ -1,10 +1,6 @@
 use Rattle.std.proofs.Common.{false, refl, sym, ap, subst, ◌∙◌}
-use Rattle.ert_defs.specs.States.{state}
-use Rattle.ert_defs.specs.Entries.{mark_entry}
-use Rattle.ert_defs.specs.declared.entry.Actor.TheVariants.{Caller}
-use Rattle.ert_defs.specs.declared.timer.TimerRef.{TimerRef}
-use Rattle.ert_table.specs.Desks.{settings_of, view_of}
-use Rattle.ert_table.specs.Takes.{Appends}
+use Rattle.ert_defs.specs.{States.state, Entries.mark_entry, declared.entry.Actor.TheVariants.Caller, declared.timer.TimerRef.TimerRef}
+use Rattle.ert_table.specs.{Desks.{settings_of, view_of}, Takes.Appends}
 use Rattle.ert_timers.specs.Starting.{HoldsTimer, Orphans}
 use Rattle.ert_timers.proofs.Orphaned.{ends_alive, ends_exited, exited_seen, marked_stands, still_caller}
 use Rattle.ert_timers.proofs.part.WheelPart.end.Goals as goal

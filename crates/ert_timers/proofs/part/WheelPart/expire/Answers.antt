@@ -1,8 +1,6 @@
 use Rattle.std.proofs.Common.{◌≡◌, ◌∙◌, true, false, Some, None, inr, sym, subst, append-nil, arith}
-use Rattle.ert_defs.specs.States.{state}
-use Rattle.ert_defs.specs.Timers.{Row}
-use Rattle.ert_table.specs.Desks.{settings_of, view_of}
-use Rattle.ert_table.specs.Settlings.{HasRow}
+use Rattle.ert_defs.specs.{States.state, Timers.Row}
+use Rattle.ert_table.specs.{Desks.{settings_of, view_of}, Settlings.HasRow}
 use Rattle.ert_timers.proofs.Tried.{expired_from, held_has_row}
 use Rattle.ert_timers.proofs.part.WheelPart.expire.Goals as goal
 use Rattle.ert_wheel.specs.Rows.{key_of, row_told}

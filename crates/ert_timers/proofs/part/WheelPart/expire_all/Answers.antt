@@ -1,15 +1,10 @@
 use Rattle.std.proofs.Common.{◌≡◌, ◌+◌, ◌∙◌, Some, drop, length, ap, subst, sym, arith, get_or}
 use Rattle.ert_table.specs.Desks.{settings_of, view_of}
-use Rattle.ert_timers.specs.Expiring.{AreDue, IsReady, Expires, ExpiresSome}
-use Rattle.ert_timers.specs.Parts.{Part}
-use Rattle.ert_timers.proofs.Trials.{expires_none, expires_more, expires_gone_on, still_held}
-use Rattle.ert_timers.proofs.Dues.{is_next, first_held, next_told, none_told, none_left, row_stays}
+use Rattle.ert_timers.specs.{Expiring.{AreDue, IsReady, Expires, ExpiresSome}, Parts.Part}
+use Rattle.ert_timers.proofs.{Trials.{expires_none, expires_more, expires_gone_on, still_held}, Dues.{is_next, first_held, next_told, none_told, none_left, row_stays}}
 use Rattle.ert_timers.proofs.part.WheelPart.expire_all.Goals as goal
-use Rattle.ert_wheel.specs.Rows.{key_of, row_told, rows_told}
-use Rattle.ert_wheel.specs.declared.row.HeldRow.{HeldRow}
-use Rattle.ert_wheel.specs.declared.row.Row.{Row}
+use Rattle.ert_wheel.specs.{Rows.{key_of, row_told, rows_told}, declared.row.HeldRow.HeldRow, declared.row.Row.Row, Standing.StayOrFall}
 use Rattle.ert_wheel.proofs.Looking.{key_low}
-use Rattle.ert_wheel.specs.Standing.{StayOrFall}
 
 none : HeldRow
 none = record { deadline = 0; slot = 0 }

@@ -1,6 +1,5 @@
 use Rattle.ert_table.specs.Desks.{settings_of, view_of, Belongs}
-use Rattle.ert_timers.specs.Expiring.{ExpiresSome}
-use Rattle.ert_timers.specs.Parts.{HoldsSched}
+use Rattle.ert_timers.specs.{Expiring.ExpiresSome, Parts.HoldsSched}
 use Rattle.ert_timers.proofs.part.WheelPart.expire_all.Given as goal
 use Rattle.ert_wheel.specs.Rows.{rows_told}
 

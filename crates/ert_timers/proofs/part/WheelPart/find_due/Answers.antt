@@ -1,6 +1,5 @@
 use Rattle.std.proofs.Common.{subst, ◌∙◌}
-use Rattle.ert_timers.specs.Expiring.{AreDue}
-use Rattle.ert_timers.specs.Parts.{Part}
+use Rattle.ert_timers.specs.{Expiring.AreDue, Parts.Part}
 use Rattle.ert_timers.proofs.Trials.{are_due}
 use Rattle.ert_timers.proofs.part.WheelPart.find_due.Goals as goal
 use Rattle.ert_wheel.specs.Rows.{rows_told}

@@ -1,6 +1,5 @@
 use Rattle.std.proofs.Common.{subst}
-use Rattle.ert_timers.specs.NextDue.{IsNextHeld}
-use Rattle.ert_timers.specs.Parts.{Part}
+use Rattle.ert_timers.specs.{NextDue.IsNextHeld, Parts.Part}
 use Rattle.ert_timers.proofs.part.WheelPart.first_due.Goals as goal
 
 pub returns-clause-held : goal.returns-clause-held

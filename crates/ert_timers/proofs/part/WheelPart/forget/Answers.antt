@@ -2,13 +2,8 @@ use Rattle.std.proofs.Common.{◌≡◌, None, refl, sym, ap, subst, ◌∙◌}
 use Rattle.std.proofs.lemmas.Bool.{false≢true}
 use Rattle.ert_defs.specs.States.{state}
 use Rattle.ert_table.specs.Desks.{view_of}
-use Rattle.ert_timers.specs.Parts.{Part, PartStands}
-use Rattle.ert_timers.proofs.Fit.{some_key, none_key}
-use Rattle.ert_timers.proofs.Forgotten.{forgot}
-use Rattle.ert_timers.proofs.Freed.{reused_keeps}
-use Rattle.ert_timers.proofs.Passing.{loses_none, loses_row}
-use Rattle.ert_timers.specs.Changes.{dropped, reused}
-use Rattle.ert_timers.specs.Passed.{LosesRows}
+use Rattle.ert_timers.specs.{Parts.{Part, PartStands}, Changes.{dropped, reused}, Passed.LosesRows}
+use Rattle.ert_timers.proofs.{Fit.{some_key, none_key}, Forgotten.forgot, Freed.reused_keeps, Passing.{loses_none, loses_row}}
 use Rattle.ert_wheel.proofs.Looking.{key_low}
 use Rattle.ert_timers.proofs.part.WheelPart.forget.Goals as goal
 use Rattle.ert_wheel.specs.Rows.{key_in}

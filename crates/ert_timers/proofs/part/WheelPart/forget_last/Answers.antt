@@ -1,12 +1,7 @@
 use Rattle.std.proofs.Common.{◌≡◌, false, Some, None, inr, refl, sym, ap, subst, ◌∙◌}
-use Rattle.ert_defs.specs.States.{state}
-use Rattle.ert_defs.specs.declared.settings.Settings.{Settings}
-use Rattle.ert_defs.specs.declared.timer.Status.TheVariants.{Armed}
-use Rattle.ert_defs.specs.declared.timer.TimerRef.{TimerRef}
+use Rattle.ert_defs.specs.{States.state, declared.settings.Settings.Settings, declared.timer.Status.TheVariants.Armed, declared.timer.TimerRef.TimerRef}
 use Rattle.ert_table.specs.Desks.{settings_of, front_of}
-use Rattle.ert_timers.specs.Changes.{given_back}
-use Rattle.ert_timers.specs.Freeing.{IsLast, IsHeld}
-use Rattle.ert_timers.specs.Parts.{PartStands, last_timer}
+use Rattle.ert_timers.specs.{Changes.given_back, Freeing.{IsLast, IsHeld}, Parts.{PartStands, last_timer}}
 use Rattle.ert_timers.proofs.Fit.{some_key}
 use Rattle.ert_timers.proofs.part.WheelPart.forget_last.Goals as goal
 use Rattle.ert_wheel.specs.Rows.{key_in}

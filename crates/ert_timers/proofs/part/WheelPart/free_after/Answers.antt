@@ -1,8 +1,7 @@
 use Rattle.std.proofs.Common.{◌≡◌, ◌<◌, length, None, sym, subst}
-use Rattle.ert_timers.specs.Parts.{Part, all_slots}
+use Rattle.ert_timers.specs.{Parts.{Part, all_slots}, Free.free_set}
 use Rattle.ert_timers.proofs.Fit.{fit_put}
 use Rattle.ert_timers.proofs.part.WheelPart.free_after.Goals as goal
-use Rattle.ert_timers.specs.Free.{free_set}
 use Rattle.ert_wheel.specs.Rows.{key_in}
 
 pub invariant_of-self : goal.invariant_of-self

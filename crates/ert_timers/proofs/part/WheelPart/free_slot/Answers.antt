@@ -1,9 +1,8 @@
 use Rattle.std.proofs.Common.{◌≡◌, ◌<◌, false, length, None, sym, subst}
 use Rattle.std.specs.FinSet as sets
-use Rattle.ert_timers.specs.Parts.{Part, all_slots}
+use Rattle.ert_timers.specs.{Parts.{Part, all_slots}, Free.free_set}
 use Rattle.ert_timers.proofs.Fit.{fit_put, written_away}
 use Rattle.ert_timers.proofs.part.WheelPart.free_slot.Goals as goal
-use Rattle.ert_timers.specs.Free.{free_set}
 use Rattle.ert_wheel.specs.Rows.{key_in}
 
 pub value-requires : goal.value-requires

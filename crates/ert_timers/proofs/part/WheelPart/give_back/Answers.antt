@@ -1,8 +1,6 @@
 use Rattle.std.proofs.Common.{◌<◌, ◌+◌, length, inr, refl, sym, ap, subst, ◌∙◌, arith}
-use Rattle.ert_timers.specs.Parts.{Part, all_slots, last_timer}
-use Rattle.ert_timers.proofs.Fit.{fit_counted, some_held}
-use Rattle.ert_timers.proofs.Keeping.{byte_low, lost_seen}
-use Rattle.ert_timers.specs.Free.{free_set}
+use Rattle.ert_timers.specs.{Parts.{Part, all_slots, last_timer}, Free.free_set}
+use Rattle.ert_timers.proofs.{Fit.{fit_counted, some_held}, Keeping.{byte_low, lost_seen}}
 use Rattle.ert_timers.proofs.part.WheelPart.give_back.Goals as goal
 
 pub overflow_add-self : goal.overflow_add-self

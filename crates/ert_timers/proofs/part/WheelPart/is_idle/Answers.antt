@@ -2,8 +2,7 @@ use Rattle.std.proofs.Common.{not, [], subst}
 use Rattle.std.specs.Bool.{OnTrue}
 use Rattle.ert_timers.proofs.Dues.{idle_is}
 use Rattle.ert_timers.proofs.part.WheelPart.is_idle.Goals as goal
-use Rattle.ert_timers.specs.Expiring.{AreDue}
-use Rattle.ert_timers.specs.Parts.{Part}
+use Rattle.ert_timers.specs.{Expiring.AreDue, Parts.Part}
 
 pub returns : goal.returns
 returns c =

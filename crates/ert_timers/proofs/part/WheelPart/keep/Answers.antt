@@ -1,17 +1,8 @@
 use Rattle.std.proofs.Common.{◌≡◌, ◌+◌, ◌<◌, length, refl, sym, ap, subst, ◌∙◌, set, arith}
-use Rattle.ert_timers.proofs.Joined.{stands_noted}
-use Rattle.ert_timers.proofs.Joined.{joined_kept}
-use Rattle.ert_timers.specs.Changes.{MayBecomeFree, kept, slot_for}
-use Rattle.ert_timers.specs.Owners.{MayJoin, Joins}
-use Rattle.ert_timers.specs.Parts.{Part, all_slots, slot_at}
+use Rattle.ert_timers.proofs.{Joined.{stands_noted, joined_kept}, AllSlots.read_at, Fit.{fit_same, may_leave, written_away}, Keeping.{orders_if, fit_kept, slots_kept, named_kept}, part.WheelPart.keep.Goals.After-join}
+use Rattle.ert_timers.specs.{Changes.{MayBecomeFree, kept, slot_for}, Owners.{MayJoin, Joins}, Parts.{Part, all_slots, slot_at}, Slots.{Slot, stored_slot}, Free.free_set}
 use Rattle.ert_timers.specs.contracts.part.WheelPart.{the_view}
-use Rattle.ert_timers.specs.Slots.{Slot, stored_slot}
-use Rattle.ert_timers.proofs.AllSlots.{read_at}
-use Rattle.ert_timers.proofs.Fit.{fit_same, may_leave, written_away}
-use Rattle.ert_timers.proofs.Keeping.{orders_if, fit_kept, slots_kept, named_kept}
-use Rattle.ert_timers.specs.Free.{free_set}
 use Rattle.ert_timers.proofs.part.WheelPart.keep.Goals as goal
-use Rattle.ert_timers.proofs.part.WheelPart.keep.Goals.{After-join}
 use Rattle.ert_wheel.specs.Rings.{Rings, AreChains, MayTake}
 
 pub overflow_add-self : goal.overflow_add-self

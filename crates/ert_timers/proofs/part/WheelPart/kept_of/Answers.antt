@@ -1,6 +1,5 @@
 use Rattle.std.proofs.Common.{◌<◌, length, sym, ap, subst, ◌∙◌, arith}
-use Rattle.ert_timers.specs.Parts.{Part, slot_at}
-use Rattle.ert_timers.specs.Slots.{stored_slot}
+use Rattle.ert_timers.specs.{Parts.{Part, slot_at}, Slots.stored_slot}
 use Rattle.ert_timers.proofs.AllSlots.{all_len, read_at, unused_at}
 use Rattle.ert_timers.proofs.part.WheelPart.kept_of.Goals as goal
 

@@ -1,14 +1,10 @@
 use Rattle.std.proofs.Common.{◌≡◌, ◌<◌, None, false, length, sym, subst, refl, ap, ◌∙◌}
 use Rattle.std.specs.FinSet as sets
-use Rattle.ert_timers.specs.Parts.{Part, all_slots}
+use Rattle.ert_timers.specs.{Parts.{Part, all_slots}, Free.free_set}
 use Rattle.ert_timers.specs.contracts.part.WheelPart.{the_view}
-use Rattle.ert_timers.proofs.Fit.{fit_owned, fit_same, may_leave, written_away}
-use Rattle.ert_timers.proofs.Keeping.{owned_thinned}
-use Rattle.ert_timers.proofs.Owners.{thinned_more, thinned_none}
-use Rattle.ert_timers.specs.Free.{free_set}
+use Rattle.ert_timers.proofs.{Fit.{fit_owned, fit_same, may_leave, written_away}, Keeping.owned_thinned, Owners.{thinned_more, thinned_none}}
 use Rattle.ert_timers.proofs.part.WheelPart.leave.Goals as goal
-use Rattle.ert_wheel.specs.Rings.{with_place}
-use Rattle.ert_wheel.specs.Rows.{key_in}
+use Rattle.ert_wheel.specs.{Rings.with_place, Rows.key_in}
 
 pub part_from-requires-clause-may : goal.part_from-requires-clause-may
 part_from-requires-clause-may c =

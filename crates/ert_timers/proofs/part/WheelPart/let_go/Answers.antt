@@ -1,8 +1,6 @@
 use Rattle.std.proofs.Common.{◌≡◌, ◌+◌, ◌∙◌, Some, None, arith, sym, inr}
-use Rattle.ert_timers.specs.Parts.{all_slots}
-use Rattle.ert_timers.proofs.Fit.{fit_counted, some_key}
-use Rattle.ert_timers.proofs.Keeping.{byte_low, lost_seen}
-use Rattle.ert_timers.specs.Free.{free_set}
+use Rattle.ert_timers.specs.{Parts.all_slots, Free.free_set}
+use Rattle.ert_timers.proofs.{Fit.{fit_counted, some_key}, Keeping.{byte_low, lost_seen}}
 use Rattle.ert_timers.proofs.part.WheelPart.let_go.Goals as goal
 
 pub overflow_add-self : goal.overflow_add-self

@@ -1,10 +1,7 @@
 use Rattle.std.proofs.Common.{◌≡◌, ◌≢◌, false, Some, sym, subst, ◌∙◌}
-use Rattle.ert_defs.specs.States.{state}
-use Rattle.ert_defs.specs.declared.settings.Settings.{Settings}
-use Rattle.ert_defs.specs.declared.timer.Status.TheVariants.{Armed}
+use Rattle.ert_defs.specs.{States.state, declared.settings.Settings.Settings, declared.timer.Status.TheVariants.Armed}
 use Rattle.ert_table.specs.Desks.{settings_of, front_of}
-use Rattle.ert_timers.proofs.Freed.{given_keeps}
-use Rattle.ert_timers.proofs.Moved.{held_last, slot_apart}
+use Rattle.ert_timers.proofs.{Freed.given_keeps, Moved.{held_last, slot_apart}}
 use Rattle.ert_timers.specs.Parts.{PartStands}
 use Rattle.ert_timers.proofs.part.WheelPart.let_go_of.Goals as goal
 

@@ -3,10 +3,8 @@ use Rattle.std.specs.FinSet as sets
 use Rattle.ert_defs.specs.declared.settings.Settings.{Settings}
 use Rattle.ert_effects.specs.TimerCalls.{Round}
 use Rattle.ert_table.specs.Desks.{settings_of, view_of}
-use Rattle.ert_timers.specs.Parts.{HoldsCaller, Part, PartStands}
-use Rattle.ert_timers.specs.Starting.{LooksAtSome}
-use Rattle.ert_timers.proofs.Rounds.{around_from, looks_around, clock_taken}
-use Rattle.ert_timers.proofs.Standing.{stands_next}
+use Rattle.ert_timers.specs.{Parts.{HoldsCaller, Part, PartStands}, Starting.LooksAtSome}
+use Rattle.ert_timers.proofs.{Rounds.{around_from, looks_around, clock_taken}, Standing.stands_next}
 use Rattle.ert_timers.proofs.part.WheelPart.look_around.Goals as goal
 
 pub round_end-requires : goal.round_end-requires

@@ -1,8 +1,7 @@
 use Rattle.std.proofs.Common.{◌<◌, length, None, inl, sym, ap, subst, ◌∙◌, get_or-set_same}
 use Rattle.std.specs.FinSet as sets
 use Rattle.ert_table.specs.Desks.{settings_of, view_of}
-use Rattle.ert_timers.specs.Parts.{Part}
-use Rattle.ert_timers.specs.Starting.{status_shown}
+use Rattle.ert_timers.specs.{Parts.Part, Starting.status_shown}
 use Rattle.ert_timers.proofs.Lookings.{probe_is, looks_taken, looks_resting, looks_free}
 use Rattle.ert_timers.proofs.part.WheelPart.look_at.Goals as goal
 use Rattle.ert_wheel.specs.Rows.{key_in}

@@ -1,9 +1,7 @@
 use Rattle.std.proofs.Common.{length, ap, subst, ◌∙◌, inr, arith}
 use Rattle.ert_table.specs.Desks.{settings_of, view_of}
 use Rattle.ert_timers.specs.Starting.{LooksAtSome}
-use Rattle.ert_timers.proofs.Rounds.{looks_none, looks_more}
-use Rattle.ert_timers.proofs.Orphaned.{still_caller}
-use Rattle.ert_timers.proofs.Standing.{clock_stepped}
+use Rattle.ert_timers.proofs.{Rounds.{looks_none, looks_more}, Orphaned.still_caller, Standing.clock_stepped}
 use Rattle.ert_timers.proofs.part.WheelPart.look_at_some.Goals as goal
 
 pub loop-slot-init : goal.loop-slot-init

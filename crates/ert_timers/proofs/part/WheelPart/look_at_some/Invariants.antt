@@ -1,9 +1,7 @@
 use Rattle.std.specs.Prelude.{◌≤◌}
-use Rattle.ert_defs.specs.Milliseconds.{natural, down}
-use Rattle.ert_defs.specs.States.{state}
+use Rattle.ert_defs.specs.{Milliseconds.{natural, down}, States.state}
 use Rattle.ert_table.specs.Desks.{settings_of, view_of, front_of, Belongs}
-use Rattle.ert_timers.specs.Starting.{LooksAtSome}
-use Rattle.ert_timers.specs.Parts.{HoldsCaller}
+use Rattle.ert_timers.specs.{Starting.LooksAtSome, Parts.HoldsCaller}
 use Rattle.ert_timers.proofs.part.WheelPart.look_at_some.Given as goal
 
 abbrev pub invariant-loop-slot : goal.invariant-loop-slot

@@ -1,13 +1,9 @@
 use Rattle.std.proofs.Common.{◌≡◌, ◌<◌, ◌∙◌, ap, option_map, refl, sym, subst}
-use Rattle.ert_timers.specs.Changes.{NextOf}
-use Rattle.ert_timers.specs.Parts.{Part, all_slots}
+use Rattle.ert_timers.specs.{Changes.NextOf, Parts.{Part, all_slots}, Free.free_set}
 use Rattle.ert_timers.specs.contracts.part.WheelPart.{the_view}
-use Rattle.ert_timers.proofs.Fit.{fit_owned, fit_same}
-use Rattle.ert_timers.proofs.Keeping.{next_found, owned_thinned}
+use Rattle.ert_timers.proofs.{Fit.{fit_owned, fit_same}, Keeping.{next_found, owned_thinned}, part.WheelPart.newest_of.Goals.After-find_row}
 use Rattle.ert_wheel.specs.Rows.{row_told}
-use Rattle.ert_timers.specs.Free.{free_set}
 use Rattle.ert_timers.proofs.part.WheelPart.newest_of.Goals as goal
-use Rattle.ert_timers.proofs.part.WheelPart.newest_of.Goals.{After-find_row}
 
 pub find_row-requires-clause-process : goal.find_row-requires-clause-process
 find_row-requires-clause-process c = subst (λ (q : Part). c.args.process < q.processes) (sym c.self.view_is) c.requires

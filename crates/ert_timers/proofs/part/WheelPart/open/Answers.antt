@@ -1,9 +1,6 @@
 use Rattle.std.proofs.Common.{◌∙◌, refl, arith}
-use Rattle.ert_timers.proofs.Joined.{none_joined}
-use Rattle.ert_timers.specs.Parts.{all_slots}
-use Rattle.ert_timers.proofs.AllSlots.{all_unused}
-use Rattle.ert_timers.proofs.Openings.{fit_open, stands_open}
-use Rattle.ert_timers.specs.Free.{free_set}
+use Rattle.ert_timers.proofs.{Joined.none_joined, AllSlots.all_unused, Openings.{fit_open, stands_open}}
+use Rattle.ert_timers.specs.{Parts.all_slots, Free.free_set}
 use Rattle.ert_timers.proofs.part.WheelPart.open.Goals as goal
 
 pub invariant_of-result : goal.invariant_of-result

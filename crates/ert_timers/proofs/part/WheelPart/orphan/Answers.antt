@@ -1,9 +1,7 @@
 use Rattle.std.proofs.Common.{sym, subst}
 use Rattle.ert_defs.specs.States.{state}
-use Rattle.ert_table.specs.Desks.{settings_of, view_of}
-use Rattle.ert_table.specs.Settlings.{HasRow}
-use Rattle.ert_timers.proofs.Orphaned.{orphaned, may_orphan}
-use Rattle.ert_timers.proofs.Tried.{held_has_row}
+use Rattle.ert_table.specs.{Desks.{settings_of, view_of}, Settlings.HasRow}
+use Rattle.ert_timers.proofs.{Orphaned.{orphaned, may_orphan}, Tried.held_has_row}
 use Rattle.ert_timers.proofs.part.WheelPart.orphan.Goals as goal
 
 pub settle-hit-requires-clause-row : goal.settle-hit-requires-clause-row

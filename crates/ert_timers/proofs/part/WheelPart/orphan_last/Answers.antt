@@ -1,9 +1,7 @@
 use Rattle.std.proofs.Common.{◌≡◌, sym, subst}
-use Rattle.ert_defs.specs.Timers.{timer_at}
-use Rattle.ert_defs.specs.declared.timer.TimerRef.{TimerRef}
+use Rattle.ert_defs.specs.{Timers.timer_at, declared.timer.TimerRef.TimerRef}
 use Rattle.ert_table.specs.Desks.{settings_of, view_of}
-use Rattle.ert_timers.specs.Parts.{last_timer}
-use Rattle.ert_timers.specs.Starting.{HoldsTimer, Orphans}
+use Rattle.ert_timers.specs.{Parts.last_timer, Starting.{HoldsTimer, Orphans}}
 use Rattle.ert_timers.proofs.part.WheelPart.orphan_last.Goals as goal
 
 pub orphan-requires-clause-held : goal.orphan-requires-clause-held

@@ -1,13 +1,10 @@
 use Rattle.std.proofs.Common.{◌≡◌, ℕ, true, false, length, Some, IfNone, refl, sym, ap, subst, ◌∙◌, arith}
 use Rattle.std.specs.FinSet as sets
-use Rattle.ert_timers.specs.Changes.{MayBecomeFree, picked}
-use Rattle.ert_timers.specs.Parts.{Part}
+use Rattle.ert_timers.specs.{Changes.{MayBecomeFree, picked}, Parts.Part, Free.{FreeSet, free_set}}
 use Rattle.ert_timers.specs.contracts.part.WheelPart.{the_view}
-use Rattle.ert_timers.proofs.Fit.{exchanged, taken_out}
-use Rattle.ert_timers.proofs.Keeping.{fit_written, pick_none, pick_taken, pick_usable, seen_written, written_twice}
+use Rattle.ert_timers.proofs.{Fit.{exchanged, taken_out}, Keeping.{fit_written, pick_none, pick_taken, pick_usable, seen_written, written_twice}}
 use Rattle.ert_timers.proofs.part.WheelPart.pick.Goals as goal
 use Rattle.ert_wheel.specs.Rings.{Rings}
-use Rattle.ert_timers.specs.Free.{FreeSet, free_set}
 
 pub returns-in_err-slot-clause-none : goal.returns-in_err-slot-clause-none
 returns-in_err-slot-clause-none c =

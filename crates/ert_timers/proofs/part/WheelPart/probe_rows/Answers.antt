@@ -1,8 +1,7 @@
 use Rattle.std.proofs.Common.{◌≡◌, ℕ, ◌+◌, cond, not, sym, ap, ◌∙◌, arith}
 use Rattle.ert_table.specs.Desks.{settings_of, view_of}
-use Rattle.ert_timers.proofs.Probed.{probes_all, probes_more, probes_none, probes_vacant, vacant_is}
+use Rattle.ert_timers.proofs.{Probed.{probes_all, probes_more, probes_none, probes_vacant, vacant_is}, part.WheelPart.probe_rows.Goals.{then-not-probe_row, else-not-probe_row}}
 use Rattle.ert_timers.proofs.part.WheelPart.probe_rows.Goals as goal
-use Rattle.ert_timers.proofs.part.WheelPart.probe_rows.Goals.{then-not-probe_row, else-not-probe_row}
 
 pub loop-slot-init : goal.loop-slot-init
 loop-slot-init c = record {

@@ -1,6 +1,5 @@
 use Rattle.ert_table.specs.Desks.{settings_of, view_of}
-use Rattle.ert_timers.proofs.Moved.{refused_armed}
-use Rattle.ert_timers.proofs.Renewed.{is_read, missed_at, not_read, peek_calm}
+use Rattle.ert_timers.proofs.{Moved.refused_armed, Renewed.{is_read, missed_at, not_read, peek_calm}}
 use Rattle.ert_timers.proofs.part.WheelPart.refuse.Goals as goal
 
 pub returns-in-Some-clause-stands : goal.returns-in-Some-clause-stands

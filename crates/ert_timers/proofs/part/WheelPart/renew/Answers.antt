@@ -1,18 +1,9 @@
 use Rattle.std.proofs.Common.{◌≡◌, ◌+◌, ◌<◌, nat_eq, length, refl, sym, ap, subst, ◌∙◌, set, arith, eqb-true}
-use Rattle.ert_timers.proofs.Joined.{joined_kept}
-use Rattle.ert_timers.specs.Changes.{dropped, kept, slot_for}
-use Rattle.ert_timers.specs.Owners.{MayJoin, Joins}
-use Rattle.ert_timers.specs.Parts.{Part, all_slots, slot_at}
-use Rattle.ert_timers.specs.Restarting.{CanRenew}
+use Rattle.ert_timers.proofs.{Joined.joined_kept, AllSlots.read_at, Fit.{fit_dropped, fit_same, may_leave, same_places, some_key, written_away}, Keeping.{orders_if, fit_kept, slots_kept, named_kept}, Anew.{free_again, set_twice}}
+use Rattle.ert_timers.proofs.{part.WheelPart.renew.Goals.After-join_seldom}
+use Rattle.ert_timers.specs.{Changes.{dropped, kept, slot_for}, Owners.{MayJoin, Joins}, Parts.{Part, all_slots, slot_at}, Restarting.CanRenew, Slots.{Slot, stored_slot}, Free.free_set}
 use Rattle.ert_timers.specs.contracts.part.WheelPart.{the_view}
-use Rattle.ert_timers.specs.Slots.{Slot, stored_slot}
-use Rattle.ert_timers.proofs.AllSlots.{read_at}
-use Rattle.ert_timers.proofs.Fit.{fit_dropped, fit_same, may_leave, same_places, some_key, written_away}
-use Rattle.ert_timers.proofs.Keeping.{orders_if, fit_kept, slots_kept, named_kept}
-use Rattle.ert_timers.proofs.Anew.{free_again, set_twice}
-use Rattle.ert_timers.specs.Free.{free_set}
 use Rattle.ert_timers.proofs.part.WheelPart.renew.Goals as goal
-use Rattle.ert_timers.proofs.part.WheelPart.renew.Goals.{After-join_seldom}
 use Rattle.ert_wheel.specs.Rings.{Rings, AreChains, MayTake, StandsIn}
 
 pub overflow_add-self : goal.overflow_add-self

@@ -1,15 +1,9 @@
 use Rattle.std.proofs.Common.{◌≡◌, ◌∙◌, true, [], rules, sym, subst}
 use Rattle.ert_table.proofs.Named.{names_both, names_no_generation, names_no_slot}
 use Rattle.ert_defs.specs.Legal.{names_timer}
-use Rattle.ert_table.specs.Desks.{settings_of, view_of}
-use Rattle.ert_timers.proofs.Freed.{keeps_uses}
-use Rattle.ert_timers.proofs.Moved.{ends_after, has_looked, none_takes, not_full, restarts, restarts_none}
-use Rattle.ert_timers.proofs.Starts.{ahead_stands, bad_arg}
-use Rattle.ert_table.specs.Calls.{IsMade}
-use Rattle.ert_timers.specs.Frees.{UsesFree}
-use Rattle.ert_timers.specs.Looking.{now_in}
-use Rattle.ert_timers.specs.Passed.{GainsOne}
-use Rattle.ert_timers.specs.Restarting.{EndsAfter, HasLetGo}
+use Rattle.ert_table.specs.{Desks.{settings_of, view_of}, Calls.IsMade}
+use Rattle.ert_timers.proofs.{Freed.keeps_uses, Moved.{ends_after, has_looked, none_takes, not_full, restarts, restarts_none}, Starts.{ahead_stands, bad_arg}}
+use Rattle.ert_timers.specs.{Frees.UsesFree, Looking.now_in, Passed.GainsOne, Restarting.{EndsAfter, HasLetGo}}
 use Rattle.ert_timers.proofs.part.WheelPart.restart_by_name.Goals as goal
 
 pub returns-in_default-clause-stands : goal.returns-in_default-clause-stands

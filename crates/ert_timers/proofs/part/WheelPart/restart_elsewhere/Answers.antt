@@ -1,18 +1,8 @@
 use Rattle.std.proofs.Common.{◌<◌, true, [], Some, Err, inl, inr, refl, sym, ap, subst, ◌∙◌, arith}
 use Rattle.ert_effects.specs.RestartCalls.{RestartEnds}
-use Rattle.ert_table.specs.Calls.{IsMade}
-use Rattle.ert_table.specs.Desks.{settings_of, view_of}
-use Rattle.ert_timers.proofs.Freed.{found_none, keeps_uses, moved_uses, none_uses, taken_free}
-use Rattle.ert_timers.specs.Frees.{UsesFree}
-use Rattle.ert_timers.proofs.Moved.{ends_after, full_for, gains_after, has_slot, none_takes, not_full, spent}
-use Rattle.ert_timers.proofs.Renewed.{gains_no}
-use Rattle.ert_timers.proofs.Starts.{round_taken}
-use Rattle.ert_timers.proofs.Takings.{takes_first}
-use Rattle.ert_timers.specs.Changes.{next_use}
-use Rattle.ert_timers.specs.Looking.{now_in}
-use Rattle.ert_timers.specs.Parts.{Part, slot_at}
-use Rattle.ert_timers.specs.Passed.{GainsOne}
-use Rattle.ert_timers.specs.Starting.{TakesSlot}
+use Rattle.ert_table.specs.{Calls.IsMade, Desks.{settings_of, view_of}}
+use Rattle.ert_timers.proofs.{Freed.{found_none, keeps_uses, moved_uses, none_uses, taken_free}, Moved.{ends_after, full_for, gains_after, has_slot, none_takes, not_full, spent}, Renewed.gains_no, Starts.round_taken, Takings.takes_first}
+use Rattle.ert_timers.specs.{Frees.UsesFree, Changes.next_use, Looking.now_in, Parts.{Part, slot_at}, Passed.GainsOne, Starting.TakesSlot}
 use Rattle.ert_timers.proofs.part.WheelPart.restart_elsewhere.Goals as goal
 
 pub returns-in_default-clause-call : goal.returns-in_default-clause-call

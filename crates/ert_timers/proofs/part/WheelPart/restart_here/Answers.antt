@@ -2,10 +2,8 @@ use Rattle.std.proofs.Common.{refl, ap, ◌∙◌}
 use Rattle.std.specs.FinSet as sets
 use Rattle.ert_defs.specs.Timers.{timer_at}
 use Rattle.ert_table.specs.Desks.{settings_of, view_of}
-use Rattle.ert_timers.proofs.Freed.{keeps_uses}
-use Rattle.ert_timers.proofs.NextUses.{has_word, told_deadline}
-use Rattle.ert_timers.proofs.Orphaned.{still_caller}
-use Rattle.ert_timers.proofs.Renewed.{cancel_calm, gains_renewed, gone_renewed, is_ready, may_renew, missed_at, missed_then, not_read, peek_calm, renew_hit, renew_missed, renewed, stays_can}
+use Rattle.ert_timers.proofs.{Freed.keeps_uses, NextUses.{has_word, told_deadline}, Orphaned.still_caller, Renewed.{cancel_calm, gains_renewed, gone_renewed, is_ready, may_renew, missed_at, missed_then, not_read, peek_calm, renew_hit}}
+use Rattle.ert_timers.proofs.{Renewed.{renew_missed, renewed, stays_can}}
 use Rattle.ert_timers.specs.Parts.{Part}
 use Rattle.ert_timers.proofs.part.WheelPart.restart_here.Goals as goal
 

@@ -2,11 +2,8 @@ use Rattle.std.proofs.Common.{refl, sym, ap, ◌∙◌}
 use Rattle.std.specs.FinSet as sets
 use Rattle.ert_defs.specs.States.{state}
 use Rattle.ert_table.specs.Desks.{settings_of, view_of}
-use Rattle.ert_timers.proofs.Moved.{cancel_missed, freed_again, gains_moved, gone_armed, is_cancelled, slot_cancelled, slot_read}
-use Rattle.ert_timers.proofs.Freed.{freed_keeps, freed_there}
-use Rattle.ert_timers.proofs.Orphaned.{still_caller}
-use Rattle.ert_timers.proofs.Passing.{same_last}
-use Rattle.ert_timers.proofs.Renewed.{cancel_calm, gone_renewed, is_read, missed_at, missed_then, not_read, peek_calm, renewed}
+use Rattle.ert_timers.proofs.{Moved.{cancel_missed, freed_again, gains_moved, gone_armed, is_cancelled, slot_cancelled, slot_read}, Freed.{freed_keeps, freed_there}, Orphaned.still_caller, Passing.same_last, Renewed.cancel_calm}
+use Rattle.ert_timers.proofs.{Renewed.{gone_renewed, is_read, missed_at, missed_then, not_read, peek_calm, renewed}}
 use Rattle.ert_timers.specs.Parts.{Part}
 use Rattle.ert_timers.proofs.part.WheelPart.restart_in.Goals as goal
 

@@ -1,12 +1,8 @@
 use Rattle.std.proofs.Common.{◌∙◌, sym, subst}
-use Rattle.ert_defs.specs.Timers.{timer_at}
-use Rattle.ert_defs.specs.declared.timer.Start.{Start}
-use Rattle.ert_table.specs.Calls.{IsMade}
-use Rattle.ert_table.specs.Desks.{settings_of, view_of}
-use Rattle.ert_timers.specs.Frees.{UsesFree}
-use Rattle.ert_timers.specs.Passed.{GainsOne}
+use Rattle.ert_defs.specs.{Timers.timer_at, declared.timer.Start.Start}
+use Rattle.ert_table.specs.{Calls.IsMade, Desks.{settings_of, view_of}}
+use Rattle.ert_timers.specs.{Frees.UsesFree, Passed.GainsOne, Restarting.HasLetGo}
 use Rattle.ert_effects.specs.RestartCalls.{Restarts}
-use Rattle.ert_timers.specs.Restarting.{HasLetGo}
 use Rattle.ert_timers.proofs.part.WheelPart.restart_of_later_round.Goals as goal
 
 pub returns-clause-call : goal.returns-clause-call

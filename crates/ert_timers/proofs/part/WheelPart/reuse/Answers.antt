@@ -1,6 +1,5 @@
 use Rattle.std.proofs.Common.{sym, ap, subst, ◌∙◌}
-use Rattle.ert_defs.specs.States.{state}
-use Rattle.ert_defs.specs.Timers.{is_taken}
+use Rattle.ert_defs.specs.{States.state, Timers.is_taken}
 use Rattle.ert_table.specs.Desks.{view_of}
 use Rattle.ert_timers.specs.Parts.{Part, PartStands}
 use Rattle.ert_timers.proofs.Forgotten.{stands_reused}

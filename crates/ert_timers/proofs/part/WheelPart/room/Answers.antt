@@ -1,8 +1,6 @@
 use Rattle.std.proofs.Common.{unwrap_or, sym, ap, subst, arith}
 use Rattle.ert_table.specs.Desks.{settings_of, view_of, front_of}
-use Rattle.ert_timers.proofs.OpenSlots.{opened}
-use Rattle.ert_timers.proofs.Roomed.{tells_room, room_left, none_left}
-use Rattle.ert_timers.proofs.Standing.{stands_next}
+use Rattle.ert_timers.proofs.{OpenSlots.opened, Roomed.{tells_room, room_left, none_left}, Standing.stands_next}
 use Rattle.ert_timers.specs.Parts.{Part, PartStands}
 use Rattle.ert_timers.proofs.part.WheelPart.room.Goals as goal
 

@@ -1,10 +1,7 @@
 use Rattle.std.proofs.Common.{refl, arith}
 use Rattle.ert_table.specs.Desks.{settings_of, view_of}
-use Rattle.ert_timers.proofs.Orphaned.{still_caller}
+use Rattle.ert_timers.proofs.{Orphaned.still_caller, OpenSlots.{finds_more, looked_past}, Roomed.{sees_none, sees_more, sees_all}, Standing.clock_stepped}
 use Rattle.ert_defs.specs.declared.entry.Actor.TheVariants.{Caller}
-use Rattle.ert_timers.proofs.OpenSlots.{finds_more, looked_past}
-use Rattle.ert_timers.proofs.Roomed.{sees_none, sees_more, sees_all}
-use Rattle.ert_timers.proofs.Standing.{clock_stepped}
 use Rattle.ert_timers.proofs.part.WheelPart.see_slots.Goals as goal
 
 pub loop-slot-init : goal.loop-slot-init

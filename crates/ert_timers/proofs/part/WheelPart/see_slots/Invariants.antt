@@ -1,7 +1,6 @@
 use Rattle.std.specs.Prelude.{◌≤◌}
 use Rattle.ert_table.specs.Desks.{settings_of, view_of, state_of, Belongs}
-use Rattle.ert_timers.specs.Parts.{HoldsCaller}
-use Rattle.ert_timers.specs.Rooms.{FindsFree, SeesSome}
+use Rattle.ert_timers.specs.{Parts.HoldsCaller, Rooms.{FindsFree, SeesSome}}
 use Rattle.ert_timers.proofs.Standing.{clock_at}
 use Rattle.ert_timers.proofs.part.WheelPart.see_slots.Given as goal
 

@@ -1,13 +1,8 @@
 use Rattle.std.proofs.Common.{inl, inr, refl, ap, ◌∙◌, arith}
 use Rattle.ert_table.specs.Desks.{settings_of, view_of}
-use Rattle.ert_timers.specs.Changes.{next_use}
-use Rattle.ert_timers.specs.Looking.{now_in}
-use Rattle.ert_timers.specs.Parts.{Part, slot_at}
-use Rattle.ert_timers.proofs.Orphaned.{still_caller}
-use Rattle.ert_timers.proofs.Starts.{bad_arg, ahead_stands, now_is, use_ahead, is_at_end, is_full, is_started, gains_none, gains_started, searches}
-use Rattle.ert_timers.proofs.Freed.{found_none, keeps_uses, none_uses, started_uses}
-use Rattle.ert_timers.proofs.Passing.{fewer_rows, loses_none}
-use Rattle.ert_timers.proofs.Searched.{finds_open}
+use Rattle.ert_timers.specs.{Changes.next_use, Looking.now_in, Parts.{Part, slot_at}}
+use Rattle.ert_timers.proofs.{Orphaned.still_caller, Starts.{bad_arg, ahead_stands, now_is, use_ahead, is_at_end, is_full, is_started, gains_none, gains_started, searches}, Freed.{found_none, keeps_uses, none_uses, started_uses}}
+use Rattle.ert_timers.proofs.{Passing.{fewer_rows, loses_none}, Searched.finds_open}
 use Rattle.ert_timers.proofs.part.WheelPart.start.Goals as goal
 
 pub take_slot-requires-clause-holds : goal.take_slot-requires-clause-holds

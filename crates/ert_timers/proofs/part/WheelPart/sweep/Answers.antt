@@ -1,11 +1,9 @@
 use Rattle.std.proofs.Common.{◌≡◌, ◌<◌, ◌∙◌, Some, None, inr, count_by, option_map, sym, ap, subst, refl, arith}
 use Rattle.std.specs.Option.{is_some}
 use Rattle.ert_table.specs.Desks.{settings_of, view_of}
-use Rattle.ert_defs.specs.States.{state}
-use Rattle.ert_defs.specs.Timers.{Row}
+use Rattle.ert_defs.specs.{States.state, Timers.Row}
 use Rattle.ert_timers.specs.Parts.{HoldsCaller, Part, slot_at}
-use Rattle.ert_timers.proofs.Orphaned.{still_caller}
-use Rattle.ert_timers.proofs.Swept.{sweeps_none, sweeps_same, sweeps_more, all_swept, sweeps_all, sweeps_held, next_held, fewer}
+use Rattle.ert_timers.proofs.{Orphaned.still_caller, Swept.{sweeps_none, sweeps_same, sweeps_more, all_swept, sweeps_all, sweeps_held, next_held, fewer}}
 use Rattle.ert_timers.proofs.part.WheelPart.sweep.Goals as goal
 use Rattle.ert_wheel.specs.Rows.{key_of, row_told}
 

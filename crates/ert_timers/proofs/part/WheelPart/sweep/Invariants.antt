@@ -1,8 +1,7 @@
 use Rattle.std.proofs.Common.{count_by}
 use Rattle.std.specs.Option.{is_some}
 use Rattle.ert_table.specs.Desks.{settings_of, view_of, Belongs}
-use Rattle.ert_timers.specs.Sweeping.{SweepsSome}
-use Rattle.ert_timers.specs.Parts.{HoldsCaller}
+use Rattle.ert_timers.specs.{Sweeping.SweepsSome, Parts.HoldsCaller}
 use Rattle.ert_timers.proofs.part.WheelPart.sweep.Given as goal
 
 abbrev pub invariant-loop-row : goal.invariant-loop-row

@@ -1,9 +1,7 @@
 use Rattle.std.proofs.Common.{sym, ap, subst, ◌∙◌}
 use Rattle.std.specs.FinSet as sets
 use Rattle.ert_table.specs.Desks.{settings_of, view_of}
-use Rattle.ert_timers.specs.Looking.{now_in}
-use Rattle.ert_timers.specs.Parts.{HoldsCaller, Part, PartStands}
-use Rattle.ert_timers.specs.Starting.{TakesSlot}
+use Rattle.ert_timers.specs.{Looking.now_in, Parts.{HoldsCaller, Part, PartStands}, Starting.TakesSlot}
 use Rattle.ert_timers.proofs.Takings.{takes_first, takes_then}
 use Rattle.ert_timers.proofs.part.WheelPart.take_slot.Goals as goal
 

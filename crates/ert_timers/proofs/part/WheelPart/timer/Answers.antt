@@ -1,10 +1,7 @@
 use Rattle.std.proofs.Common.{◌<◌, length, refl, sym, ap, subst, ◌∙◌, rules, arith}
-use Rattle.ert_timers.specs.Freeing.{IsInUse}
-use Rattle.ert_timers.specs.Parts.{Part, slot_at}
+use Rattle.ert_timers.specs.{Freeing.IsInUse, Parts.{Part, slot_at}, Free.free_set}
 use Rattle.ert_timers.specs.contracts.part.WheelPart.{the_view}
-use Rattle.ert_timers.proofs.AllSlots.{all_len, read_at}
-use Rattle.ert_timers.proofs.Fit.{written_used}
-use Rattle.ert_timers.specs.Free.{free_set}
+use Rattle.ert_timers.proofs.{AllSlots.{all_len, read_at}, Fit.written_used}
 use Rattle.ert_timers.proofs.part.WheelPart.timer.Goals as goal
 
 pub value-last-requires : goal.value-last-requires

@@ -1,15 +1,11 @@
 use Rattle.std.proofs.Common.{List, length, sym, ap, subst, arith}
 use Rattle.std.proofs.lemmas.List.{length-map}
 use Rattle.ert_table.specs.Desks.{settings_of, view_of}
-use Rattle.ert_timers.specs.Expiring.{IsReady}
-use Rattle.ert_timers.specs.Looking.{LooksDown}
-use Rattle.ert_timers.specs.Parts.{Part}
-use Rattle.ert_timers.proofs.Dues.{none_left}
-use Rattle.ert_timers.proofs.Trials.{ready_looked, still_held, has_idled, has_tried, has_not_tried, when_none}
+use Rattle.ert_timers.specs.{Expiring.IsReady, Looking.LooksDown, Parts.Part}
+use Rattle.ert_timers.proofs.{Dues.none_left, Trials.{ready_looked, still_held, has_idled, has_tried, has_not_tried, when_none}}
 use Rattle.ert_timers.proofs.part.WheelPart.try_due.Goals as goal
 use Rattle.ert_defs.specs.declared.entry.Actor.TheVariants.{Sched}
-use Rattle.ert_wheel.specs.Rows.{row_told, rows_told}
-use Rattle.ert_wheel.specs.declared.row.HeldRow.{HeldRow}
+use Rattle.ert_wheel.specs.{Rows.{row_told, rows_told}, declared.row.HeldRow.HeldRow}
 
 pub go_on-requires : goal.go_on-requires
 go_on-requires c = none_left c.args.self.now c.look_down-to.result c.if-is_idle.ensures

@@ -2,15 +2,10 @@ use Rattle.std.proofs.Common.{◌≡◌, ◌+◌, ◌-◌, None, ap, subst, sym,
 use Rattle.std.proofs.lemmas.List.{length-set}
 use Rattle.std.specs.Option.{is_some}
 use Rattle.ert_table.specs.Desks.{settings_of, view_of}
-use Rattle.ert_timers.specs.Parts.{HoldsSched, Part}
-use Rattle.ert_timers.specs.Trying.{HasDue, TriesRows, come_to}
-use Rattle.ert_timers.proofs.SomeTried.{looked_come_to, has_due, tried_come_to}
-use Rattle.ert_timers.proofs.Dues.{first_next}
-use Rattle.ert_timers.proofs.Trials.{still_held}
-use Rattle.ert_timers.proofs.Trying.{row_counted, tries_none, tries_more, looked_more}
+use Rattle.ert_timers.specs.{Parts.{HoldsSched, Part}, Trying.{HasDue, TriesRows, come_to}}
+use Rattle.ert_timers.proofs.{SomeTried.{looked_come_to, has_due, tried_come_to}, Dues.first_next, Trials.still_held, Trying.{row_counted, tries_none, tries_more, looked_more}}
 use Rattle.ert_timers.proofs.part.WheelPart.try_some.Goals as goal
-use Rattle.ert_wheel.specs.FirstDue.{IsFirstRowDue}
-use Rattle.ert_wheel.specs.Rows.{row_told}
+use Rattle.ert_wheel.specs.{FirstDue.IsFirstRowDue, Rows.row_told}
 
 pub loop-row-init : goal.loop-row-init
 loop-row-init c =

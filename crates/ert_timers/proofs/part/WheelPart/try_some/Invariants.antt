@@ -1,8 +1,7 @@
 use Rattle.std.proofs.Common.{◌-◌, ◌≤◌, min, count_by, length, vec_capacity}
 use Rattle.std.specs.Option.{is_some}
 use Rattle.ert_table.specs.Desks.{settings_of, view_of, Belongs}
-use Rattle.ert_timers.specs.Parts.{HoldsSched}
-use Rattle.ert_timers.specs.Trying.{IsLooked, TriesRows}
+use Rattle.ert_timers.specs.{Parts.HoldsSched, Trying.{IsLooked, TriesRows}}
 use Rattle.ert_timers.proofs.part.WheelPart.try_some.Given as goal
 
 abbrev pub invariant-loop-row : goal.invariant-loop-row

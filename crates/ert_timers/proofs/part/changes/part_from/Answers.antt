@@ -1,10 +1,7 @@
 use Rattle.std.proofs.Common.{◌≡◌, IfSome, sym, subst, ap, ◌∙◌, arith}
 use Rattle.std.proofs.lemmas.Option.{slice_get_within}
-use Rattle.ert_timers.proofs.AllSlots.{all_changed}
-use Rattle.ert_timers.proofs.Joined.{joined_left}
-use Rattle.ert_timers.specs.Parts.{all_slots}
-use Rattle.ert_timers.specs.Slots.{stored_key}
-use Rattle.ert_timers.specs.declared.slot.Stored.{Stored}
+use Rattle.ert_timers.proofs.{AllSlots.all_changed, Joined.joined_left}
+use Rattle.ert_timers.specs.{Parts.all_slots, Slots.stored_key, declared.slot.Stored.Stored}
 use Rattle.ert_timers.proofs.part.changes.part_from.Goals as goal
 use Rattle.ert_wheel.specs.Rings.{Rings, GivesUpPlace, MayTake}
 

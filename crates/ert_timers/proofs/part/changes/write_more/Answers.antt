@@ -1,7 +1,6 @@
 use Rattle.std.proofs.Common.{◌-◌, ◌++◌, replicate, ap, subst₂, ◌∙◌, sym, arith}
 use Rattle.ert_timers.specs.Parts.{AreJoined, all_slots}
-use Rattle.ert_timers.proofs.AllSlots.{all_more}
-use Rattle.ert_timers.proofs.Joined.{joined_more}
+use Rattle.ert_timers.proofs.{AllSlots.all_more, Joined.joined_more}
 use Rattle.ert_timers.proofs.part.changes.write_more.Goals as goal
 use Rattle.ert_wheel.specs.Rings.{Rings}
 

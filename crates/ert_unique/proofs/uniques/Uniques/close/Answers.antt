@@ -1,9 +1,7 @@
 use Rattle.std.proofs.Common.{subst}
 use Rattle.std.specs.Mem.Slots.{slots_items}
-use Rattle.ert_unique.specs.Numbers.{IsOneTo}
-use Rattle.ert_unique.specs.Passes.{draws_together}
-use Rattle.ert_unique.proofs.Closing.{closes}
-use Rattle.ert_unique.proofs.Gathering.{first_at, one_to_rearranged}
+use Rattle.ert_unique.specs.{Numbers.IsOneTo, Passes.draws_together}
+use Rattle.ert_unique.proofs.{Closing.closes, Gathering.{first_at, one_to_rearranged}}
 use Rattle.ert_unique.proofs.uniques.Uniques.close.Goals as goal
 
 pub returns : goal.returns

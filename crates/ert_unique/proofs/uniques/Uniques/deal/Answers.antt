@@ -1,11 +1,7 @@
 use Rattle.std.proofs.Common.{◌≡◌, ◌+◌, ◌-◌, ◌∙◌, arith, [], ◌∷◌, ◌++◌, refl, sym, ap, subst, length, map, All}
-use Rattle.std.proofs.lemmas.List.{length-map, map_push}
-use Rattle.std.proofs.lemmas.List.Elements.{All-push}
-use Rattle.ert_unique.specs.Passes.{number_of, BelongsToUniques, IsNew}
-use Rattle.ert_unique.specs.Steps.{UniqueSitter}
-use Rattle.ert_unique.specs.Views.{first_share, keeping}
-use Rattle.ert_unique.proofs.Dividing.{divides}
-use Rattle.ert_unique.proofs.Gathering.{below_more, length_below}
+use Rattle.std.proofs.lemmas.List.{length-map, map_push, Elements.All-push}
+use Rattle.ert_unique.specs.{Passes.{number_of, BelongsToUniques, IsNew}, Steps.UniqueSitter, Views.{first_share, keeping}}
+use Rattle.ert_unique.proofs.{Dividing.divides, Gathering.{below_more, length_below}}
 use Rattle.ert_unique.proofs.uniques.Uniques.deal.Goals as goal
 
 pub split_seat-requires : goal.split_seat-requires

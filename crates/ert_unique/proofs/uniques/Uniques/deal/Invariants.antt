@@ -1,6 +1,5 @@
 use Rattle.std.proofs.Common.{◌≡◌, ◌-◌, All, [], map}
-use Rattle.ert_unique.specs.Passes.{number_of, BelongsToUniques, IsNew, below}
-use Rattle.ert_unique.specs.Views.{first_share, keeping}
+use Rattle.ert_unique.specs.{Passes.{number_of, BelongsToUniques, IsNew, below}, Views.{first_share, keeping}}
 use Rattle.ert_unique.proofs.uniques.Uniques.deal.Given as goal
 
 abbrev pub invariant-loop-number : goal.invariant-loop-number

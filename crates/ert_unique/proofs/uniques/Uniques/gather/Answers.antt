@@ -1,10 +1,8 @@
 use Rattle.std.proofs.Common.{◌∙◌, arith, ap}
 use Rattle.std.proofs.lemmas.List.Elements.{All-pop}
 use Rattle.std.specs.Prelude.{Some}
-use Rattle.ert_unique.specs.Passes.{BelongsToUniques, draws_together}
-use Rattle.ert_unique.specs.Steps.{UniqueSitter}
-use Rattle.ert_unique.proofs.Dividing.{unites}
-use Rattle.ert_unique.proofs.Gathering.{gathers_first, gathers_one}
+use Rattle.ert_unique.specs.{Passes.{BelongsToUniques, draws_together}, Steps.UniqueSitter}
+use Rattle.ert_unique.proofs.{Dividing.unites, Gathering.{gathers_first, gathers_one}}
 use Rattle.ert_unique.proofs.uniques.Uniques.gather.Goals as goal
 
 pub loop-pass-init : goal.loop-pass-init

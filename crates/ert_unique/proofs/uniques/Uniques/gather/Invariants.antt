@@ -1,6 +1,5 @@
 use Rattle.std.proofs.Common.{◌≡◌, ◌+◌, ◌++◌, All, [], vec_len}
-use Rattle.ert_unique.specs.Numbers.{IsRearranged}
-use Rattle.ert_unique.specs.Passes.{passes_of, BelongsToUniques, draws_together}
+use Rattle.ert_unique.specs.{Numbers.IsRearranged, Passes.{passes_of, BelongsToUniques, draws_together}}
 use Rattle.ert_unique.proofs.uniques.Uniques.gather.Given as goal
 
 abbrev pub invariant-loop-pass : goal.invariant-loop-pass

@@ -1,9 +1,7 @@
 use Rattle.std.proofs.Common.{◌≡◌, ◌+◌, ◌<◌, ◌∙◌, ◌↔◌, IsTrue, List, length, nat_eq, sym, ap, subst, eqb-true, eq-eqb}
 use Rattle.ert_wheel.proofs.Stored.{alone_seen, stored_low}
 use Rattle.ert_wheel.proofs.chains.Chains.is_alone.Goals as goal
-use Rattle.ert_wheel.specs.Links.{next_at}
-use Rattle.ert_wheel.specs.Rings.{Rings}
-use Rattle.ert_wheel.specs.declared.links.Link.{Link}
+use Rattle.ert_wheel.specs.{Links.next_at, Rings.Rings, declared.links.Link.Link}
 
 pub next_of-requires : goal.next_of-requires
 next_of-requires c =

@@ -1,11 +1,7 @@
 use Rattle.std.proofs.Common.{◌+◌, ◌-◌, List, [], None, length, ap, sym, subst, ◌∙◌, arith}
-use Rattle.ert_wheel.proofs.Calls.{empty_chains, links_alone}
-use Rattle.ert_wheel.proofs.Parts.{chains_written}
-use Rattle.ert_wheel.proofs.Stored.{IsGrown, seen_new, written_new}
+use Rattle.ert_wheel.proofs.{Calls.{empty_chains, links_alone}, Parts.chains_written, Stored.{IsGrown, seen_new, written_new}}
 use Rattle.ert_wheel.proofs.chains.Chains.new.Goals as goal
-use Rattle.ert_wheel.specs.Links.{next_at}
-use Rattle.ert_wheel.specs.Rings.{rings, AreChains}
-use Rattle.ert_wheel.specs.declared.links.Link.{Link}
+use Rattle.ert_wheel.specs.{Links.next_at, Rings.{rings, AreChains}, declared.links.Link.Link}
 
 -- the heads are written
 grown : (c : goal.After-add_alone) → IsGrown [] c.add_alone.new.links.items c.args.homes

@@ -1,10 +1,7 @@
 use Rattle.std.proofs.Common.{◌≡◌, ◌+◌, ◌-◌, ◌<◌, ◌∙◌, List, length, refl, sym, ap, subst, arith}
-use Rattle.ert_wheel.proofs.Calls.{finds_newer}
-use Rattle.ert_wheel.proofs.Stored.{before_seen, found_seen, found_written, prev_few, stored_low}
+use Rattle.ert_wheel.proofs.{Calls.finds_newer, Stored.{before_seen, found_seen, found_written, prev_few, stored_low}}
 use Rattle.ert_wheel.proofs.chains.Chains.newer.Goals as goal
-use Rattle.ert_wheel.specs.Links.{prev_at, seen_links, stored_node}
-use Rattle.ert_wheel.specs.Rings.{Rings, node_slot}
-use Rattle.ert_wheel.specs.declared.links.Link.{Link}
+use Rattle.ert_wheel.specs.{Links.{prev_at, seen_links, stored_node}, Rings.{Rings, node_slot}, declared.links.Link.Link}
 
 pub prev_of-requires : goal.prev_of-requires
 prev_of-requires c =

@@ -1,10 +1,7 @@
 use Rattle.std.proofs.Common.{◌≡◌, ◌+◌, ◌-◌, ◌<◌, ◌∙◌, List, length, refl, sym, ap, subst, arith}
-use Rattle.ert_wheel.proofs.Calls.{finds_older}
-use Rattle.ert_wheel.proofs.Stored.{after_seen, found_seen, found_written, next_few, stored_low}
+use Rattle.ert_wheel.proofs.{Calls.finds_older, Stored.{after_seen, found_seen, found_written, next_few, stored_low}}
 use Rattle.ert_wheel.proofs.chains.Chains.older.Goals as goal
-use Rattle.ert_wheel.specs.Links.{next_at, seen_links, stored_node}
-use Rattle.ert_wheel.specs.Rings.{Rings, node_slot}
-use Rattle.ert_wheel.specs.declared.links.Link.{Link}
+use Rattle.ert_wheel.specs.{Links.{next_at, seen_links, stored_node}, Rings.{Rings, node_slot}, declared.links.Link.Link}
 
 pub next_of-requires : goal.next_of-requires
 next_of-requires c =

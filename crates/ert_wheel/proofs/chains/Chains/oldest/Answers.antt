@@ -1,10 +1,7 @@
 use Rattle.std.proofs.Common.{◌≡◌, ◌-◌, ◌<◌, ◌∙◌, List, length, refl, sym, ap, subst, arith}
-use Rattle.ert_wheel.proofs.Calls.{finds_oldest}
-use Rattle.ert_wheel.proofs.Stored.{last_seen, found_seen, found_written}
+use Rattle.ert_wheel.proofs.{Calls.finds_oldest, Stored.{last_seen, found_seen, found_written}}
 use Rattle.ert_wheel.proofs.chains.Chains.oldest.Goals as goal
-use Rattle.ert_wheel.specs.Links.{prev_at, seen_links, stored_node}
-use Rattle.ert_wheel.specs.Rings.{Rings}
-use Rattle.ert_wheel.specs.declared.links.Link.{Link}
+use Rattle.ert_wheel.specs.{Links.{prev_at, seen_links, stored_node}, Rings.Rings, declared.links.Link.Link}
 
 pub prev_of-requires : goal.prev_of-requires
 prev_of-requires c =

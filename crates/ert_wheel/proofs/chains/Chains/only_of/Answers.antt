@@ -1,8 +1,7 @@
 use Rattle.std.proofs.Common.{◌+◌, ◌<◌, ◌∙◌, List, length, sym, ap, subst}
 use Rattle.ert_wheel.proofs.Stored.{only_seen, others_after, others_apart, stored_low}
 use Rattle.ert_wheel.proofs.chains.Chains.only_of.Goals as goal
-use Rattle.ert_wheel.specs.Links.{next_at, prev_at}
-use Rattle.ert_wheel.specs.declared.links.Link.{Link}
+use Rattle.ert_wheel.specs.{Links.{next_at, prev_at}, declared.links.Link.Link}
 
 pub next_of-next-requires : goal.next_of-next-requires
 next_of-next-requires c =

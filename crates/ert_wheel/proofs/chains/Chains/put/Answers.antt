@@ -1,12 +1,8 @@
 use Rattle.std.proofs.Common.{◌≡◌, ◌+◌, ◌-◌, ◌∙◌, List, length, sym, ap, subst, arith}
 use Rattle.std.proofs.lemmas.List.{with_items_is}
-use Rattle.ert_wheel.proofs.Calls.{IsPutIn, put_stored, puts_newest}
-use Rattle.ert_wheel.proofs.Stored.{MayLinkIn, may_link_in}
+use Rattle.ert_wheel.proofs.{Calls.{IsPutIn, put_stored, puts_newest}, Stored.{MayLinkIn, may_link_in}}
 use Rattle.ert_wheel.proofs.chains.Chains.put.Goals as goal
-use Rattle.ert_wheel.specs.Chained.{Spliced}
-use Rattle.ert_wheel.specs.Links.{next_at, prev_at, seen_links, AreWritten}
-use Rattle.ert_wheel.specs.Rings.{Rings, seen_rings, PutsInHome}
-use Rattle.ert_wheel.specs.declared.links.Link.{Link}
+use Rattle.ert_wheel.specs.{Chained.Spliced, Links.{next_at, prev_at, seen_links, AreWritten}, Rings.{Rings, seen_rings, PutsInHome}, declared.links.Link.Link}
 
 low : (c : goal.After-deref_mut) → MayLinkIn c.self.inside.homes c.deref_mut.result.now c.args.slot c.args.home
 low c =

@@ -1,12 +1,8 @@
 use Rattle.std.proofs.Common.{◌≡◌, ◌≢◌, ℕ, ◌+◌, ◌-◌, ◌<◌, ◌∙◌, List, length, sym, ap, subst, arith}
 use Rattle.std.proofs.lemmas.List.{with_items_is}
-use Rattle.ert_wheel.proofs.Calls.{IsPutOldest, put_oldest_stored}
-use Rattle.ert_wheel.proofs.Stored.{MayLinkLast, may_link_last}
+use Rattle.ert_wheel.proofs.{Calls.{IsPutOldest, put_oldest_stored}, Stored.{MayLinkLast, may_link_last}}
 use Rattle.ert_wheel.proofs.chains.Chains.put_oldest.Goals as goal
-use Rattle.ert_wheel.specs.Chained.{Spliced}
-use Rattle.ert_wheel.specs.Links.{next_at, prev_at, seen_links, AreWritten}
-use Rattle.ert_wheel.specs.Rings.{Rings, seen_rings, PutsOldestInHome}
-use Rattle.ert_wheel.specs.declared.links.Link.{Link}
+use Rattle.ert_wheel.specs.{Chained.Spliced, Links.{next_at, prev_at, seen_links, AreWritten}, Rings.{Rings, seen_rings, PutsOldestInHome}, declared.links.Link.Link}
 
 last : (c : goal.After-deref_mut) → c.prev_of-last.result ≡ prev_at c.self.inside.links.items c.args.home
 last c = c.prev_of-last.ensures ∙ ap (λ (l : List Link). prev_at l c.args.home) c.deref.ensures.value

@@ -1,12 +1,8 @@
 use Rattle.std.proofs.Common.{◌≡◌, ◌+◌, ◌-◌, ◌<◌, ◌∙◌, List, length, sym, ap, subst, arith}
 use Rattle.std.proofs.lemmas.List.{with_items_is}
-use Rattle.ert_wheel.proofs.Calls.{IsTakenOut, take_stored}
-use Rattle.ert_wheel.proofs.Stored.{stored_low}
+use Rattle.ert_wheel.proofs.{Calls.{IsTakenOut, take_stored}, Stored.stored_low}
 use Rattle.ert_wheel.proofs.chains.Chains.take.Goals as goal
-use Rattle.ert_wheel.specs.Chained.{Unspliced}
-use Rattle.ert_wheel.specs.Links.{next_at, prev_at, seen_links, AreWritten}
-use Rattle.ert_wheel.specs.Rings.{Rings, seen_rings, GivesUpPlace}
-use Rattle.ert_wheel.specs.declared.links.Link.{Link}
+use Rattle.ert_wheel.specs.{Chained.Unspliced, Links.{next_at, prev_at, seen_links, AreWritten}, Rings.{Rings, seen_rings, GivesUpPlace}, declared.links.Link.Link}
 
 here : (c : goal.After-deref_mut) → c.self.inside.homes + c.args.slot < length c.self.inside.links.items
 here c =

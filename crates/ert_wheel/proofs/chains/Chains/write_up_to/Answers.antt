@@ -1,8 +1,7 @@
 use Rattle.std.proofs.Common.{◌+◌, ◌≤◌, length, sym, ap, subst, arith}
 use Rattle.ert_wheel.proofs.Stored.{IsGrown, rings_grown, written_grown}
 use Rattle.ert_wheel.proofs.chains.Chains.write_up_to.Goals as goal
-use Rattle.ert_wheel.specs.Links.{AreWritten}
-use Rattle.ert_wheel.specs.Rings.{Rings}
+use Rattle.ert_wheel.specs.{Links.AreWritten, Rings.Rings}
 
 -- no more than there are slots, and no fewer than before
 few : (c : goal.After-add_alone) → c.args.count ≤ c.self.inside.slots

@@ -1,8 +1,7 @@
 use Rattle.std.proofs.Common.{◌≡◌, ◌+◌, ◌*◌, ◌%◌, inl, inr, bit_and, ap}
 use Rattle.std.proofs.lemmas.Nat.{and_mask}
-use Rattle.ert_wheel.proofs.Turning.{near_window, far_window}
+use Rattle.ert_wheel.proofs.{Turning.{near_window, far_window}, marked.MarkedChains.first_window.Goals.{then-found-last-via-then-found-last, then-found-last-via-else-found-last+then-stop-le1024}}
 use Rattle.ert_wheel.proofs.marked.MarkedChains.first_window.Goals as goal
-use Rattle.ert_wheel.proofs.marked.MarkedChains.first_window.Goals.{then-found-last-via-then-found-last, then-found-last-via-else-found-last+then-stop-le1024}
 
 pub returns-then-found-last-clause-first : goal.returns-then-found-last-clause-first
 returns-then-found-last-clause-first c = λ places are.

@@ -1,6 +1,5 @@
 use Rattle.std.proofs.Common.{subst, sym, arith}
-use Rattle.ert_wheel.proofs.Calls.{after_in_range}
-use Rattle.ert_wheel.proofs.Following.{is_only, has_others, take_marked, take_cleared}
+use Rattle.ert_wheel.proofs.{Calls.after_in_range, Following.{is_only, has_others, take_marked, take_cleared}}
 use Rattle.ert_wheel.proofs.marked.MarkedChains.take.Goals as goal
 use Rattle.ert_wheel.specs.Rings.{Rings, MayTake, GivesUpPlace}
 

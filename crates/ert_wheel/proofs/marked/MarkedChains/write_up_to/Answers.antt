@@ -1,7 +1,6 @@
 use Rattle.std.proofs.Common.{◌∙◌, ap, subst, sym}
 use Rattle.ert_wheel.proofs.marked.MarkedChains.write_up_to.Goals as goal
-use Rattle.ert_wheel.specs.Marks.{AreMarked}
-use Rattle.ert_wheel.specs.Rings.{Rings}
+use Rattle.ert_wheel.specs.{Marks.AreMarked, Rings.Rings}
 
 pub invariant_of-self : goal.invariant_of-self
 invariant_of-self c =

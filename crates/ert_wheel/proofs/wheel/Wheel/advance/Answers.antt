@@ -1,13 +1,8 @@
 use Rattle.std.proofs.Common.{List, Option, ap, max, min, subst, sym, ◌+◌, ◌∙◌}
-use Rattle.ert_wheel.proofs.TakesMore.{stood_then, takes_more, takes_none}
+use Rattle.ert_wheel.proofs.{TakesMore.{stood_then, takes_more, takes_none}, Writes.{TakesOut, taken_out}}
 use Rattle.std.proofs.lemmas.List.{take_all}
-use Rattle.ert_wheel.proofs.Writes.{TakesOut, taken_out}
 use Rattle.ert_wheel.proofs.wheel.Wheel.advance.Goals as goal
-use Rattle.ert_wheel.specs.Rows.{rows_told}
-use Rattle.ert_wheel.specs.Standing.{StayOrFall}
-use Rattle.ert_wheel.specs.declared.row.HeldRow.{HeldRow}
-use Rattle.ert_wheel.specs.declared.row.Key.{Key}
-use Rattle.ert_wheel.specs.declared.row.TheConstants.{LAST}
+use Rattle.ert_wheel.specs.{Rows.rows_told, Standing.StayOrFall, declared.row.HeldRow.HeldRow, declared.row.Key.Key, declared.row.TheConstants.LAST}
 
 pub returns-clause-left : goal.returns-clause-left
 returns-clause-left g c =

@@ -1,7 +1,6 @@
 use Rattle.std.proofs.Common.{◌≡◌, ◌<◌, ◌≤◌, ℕ}
 use Rattle.ert_wheel.proofs.wheel.Wheel.come_to.Given as goal
-use Rattle.ert_wheel.specs.Rows.{Held}
-use Rattle.ert_wheel.specs.Standing.{StayOrFall}
+use Rattle.ert_wheel.specs.{Rows.Held, Standing.StayOrFall}
 
 -- what stays, and time is before that to which it comes
 pub record Nears {T : Type 0} (first now : Held T) (time level most moves : ℕ) : Type 0 where

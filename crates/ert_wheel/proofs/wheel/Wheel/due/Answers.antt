@@ -1,13 +1,7 @@
 use Rattle.std.proofs.Common.{◌≡◌, ℕ, Some, get_or, ap, subst, sym, ◌∙◌, arith}
-use Rattle.ert_wheel.proofs.Due.{near_start, far_start, level_may, level_more, due_each, due_rows, due_sorted, told_each}
-use Rattle.ert_wheel.proofs.Standing.{wheel_stands}
-use Rattle.ert_wheel.proofs.Writes.{sees, keys_of, row_written}
+use Rattle.ert_wheel.proofs.{Due.{near_start, far_start, level_may, level_more, due_each, due_rows, due_sorted, told_each}, Standing.wheel_stands, Writes.{sees, keys_of, row_written}, wheel.Wheel.due.Goals.{then-to-self, else-to-self}}
 use Rattle.ert_wheel.proofs.wheel.Wheel.due.Goals as goal
-use Rattle.ert_wheel.proofs.wheel.Wheel.due.Goals.{then-to-self, else-to-self}
-use Rattle.ert_wheel.specs.Rows.{key_in, key_of, row_told}
-use Rattle.ert_wheel.specs.Walks.{AreCollected}
-use Rattle.ert_wheel.specs.declared.row.HeldRow.{HeldRow}
-use Rattle.ert_wheel.specs.declared.row.Row.{Row}
+use Rattle.ert_wheel.specs.{Rows.{key_in, key_of, row_told}, Walks.AreCollected, declared.row.HeldRow.HeldRow, declared.row.Row.Row}
 
 pub loop-level-init : goal.loop-level-init
 loop-level-init g c = record {

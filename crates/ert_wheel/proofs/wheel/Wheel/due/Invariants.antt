@@ -1,7 +1,6 @@
 use Rattle.std.proofs.Common.{◌≡◌, ◌≤◌, ℕ, vec_capacity}
 use Rattle.ert_wheel.proofs.wheel.Wheel.due.Given as goal
-use Rattle.ert_wheel.specs.Walks.{StandOnLevels, AreCollected}
-use Rattle.ert_wheel.specs.declared.row.Key.{Key}
+use Rattle.ert_wheel.specs.{Walks.{StandOnLevels, AreCollected}, declared.row.Key.Key}
 
 -- the due rows of the levels from one on, in the room that was there
 pub record Collected (level room capacity : ℕ) (collected : Type 0) : Type 0 where

@@ -1,15 +1,7 @@
 use Rattle.std.proofs.Common.{ℕ, ap, subst, sym}
-use Rattle.ert_wheel.proofs.Least.{answer_is}
-use Rattle.ert_wheel.proofs.Near.{due_next, least_here, least_seen}
-use Rattle.ert_wheel.proofs.Standing.{wheel_stands}
-use Rattle.ert_wheel.proofs.Writes.{sees, keys_of, passed_of}
+use Rattle.ert_wheel.proofs.{Least.answer_is, Near.{due_next, least_here, least_seen}, Standing.wheel_stands, Writes.{sees, keys_of, passed_of}}
 use Rattle.ert_wheel.proofs.wheel.Wheel.due_at_once.Goals as goal
-use Rattle.ert_wheel.specs.FirstDue.{SomeRowDue}
-use Rattle.ert_wheel.specs.NextDue.{NoRow, IsNextDue, IsLeastIn}
-use Rattle.ert_wheel.specs.Wheels.{stand_on}
-use Rattle.ert_wheel.specs.declared.row.TheConstants.{NEVER}
-use Rattle.ert_wheel.specs.Rows.{Held}
-use Rattle.ert_wheel.specs.Standing.{homes_of}
+use Rattle.ert_wheel.specs.{FirstDue.SomeRowDue, NextDue.{NoRow, IsNextDue, IsLeastIn}, Wheels.stand_on, declared.row.TheConstants.NEVER, Rows.Held, Standing.homes_of}
 
 pub returns-then-self : goal.returns-then-self
 returns-then-self g c =

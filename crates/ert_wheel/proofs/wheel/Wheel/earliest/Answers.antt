@@ -1,18 +1,8 @@
 use Rattle.std.proofs.Common.{◌≢◌, ℕ, List, Option, count_by, ap, subst, sym, rules, arith}
 use Rattle.std.specs.Option.{is_some}
-use Rattle.ert_wheel.proofs.Least.{no_row, has_row}
-use Rattle.ert_wheel.proofs.Near.{due_by_next, near_due, above_near, above_none, early_next}
-use Rattle.ert_wheel.proofs.Standing.{wheel_stands, end_after}
-use Rattle.ert_wheel.proofs.Times.{lowest}
-use Rattle.ert_wheel.proofs.Writes.{sees, keys_of, passed_of}
+use Rattle.ert_wheel.proofs.{Least.{no_row, has_row}, Near.{due_by_next, near_due, above_near, above_none, early_next}, Standing.{wheel_stands, end_after}, Times.lowest, Writes.{sees, keys_of, passed_of}}
 use Rattle.ert_wheel.proofs.wheel.Wheel.earliest.Goals as goal
-use Rattle.ert_wheel.specs.FirstDue.{SomeRowDue}
-use Rattle.ert_wheel.specs.NextDue.{NoneBefore, IsEarlyOrNever, IsNextDue, MayLookAbove}
-use Rattle.ert_wheel.specs.Wheels.{held_keys, stand_on, places}
-use Rattle.ert_wheel.specs.declared.row.Key.{Key}
-use Rattle.ert_wheel.specs.declared.row.TheConstants.{NEVER}
-use Rattle.ert_wheel.specs.Rows.{Held}
-use Rattle.ert_wheel.specs.Standing.{homes_of}
+use Rattle.ert_wheel.specs.{FirstDue.SomeRowDue, NextDue.{NoneBefore, IsEarlyOrNever, IsNextDue, MayLookAbove}, Wheels.{held_keys, stand_on, places}, declared.row.Key.Key, declared.row.TheConstants.NEVER, Rows.Held, Standing.homes_of}
 
 pub returns-then-is_empty : goal.returns-then-is_empty
 returns-then-is_empty g c = no_row c.args.self.now.keys (search rules)

@@ -1,11 +1,8 @@
 use Rattle.std.proofs.Common.{◌≡◌, ℕ, true, false, inl, inr, sym, ap, subst, ◌∙◌, arith}
 use Rattle.std.proofs.lemmas.Bool.{cases_eq}
-use Rattle.ert_wheel.proofs.Tellers.{due_tells}
-use Rattle.ert_wheel.proofs.Views.{key_stored}
-use Rattle.ert_wheel.proofs.Writes.{keys_of}
+use Rattle.ert_wheel.proofs.{Tellers.due_tells, Views.key_stored, Writes.keys_of}
 use Rattle.ert_wheel.proofs.wheel.Wheel.find_due.Goals as goal
-use Rattle.ert_wheel.specs.NextDue.{IsDueOf}
-use Rattle.ert_wheel.specs.Rows.{key_in}
+use Rattle.ert_wheel.specs.{NextDue.IsDueOf, Rows.key_in}
 
 pub loop-slot-init : goal.loop-slot-init
 loop-slot-init g c = λ slot low due. omega (arith, low)

@@ -1,14 +1,7 @@
 use Rattle.std.proofs.Common.{◌≤◌, ◌∙◌, ℕ, List, Option, MatchOption, ap, refl, subst, sym}
-use Rattle.ert_wheel.proofs.Reaching.{sees_first}
-use Rattle.ert_wheel.proofs.Standing.{wheel_stands}
-use Rattle.ert_wheel.proofs.Writes.{sees_ordered, same_held, alike_after, is_held, is_kept, keys_of, passed_of}
+use Rattle.ert_wheel.proofs.{Reaching.sees_first, Standing.wheel_stands, Writes.{sees_ordered, same_held, alike_after, is_held, is_kept, keys_of, passed_of}}
 use Rattle.ert_wheel.proofs.wheel.Wheel.first_at.Goals as goal
-use Rattle.ert_wheel.specs.FirstDue.{NoRowDue, IsFirstRowDue}
-use Rattle.ert_wheel.specs.NextDue.{MayWalk}
-use Rattle.ert_wheel.specs.Rows.{row_told}
-use Rattle.ert_wheel.specs.Wheels.{stand_on}
-use Rattle.ert_wheel.specs.declared.row.HeldRow.{HeldRow}
-use Rattle.ert_wheel.specs.declared.row.Key.{Key}
+use Rattle.ert_wheel.specs.{FirstDue.{NoRowDue, IsFirstRowDue}, NextDue.MayWalk, Rows.row_told, Wheels.stand_on, declared.row.HeldRow.HeldRow, declared.row.Key.Key}
 
 pub oldest_due-requires-clause-may : goal.oldest_due-requires-clause-may
 oldest_due-requires-clause-may g c =

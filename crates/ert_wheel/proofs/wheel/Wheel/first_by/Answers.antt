@@ -1,11 +1,7 @@
 use Rattle.std.proofs.Common.{◌≡◌, ℕ, List, Option, Some, ◌∙◌, ap, subst, sym, arith}
-use Rattle.ert_wheel.proofs.Reaching.{told_at_stop}
-use Rattle.ert_wheel.proofs.Writes.{keys_of, passed_of}
+use Rattle.ert_wheel.proofs.{Reaching.told_at_stop, Writes.{keys_of, passed_of}}
 use Rattle.ert_wheel.proofs.wheel.Wheel.first_by.Goals as goal
-use Rattle.ert_wheel.specs.FirstDue.{IsFirstDueAt, IsReached}
-use Rattle.ert_wheel.specs.Rows.{Held, key_in}
-use Rattle.ert_wheel.specs.Wheels.{held_keys}
-use Rattle.ert_wheel.specs.declared.row.Key.{Key}
+use Rattle.ert_wheel.specs.{FirstDue.{IsFirstDueAt, IsReached}, Rows.{Held, key_in}, Wheels.held_keys, declared.row.Key.Key}
 
 pub invariant_of-self : goal.invariant_of-self
 invariant_of-self g c = record {

@@ -1,7 +1,6 @@
 use Rattle.std.proofs.Common.{subst, sym}
 use Rattle.ert_wheel.proofs.wheel.Wheel.first_due.Goals as goal
-use Rattle.ert_wheel.specs.Rows.{Held}
-use Rattle.ert_wheel.specs.Standing.{StayOrFall}
+use Rattle.ert_wheel.specs.{Rows.Held, Standing.StayOrFall}
 
 pub returns-in-Some-reach-clause-stands : goal.returns-in-Some-reach-clause-stands
 returns-in-Some-reach-clause-stands g c =

@@ -1,11 +1,8 @@
 use Rattle.std.proofs.Common.{ℕ, ap, max, set, subst, ◌∙◌, length, rules, arith, refl}
 use Rattle.std.proofs.lemmas.List.{length-set}
-use Rattle.ert_wheel.proofs.Fallen.{put_comes}
-use Rattle.ert_wheel.proofs.Writes.{sees, low_in, alike_after, is_held, is_kept, may_put, count_fits, stored_as, inserted}
+use Rattle.ert_wheel.proofs.{Fallen.put_comes, Writes.{sees, low_in, alike_after, is_held, is_kept, may_put, count_fits, stored_as, inserted}}
 use Rattle.ert_wheel.proofs.wheel.Wheel.insert.Goals as goal
-use Rattle.ert_wheel.specs.Rows.{Held, key_of}
-use Rattle.ert_wheel.specs.Levels.{IsLeastBucket}
-use Rattle.ert_wheel.specs.Standing.{homes_of, ComesTo}
+use Rattle.ert_wheel.specs.{Rows.{Held, key_of}, Levels.IsLeastBucket, Standing.{homes_of, ComesTo}}
 
 pub put-requires-clause-may : goal.put-requires-clause-may
 put-requires-clause-may g c =

@@ -1,8 +1,6 @@
 use Rattle.std.proofs.Common.{ℕ, ap, subst}
 use Rattle.std.specs.Prelude.{MatchBool}
-use Rattle.ert_wheel.proofs.Reaching.{any_due}
-use Rattle.ert_wheel.proofs.Standing.{wheel_stands}
-use Rattle.ert_wheel.proofs.Writes.{sees, passed_of}
+use Rattle.ert_wheel.proofs.{Reaching.any_due, Standing.wheel_stands, Writes.{sees, passed_of}}
 use Rattle.ert_wheel.proofs.wheel.Wheel.is_any_due.Goals as goal
 use Rattle.ert_wheel.specs.FirstDue.{NoRowDue, SomeRowDue}
 

@@ -1,14 +1,8 @@
 use Rattle.std.proofs.Common.{◌≡◌, ◌+◌, ◌-◌, ◌*◌, ◌/◌, ◌^◌, ◌∙◌, ℕ, List, Option, ap, refl, subst, sym, arith}
 use Rattle.std.specs.Bool.{OnTrue}
-use Rattle.ert_wheel.proofs.Behind.{begins_after, fell, left_behind, none_by}
-use Rattle.ert_wheel.proofs.Writes.{sees, alike_after, is_held, is_kept, keys_of, passed_of}
-use Rattle.ert_wheel.proofs.StandsOn.{stay_on}
+use Rattle.ert_wheel.proofs.{Behind.{begins_after, fell, left_behind, none_by}, Writes.{sees, alike_after, is_held, is_kept, keys_of, passed_of}, StandsOn.stay_on}
 use Rattle.ert_wheel.proofs.wheel.Wheel.is_before.Goals as goal
-use Rattle.ert_wheel.specs.Falling.{HasRowIn}
-use Rattle.ert_wheel.specs.Wheels.{AreLevelChains}
-use Rattle.ert_wheel.specs.declared.row.Key.{Key}
-use Rattle.ert_wheel.specs.Rows.{Held}
-use Rattle.ert_wheel.specs.Standing.{homes_of, StayOrFall}
+use Rattle.ert_wheel.specs.{Falling.HasRowIn, Wheels.AreLevelChains, declared.row.Key.Key, Rows.Held, Standing.{homes_of, StayOrFall}}
 
 pub overflow_sub-begin : goal.overflow_sub-begin
 overflow_sub-begin g c =

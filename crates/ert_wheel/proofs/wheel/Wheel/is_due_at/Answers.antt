@@ -1,8 +1,6 @@
 use Rattle.std.proofs.Common.{ap, sym, ◌∙◌, arith}
 use Rattle.std.proofs.lemmas.Bool.{true≢false}
-use Rattle.ert_wheel.proofs.Tellers.{due_row}
-use Rattle.ert_wheel.proofs.Views.{key_stored}
-use Rattle.ert_wheel.proofs.Writes.{keys_of}
+use Rattle.ert_wheel.proofs.{Tellers.due_row, Views.key_stored, Writes.keys_of}
 use Rattle.ert_wheel.proofs.wheel.Wheel.is_due_at.Goals as goal
 use Rattle.ert_wheel.specs.Rows.{key_in}
 

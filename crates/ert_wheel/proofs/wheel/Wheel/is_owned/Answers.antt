@@ -1,8 +1,6 @@
 use Rattle.std.proofs.Common.{◌↔◌, not, ap, subst, ℕ, Option}
-use Rattle.std.specs.Bool.{IsTrue}
-use Rattle.std.specs.Option.{IsSome}
-use Rattle.ert_wheel.proofs.Calls.{is_placed}
-use Rattle.ert_wheel.proofs.Writes.{low_in, owners_of}
+use Rattle.std.specs.{Bool.IsTrue, Option.IsSome}
+use Rattle.ert_wheel.proofs.{Calls.is_placed, Writes.{low_in, owners_of}}
 use Rattle.ert_wheel.proofs.wheel.Wheel.is_owned.Goals as goal
 use Rattle.ert_wheel.specs.Rings.{Rings, Place, AreChains}
 

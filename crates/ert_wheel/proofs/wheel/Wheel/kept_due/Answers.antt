@@ -1,5 +1,4 @@
-use Rattle.ert_wheel.proofs.Tellers.{next_by}
-use Rattle.ert_wheel.proofs.Writes.{sees}
+use Rattle.ert_wheel.proofs.{Tellers.next_by, Writes.sees}
 use Rattle.ert_wheel.proofs.wheel.Wheel.kept_due.Goals as goal
 
 pub returns-in-Some-clause-due : goal.returns-in-Some-clause-due

@@ -1,14 +1,8 @@
 use Rattle.std.proofs.Common.{◌≡◌, ◌+◌, ◌<◌, ◌≤◌, ◌/◌, max, nat_lt, subst, ap, arith}
 use Rattle.std.specs.Prelude.{MatchBool}
-use Rattle.ert_wheel.proofs.Near.{end_lowest, may_be_near}
-use Rattle.ert_wheel.proofs.Reaching.{any_due_by}
-use Rattle.ert_wheel.proofs.Standing.{wheel_stands, end_of}
-use Rattle.ert_wheel.proofs.Writes.{sees, passed_of}
+use Rattle.ert_wheel.proofs.{Near.{end_lowest, may_be_near}, Reaching.any_due_by, Standing.{wheel_stands, end_of}, Writes.{sees, passed_of}}
 use Rattle.ert_wheel.proofs.wheel.Wheel.may_be_due.Goals as goal
-use Rattle.ert_wheel.specs.FirstDue.{MayBeDue, NoRowDue}
-use Rattle.ert_wheel.specs.Wheels.{stand_on, places}
-use Rattle.ert_wheel.specs.Rows.{Held}
-use Rattle.ert_wheel.specs.Standing.{homes_of}
+use Rattle.ert_wheel.specs.{FirstDue.{MayBeDue, NoRowDue}, Wheels.{stand_on, places}, Rows.Held, Standing.homes_of}
 
 pub returns : goal.returns
 returns g c =

@@ -1,7 +1,5 @@
 use Rattle.std.proofs.Common.{◌∙◌, length, ap, sym, arith}
-use Rattle.ert_wheel.proofs.Fallen.{no_homes}
-use Rattle.ert_wheel.proofs.Opening.{opened}
-use Rattle.ert_wheel.proofs.Writes.{is_held, is_kept}
+use Rattle.ert_wheel.proofs.{Fallen.no_homes, Opening.opened, Writes.{is_held, is_kept}}
 use Rattle.ert_wheel.proofs.wheel.Wheel.new.Goals as goal
 
 pub invariant_of-result : goal.invariant_of-result

@@ -1,9 +1,7 @@
 use Rattle.std.proofs.Common.{List, Option, ◌∙◌, subst, sym, ap}
-use Rattle.ert_wheel.proofs.Tellers.{next_some}
-use Rattle.ert_wheel.proofs.Writes.{sees, keys_of}
+use Rattle.ert_wheel.proofs.{Tellers.next_some, Writes.{sees, keys_of}}
 use Rattle.ert_wheel.proofs.wheel.Wheel.next_due.Goals as goal
-use Rattle.ert_wheel.specs.NextDue.{NoneBefore}
-use Rattle.ert_wheel.specs.declared.row.Key.{Key}
+use Rattle.ert_wheel.specs.{NextDue.NoneBefore, declared.row.Key.Key}
 
 pub invariant_of-self : goal.invariant_of-self
 invariant_of-self g c = record {

@@ -1,12 +1,7 @@
 use Rattle.std.proofs.Common.{◌+◌, ap, refl, subst, sym, List, Option, arith}
-use Rattle.ert_wheel.proofs.Writes.{sees, alike_after, is_held, is_kept, may_move, moved}
-use Rattle.ert_wheel.proofs.Writes.{keys_of, owners_of, passed_of}
+use Rattle.ert_wheel.proofs.Writes.{sees, alike_after, is_held, is_kept, may_move, moved, keys_of, owners_of, passed_of}
 use Rattle.ert_wheel.proofs.wheel.Wheel.pass.Goals as goal
-use Rattle.ert_wheel.specs.Falling.{MayMoveOn}
-use Rattle.ert_wheel.specs.Wheels.{AreLevelChains}
-use Rattle.ert_wheel.specs.declared.row.Key.{Key}
-use Rattle.ert_wheel.specs.Rows.{Held}
-use Rattle.ert_wheel.specs.Standing.{homes_of, StayOrFall}
+use Rattle.ert_wheel.specs.{Falling.MayMoveOn, Wheels.AreLevelChains, declared.row.Key.Key, Rows.Held, Standing.{homes_of, StayOrFall}}
 
 pub move_on-self-inside-requires-clause-may : goal.move_on-self-inside-requires-clause-may
 move_on-self-inside-requires-clause-may g c =

@@ -1,7 +1,6 @@
 use Rattle.std.proofs.Common.{◌∙◌, subst, sym, arith}
-use Rattle.ert_wheel.proofs.StandsOn.{stay_more}
+use Rattle.ert_wheel.proofs.{StandsOn.stay_more, wheel.Wheel.reach.Invariants.Comes}
 use Rattle.ert_wheel.proofs.wheel.Wheel.reach.Goals as goal
-use Rattle.ert_wheel.proofs.wheel.Wheel.reach.Invariants.{Comes}
 use Rattle.ert_wheel.specs.Rows.{Held}
 
 pub returns-then-not-come_to-clause-stands : goal.returns-then-not-come_to-clause-stands

@@ -1,8 +1,6 @@
 use Rattle.std.proofs.Common.{◌≡◌, ◌+◌, ◌-◌, ◌≤◌, ℕ, max}
 use Rattle.ert_wheel.proofs.wheel.Wheel.reach.Given as goal
-use Rattle.ert_wheel.specs.FirstDue.{IsNextStop}
-use Rattle.ert_wheel.specs.Rows.{Held}
-use Rattle.ert_wheel.specs.Standing.{StayOrFall}
+use Rattle.ert_wheel.specs.{FirstDue.IsNextStop, Rows.Held, Standing.StayOrFall}
 
 -- time went on, and this is told of where it may come next
 pub record Comes {T : Type 0} (first now : Held T) (to stop most moves : ℕ) : Type 0 where

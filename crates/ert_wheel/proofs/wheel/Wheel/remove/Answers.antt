@@ -1,11 +1,8 @@
 use Rattle.std.proofs.Common.{◌≡◌, Option, Some, None, set, subst, sym, refl, ◌∙◌}
 use Rattle.std.proofs.lemmas.Bool.{true≢false}
-use Rattle.ert_wheel.proofs.Fallen.{stays_nowhere, take_leaves}
-use Rattle.ert_wheel.proofs.Writes.{sees, low_in, alike_after, is_held, is_kept, found_none, found_some, looks_alone, looks_apart, may_take, count_holds, removed, vacant_view}
+use Rattle.ert_wheel.proofs.{Fallen.{stays_nowhere, take_leaves}, Writes.{sees, low_in, alike_after, is_held, is_kept, found_none, found_some, looks_alone, looks_apart, may_take, count_holds, removed, vacant_view}}
 use Rattle.ert_wheel.proofs.wheel.Wheel.remove.Goals as goal
-use Rattle.ert_wheel.specs.Rows.{Held}
-use Rattle.ert_wheel.specs.Standing.{homes_of}
-use Rattle.ert_wheel.specs.declared.row.Key.{Key}
+use Rattle.ert_wheel.specs.{Rows.Held, Standing.homes_of, declared.row.Key.Key}
 
 no_some : {key : Key} {o : Option Key} → o ≡ None → o ≡ Some key → ⊥
 no_some none some = let clash : None ≡ Some _ = sym none ∙ some in cc

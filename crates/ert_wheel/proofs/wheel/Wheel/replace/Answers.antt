@@ -1,11 +1,8 @@
 use Rattle.std.proofs.Common.{ap, get_or, max, set, subst, ◌∙◌, length, arith, refl}
 use Rattle.std.proofs.lemmas.List.{length-set}
-use Rattle.ert_wheel.proofs.Fallen.{moves_comes}
-use Rattle.ert_wheel.proofs.Writes.{sees, held_stored, low_in, alike_after, is_held, is_kept, may_take, replaced, stored_as}
+use Rattle.ert_wheel.proofs.{Fallen.moves_comes, Writes.{sees, held_stored, low_in, alike_after, is_held, is_kept, may_take, replaced, stored_as}}
 use Rattle.ert_wheel.proofs.wheel.Wheel.replace.Goals as goal
-use Rattle.ert_wheel.specs.Rows.{Held, key_in}
-use Rattle.ert_wheel.specs.Standing.{homes_of, ComesOrStays}
-use Rattle.ert_wheel.specs.Wheels.{no_key}
+use Rattle.ert_wheel.specs.{Rows.{Held, key_in}, Standing.{homes_of, ComesOrStays}, Wheels.no_key}
 
 pub move_row-requires-clause-may : goal.move_row-requires-clause-may
 move_row-requires-clause-may g c = may_take (sees c.self.invariant.rows c.self.view_is) (low_in c.args.row.slot c.self.invariant c.self.view_is c.requires.slot).low_key

@@ -1,13 +1,8 @@
 use Rattle.std.proofs.Common.{◌*◌, ◌^◌, ◌∙◌, ℕ, IfNone, IfSome, ap, inl, inr, subst, sym, arith}
-use Rattle.ert_wheel.proofs.Standing.{wheel_stands}
-use Rattle.ert_wheel.proofs.Tellers.{found_none, found_tells, none_begins, none_early}
-use Rattle.ert_wheel.proofs.Writes.{sees}
+use Rattle.ert_wheel.proofs.{Standing.wheel_stands, Tellers.{found_none, found_tells, none_begins, none_early}, Writes.sees, wheel.Wheel.stands_from.Goals.then-time-self-via-then-time-self}
+use Rattle.ert_wheel.proofs.{wheel.Wheel.stands_from.Goals.then-time-self-via-else-time-self+then-begin_of-time}
 use Rattle.ert_wheel.proofs.wheel.Wheel.stands_from.Goals as goal
-use Rattle.ert_wheel.proofs.wheel.Wheel.stands_from.Goals.{then-time-self-via-then-time-self, then-time-self-via-else-time-self+then-begin_of-time}
-use Rattle.ert_wheel.specs.NextDue.{NoneBeginsOn, TellsNext}
-use Rattle.ert_wheel.specs.Rings.{Finds}
-use Rattle.ert_wheel.specs.Rows.{Held}
-use Rattle.ert_wheel.specs.Wheels.{stand_on, places}
+use Rattle.ert_wheel.specs.{NextDue.{NoneBeginsOn, TellsNext}, Rings.Finds, Rows.Held, Wheels.{stand_on, places}}
 
 pub returns-then-time-self-clause-none : goal.returns-then-time-self-clause-none
 returns-then-time-self-clause-none g c =

@@ -1,7 +1,6 @@
 use Rattle.std.proofs.Common.{◌-◌, ◌≤◌, ℕ, List, Option}
 use Rattle.ert_wheel.proofs.wheel.Wheel.told_at.Given as goal
-use Rattle.ert_wheel.specs.NextDue.{WindowBegins}
-use Rattle.ert_wheel.specs.declared.row.Key.{Key}
+use Rattle.ert_wheel.specs.{NextDue.WindowBegins, declared.row.Key.Key}
 
 -- no row stands in a window of a level below one that begins at the time
 pub record Looked (keys : List (Option Key)) (stands : List (Option ℕ)) (passed time level : ℕ) : Type 0 where

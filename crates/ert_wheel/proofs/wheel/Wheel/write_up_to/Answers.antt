@@ -1,11 +1,8 @@
 use Rattle.std.proofs.Common.{◌≡◌, ◌-◌, ◌∙◌, ◌++◌, length, replicate, length-append, sym, ap, subst, arith}
 use Rattle.std.proofs.lemmas.List.{length-replicate}
-use Rattle.ert_wheel.proofs.Fallen.{grown_homes}
-use Rattle.ert_wheel.proofs.Writes.{Sees, stands_of, grown, is_held, is_kept, sees, stored_as}
+use Rattle.ert_wheel.proofs.{Fallen.grown_homes, Writes.{Sees, stands_of, grown, is_held, is_kept, sees, stored_as}}
 use Rattle.ert_wheel.proofs.wheel.Wheel.write_up_to.Goals as goal
-use Rattle.ert_wheel.specs.Rings.{Rings}
-use Rattle.ert_wheel.specs.Rows.{Held}
-use Rattle.ert_wheel.specs.Standing.{homes_of}
+use Rattle.ert_wheel.specs.{Rings.Rings, Rows.Held, Standing.homes_of}
 
 pub invariant_of-self : goal.invariant_of-self
 invariant_of-self g c =

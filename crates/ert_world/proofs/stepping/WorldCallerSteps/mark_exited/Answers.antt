@@ -1,6 +1,5 @@
 use Rattle.std.proofs.Common.{[], sym, subst}
-use Rattle.ert_effects.specs.WheelCalls.{MarksExit}
-use Rattle.ert_effects.specs.Ways.{Grows}
+use Rattle.ert_effects.specs.{WheelCalls.MarksExit, Ways.Grows}
 use Rattle.ert_defs.specs.declared.entry.Actor.TheVariants.{Caller}
 use Rattle.ert_world.specs.Worlds.{way_of}
 use Rattle.ert_world.proofs.stepping.WorldCallerSteps.mark_exited.Goals as goal

@@ -1,14 +1,8 @@
 use Rattle.std.proofs.Common.{◌≡◌, true, sym, subst}
-use Rattle.ert_effects.specs.Chains.{SweepsWheel}
-use Rattle.ert_effects.specs.Ways.{Grows}
-use Rattle.ert_table.specs.Desks.{settings_of, view_of, front_of}
-use Rattle.ert_table.specs.declared.desk.Desk.{Desk}
+use Rattle.ert_effects.specs.{Chains.SweepsWheel, Ways.Grows}
+use Rattle.ert_table.specs.{Desks.{settings_of, view_of, front_of}, declared.desk.Desk.Desk}
 use Rattle.ert_defs.specs.States.{state}
-use Rattle.ert_world.proofs.Alone.{stays_by}
-use Rattle.ert_world.proofs.Calls.{Has, has_at, does_at}
-use Rattle.ert_world.proofs.Listed.{kept_by}
-use Rattle.ert_world.proofs.Gone.{still_exited}
-use Rattle.ert_world.proofs.WheelCalls.{lost_rows, sweep_called}
+use Rattle.ert_world.proofs.{Alone.stays_by, Calls.{Has, has_at, does_at}, Listed.kept_by, Gone.still_exited, WheelCalls.{lost_rows, sweep_called}}
 use Rattle.ert_world.specs.Worlds.{Seen, way_of}
 use Rattle.ert_world.proofs.stepping.WorldCallerSteps.sweep_wheel.Goals as goal
 

@@ -1,11 +1,10 @@
 use Rattle.std.proofs.Common.{◌≤◌, length, subst, arith}
 use Rattle.std.specs.Arc.{arc_value}
-use Rattle.ert_defs.specs.Legal.{Legal}
+use Rattle.ert_defs.specs.{Legal.Legal, declared.settings.TheConstants.MOST_SLOTS}
 use Rattle.ert_laws.proofs.Few.{expired_few}
 use Rattle.ert_world.specs.Worlds.{Seen, world_sched}
 use Rattle.ert_table.specs.Desks.{settings_of, front_of}
 use Rattle.ert_world.proofs.stepping.WorldSchedSteps.first_of_expired.Goals as goal
-use Rattle.ert_defs.specs.declared.settings.TheConstants.{MOST_SLOTS}
 
 pub returns-clause-few : goal.returns-clause-few
 returns-clause-few c =

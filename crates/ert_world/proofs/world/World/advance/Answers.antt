@@ -1,12 +1,7 @@
 use Rattle.std.proofs.Common.{◌≡◌, Err, rules, refl, arith}
 use Rattle.ert_table.specs.Desks.{settings_of, view_of}
-use Rattle.ert_world.proofs.Alone.{stays_by}
-use Rattle.ert_world.proofs.Calls.{has_at, does_at}
-use Rattle.ert_world.proofs.Listed.{kept_by}
-use Rattle.ert_world.proofs.WheelCalls.{lost_rows, replaced_passed}
+use Rattle.ert_world.proofs.{Alone.stays_by, Calls.{has_at, does_at}, Listed.kept_by, WheelCalls.{lost_rows, replaced_passed}, Advances.{advance_ok, advance_refused}, TriedHeld.tries_held_at}
 use Rattle.ert_timers.proofs.SchedParts.{advance_fits}
-use Rattle.ert_world.proofs.Advances.{advance_ok, advance_refused}
-use Rattle.ert_world.proofs.TriedHeld.{tries_held_at}
 use Rattle.ert_world.proofs.world.World.advance.Goals as goal
 
 pub invariant_of-self : goal.invariant_of-self

@@ -2,9 +2,7 @@ use Rattle.ert_effects.specs.RequestCalls.{Asks}
 use Rattle.ert_mail.proofs.LawsHold.{asks_only}
 use Rattle.ert_table.specs.Desks.{settings_of, view_of}
 use Rattle.ert_table.proofs.Makings.{if_ok_made}
-use Rattle.ert_world.proofs.Calls.{inbox_called, asked_in}
-use Rattle.ert_world.proofs.Listed.{kept_by}
-use Rattle.ert_world.proofs.Calm.{asks_calm}
+use Rattle.ert_world.proofs.{Calls.{inbox_called, asked_in}, Listed.kept_by, Calm.asks_calm}
 use Rattle.ert_world.proofs.world.World.ask.Goals as goal
 
 pub invariant_of-self : goal.invariant_of-self

@@ -1,11 +1,7 @@
 use Rattle.std.proofs.Common.{◌<◌, Some, None, sym, subst, ◌∙◌}
-use Rattle.ert_table.specs.Desks.{settings_of}
-use Rattle.ert_table.specs.declared.desk.Desk.{Desk}
-use Rattle.ert_timers.specs.Freeing.{IsLast}
-use Rattle.ert_timers.specs.Parts.{Part}
-use Rattle.ert_world.proofs.Calls.{has_at, parts_in}
-use Rattle.ert_world.proofs.Listed.{kept_by}
-use Rattle.ert_world.proofs.CancelCalls.{cancel_called, cancelled_none, cancelled_some, does_cancel_at, gone_set, settled_then, stands_then}
+use Rattle.ert_table.specs.{Desks.settings_of, declared.desk.Desk.Desk}
+use Rattle.ert_timers.specs.{Freeing.IsLast, Parts.Part}
+use Rattle.ert_world.proofs.{Calls.{has_at, parts_in}, Listed.kept_by, CancelCalls.{cancel_called, cancelled_none, cancelled_some, does_cancel_at, gone_set, settled_then, stands_then}}
 use Rattle.ert_world.proofs.world.World.cancel_by_name.Goals as goal
 
 pub invariant_of-self : goal.invariant_of-self

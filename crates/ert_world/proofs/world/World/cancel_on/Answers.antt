@@ -1,9 +1,7 @@
 use Rattle.std.proofs.Common.{◌<◌, None, Some, cond, sym, ap, subst, ◌∙◌, arith}
 use Rattle.ert_defs.specs.declared.settings.Settings.{Settings}
 use Rattle.ert_world.proofs.EndingAll.{EndsSome, byte_is, byte_low, ends_all, ends_more, ends_none, fewer_at, held_same, no_part, rows_at}
-use Rattle.ert_world.specs.Cancelling.{IsHeldAt}
-use Rattle.ert_world.specs.Stepping.{Stays, same, stay}
-use Rattle.ert_world.specs.Worlds.{Seen}
+use Rattle.ert_world.specs.{Cancelling.IsHeldAt, Stepping.{Stays, same, stay}, Worlds.Seen}
 use Rattle.ert_world.proofs.world.World.cancel_on.Goals as goal
 
 pub loop-timer-init : goal.loop-timer-init

@@ -1,5 +1,4 @@
-use Rattle.ert_effects.specs.Chains.{Delivers}
-use Rattle.ert_effects.specs.Ways.{Way}
+use Rattle.ert_effects.specs.{Chains.Delivers, Ways.Way}
 use Rattle.ert_world.proofs.Alone.{goes_on}
 use Rattle.ert_world.proofs.world.World.deliver.Goals as goal
 

@@ -1,10 +1,7 @@
 use Rattle.std.proofs.Common.{◌≡◌, false, length, Err, arith, rules, sym, ap, ◌∙◌}
 use Rattle.std.specs.Option.{is_some}
-use Rattle.ert_world.proofs.Bounding.{at_most, are_left, delivered_some, none_left, undelivered_some}
-use Rattle.ert_world.proofs.Chained.{handed_put, handed_dropped}
-use Rattle.ert_world.proofs.MoreLeft.{the_way, keep_then}
-use Rattle.ert_world.specs.Stepping.{stay}
-use Rattle.ert_world.specs.Worlds.{Seen}
+use Rattle.ert_world.proofs.{Bounding.{at_most, are_left, delivered_some, none_left, undelivered_some}, Chained.{handed_put, handed_dropped}, MoreLeft.{the_way, keep_then}}
+use Rattle.ert_world.specs.{Stepping.stay, Worlds.Seen}
 use Rattle.ert_world.proofs.world.World.deliver_some.Goals as goal
 
 pub hands-preserved-in-Put : goal.hands-preserved-in-Put

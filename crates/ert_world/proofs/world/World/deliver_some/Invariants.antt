@@ -1,8 +1,6 @@
 use Rattle.std.proofs.Common.{◌≤◌, ◌+◌, ◌-◌}
-use Rattle.ert_world.proofs.Chained.{HasHanded}
-use Rattle.ert_world.proofs.MoreLeft.{the_way}
-use Rattle.ert_world.specs.Stepping.{Stays}
-use Rattle.ert_world.specs.Worlds.{Seen, KeepRows}
+use Rattle.ert_world.proofs.{Chained.HasHanded, MoreLeft.the_way}
+use Rattle.ert_world.specs.{Stepping.Stays, Worlds.{Seen, KeepRows}}
 use Rattle.ert_world.proofs.world.World.deliver_some.Given as goal
 
 abbrev pub invariant-hands : goal.invariant-hands

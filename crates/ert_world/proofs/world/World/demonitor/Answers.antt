@@ -3,9 +3,7 @@ use Rattle.std.specs.Arc.{arc_value}
 use Rattle.ert_effects.specs.MailCalls.{Demonitors}
 use Rattle.ert_mail.proofs.LawsHold.{demonitors_only}
 use Rattle.ert_table.specs.Desks.{settings_of, state_of}
-use Rattle.ert_world.proofs.Calls.{has_at, mail_called}
-use Rattle.ert_world.proofs.Listed.{listed_kept, mails_low, kept_by}
-use Rattle.ert_world.proofs.Calm.{demonitors_calm}
+use Rattle.ert_world.proofs.{Calls.{has_at, mail_called}, Listed.{listed_kept, mails_low, kept_by}, Calm.demonitors_calm}
 use Rattle.ert_world.proofs.world.World.demonitor.Goals as goal
 
 pub invariant_of-self : goal.invariant_of-self

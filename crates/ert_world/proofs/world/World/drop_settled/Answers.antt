@@ -1,11 +1,7 @@
 use Rattle.std.proofs.Common.{refl}
 use Rattle.std.specs.Arc.{arc_value}
 use Rattle.ert_effects.specs.Sleeping.{FindsArmed}
-use Rattle.ert_world.proofs.Alone.{stays_by}
-use Rattle.ert_world.proofs.Calls.{has_at}
-use Rattle.ert_world.proofs.Listed.{kept_by}
-use Rattle.ert_world.proofs.NextDue.{all_probed, time_new, fewer_new, left_new}
-use Rattle.ert_world.proofs.WheelCalls.{lost_rows}
+use Rattle.ert_world.proofs.{Alone.stays_by, Calls.has_at, Listed.kept_by, NextDue.{all_probed, time_new, fewer_new, left_new}, WheelCalls.lost_rows}
 use Rattle.ert_world.proofs.world.World.drop_settled.Goals as goal
 
 pub invariant_of-self : goal.invariant_of-self

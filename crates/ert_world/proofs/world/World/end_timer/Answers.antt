@@ -1,9 +1,6 @@
 use Rattle.std.proofs.Common.{inr}
 use Rattle.ert_table.specs.Desks.{settings_of}
-use Rattle.ert_world.proofs.Calls.{Has, has_at, parts_in, schedulers_at}
-use Rattle.ert_world.proofs.Listed.{kept_by}
-use Rattle.ert_world.proofs.CancelCalls.{cancel_called, does_cancel_at, gone_set, settled_then, stands_then}
-use Rattle.ert_world.proofs.Ending.{ended, ended_over, held_old, rows_fewer}
+use Rattle.ert_world.proofs.{Calls.{Has, has_at, parts_in, schedulers_at}, Listed.kept_by, CancelCalls.{cancel_called, does_cancel_at, gone_set, settled_then, stands_then}, Ending.{ended, ended_over, held_old, rows_fewer}}
 use Rattle.ert_world.proofs.world.World.end_timer.Goals as goal
 
 pub forget-requires-clause-stands : goal.forget-requires-clause-stands

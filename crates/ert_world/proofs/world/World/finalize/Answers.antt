@@ -1,8 +1,6 @@
 use Rattle.ert_effects.specs.ClockCalls.{Finalizes}
 use Rattle.ert_table.specs.Desks.{settings_of}
-use Rattle.ert_world.proofs.Calm.{finalizes_quiet}
-use Rattle.ert_world.proofs.Calls.{Has, has_at, keeper_called, reads_by}
-use Rattle.ert_world.proofs.Listed.{kept_by}
+use Rattle.ert_world.proofs.{Calm.finalizes_quiet, Calls.{Has, has_at, keeper_called, reads_by}, Listed.kept_by}
 use Rattle.ert_world.proofs.world.World.finalize.Goals as goal
 
 pub invariant_of-self : goal.invariant_of-self

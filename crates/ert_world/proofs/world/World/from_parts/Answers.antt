@@ -1,11 +1,8 @@
 use Rattle.std.proofs.Common.{refl, sym, subst}
 use Rattle.std.specs.Arc.{arc_value}
-use Rattle.ert_table.specs.Desks.{settings_of, actors_of}
-use Rattle.ert_table.specs.declared.desk.Desk.{Desk}
-use Rattle.ert_world.proofs.Alone.{whole_of}
-use Rattle.ert_world.proofs.Dropping.{kept_then, put_together}
-use Rattle.ert_world.specs.Parts.{parts_of}
-use Rattle.ert_world.specs.Worlds.{AreFit}
+use Rattle.ert_table.specs.{Desks.{settings_of, actors_of}, declared.desk.Desk.Desk}
+use Rattle.ert_world.proofs.{Alone.whole_of, Dropping.{kept_then, put_together}}
+use Rattle.ert_world.specs.{Parts.parts_of, Worlds.AreFit}
 use Rattle.ert_world.proofs.world.World.from_parts.Goals as goal
 
 pub drop_all_settled-requires-clause-belongs : goal.drop_all_settled-requires-clause-belongs

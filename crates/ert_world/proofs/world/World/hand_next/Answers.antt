@@ -1,13 +1,8 @@
 use Rattle.std.proofs.Common.{◌≡◌, List, Ok, sym, subst}
-use Rattle.ert_defs.specs.Mails.{others_of}
-use Rattle.ert_defs.specs.States.{sched_of}
-use Rattle.ert_defs.specs.declared.entry.Entry.{Entry}
-use Rattle.ert_defs.specs.declared.settings.Settings.{Settings}
-use Rattle.ert_effects.specs.Chains.{Hands}
-use Rattle.ert_effects.specs.Ways.{Grows}
+use Rattle.ert_defs.specs.{Mails.others_of, States.sched_of, declared.entry.Entry.Entry, declared.settings.Settings.Settings}
+use Rattle.ert_effects.specs.{Chains.Hands, Ways.Grows}
 use Rattle.ert_world.proofs.MoreLeft.{keeps_same, keep_then}
-use Rattle.ert_world.specs.Stepping.{stay}
-use Rattle.ert_world.specs.Worlds.{way_of, world_sched}
+use Rattle.ert_world.specs.{Stepping.stay, Worlds.{way_of, world_sched}}
 use Rattle.ert_world.proofs.world.World.hand_next.Goals as goal
 
 pub returns-clause-call : goal.returns-clause-call

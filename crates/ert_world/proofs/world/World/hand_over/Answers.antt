@@ -1,16 +1,11 @@
 use Rattle.std.proofs.Common.{◌≡◌, Some, Err, rules, refl, ap, sym, subst, ◌∙◌}
 use Rattle.std.specs.Arc.{arc_value}
 use Rattle.ert_effects.specs.Chains.{Hands}
-use Rattle.ert_defs.specs.Mails.{first_of, others_of}
-use Rattle.ert_defs.specs.States.{state}
+use Rattle.ert_defs.specs.{Mails.{first_of, others_of}, States.state}
 use Rattle.ert_mail.specs.Mailboxes.{MailboxStands}
-use Rattle.ert_world.proofs.Alone.{stays_same}
-use Rattle.ert_world.proofs.Calls.{mail_named}
-use Rattle.ert_table.specs.Desks.{settings_of, front_of, state_of}
-use Rattle.ert_table.specs.declared.desk.Desk.{Desk}
-use Rattle.ert_world.proofs.Calls.{Has, has_at, parts_in, schedulers_at}
-use Rattle.ert_world.proofs.Listed.{list_low, listed_now, kept_by, does_listed, turns_put}
-use Rattle.ert_world.proofs.SchedCalls.{expired_placed, hands_on, handed_in, sched_holds, handed_now, step_refused}
+use Rattle.ert_world.proofs.{Alone.stays_same, Calls.{mail_named, Has, has_at, parts_in, schedulers_at}, Listed.{list_low, listed_now, kept_by, does_listed, turns_put}, SchedCalls.{expired_placed, hands_on, handed_in, sched_holds}}
+use Rattle.ert_world.proofs.{SchedCalls.{handed_now, step_refused}}
+use Rattle.ert_table.specs.{Desks.{settings_of, front_of, state_of}, declared.desk.Desk.Desk}
 use Rattle.ert_world.specs.Worlds.{Seen, seen, IsHandedIn, world_sched}
 use Rattle.ert_world.proofs.world.World.hand_over.Goals as goal
 

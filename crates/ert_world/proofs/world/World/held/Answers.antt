@@ -1,7 +1,5 @@
 use Rattle.std.proofs.Common.{refl, ◌∙◌}
-use Rattle.ert_world.proofs.Calls.{has_at}
-use Rattle.ert_world.proofs.Totals.{wheel_rows}
-use Rattle.ert_world.proofs.Waiting.{rows_in}
+use Rattle.ert_world.proofs.{Calls.has_at, Totals.wheel_rows, Waiting.rows_in}
 use Rattle.ert_world.proofs.world.World.held.Goals as goal
 
 pub returns-clause-rows : goal.returns-clause-rows

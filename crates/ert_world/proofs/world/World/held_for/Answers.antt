@@ -1,10 +1,8 @@
 use Rattle.std.proofs.Common.{List, refl, sym, ap, subst, ◌∙◌}
 use Rattle.std.specs.Arc.{arc_value}
 use Rattle.ert_timers.specs.Parts.{Part}
-use Rattle.ert_world.proofs.Calls.{has_at}
-use Rattle.ert_world.proofs.Ending.{held_at, owners_high, same_set}
-use Rattle.ert_world.specs.Parts.{parts_of}
-use Rattle.ert_world.specs.Worlds.{seen, AreSound}
+use Rattle.ert_world.proofs.{Calls.has_at, Ending.{held_at, owners_high, same_set}}
+use Rattle.ert_world.specs.{Parts.parts_of, Worlds.{seen, AreSound}}
 use Rattle.ert_world.proofs.world.World.held_for.Goals as goal
 
 pub held_for-requires : goal.held_for-requires

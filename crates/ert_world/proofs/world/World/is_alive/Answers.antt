@@ -1,9 +1,7 @@
 use Rattle.ert_effects.specs.WheelCalls.{TellsAlive}
 use Rattle.ert_defs.specs.declared.entry.Actor.TheVariants.{Caller}
 use Rattle.ert_table.specs.Desks.{settings_of}
-use Rattle.ert_world.proofs.Calm.{alive_quiet}
-use Rattle.ert_world.proofs.Calls.{alone_called}
-use Rattle.ert_world.proofs.Listed.{kept_by}
+use Rattle.ert_world.proofs.{Calm.alive_quiet, Calls.alone_called, Listed.kept_by}
 use Rattle.ert_world.proofs.world.World.is_alive.Goals as goal
 
 pub invariant_of-self : goal.invariant_of-self

@@ -1,7 +1,6 @@
 use Rattle.std.proofs.Common.{refl}
 use Rattle.std.specs.Arc.{arc_value}
-use Rattle.ert_world.proofs.Calls.{has_at}
-use Rattle.ert_world.proofs.Ending.{rows_few}
+use Rattle.ert_world.proofs.{Calls.has_at, Ending.rows_few}
 use Rattle.ert_world.proofs.world.World.is_bounded.Goals as goal
 
 pub returns-clause-few : goal.returns-clause-few

@@ -1,9 +1,7 @@
 use Rattle.std.proofs.Common.{[], ◌∷◌}
 use Rattle.ert_defs.specs.declared.entry.Actor.TheVariants.{Caller}
 use Rattle.ert_table.specs.Desks.{settings_of, view_of}
-use Rattle.ert_world.proofs.Calls.{alone_called}
-use Rattle.ert_world.proofs.Listed.{kept_by}
-use Rattle.ert_world.proofs.Noted.{learned_made, none_quiet}
+use Rattle.ert_world.proofs.{Calls.alone_called, Listed.kept_by, Noted.{learned_made, none_quiet}}
 use Rattle.ert_world.specs.Ways.{MakesNone}
 use Rattle.ert_world.proofs.world.World.learn.Goals as goal
 

@@ -1,6 +1,5 @@
 use Rattle.std.proofs.Common.{refl, ◌∙◌}
-use Rattle.ert_world.proofs.Calls.{has_at}
-use Rattle.ert_world.proofs.Waiting.{mail_waits}
+use Rattle.ert_world.proofs.{Calls.has_at, Waiting.mail_waits}
 use Rattle.ert_world.proofs.world.World.mail_count.Goals as goal
 
 pub returns : goal.returns

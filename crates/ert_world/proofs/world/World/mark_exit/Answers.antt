@@ -1,15 +1,9 @@
 use Rattle.std.proofs.Common.{◌≡◌, true, ap, subst}
-use Rattle.ert_table.specs.declared.desk.Desk.{Desk}
+use Rattle.ert_table.specs.{declared.desk.Desk.Desk, Desks.{settings_of, view_of, front_of}}
 use Rattle.ert_effects.specs.WheelCalls.{MarksExit}
-use Rattle.ert_defs.specs.States.{state}
-use Rattle.ert_defs.specs.declared.entry.Actor.TheVariants.{Caller}
-use Rattle.ert_table.specs.Desks.{settings_of, view_of, front_of}
-use Rattle.ert_world.proofs.Calm.{mark_quiet}
-use Rattle.ert_world.proofs.Alone.{stays_same}
+use Rattle.ert_defs.specs.{States.state, declared.entry.Actor.TheVariants.Caller}
+use Rattle.ert_world.proofs.{Calm.mark_quiet, Alone.stays_same, Calls.alone_called, Listed.kept_by, Gone.marked}
 use Rattle.ert_world.specs.Worlds.{Seen}
-use Rattle.ert_world.proofs.Calls.{alone_called}
-use Rattle.ert_world.proofs.Listed.{kept_by}
-use Rattle.ert_world.proofs.Gone.{marked}
 use Rattle.ert_world.proofs.world.World.mark_exit.Goals as goal
 
 pub invariant_of-self : goal.invariant_of-self

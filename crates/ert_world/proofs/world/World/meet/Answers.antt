@@ -1,13 +1,9 @@
 use Rattle.std.proofs.Common.{refl, sym, ap, subst, ◌∙◌}
 use Rattle.std.specs.Arc.{arc_value}
 use Rattle.ert_defs.specs.declared.entry.Actor.TheVariants.{Caller}
-use Rattle.ert_table.specs.Desks.{Belongs}
-use Rattle.ert_table.specs.declared.desk.Desk.{Desk}
-use Rattle.ert_world.specs.Seats.{Seated}
-use Rattle.ert_world.specs.Worlds.{Seen}
-use Rattle.ert_world.proofs.Calls.{Has, has_at}
-use Rattle.ert_world.proofs.Listed.{kept_by}
-use Rattle.ert_world.proofs.Meetings.{is_meeting, can_split, belongs_as, met_fit, met_both}
+use Rattle.ert_table.specs.{Desks.Belongs, declared.desk.Desk.Desk}
+use Rattle.ert_world.specs.{Seats.Seated, Worlds.Seen}
+use Rattle.ert_world.proofs.{Calls.{Has, has_at}, Listed.kept_by, Meetings.{is_meeting, can_split, belongs_as, met_fit, met_both}}
 use Rattle.ert_world.proofs.world.World.meet.Goals as goal
 
 pub join-requires-clause-other_belongs : goal.join-requires-clause-other_belongs

@@ -1,12 +1,9 @@
 use Rattle.std.proofs.Common.{◌∙◌}
 use Rattle.std.specs.Arc.{arc_value}
 use Rattle.ert_effects.specs.MailCalls.{Monitors}
-use Rattle.ert_mail.proofs.LawsHold.{monitors_only}
+use Rattle.ert_mail.proofs.{LawsHold.monitors_only, Watchings.monitor_made}
 use Rattle.ert_table.specs.Desks.{settings_of, view_of, state_of}
-use Rattle.ert_mail.proofs.Watchings.{monitor_made}
-use Rattle.ert_world.proofs.Calls.{has_at, mail_called}
-use Rattle.ert_world.proofs.Listed.{listed_kept, mails_low, kept_by}
-use Rattle.ert_world.proofs.Calm.{monitors_calm}
+use Rattle.ert_world.proofs.{Calls.{has_at, mail_called}, Listed.{listed_kept, mails_low, kept_by}, Calm.monitors_calm}
 use Rattle.ert_world.proofs.world.World.monitor.Goals as goal
 
 pub invariant_of-self : goal.invariant_of-self

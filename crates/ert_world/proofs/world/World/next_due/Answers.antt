@@ -1,15 +1,9 @@
 use Rattle.std.proofs.Common.{refl, subst}
 use Rattle.std.specs.Arc.{arc_value}
 use Rattle.ert_defs.specs.States.{state}
-use Rattle.ert_table.specs.Desks.{settings_of, front_of}
-use Rattle.ert_table.specs.declared.desk.Desk.{Desk}
-use Rattle.ert_timers.specs.Parts.{PartStands as WheelStands}
-use Rattle.ert_timers.specs.Sleeping.{IsFoundNext}
-use Rattle.ert_world.proofs.Alone.{stays_by}
-use Rattle.ert_world.proofs.Calls.{has_at, schedulers_at}
-use Rattle.ert_world.proofs.Listed.{kept_by}
-use Rattle.ert_world.proofs.NextDue.{asked, held_new, armed_new, nearest_new, found_new, time_new}
-use Rattle.ert_world.proofs.WheelCalls.{lost_rows}
+use Rattle.ert_table.specs.{Desks.{settings_of, front_of}, declared.desk.Desk.Desk}
+use Rattle.ert_timers.specs.{Parts.PartStands as WheelStands, Sleeping.IsFoundNext}
+use Rattle.ert_world.proofs.{Alone.stays_by, Calls.{has_at, schedulers_at}, Listed.kept_by, NextDue.{asked, held_new, armed_new, nearest_new, found_new, time_new}, WheelCalls.lost_rows}
 use Rattle.ert_world.proofs.world.World.next_due.Goals as goal
 
 pub invariant_of-self : goal.invariant_of-self

@@ -1,18 +1,12 @@
 use Rattle.std.proofs.Common.{ℕ, Bool, List, Some, sym, ap, subst, ◌∙◌}
-use Rattle.std.specs.Arc.{arc_value}
-use Rattle.std.specs.List.{range_with_len}
+use Rattle.std.specs.{Arc.arc_value, List.range_with_len}
 use Rattle.ert_defs.specs.declared.settings.Settings.{Settings}
-use Rattle.ert_mail.specs.Lists.{AreListed, exited_from}
-use Rattle.ert_mail.specs.Mailboxes.{Mailbox}
-use Rattle.ert_table.specs.Desks.{settings_of, state_of}
-use Rattle.ert_table.specs.declared.desk.Desk.{Desk}
-use Rattle.ert_mail.specs.Turns.{TurnRow}
-use Rattle.ert_world.proofs.Calls.{has_at, parts_in}
-use Rattle.ert_world.proofs.Mailed.{Starts, from_zero, have_mail, listed_at_zero, mail_found, next_at_zero, starts_new, starts_there}
-use Rattle.ert_world.specs.Mailing.{FindsMail, turns_of}
-use Rattle.ert_world.specs.Worlds.{Seen, seen, AreKept}
+use Rattle.ert_mail.specs.{Lists.{AreListed, exited_from}, Mailboxes.Mailbox, Turns.TurnRow}
+use Rattle.ert_table.specs.{Desks.{settings_of, state_of}, declared.desk.Desk.Desk}
+use Rattle.ert_world.proofs.{Calls.{has_at, parts_in}, Mailed.{Starts, from_zero, have_mail, listed_at_zero, mail_found, next_at_zero, starts_new, starts_there}, world.World.next_mail.Goals.{After-deref-3, Joined-self, in-Some}}
+use Rattle.ert_world.proofs.{world.World.next_mail.Goals.in-None+in_ok-list-in-None}
+use Rattle.ert_world.specs.{Mailing.{FindsMail, turns_of}, Worlds.{Seen, seen, AreKept}}
 use Rattle.ert_world.proofs.world.World.next_mail.Goals as goal
-use Rattle.ert_world.proofs.world.World.next_mail.Goals.{After-deref-3, Joined-self, in-Some, in-None+in_ok-list-in-None}
 
 starts : (c : After-deref-3) → Starts (state_of (arc_value c.self.inside.desk) c.self.inside.pass).exited c.self.inside.list (settings_of (arc_value c.self.inside.desk)).processes
     c.self.inside.mails.items c.match-take.list

@@ -4,9 +4,7 @@ use Rattle.ert_effects.specs.MailCalls.{Notifies}
 use Rattle.ert_mail.proofs.LawsHold.{notifies_only}
 use Rattle.ert_table.specs.Desks.{settings_of, view_of, state_of}
 use Rattle.ert_table.proofs.Makings.{if_ok_made}
-use Rattle.ert_world.proofs.Calls.{has_at, mail_called}
-use Rattle.ert_world.proofs.Listed.{list_low, listed_now, mails_low, kept_by, relisted, turns_put}
-use Rattle.ert_world.proofs.Calm.{notifies_calm}
+use Rattle.ert_world.proofs.{Calls.{has_at, mail_called}, Listed.{list_low, listed_now, mails_low, kept_by, relisted, turns_put}, Calm.notifies_calm}
 use Rattle.ert_world.specs.Worlds.{Seen}
 use Rattle.ert_world.proofs.world.World.notify.Goals as goal
 

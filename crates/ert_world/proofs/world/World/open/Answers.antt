@@ -1,8 +1,7 @@
 use Rattle.std.proofs.Common.{rules}
 use Rattle.std.specs.Arc.{arc_value}
 use Rattle.ert_world.proofs.Opened.{opened, new_tidy}
-use Rattle.ert_world.specs.Parts.{parts_of}
-use Rattle.ert_world.specs.Worlds.{AreFit}
+use Rattle.ert_world.specs.{Parts.parts_of, Worlds.AreFit}
 use Rattle.ert_world.proofs.world.World.open.Goals as goal
 
 pub returns : goal.returns

@@ -1,9 +1,6 @@
 use Rattle.std.proofs.Common.{ap}
-use Rattle.ert_world.proofs.Alone.{stays_same}
+use Rattle.ert_world.proofs.{Alone.stays_same, Calls.{has_at, does_at}, Listed.kept_by, SchedCalls.pick_called}
 use Rattle.ert_world.specs.Worlds.{Seen}
-use Rattle.ert_world.proofs.Calls.{has_at, does_at}
-use Rattle.ert_world.proofs.Listed.{kept_by}
-use Rattle.ert_world.proofs.SchedCalls.{pick_called}
 use Rattle.ert_world.proofs.world.World.pick.Goals as goal
 
 pub invariant_of-self : goal.invariant_of-self

@@ -1,9 +1,7 @@
 use Rattle.ert_effects.specs.TimerCalls.{Reads}
 use Rattle.ert_defs.specs.declared.entry.Actor.TheVariants.{Caller}
 use Rattle.ert_table.specs.Desks.{settings_of}
-use Rattle.ert_world.proofs.Calm.{read_quiet}
-use Rattle.ert_world.proofs.Calls.{alone_called}
-use Rattle.ert_world.proofs.Listed.{kept_by}
+use Rattle.ert_world.proofs.{Calm.read_quiet, Calls.alone_called, Listed.kept_by}
 use Rattle.ert_world.proofs.world.World.read_timer.Goals as goal
 
 pub invariant_of-self : goal.invariant_of-self

@@ -3,16 +3,10 @@ use Rattle.std.specs.Arc.{arc_value}
 use Rattle.std.specs.Prelude.{slice_set}
 use Rattle.ert_defs.specs.declared.settings.Settings.{Settings}
 use Rattle.ert_effects.specs.RestartCalls.{Restarts}
-use Rattle.ert_table.specs.Calls.{IsMade}
-use Rattle.ert_table.specs.Desks.{settings_of, view_of}
-use Rattle.ert_world.proofs.Calls.{has_at}
-use Rattle.ert_world.proofs.Listed.{kept_by}
+use Rattle.ert_table.specs.{Calls.IsMade, Desks.{settings_of, view_of}}
+use Rattle.ert_world.proofs.{Calls.has_at, Listed.kept_by, Renewing.{IsRestarted, restarted_at}, Replaced.replaced_by, Values.refused_value}
 use Rattle.ert_timers.specs.Frees.{IsUsedUp, UsesFree}
-use Rattle.ert_world.proofs.Renewing.{IsRestarted, restarted_at}
-use Rattle.ert_world.proofs.Replaced.{replaced_by}
-use Rattle.ert_world.specs.Restarts.{wheel_for}
-use Rattle.ert_world.specs.Worlds.{Seen}
-use Rattle.ert_world.proofs.Values.{refused_value}
+use Rattle.ert_world.specs.{Restarts.wheel_for, Worlds.Seen}
 use Rattle.ert_world.proofs.world.World.restart.Goals as goal
 
 done : (c : goal.After-self-1) → IsRestarted c.args.self.now c.self.inside (arc_value c.self.inside.desk) c.wheel_for-wheel.result c.restart.new.pass

@@ -1,10 +1,8 @@
 use Rattle.std.proofs.Common.{slice_index_or, refl, sym, subst}
 use Rattle.std.specs.Arc.{arc_value}
 use Rattle.ert_table.specs.Desks.{settings_of}
-use Rattle.ert_timers.specs.Freeing.{IsLetGo}
-use Rattle.ert_timers.specs.Parts.{Part}
-use Rattle.ert_world.proofs.Calls.{has_at}
-use Rattle.ert_world.proofs.Reusing.{freed, keeps_reused, kept_reused, loses_reused}
+use Rattle.ert_timers.specs.{Freeing.IsLetGo, Parts.Part}
+use Rattle.ert_world.proofs.{Calls.has_at, Reusing.{freed, keeps_reused, kept_reused, loses_reused}}
 use Rattle.ert_world.specs.Worlds.{Seen}
 use Rattle.ert_world.proofs.world.World.reuse.Goals as goal
 

@@ -1,14 +1,10 @@
 use Rattle.std.proofs.Common.{slice_index_or, slice_set, subst}
 use Rattle.ert_defs.specs.States.{state}
 use Rattle.ert_effects.specs.RoomCalls.{TellsRoom}
-use Rattle.ert_table.specs.Desks.{settings_of, front_of}
-use Rattle.ert_table.specs.declared.desk.Desk.{Desk}
+use Rattle.ert_table.specs.{Desks.{settings_of, front_of}, declared.desk.Desk.Desk}
 use Rattle.ert_timers.proofs.LawsHold.{rooms_only}
 use Rattle.ert_timers.specs.Searching.{HasOpenSlot}
-use Rattle.ert_world.proofs.Calls.{has_at}
-use Rattle.ert_world.proofs.Rooms.{wheel_looked, room_calm}
-use Rattle.ert_world.proofs.Listed.{kept_by}
-use Rattle.ert_world.proofs.Replaced.{replaced_by}
+use Rattle.ert_world.proofs.{Calls.has_at, Rooms.{wheel_looked, room_calm}, Listed.kept_by, Replaced.replaced_by}
 use Rattle.ert_world.proofs.world.World.room.Goals as goal
 
 pub invariant_of-self : goal.invariant_of-self

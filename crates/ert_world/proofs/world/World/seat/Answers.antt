@@ -1,15 +1,9 @@
 use Rattle.std.proofs.Common.{◌<◌, [], ◌∷◌, ◌++◌, ap, subst, sym, ◌∙◌}
-use Rattle.std.specs.Arc.{arc_value}
-use Rattle.std.specs.declared.alloc.AllocFailed.{AllocFailed}
-use Rattle.ert_defs.specs.States.{state}
-use Rattle.ert_defs.specs.declared.entry.Actor.TheVariants.{Caller}
-use Rattle.ert_defs.specs.declared.settings.Settings.{Settings}
-use Rattle.ert_table.specs.Desks.{settings_of, front_of, actors_of}
-use Rattle.ert_table.specs.declared.desk.Desk.{Desk}
-use Rattle.ert_world.proofs.Calls.{parts_in}
-use Rattle.ert_world.proofs.Given.{fit_after, fit_again, longer_same}
-use Rattle.ert_world.specs.Seats.{Seated}
-use Rattle.ert_world.specs.Worlds.{ListAll}
+use Rattle.std.specs.{Arc.arc_value, declared.alloc.AllocFailed.AllocFailed}
+use Rattle.ert_defs.specs.{States.state, declared.entry.Actor.TheVariants.Caller, declared.settings.Settings.Settings}
+use Rattle.ert_table.specs.{Desks.{settings_of, front_of, actors_of}, declared.desk.Desk.Desk}
+use Rattle.ert_world.proofs.{Calls.parts_in, Given.{fit_after, fit_again, longer_same}}
+use Rattle.ert_world.specs.{Seats.Seated, Worlds.ListAll}
 use Rattle.ert_world.proofs.world.World.seat.Goals as goal
 
 pub invariant_of-self : goal.invariant_of-self

@@ -1,7 +1,6 @@
 use Rattle.std.proofs.Common.{refl}
 use Rattle.std.specs.Arc.{arc_value}
-use Rattle.ert_world.proofs.Calls.{Has, has_at, parts_in, schedulers_at}
-use Rattle.ert_world.proofs.RoomChanged.{list_room_changed}
+use Rattle.ert_world.proofs.{Calls.{Has, has_at, parts_in, schedulers_at}, RoomChanged.list_room_changed}
 use Rattle.ert_world.proofs.world.World.shrink_expired.Goals as goal
 
 pub invariant_of-self : goal.invariant_of-self

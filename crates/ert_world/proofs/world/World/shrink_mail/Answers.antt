@@ -1,7 +1,6 @@
 use Rattle.std.proofs.Common.{refl}
 use Rattle.std.specs.Arc.{arc_value}
-use Rattle.ert_world.proofs.Calls.{Has, has_at, parts_in, processes_at}
-use Rattle.ert_world.proofs.RoomChanged.{room_changed}
+use Rattle.ert_world.proofs.{Calls.{Has, has_at, parts_in, processes_at}, RoomChanged.room_changed}
 use Rattle.ert_world.proofs.world.World.shrink_mail.Goals as goal
 
 pub invariant_of-self : goal.invariant_of-self

@@ -1,17 +1,9 @@
 use Rattle.std.proofs.Common.{subst}
 use Rattle.ert_effects.specs.TimerCalls.{Starts}
-use Rattle.ert_table.specs.Calls.{IsMade}
-use Rattle.ert_table.specs.Desks.{settings_of, view_of}
+use Rattle.ert_table.specs.{Calls.IsMade, Desks.{settings_of, view_of}}
 use Rattle.ert_timers.proofs.LawsHold.{starts_only}
 use Rattle.ert_timers.specs.Frees.{IsUsedUp, UsesFree}
-use Rattle.ert_world.proofs.Calls.{has_at}
-use Rattle.ert_world.proofs.Listed.{kept_by}
-use Rattle.ert_world.proofs.Replaced.{replaced_by}
-use Rattle.ert_world.proofs.Rooms.{open_at}
-use Rattle.ert_world.proofs.Searching.{searched_at}
-use Rattle.ert_world.proofs.Started.{forgotten_start}
-use Rattle.ert_world.proofs.Values.{refused_value}
-use Rattle.ert_world.proofs.WheelCalls.{wheel_stepped, starts_calm, started_hold}
+use Rattle.ert_world.proofs.{Calls.has_at, Listed.kept_by, Replaced.replaced_by, Rooms.open_at, Searching.searched_at, Started.forgotten_start, Values.refused_value, WheelCalls.{wheel_stepped, starts_calm, started_hold}}
 use Rattle.ert_world.proofs.world.World.start.Goals as goal
 
 pub invariant_of-self : goal.invariant_of-self

@@ -2,10 +2,7 @@ use Rattle.std.proofs.Common.{rules, FitsSigned, w64, to_z-of_z}
 use Rattle.ert_effects.specs.ClockCalls.{TellsSystemTime}
 use Rattle.ert_defs.specs.declared.entry.Actor.TheVariants.{Caller}
 use Rattle.ert_table.specs.Desks.{settings_of}
-use Rattle.ert_world.proofs.Calm.{system_quiet}
-use Rattle.ert_world.proofs.Calls.{has_at, alone_called}
-use Rattle.ert_world.proofs.Listed.{kept_by}
-use Rattle.ert_world.proofs.Values.{system_value}
+use Rattle.ert_world.proofs.{Calm.system_quiet, Calls.{has_at, alone_called}, Listed.kept_by, Values.system_value}
 use Rattle.ert_world.proofs.world.World.system_time.Goals as goal
 
 pub invariant_of-self : goal.invariant_of-self

@@ -1,8 +1,7 @@
 use Rattle.std.proofs.Common.{◌≡◌, ◌+◌, ◌-◌, ◌≤◌, ◌++◌, List, length, vec_len}
 use Rattle.std.specs.Vec.{vec_capacity}
 use Rattle.ert_defs.specs.declared.mail.Mail.{Mail}
-use Rattle.ert_world.specs.Mailing.{TakesMails}
-use Rattle.ert_world.specs.Worlds.{Goes}
+use Rattle.ert_world.specs.{Mailing.TakesMails, Worlds.Goes}
 use Rattle.ert_world.proofs.world.World.take_some.Given as goal
 
 abbrev pub invariant-loop-taken : goal.invariant-loop-taken

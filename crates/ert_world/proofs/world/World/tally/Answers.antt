@@ -1,6 +1,5 @@
 use Rattle.std.proofs.Common.{◌≡◌, ◌<◌, ◌+◌, rules, arith, ◌∙◌, subst}
-use Rattle.ert_defs.specs.States.{state}
-use Rattle.ert_defs.specs.declared.timer.Status.TheVariants.{Armed}
+use Rattle.ert_defs.specs.{States.state, declared.timer.Status.TheVariants.Armed}
 use Rattle.ert_laws.specs.Counts.{count_at, entries_of, is_arm, is_expire, is_orphan, total}
 use Rattle.ert_world.proofs.Totals.{legal_now, wheel_counts, wheel_rows, sum_on, sum_fits, arms_few, expires_few, orphans_few, armed_few}
 use Rattle.ert_world.proofs.world.World.tally.Goals as goal

@@ -1,6 +1,5 @@
 use Rattle.std.proofs.Common.{◌≡◌}
-use Rattle.ert_defs.specs.States.{state}
-use Rattle.ert_defs.specs.declared.timer.Status.TheVariants.{Armed}
+use Rattle.ert_defs.specs.{States.state, declared.timer.Status.TheVariants.Armed}
 use Rattle.ert_laws.specs.Counts.{count_in, entries_of, is_arm, is_expire, is_orphan, total}
 use Rattle.ert_world.proofs.world.World.tally.Given as goal
 

@@ -1,9 +1,7 @@
 use Rattle.ert_effects.specs.ClockCalls.{Ticks}
 use Rattle.ert_clock.specs.Ticks.{act_of}
 use Rattle.ert_table.specs.Desks.{settings_of}
-use Rattle.ert_world.proofs.Calm.{acts_quiet}
-use Rattle.ert_world.proofs.Calls.{keeper_called}
-use Rattle.ert_world.proofs.Listed.{kept_by}
+use Rattle.ert_world.proofs.{Calm.acts_quiet, Calls.keeper_called, Listed.kept_by}
 use Rattle.ert_world.proofs.world.World.tick.Goals as goal
 
 pub invariant_of-self : goal.invariant_of-self

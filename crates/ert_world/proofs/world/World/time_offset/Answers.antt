@@ -1,10 +1,7 @@
 use Rattle.ert_effects.specs.ClockCalls.{TellsOffset}
 use Rattle.ert_defs.specs.declared.entry.Actor.TheVariants.{Caller}
 use Rattle.ert_table.specs.Desks.{settings_of}
-use Rattle.ert_world.proofs.Calm.{offset_quiet}
-use Rattle.ert_world.proofs.Calls.{has_at, alone_called}
-use Rattle.ert_world.proofs.Listed.{kept_by}
-use Rattle.ert_world.proofs.Values.{offset_value}
+use Rattle.ert_world.proofs.{Calm.offset_quiet, Calls.{has_at, alone_called}, Listed.kept_by, Values.offset_value}
 use Rattle.ert_world.proofs.world.World.time_offset.Goals as goal
 
 pub invariant_of-self : goal.invariant_of-self

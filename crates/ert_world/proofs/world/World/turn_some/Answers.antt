@@ -1,13 +1,7 @@
 use Rattle.std.proofs.Common.{◌≡◌, ◌||◌, ℕ, Bool, Ok, Err, inl, rules, ap, subst, sym, ◌∙◌}
-use Rattle.ert_effects.specs.SomeCalls.{is_more}
-use Rattle.ert_effects.specs.Ways.{Way}
-use Rattle.ert_effects.specs.declared.answers.Turned.{Turned}
-use Rattle.ert_world.proofs.Alone.{goes_on}
-use Rattle.ert_world.proofs.Bounding.{delivered_most, turned_some, turn_some_unserved, turn_some_unadvanced, turn_some_undelivered}
-use Rattle.ert_world.proofs.MoreLeft.{the_way, delivered_rest, done_most, left_at, more_left, waits_left}
-use Rattle.ert_world.specs.Bounded.{IsMoreAt, TurnsSome}
-use Rattle.ert_world.specs.Stepping.{stay}
-use Rattle.ert_world.specs.Worlds.{Goes, Seen}
+use Rattle.ert_effects.specs.{SomeCalls.is_more, Ways.Way, declared.answers.Turned.Turned}
+use Rattle.ert_world.proofs.{Alone.goes_on, Bounding.{delivered_most, turned_some, turn_some_unserved, turn_some_unadvanced, turn_some_undelivered}, MoreLeft.{the_way, delivered_rest, done_most, left_at, more_left, waits_left}}
+use Rattle.ert_world.specs.{Bounded.{IsMoreAt, TurnsSome}, Stepping.stay, Worlds.{Goes, Seen}}
 use Rattle.ert_world.proofs.world.World.turn_some.Goals as goal
 
 pub returns-in_err-served-clause-call : goal.returns-in_err-served-clause-call

@@ -1,6 +1,5 @@
 use Rattle.std.proofs.Common.{rules, ◌≡◌, subst}
-use Rattle.ert_judge.specs.Uses.{IsNewUse}
-use Rattle.ert_judge.specs.Wheels.{timers_at}
+use Rattle.ert_judge.specs.{Uses.IsNewUse, Wheels.timers_at}
 use Rattle.ert_judge.proofs.state.timers.Timers.arm.Goals as goal
 
 pub arm-requires-clause-new : goal.arm-requires-clause-new

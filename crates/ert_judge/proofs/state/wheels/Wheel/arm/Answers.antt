@@ -1,9 +1,7 @@
 use Rattle.std.proofs.Common.{refl, ap, ◌∙◌, vec_len}
 use Rattle.ert_defs.specs.declared.timer.Status.TheVariants.{Armed}
-use Rattle.ert_judge.specs.Uses.{used_by}
-use Rattle.ert_judge.specs.declared.state.wheels.Timer.{Timer}
-use Rattle.ert_judge.proofs.IndexLaws.{indexed_room, indexed_unarmed, indexed_armed}
-use Rattle.ert_judge.proofs.PlaceLaws.{popped}
+use Rattle.ert_judge.specs.{Uses.used_by, declared.state.wheels.Timer.Timer}
+use Rattle.ert_judge.proofs.{IndexLaws.{indexed_room, indexed_unarmed, indexed_armed}, PlaceLaws.popped}
 use Rattle.ert_judge.proofs.state.wheels.Wheel.arm.Goals as goal
 
 pub invariant_of-self-in_err-put_place : goal.invariant_of-self-in_err-put_place

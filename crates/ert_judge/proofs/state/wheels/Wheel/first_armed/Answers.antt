@@ -1,8 +1,7 @@
 use Rattle.std.proofs.Common.{arith, ◌≡◌, ◌∙◌, sym, ap, true, length}
 use Rattle.std.specs.Prelude.{vec_len}
 use Rattle.ert_judge.specs.Wheels.{is_settled}
-use Rattle.ert_judge.proofs.ArmedLaws.{settled_none, no_key}
-use Rattle.ert_judge.proofs.FirstLaws.{least_within, first_armed}
+use Rattle.ert_judge.proofs.{ArmedLaws.{settled_none, no_key}, FirstLaws.{least_within, first_armed}}
 use Rattle.ert_judge.proofs.state.wheels.Wheel.first_armed.Goals as goal
 
 pub returns-in_err-first : goal.returns-in_err-first

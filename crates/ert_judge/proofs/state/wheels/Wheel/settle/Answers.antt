@@ -1,9 +1,7 @@
 use Rattle.std.proofs.Common.{rules, sym}
 use denote.Enum.Bare.{same_true, same_false}
 use Rattle.ert_defs.specs.contracts.timer.Status.{the_type}
-use Rattle.ert_judge.proofs.FindLaws.{stands_within}
-use Rattle.ert_judge.proofs.IndexLaws.{indexed_there}
-use Rattle.ert_judge.proofs.MoveLaws.{moved_unknown, moved_other, moved_there}
+use Rattle.ert_judge.proofs.{FindLaws.stands_within, IndexLaws.indexed_there, MoveLaws.{moved_unknown, moved_other, moved_there}}
 use Rattle.ert_judge.proofs.state.wheels.Wheel.settle.Goals as goal
 
 pub returns-in_default : goal.returns-in_default

@@ -1,7 +1,6 @@
 use Rattle.std.proofs.iter.Serving.{serving}
 use Rattle.ert_effects.specs.RequestCalls.{Answers}
-use Rattle.ert_locks.proofs.Own.{answers_have}
-use Rattle.ert_locks.proofs.Scheds.{answered_hand, answered_expired}
+use Rattle.ert_locks.proofs.{Own.answers_have, Scheds.{answered_hand, answered_expired}}
 use Rattle.ert_table.specs.Desks.{settings_of, view_of}
 use Rattle.ert_table.proofs.Makings.{if_ok_made}
 use Rattle.ert_locks.proofs.mail.handing.Locked+MailPart+L.answer.Goals as goal
